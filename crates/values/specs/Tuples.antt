@@ -1,0 +1,23 @@
+-- "A message is a tuple of 0 to 4 defined values. What a call gives behind its values is ignored."
+use Prim.Native.Nat.{ℕ}
+use mathlib.Core.Bool.{Bool, _&&_}
+use mathlib.Core.List.{List}
+use lib.Dec.{ltb, eqb}
+use lib.ListN.{replicate}
+use Rattle.words.specs.Pick.{if_then_else_}
+use Rattle.words.specs.All.{all}
+use Rattle.words.specs.Words.{at}
+use Rattle.words.specs.Counts.{values}
+use Rattle.values.specs.declared.tuples.Tuple.{Tuple}
+
+-- the empty tuple
+abbrev pub empty : Tuple
+empty = record { length = 0; values = replicate values 0 }
+
+-- value j of a tuple; behind its values 0, whatever stands there
+unfoldable pub valueOf : Tuple → ℕ → ℕ
+valueOf g j = if ltb j (g .length) then at (g .values) j else 0
+
+-- equal length, and equal values within it
+unfoldable pub sameTuple : Tuple → Tuple → Bool
+sameTuple g h = eqb (g .length) (h .length) && all (λ j. eqb (at (g .values) j) (at (h .values) j)) (g .length)

@@ -1,0 +1,10 @@
+pub mod All
+pub mod Sum
+pub mod Each
+pub mod Seek
+pub mod Writes
+pub mod Iter
+pub mod Pick
+pub mod Words
+pub mod Text
+pub mod Counts
