@@ -9,16 +9,10 @@ use borrow.Author.Tests.{eq-eqb, ne-eqb, eqb-true, ltb-true}
 use Rattle.words.specs.Pick.{if_then_else_}
 use Rattle.words.specs.All.{all}
 use Rattle.words.specs.Words.{at}
-use Rattle.words.proofs.AllLaws.{all-at, and-left, and-right}
+use Rattle.words.proofs.AllLaws.{all-at, all-of, and-left, and-right}
 use Rattle.words.proofs.PickLaws.{and-true, and-false-right}
 use Rattle.values.specs.Tuples.{valueOf, sameTuple}
 use Rattle.values.specs.declared.tuples.Tuple.{Tuple}
-
--- a test of all numbers below n, from the test at each
-all-of : (f : ℕ → Bool) (n : ℕ) → ((j : ℕ) → j < n → f j ≡ true) → all f n ≡ true
-unfolding all
-all-of f zero h = refl
-all-of f (suc n) h = and-true (all f n) (f n) (all-of f n (λ j l. h j (omega arith))) (h n (omega arith))
 
 -- two Bools of which each is true where the other is
 both : (a b : Bool) → (a ≡ true → b ≡ true) → (b ≡ true → a ≡ true) → a ≡ b

@@ -60,6 +60,12 @@ module _ (f : ℕ → Bool) where
       (λ lt. all-at n (and-left (all f n) (f n) p) i lt)
       (eq-or-lt-of-le (le-of-suc-le-suc h))
 
+  -- a test of all numbers below n, from the test at each
+  pub all-of : (n : ℕ) → ((j : ℕ) → j < n → f j ≡ true) → all f n ≡ true
+  unfolding all
+  all-of zero h = refl
+  all-of (suc n) h = rw (all-of n (λ j l. h j (omega arith)), h n (omega arith))
+
 pub ruleset all-loop = (all-none, all-more, all-fails′, all-done, eq-eqb, ne-eqb)
 
 -- a loop with something behind it

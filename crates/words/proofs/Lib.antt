@@ -6,3 +6,4 @@ pub mod WritesLaws
 pub mod IterLaws
 pub mod PickLaws
 pub mod BlockLaws
+pub mod ListLaws

@@ -3,11 +3,9 @@ use borrow.Author.Needs.{needs}
 use Rattle.words.proofs.tail.Statement.{statement}
 use Rattle.words.proofs.tail.Tie as tie
 
--- src/lib.rt:27:9
 returns : tie.Need-returns
 returns c = tail-in (c .before .before .args .s .now) (c .before .before .args .i)
 
--- src/lib.rt:23:1
 returns-2 : tie.Need-returns-2
 returns-2 c = tail-out (c .before .before .args .s .now) (c .before .before .args .i) (c .before .if1 .left)
 

@@ -1,0 +1,136 @@
+-- "A constant table gives each of the fifteen kinds its keyword and its entries and exits." What else an element's text has stands beside them:
+-- reading, writing, limits, checks and stepping are read off this table.
+use mathlib.Core.List.{List, [], _∷_, _++_}
+use Prim.Native.Nat.{ℕ, _-_}
+use Prim.Native.String.{String}
+use lib.Dec.{eqb}
+use lib.ListN.{length, getD, take, replicate}
+use Rattle.words.specs.Pick.{if_then_else_}
+use Rattle.words.specs.Text.{bytes}
+use Rattle.kinds.specs.declared.Kind.{Kind}
+use Rattle.kinds.specs.Cells.{Cell, cell}
+
+-- How many there are: none; one; or many, which is a list of 2 to 8 entries or exits, or one condition or message with each exit.
+abbrev pub none : ℕ
+none = 0
+
+abbrev pub one : ℕ
+one = 1
+
+abbrev pub many : ℕ
+many = 2
+
+-- What an element may have beside its entries and exits: task number, mode and assignments; conditions; messages received; messages sent.
+abbrev task-part : Cell
+task-part = record { column = 0; holds = one }
+
+abbrev conditions : ℕ → Cell
+conditions n = record { column = 1; holds = n }
+
+abbrev receives : ℕ → Cell
+receives n = record { column = 2; holds = n }
+
+abbrev sends : ℕ → Cell
+sends n = record { column = 3; holds = n }
+
+-- the bytes of a text, blanks behind them up to n
+abbrev pub padded : ℕ → String → List ℕ
+padded n w = bytes w ++ replicate (n - length (bytes w)) 32
+
+abbrev kind : String → String → ℕ → ℕ → List Cell → Kind
+kind word parts entries exits others =
+    record {
+      keyword = padded 10 word;
+      letters = length (bytes word);
+      parts = padded 4 parts;
+      entries = entries;
+      exits = exits;
+      task = cell task-part others;
+      conditions = cell (conditions none) others;
+      receives = cell (receives none) others;
+      sends = cell (sends none) others;
+    }
+
+-- the row of a number that is no kind
+abbrev pub noKind : Kind
+noKind = kind "" "" none none []
+
+-- The parts of an element's text, in order: E entry, X exit, F list of entries, Y list of exits, N task number, mode, condition and
+-- assignments, T template, S message, B branches with a template each, G branches with a condition each.
+abbrev pub kinds : List Kind
+kinds =
+    -- keyword, parts, entries, exits, what else
+    noKind ∷
+    kind "start" "EX" one one [] ∷
+    kind "startRcv" "TX" none one (receives one ∷ []) ∷
+    kind "end" "E" one none [] ∷
+    kind "terminate" "E" one none [] ∷
+    kind "endSnd" "ES" one none (sends one ∷ []) ∷
+    kind "interRcv" "ETX" one one (receives one ∷ []) ∷
+    kind "interSnd" "ESX" one one (sends one ∷ []) ∷
+    kind "eventBased" "EB" one many (receives many ∷ []) ∷
+    kind "andSplit" "EY" one many [] ∷
+    kind "andJoin" "FX" many one [] ∷
+    kind "xorJoin" "FX" many one [] ∷
+    kind "xorSplit" "EG" one many (conditions many ∷ []) ∷
+    kind "task" "ENX" one one (task-part ∷ conditions one ∷ []) ∷
+    kind "taskRcv" "ENTX" one one (task-part ∷ conditions one ∷ receives one ∷ []) ∷
+    kind "taskSnd" "ENSX" one one (task-part ∷ conditions one ∷ sends one ∷ []) ∷ []
+
+-- The numbers of the kinds, as they stand in a table.
+abbrev pub start : ℕ
+start = 1
+
+abbrev pub startRcv : ℕ
+startRcv = 2
+
+abbrev pub end : ℕ
+end = 3
+
+abbrev pub terminate : ℕ
+terminate = 4
+
+abbrev pub endSnd : ℕ
+endSnd = 5
+
+abbrev pub interRcv : ℕ
+interRcv = 6
+
+abbrev pub interSnd : ℕ
+interSnd = 7
+
+abbrev pub eventBased : ℕ
+eventBased = 8
+
+abbrev pub andSplit : ℕ
+andSplit = 9
+
+abbrev pub andJoin : ℕ
+andJoin = 10
+
+abbrev pub xorJoin : ℕ
+xorJoin = 11
+
+abbrev pub xorSplit : ℕ
+xorSplit = 12
+
+abbrev pub task : ℕ
+task = 13
+
+abbrev pub taskRcv : ℕ
+taskRcv = 14
+
+abbrev pub taskSnd : ℕ
+taskSnd = 15
+
+-- the row of kind k
+unfoldable pub kindOf : ℕ → Kind
+kindOf k = getD kinds k noKind
+
+-- its keyword
+abbrev pub keywordOf : ℕ → List ℕ
+keywordOf k = take (kindOf k .letters) (kindOf k .keyword)
+
+-- how many there are of what a cell says: none, one, or the n of a list
+unfoldable pub used : ℕ → ℕ → ℕ
+used holds n = if eqb holds many then n else holds

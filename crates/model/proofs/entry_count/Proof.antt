@@ -1,0 +1,12 @@
+use borrow.Author.Needs.{needs}
+use Rattle.model.specs.Table.{entryCount}
+use Rattle.model.proofs.entry_count.Statement.{statement}
+use Rattle.model.proofs.entry_count.Tie as tie
+
+returns : tie.Need-returns
+unfolding entryCount
+returns c = cc
+
+pub entry-count-spec : {M : Type 1} → statement M
+entry-count-spec =
+    tie.close (tie.spec (λ c κs. search needs) (λ c κs. search needs) (λ c κs. search needs) (λ c κs. search needs) returns)

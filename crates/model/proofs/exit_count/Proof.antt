@@ -1,0 +1,12 @@
+use borrow.Author.Needs.{needs}
+use Rattle.model.specs.Table.{exitCount}
+use Rattle.model.proofs.exit_count.Statement.{statement}
+use Rattle.model.proofs.exit_count.Tie as tie
+
+returns : tie.Need-returns
+unfolding exitCount
+returns c = cc
+
+pub exit-count-spec : {M : Type 1} → statement M
+exit-count-spec =
+    tie.close (tie.spec (λ c κs. search needs) (λ c κs. search needs) (λ c κs. search needs) (λ c κs. search needs) returns)

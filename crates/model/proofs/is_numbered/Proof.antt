@@ -1,0 +1,16 @@
+use Rattle.model.specs.Table.{numbered}
+use borrow.Author.Needs.{needs}
+use Rattle.model.proofs.is_numbered.Statement.{statement}
+use Rattle.model.proofs.is_numbered.Tie as tie
+
+ruleset L = (needs)
+
+pub is-numbered-spec : {M : Type 1} → statement M
+unfolding numbered
+is-numbered-spec =
+    tie.close
+    (tie.spec
+    (λ c. search L)
+    (λ c. search L)
+    (λ c κs. search L)
+    (λ c. cc))  -- returns

@@ -1,0 +1,22 @@
+use Rattle.words.proofs.PickLaws.{pick-yes}
+use Rattle.words.proofs.PickLaws.{pick-no}
+use Rattle.words.proofs.AllLaws.{ne-eqb-by}
+use Rattle.words.proofs.AllLaws.{eq-eqb-by}
+use Rattle.model.specs.Table.{limitOf}
+use borrow.Author.Needs.{needs}
+use Rattle.model.proofs.limit_of.Statement.{statement}
+use Rattle.model.proofs.limit_of.Tie as tie
+
+ruleset L = (needs)
+
+pub limit-of-spec : {M : Type 1} → statement M
+unfolding limitOf
+limit-of-spec =
+    tie.close
+    (tie.spec
+    (λ c. search L)
+    (λ c. search L)
+    (λ c. search L)
+    (λ c κs. search L)
+    (λ c. pick-yes _ _ _ _ (eq-eqb-by _ _ _ (c .before .word .ensures) (c .if1 .taken)) (cc))  -- returns
+    (λ c. pick-no _ _ _ _ (ne-eqb-by _ _ _ (c .before .word .ensures) (c .if1 .left)) (cc)))  -- returns-2

@@ -1,0 +1,11 @@
+use borrow.Author.Needs.{needs}
+use Rattle.model.specs.Table.{poolOf}
+use Rattle.model.proofs.pool_of.Statement.{statement}
+use Rattle.model.proofs.pool_of.Tie as tie
+
+returns : tie.Need-returns
+unfolding poolOf
+returns c = cc
+
+pub pool-of-spec : {M : Type 1} → statement M
+pool-of-spec = tie.close (tie.spec (λ c κs. search needs) (λ c κs. search needs) returns)

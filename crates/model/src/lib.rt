@@ -1,0 +1,169 @@
+// A table, and what it says: of its pools, and of an element's parts.
+ghost use mathlib.Core.Path.{_≡_};
+ghost use lib.ListN.{drop};
+ghost use Rattle.words.specs.Words.{at};
+ghost use Rattle.words.specs.Seek.{seek};
+ghost use Rattle.model.specs.Places.{edgePlace};
+ghost use Rattle.model.specs.Table.{poolCount, elementCount, elementAt, numbered, poolOf, limitOf, kindIn, taskIn, modeIn, entryCount, exitCount, conditionAt, messageName, messageLength, itemAt, assignmentCount, assignmentAt};
+use kinds::count_by;
+use kinds::kind_of;
+use words::Word;
+use words::tail;
+use words::word;
+
+pub mod places;
+
+use places::ASSIGNMENT_COUNT;
+use places::ASSIGNMENT_WORDS;
+use places::CONDITIONS;
+use places::ELEMENT_WORDS;
+use places::ENTRIES;
+use places::EXITS;
+use places::EXPRESSION_WORDS;
+use places::KIND;
+use places::MESSAGE_WORDS;
+use places::MESSAGES;
+use places::MODE;
+use places::POOL_COUNT;
+use places::POOL_WORDS;
+use places::TASK;
+
+pub fn pool_count(t: &[Word]) -> Word
+    ensures { λ r. ⌜ r ≡ poolCount (now (t .entry)) ⌝ }
+{
+    word(t, POOL_COUNT)
+}
+
+pub fn element_count(t: &[Word], p: Word) -> Word
+    ensures { λ r. ⌜ r ≡ elementCount (now (t .entry)) p ⌝ }
+{
+    word(t, 1 + POOL_WORDS * (p as usize) + 2)
+}
+
+// The words of the table from an element on.
+pub fn element_at(t: &[Word], p: Word, e: Word) -> &[Word]
+    ensures { λ r. ⌜ now r ≡ elementAt (now (t .entry)) p e ⌝ }
+{
+    tail(
+        t,
+        1 + POOL_WORDS * (p as usize) + 3 + ELEMENT_WORDS * (e as usize),
+    )
+}
+
+fn is_numbered(t: &[Word], number: Word, p: Word) -> bool
+    ensures { λ r. ⌜ r ≡ numbered (now (t .entry)) number p ⌝ }
+{
+    word(t, 1 + POOL_WORDS * (p as usize)) == number
+}
+
+fn pool_below(t: &[Word], number: Word, n: Word) -> Word
+    ensures { λ r. ⌜ r ≡ seek (numbered (now (t .entry)) number) n ⌝ }
+{
+    let mut p: Word = 0;
+    while p < n {
+        if is_numbered(t, number, p) {
+            return p;
+        }
+        p += 1;
+    }
+    p
+}
+
+// The place of the pool with a number; the pool count where there is none.
+pub fn pool_of(t: &[Word], number: Word) -> Word
+    ensures { λ r. ⌜ r ≡ poolOf (now (t .entry)) number ⌝ }
+{
+    pool_below(t, number, pool_count(t))
+}
+
+// How many instances a pool makes at most.
+pub fn limit_of(t: &[Word], p: Word) -> Word
+    ensures { λ r. ⌜ r ≡ limitOf (now (t .entry)) p ⌝ }
+{
+    let n = word(t, 1 + POOL_WORDS * (p as usize) + 1);
+    if n == 0 {
+        return 1;
+    }
+    n
+}
+
+pub fn kind_in(el: &[Word]) -> Word
+    ensures { λ r. ⌜ r ≡ kindIn (now (el .entry)) ⌝ }
+{
+    word(el, KIND)
+}
+
+pub fn task_in(el: &[Word]) -> Word
+    ensures { λ r. ⌜ r ≡ taskIn (now (el .entry)) ⌝ }
+{
+    word(el, TASK)
+}
+
+pub fn mode_in(el: &[Word]) -> Word
+    ensures { λ r. ⌜ r ≡ modeIn (now (el .entry)) ⌝ }
+{
+    word(el, MODE)
+}
+
+// How many entries an element has, by the table of kinds.
+pub fn entry_count(el: &[Word]) -> Word
+    ensures { λ r. ⌜ r ≡ entryCount (now (el .entry)) ⌝ }
+{
+    let kind = kind_of(word(el, KIND));
+    count_by(kind.entries, word(el, ENTRIES))
+}
+
+pub fn exit_count(el: &[Word]) -> Word
+    ensures { λ r. ⌜ r ≡ exitCount (now (el .entry)) ⌝ }
+{
+    let kind = kind_of(word(el, KIND));
+    count_by(kind.exits, word(el, EXITS))
+}
+
+// Edge j of the list at a place: ENTRIES or EXITS.
+pub fn edge_at(el: &[Word], list: Word, j: Word) -> Word
+    ensures { λ r. ⌜ r ≡ at (now (el .entry)) (edgePlace list j) ⌝ }
+{
+    word(el, (list as usize) + 1 + (j as usize))
+}
+
+// The condition of branch b.
+pub fn condition_at(el: &[Word], b: Word) -> &[Word]
+    ensures { λ r. ⌜ now r ≡ conditionAt (now (el .entry)) b ⌝ }
+{
+    tail(el, CONDITIONS + EXPRESSION_WORDS * (b as usize))
+}
+
+pub fn message_name(el: &[Word], b: Word) -> Word
+    ensures { λ r. ⌜ r ≡ messageName (now (el .entry)) b ⌝ }
+{
+    word(el, MESSAGES + MESSAGE_WORDS * (b as usize))
+}
+
+pub fn message_length(el: &[Word], b: Word) -> Word
+    ensures { λ r. ⌜ r ≡ messageLength (now (el .entry)) b ⌝ }
+{
+    word(el, MESSAGES + MESSAGE_WORDS * (b as usize) + 1)
+}
+
+// Item j of the message of branch b.
+pub fn item_at(el: &[Word], b: Word, j: Word) -> &[Word]
+    ensures { λ r. ⌜ now r ≡ itemAt (now (el .entry)) b j ⌝ }
+{
+    tail(
+        el,
+        MESSAGES + MESSAGE_WORDS * (b as usize) + 2 + EXPRESSION_WORDS * (j as usize),
+    )
+}
+
+pub fn assignment_count(el: &[Word]) -> Word
+    ensures { λ r. ⌜ r ≡ assignmentCount (now (el .entry)) ⌝ }
+{
+    word(el, ASSIGNMENT_COUNT)
+}
+
+pub fn assignment_at(el: &[Word], j: Word) -> &[Word]
+    ensures { λ r. ⌜ now r ≡ assignmentAt (now (el .entry)) j ⌝ }
+{
+    tail(el, ASSIGNMENT_COUNT + 1 + ASSIGNMENT_WORDS * (j as usize))
+}
