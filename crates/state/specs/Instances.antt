@@ -1,13 +1,9 @@
 -- What the instances s of a state say, and the words h of one instance: "tokens on each edge, an active and a ready count for each task, and
 -- 16 fields. A field is 0 to 65,535 or undefined."
 use Prim.Native.Nat.{ℕ}
-use mathlib.Core.List.{List, _++_}
-use lib.Dec.{eqb}
+use mathlib.Core.List.{List}
 use lib.ListN.{set, take, drop}
-use Rattle.words.specs.Pick.{if_then_else_}
 use Rattle.words.specs.Words.{at}
-use Rattle.values.specs.declared.Value.{Value}
-use Rattle.values.specs.declared.Value.the-variants.{Undefined, Number}
 use Rattle.state.specs.Places.{tokenPlace, activePlace, readyPlace, definedPlace, valuePlace, madePlace, instancePlace, instancesWords}
 
 -- the two parts of a state
@@ -32,9 +28,6 @@ activeCount h n = at h (activePlace n)
 
 abbrev pub readyCount : List ℕ → ℕ → ℕ
 readyCount h n = at h (readyPlace n)
-
-unfoldable pub fieldOf : List ℕ → ℕ → Value
-fieldOf h d = if eqb (at h (definedPlace d)) 0 then Undefined else Number (at h (valuePlace d))
 
 -- the instance with another number of tokens, another count, a field defined
 abbrev pub withTokens : List ℕ → ℕ → ℕ → List ℕ

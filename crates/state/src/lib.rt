@@ -1,7 +1,6 @@
 // The instances of a state, and the words of one instance: tokens, task counts, fields.
 ghost use mathlib.Core.Path.{_≡_};
-ghost use Rattle.state.specs.Instances.{madeCount, instanceAt, tokens, activeCount, readyCount, fieldOf, withTokens, withActive, withReady, withField};
-use values::Value;
+ghost use Rattle.state.specs.Instances.{madeCount, instanceAt, tokens, activeCount, readyCount, withTokens, withActive, withReady, withField};
 use words::Word;
 use words::less_one;
 use words::put;
@@ -52,16 +51,6 @@ pub fn ready_count(h: &[Word], n: Word) -> Word
     ensures { λ r. ⌜ r ≡ readyCount (now (h .entry)) n ⌝ }
 {
     word(h, READY + wide(less_one(n)))
-}
-
-// Field d.
-pub fn field_of(h: &[Word], d: Word) -> Value
-    ensures { λ r. ⌜ r ≡ fieldOf (now (h .entry)) d ⌝ }
-{
-    if word(h, DEFINED + (d as usize)) == 0 {
-        return Value::Undefined;
-    }
-    Value::Number(word(h, FIELD_VALUES + (d as usize)))
 }
 
 pub fn put_tokens(h: &mut [Word], e: Word, n: Word)

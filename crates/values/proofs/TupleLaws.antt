@@ -11,8 +11,8 @@ use Rattle.words.specs.All.{all}
 use Rattle.words.specs.Words.{at}
 use Rattle.words.proofs.AllLaws.{all-at, all-of, and-left, and-right}
 use Rattle.words.proofs.PickLaws.{and-true, and-false-right}
-use Rattle.values.specs.Tuples.{valueOf, sameTuple}
-use Rattle.values.specs.declared.tuples.Tuple.{Tuple}
+use Rattle.meaning.specs.Tuples.{valueOf, sameTuple}
+use Rattle.meaning.specs.declared.Tuple.{Tuple}
 
 -- two Bools of which each is true where the other is
 both : (a b : Bool) → (a ≡ true → b ≡ true) → (b ≡ true → a ≡ true) → a ≡ b

@@ -1,21 +1,12 @@
 // Values, sums and comparisons; tuples of values.
 ghost use mathlib.Core.Path.{_≡_};
-ghost use Rattle.values.specs.Values.{sumOf, differenceOf, equalOf, lessOf, isTrue, isFalse, isDefined, numberIn};
+ghost use Rattle.meaning.specs.Values.{sumOf, differenceOf, equalOf, lessOf, isTrue, isFalse, isDefined, numberIn};
+use meaning::Truth;
+use meaning::Value;
 use words::GREATEST;
 use words::Word;
 
 pub mod tuples;
-
-pub enum Value {
-    Undefined,
-    Number(Word),
-}
-
-pub enum Truth {
-    True,
-    False,
-    Neither,
-}
 
 pub fn sum(a: Value, b: Value) -> Value
     ensures { λ r. ⌜ r ≡ sumOf a b ⌝ }

@@ -1,25 +1,10 @@
 // Tuples of 0 to 4 values, by value: a length, and the values within it.
 ghost use mathlib.Core.Path.{_≡_};
-ghost use Rattle.values.specs.Tuples.{empty, valueOf, sameTuple};
+ghost use Rattle.meaning.specs.Tuples.{valueOf, sameTuple};
+use meaning::Tuple;
 use words::Word;
-use words::counts::VALUES;
 use words::wide;
 use words::word;
-
-pub struct Tuple {
-    pub length: Word,
-    pub values: [Word; VALUES as usize],
-}
-
-// The empty tuple.
-pub fn empty_tuple() -> Tuple
-    ensures { λ r. ⌜ r ≡ empty ⌝ }
-{
-    Tuple {
-        length: 0,
-        values: [0; VALUES as usize],
-    }
-}
 
 // Value j of a tuple; behind its values 0, whatever stands there.
 pub fn value_of(g: Tuple, j: Word) -> Word

@@ -1,5 +1,5 @@
 use Rattle.words.specs.Pick.{if_then_else_}
-use Rattle.values.specs.Values.{differenceOf}
+use Rattle.meaning.specs.Values.{differenceOf}
 use borrow.Author.Tests.{le-leb, lt-leb}
 use borrow.Author.Needs.{needs}
 use Rattle.values.proofs.difference.Statement.{statement}

@@ -1,5 +1,5 @@
 use Rattle.words.specs.Pick.{if_then_else_}
-use Rattle.values.specs.Values.{equalOf}
+use Rattle.meaning.specs.Values.{equalOf}
 use borrow.Author.Tests.{eq-eqb, ne-eqb}
 use borrow.Author.Needs.{needs}
 use Rattle.values.proofs.equal.Statement.{statement}

@@ -1,4 +1,4 @@
-use Rattle.values.specs.Values.{isDefined}
+use Rattle.meaning.specs.Values.{isDefined}
 use borrow.Author.Needs.{needs}
 use Rattle.values.proofs.is_defined.Statement.{statement}
 use Rattle.values.proofs.is_defined.Tie as tie

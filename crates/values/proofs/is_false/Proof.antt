@@ -1,4 +1,4 @@
-use Rattle.values.specs.Values.{isFalse}
+use Rattle.meaning.specs.Values.{isFalse}
 use borrow.Author.Needs.{needs}
 use Rattle.values.proofs.is_false.Statement.{statement}
 use Rattle.values.proofs.is_false.Tie as tie

@@ -1,4 +1,4 @@
-use Rattle.values.specs.Values.{isTrue}
+use Rattle.meaning.specs.Values.{isTrue}
 use borrow.Author.Needs.{needs}
 use Rattle.values.proofs.is_true.Statement.{statement}
 use Rattle.values.proofs.is_true.Tie as tie

@@ -1,5 +1,5 @@
 use Rattle.words.specs.Pick.{if_then_else_}
-use Rattle.values.specs.Values.{lessOf}
+use Rattle.meaning.specs.Values.{lessOf}
 use borrow.Author.Tests.{lt-ltb, le-ltb}
 use borrow.Author.Needs.{needs}
 use Rattle.values.proofs.less.Statement.{statement}

@@ -1,4 +1,4 @@
-use Rattle.values.specs.Values.{numberIn}
+use Rattle.meaning.specs.Values.{numberIn}
 use borrow.Author.Needs.{needs}
 use Rattle.values.proofs.number_in.Statement.{statement}
 use Rattle.values.proofs.number_in.Tie as tie

@@ -2,7 +2,7 @@ use Prim.Native.Nat.{_+_}
 use native.Mathlib.Omega.{arith}
 use Rattle.words.specs.Words.{greatest}
 use Rattle.words.specs.Pick.{if_then_else_}
-use Rattle.values.specs.Values.{sumOf}
+use Rattle.meaning.specs.Values.{sumOf}
 use borrow.Author.Tests.{le-leb, lt-leb}
 use borrow.Author.Needs.{needs}
 use Rattle.values.proofs.sum.Statement.{statement}

@@ -8,7 +8,7 @@ use Rattle.words.specs.All.{all}
 use Rattle.words.specs.Words.{at}
 use Rattle.words.proofs.AllLaws.{all-loop, all-more}
 use Rattle.words.proofs.PickLaws.{and-yes, and-no}
-use Rattle.values.specs.Tuples.{sameTuple}
+use Rattle.meaning.specs.Tuples.{sameTuple}
 use Rattle.values.proofs.TupleLaws.{same-loop, words-equal}
 use borrow.Author.Needs.{needs}
 use Rattle.values.proofs.tuples.same_tuple.Statement.{statement}

@@ -1,7 +1,7 @@
 use mathlib.Core.Path.{refl}
 use borrow.Author.Tests.{lt-ltb, le-ltb}
 use Rattle.words.proofs.PickLaws.{pick-yes, pick-no}
-use Rattle.values.specs.Tuples.{valueOf}
+use Rattle.meaning.specs.Tuples.{valueOf}
 use borrow.Author.Needs.{needs}
 use Rattle.values.proofs.tuples.value_of.Statement.{statement}
 use Rattle.values.proofs.tuples.value_of.Tie as tie

@@ -8,7 +8,7 @@ use Rattle.words.specs.Pick.{if_then_else_}
 use Rattle.words.specs.All.{all}
 use Rattle.words.specs.Words.{at}
 use Rattle.words.specs.Counts.{values}
-use Rattle.values.specs.declared.tuples.Tuple.{Tuple}
+use Rattle.meaning.specs.declared.Tuple.{Tuple}
 
 -- the empty tuple
 abbrev pub empty : Tuple

@@ -5,10 +5,10 @@ use mathlib.Core.Bool.{Bool, true, false}
 use lib.Dec.{ltb, leb, eqb}
 use Rattle.words.specs.Pick.{if_then_else_}
 use Rattle.words.specs.Words.{greatest}
-use Rattle.values.specs.declared.Value.{Value}
-use Rattle.values.specs.declared.Value.the-variants.{Undefined, Number}
-use Rattle.values.specs.declared.Truth.{Truth}
-use Rattle.values.specs.declared.Truth.the-variants.{True, False, Neither}
+use Rattle.meaning.specs.declared.Value.{Value}
+use Rattle.meaning.specs.declared.Value.the-variants.{Undefined, Number}
+use Rattle.meaning.specs.declared.Truth.{Truth}
+use Rattle.meaning.specs.declared.Truth.the-variants.{True, False, Neither}
 
 unfoldable pub sumOf : Value → Value → Value
 sumOf (Number x) (Number y) = if leb (x + y) greatest then Number (x + y) else Undefined

@@ -1,0 +1,33 @@
+-- "Assignments go in order, each seeing those before it."
+use Prim.Native.Nat.{ℕ}
+use mathlib.Core.Bool.{Bool, true, false}
+use mathlib.Core.List.{List}
+use lib.Dec.{leb}
+use lib.ListN.{drop}
+use Rattle.words.specs.Iter.{iter}
+use Rattle.words.specs.Pick.{if_then_else_}
+use Rattle.words.specs.Words.{at}
+use Rattle.words.specs.Counts.{assignments}
+use Rattle.meaning.specs.declared.Value.{Value}
+use Rattle.meaning.specs.declared.Value.the-variants.{Undefined, Number}
+use Rattle.model.specs.Table.{assignmentCount, assignmentAt}
+use Rattle.state.specs.Instances.{withField}
+use Rattle.meaning.specs.Expressions.{expressionOf}
+
+-- the instance after assignments, and whether all of them were defined; the first that is not leaves it as it is
+pub record Assigned : Type 0 where
+  pub defined : Bool
+  pub instance : List ℕ
+
+unfoldable pub assignedValue : List ℕ → ℕ → Value → Assigned
+assignedValue h d (Number v) = record { defined = true; instance = withField h d v }
+assignedValue h d Undefined = record { defined = false; instance = h }
+
+unfoldable pub assignOne : List ℕ → ℕ → Assigned → Assigned
+assignOne el j a =
+    if leb (assignmentCount el) j then a
+    else if a .defined then assignedValue (a .instance) (at (assignmentAt el j) 0) (expressionOf (drop 1 (assignmentAt el j)) (a .instance))
+    else a
+
+unfoldable pub assigned : List ℕ → List ℕ → Assigned
+assigned el h = iter (assignOne el) (record { defined = true; instance = h }) assignments

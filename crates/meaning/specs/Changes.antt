@@ -1,0 +1,69 @@
+-- What a move m does at an element el to an instance h, for a branch b and given values g; what it expects and sends.
+use Prim.Native.Nat.{ℕ, _+_, _-_}
+use mathlib.Core.Bool.{Bool, true}
+use mathlib.Core.List.{List}
+use lib.Dec.{eqb, ltb}
+use lib.ListN.{replicate}
+use Rattle.words.specs.Iter.{iter}
+use Rattle.words.specs.Pick.{if_then_else_}
+use Rattle.words.specs.Writes.{writes}
+use Rattle.words.specs.Counts.{countMost}
+use Rattle.meaning.specs.declared.Tuple.{Tuple}
+use Rattle.meaning.specs.Tuples.{empty}
+use Rattle.kinds.specs.declared.moves.Move.{Move}
+use Rattle.kinds.specs.Moves.{on, up, down, making, clearing}
+use Rattle.model.specs.Table.{taskIn, entryCount, exitCount, entryAt, exitAt}
+use Rattle.state.specs.Places.{definedPlace}
+use Rattle.state.specs.Instances.{tokens, activeCount, readyCount, withTokens, withActive, withReady}
+use Rattle.meaning.specs.declared.Evaluated.{Evaluated}
+use Rattle.meaning.specs.Templates.{evaluated, bound}
+use Rattle.meaning.specs.Assignments.{Assigned, assigned}
+use Rattle.meaning.specs.Requirements.{touched, first}
+
+-- FIELDS. What is expected of the given values: the template worked out, or no values at all.
+unfoldable pub expected : List ℕ → List ℕ → Move → ℕ → Tuple → Evaluated
+expected el h m b g = if eqb (m .receives) on then evaluated el b h g else record { defined = true; tuple = empty }
+
+-- "taskRcv binds, then assigns; taskSnd assigns, then works out its message."
+unfoldable pub received : List ℕ → List ℕ → Move → ℕ → Tuple → List ℕ
+received el h m b g = if eqb (m .receives) on then bound el b g h else h
+
+unfoldable pub worked : List ℕ → List ℕ → Move → Assigned
+worked el h m = if eqb (m .assigns) on then assigned el h else record { defined = true; instance = h }
+
+unfoldable pub message : List ℕ → List ℕ → Move → ℕ → Evaluated
+message el h m b = if eqb (m .sends) on then evaluated el b h empty else record { defined = true; tuple = empty }
+
+-- TOKENS AND COUNTS. "Entry tokens are taken and exit tokens put, one each."
+unfoldable pub takeOne : List ℕ → ℕ → ℕ → List ℕ → List ℕ
+takeOne el f j h = withTokens h (entryAt el (f + j)) (tokens h (entryAt el (f + j)) - 1)
+
+unfoldable pub taken : List ℕ → Move → ℕ → List ℕ → List ℕ
+taken el m b h = iter (takeOne el (first (m .takes) b)) h (touched (m .takes) (entryCount el))
+
+-- one more; that an accepted step never meets the end, 255, is what refusal 18 is for
+unfoldable pub more : ℕ → ℕ
+more n = if ltb n countMost then n + 1 else n
+
+unfoldable pub counted : ℕ → ℕ → ℕ
+counted cell n = if eqb cell up then more n else if eqb cell down then n - 1 else n
+
+unfoldable pub activeChanged : List ℕ → Move → List ℕ → List ℕ
+activeChanged el m h = withActive h (taskIn el) (counted (m .active) (activeCount h (taskIn el)))
+
+unfoldable pub readyChanged : List ℕ → Move → List ℕ → List ℕ
+readyChanged el m h = withReady h (taskIn el) (counted (m .ready) (readyCount h (taskIn el)))
+
+unfoldable pub putOne : List ℕ → ℕ → ℕ → List ℕ → List ℕ
+putOne el f j h = withTokens h (exitAt el (f + j)) (more (tokens h (exitAt el (f + j))))
+
+unfoldable pub puts : List ℕ → Move → ℕ → List ℕ → List ℕ
+puts el m b h = iter (putOne el (first (m .puts) b)) h (touched (m .puts) (exitCount el))
+
+-- "terminate clears all tokens and task counts of its instance."
+unfoldable pub cleared : List ℕ → List ℕ
+cleared h = writes (λ k. 0) h 0 (definedPlace 0)
+
+-- the instance after the taking, and whatever else is done to it, in this order
+unfoldable pub moved : List ℕ → Move → ℕ → List ℕ → List ℕ
+moved el m b h = if eqb (m .also) clearing then cleared h else puts el m b (readyChanged el m (activeChanged el m h))

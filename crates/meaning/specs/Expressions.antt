@@ -1,0 +1,24 @@
+-- "An operand is a number or a field. An expression is an operand, or two joined by `+` or `-`." x is the words of an expression, h an instance's.
+use Prim.Native.Nat.{ℕ, _+_}
+use mathlib.Core.List.{List}
+use lib.Dec.{eqb}
+use Rattle.words.specs.Pick.{if_then_else_}
+use Rattle.words.specs.Words.{at}
+use Rattle.meaning.specs.declared.Value.{Value}
+use Rattle.meaning.specs.declared.Value.the-variants.{Undefined, Number}
+use Rattle.meaning.specs.Values.{sumOf, differenceOf}
+use Rattle.model.specs.Places.{formPlace, leftPlace, rightPlace, plus, minus}
+use Rattle.state.specs.Places.{definedPlace, valuePlace}
+
+-- field d of an instance
+unfoldable pub fieldOf : List ℕ → ℕ → Value
+fieldOf h d = if eqb (at h (definedPlace d)) 0 then Undefined else Number (at h (valuePlace d))
+
+unfoldable pub operandOf : List ℕ → List ℕ → ℕ → Value
+operandOf x h p = if eqb (at x p) 0 then Number (at x (p + 1)) else fieldOf h (at x (p + 1))
+
+unfoldable pub expressionOf : List ℕ → List ℕ → Value
+expressionOf x h =
+    if eqb (at x formPlace) plus then sumOf (operandOf x h leftPlace) (operandOf x h rightPlace)
+    else if eqb (at x formPlace) minus then differenceOf (operandOf x h leftPlace) (operandOf x h rightPlace)
+    else operandOf x h leftPlace

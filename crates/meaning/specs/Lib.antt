@@ -1,0 +1,13 @@
+pub mod Values
+pub mod Tuples
+pub mod Messages
+pub mod Queues
+pub mod Expressions
+pub mod Conditions
+pub mod Templates
+pub mod Assignments
+pub mod Requirements
+pub mod Changes
+pub mod Refusals
+pub mod Step
+pub mod Post

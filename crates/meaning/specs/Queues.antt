@@ -1,0 +1,58 @@
+-- The messages that stand in the queues part q of a state, and the words that messages stand as.
+use Prim.Native.Nat.{ℕ, _+_, _-_, _≤_, _<_}
+use mathlib.Core.Path.{_≡_}
+use mathlib.Core.List.{List, [], _∷_}
+use lib.Dec.{eqb, ltb}
+use lib.ListN.{length}
+use Rattle.words.specs.Each.{tab}
+use Rattle.words.specs.Pick.{if_then_else_}
+use Rattle.words.specs.Words.{at}
+use Rattle.words.specs.Writes.{writes}
+use Rattle.words.specs.Counts.{values, messages}
+use Rattle.meaning.specs.declared.Tuple.{Tuple}
+use Rattle.meaning.specs.Tuples.{valueOf}
+use Rattle.state.specs.Places.{slotWords, queueWords, queuePlace, slotPlace}
+use Rattle.meaning.specs.Messages.{appended, without}
+
+-- READING: how many messages queue m holds; message k, oldest first; all of them
+abbrev pub queued : List ℕ → ℕ → ℕ
+queued q m = at q (queuePlace m)
+
+abbrev pub valueAt : List ℕ → ℕ → ℕ → ℕ → ℕ
+valueAt q m k j = at q (slotPlace m k + 1 + j)
+
+abbrev pub messageAt : List ℕ → ℕ → ℕ → Tuple
+messageAt q m k = record { length = at q (slotPlace m k); values = valueAt q m k 0 ∷ valueAt q m k 1 ∷ valueAt q m k 2 ∷ valueAt q m k 3 ∷ [] }
+
+unfoldable pub messagesOf : List ℕ → ℕ → List Tuple
+messagesOf q m = tab (messageAt q m) (queued q m)
+
+-- WRITING: word i of a message, of messages one behind the other, of a queue; what is not in use is 0
+unfoldable pub messageWord : Tuple → ℕ → ℕ
+messageWord g i = if eqb i 0 then g .length else valueOf g (i - 1)
+
+unfoldable pub messagesWord : List Tuple → ℕ → ℕ
+messagesWord [] i = 0
+messagesWord (g ∷ gs) i = if ltb i slotWords then messageWord g i else messagesWord gs (i - slotWords)
+
+unfoldable pub queueWord : List Tuple → ℕ → ℕ
+queueWord ms i = if eqb i 0 then length ms else messagesWord ms (i - 1)
+
+-- the queues with these messages in queue m
+unfoldable pub withMessages : List ℕ → ℕ → List Tuple → List ℕ
+withMessages q m ms = writes (queueWord ms) q (queuePlace m) queueWords
+
+-- THE TWO OPERATIONS
+abbrev pub sending : List ℕ → ℕ → Tuple → List ℕ
+sending q m g = withMessages q m (appended (messagesOf q m) g)
+
+abbrev pub consuming : List ℕ → ℕ → Tuple → List ℕ
+consuming q m g = withMessages q m (without g (messagesOf q m))
+
+-- WHAT IS NOT IN USE: a message with 0 behind its length, as it is read back; a queue whose words are those of its messages, at most 64
+unfoldable pub tidied : Tuple → Tuple
+tidied g = record { length = g .length; values = valueOf g 0 ∷ valueOf g 1 ∷ valueOf g 2 ∷ valueOf g 3 ∷ [] }
+
+pub record Tidy (q : List ℕ) (m : ℕ) : Type 0 where
+  pub room : queued q m ≤ messages
+  pub words : (i : ℕ) → i < queueWords → at q (queuePlace m + i) ≡ queueWord (messagesOf q m) i

@@ -1,0 +1,77 @@
+-- What a move m (a row of the table of moves) asks for at an element el, in an instance h, for a branch b.
+use Prim.Native.Nat.{ℕ, _+_}
+use mathlib.Core.Bool.{Bool, true, _&&_}
+use mathlib.Core.List.{List}
+use lib.Dec.{eqb, ltb}
+use Rattle.words.specs.All.{all}
+use Rattle.words.specs.Pick.{if_then_else_}
+use Rattle.words.specs.Counts.{countMost}
+use Rattle.kinds.specs.declared.moves.Move.{Move}
+use Rattle.kinds.specs.Moves.{every, branch, on, up, down, na-nc, making}
+use Rattle.model.specs.Table.{taskIn, modeIn, entryCount, exitCount, entryAt, exitAt}
+use Rattle.state.specs.Instances.{tokens, activeCount, readyCount}
+use Rattle.meaning.specs.Conditions.{holds}
+
+-- Which edges of a list a cell of the table of moves means: as many as there are, the branch's alone, or none; from which one on.
+unfoldable pub touched : ℕ → ℕ → ℕ
+touched cell n = if eqb cell every then n else if eqb cell branch then 1 else 0
+
+unfoldable pub first : ℕ → ℕ → ℕ
+first cell b = if eqb cell branch then b else 0
+
+-- "Branch is 0 but for xorSplit, xorJoin and eventBased": those whose moves touch the branch's edge alone have as many branches as edges.
+unfoldable pub branchCount : List ℕ → Move → ℕ
+branchCount el m = if eqb (m .takes) branch then entryCount el else if eqb (m .puts) branch then exitCount el else 1
+
+-- "startRcv: the instance named is the next unmade one, any other gives 11." The others name one that is made.
+unfoldable pub instanceNamed : Move → ℕ → ℕ → Bool
+instanceNamed m i made = if eqb (m .also) making then eqb i made else ltb i made
+
+-- 12. Each edge to be taken has a token;
+unfoldable pub hasToken : List ℕ → List ℕ → ℕ → ℕ → Bool
+hasToken el h f j = ltb 0 (tokens h (entryAt el (f + j)))
+
+unfoldable pub hasTokens : List ℕ → List ℕ → Move → ℕ → Bool
+hasTokens el h m b = all (hasToken el h (first (m .takes) b)) (touched (m .takes) (entryCount el))
+
+-- a count to be lowered is not 0;
+unfoldable pub canLower : ℕ → ℕ → Bool
+canLower cell n = if eqb cell down then ltb 0 n else true
+
+-- "na_nc needs both counts 0".
+unfoldable pub isAlone : List ℕ → List ℕ → Move → Bool
+isAlone el h m =
+    if eqb (m .alone) on then
+    if eqb (modeIn el) na-nc then eqb (activeCount h (taskIn el)) 0 && eqb (readyCount h (taskIn el)) 0 else true
+    else true
+
+unfoldable pub permitted : List ℕ → List ℕ → Move → ℕ → Bool
+permitted el h m b =
+    hasTokens el h m b
+    && canLower (m .active) (activeCount h (taskIn el))
+    && canLower (m .ready) (readyCount h (taskIn el))
+    && isAlone el h m
+
+-- 13. The guard, or the branch's condition, is true.
+unfoldable pub granted : List ℕ → List ℕ → Move → ℕ → Bool
+granted el h m b = if eqb (m .asks) on then holds el h b else true
+
+-- 16. "A `pool` makes at most 1 instance, a `miPool` at most n."
+unfoldable pub belowLimit : Move → ℕ → ℕ → Bool
+belowLimit m made limit = if eqb (m .also) making then ltb made limit else true
+
+-- 18. h is the instance after the taking: no edge to be put and no count to be raised would pass 255.
+unfoldable pub hasRoom : List ℕ → List ℕ → ℕ → ℕ → Bool
+hasRoom el h f j = ltb (tokens h (exitAt el (f + j))) countMost
+
+unfoldable pub hasRooms : List ℕ → List ℕ → Move → ℕ → Bool
+hasRooms el h m b = all (hasRoom el h (first (m .puts) b)) (touched (m .puts) (exitCount el))
+
+unfoldable pub canRaise : ℕ → ℕ → Bool
+canRaise cell n = if eqb cell up then ltb n countMost else true
+
+unfoldable pub roomy : List ℕ → List ℕ → Move → ℕ → Bool
+roomy el h m b =
+    hasRooms el h m b
+    && canRaise (m .active) (activeCount h (taskIn el))
+    && canRaise (m .ready) (readyCount h (taskIn el))

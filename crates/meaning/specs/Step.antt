@@ -1,0 +1,169 @@
+-- A STEP: t the table, s the instances, q the queues of a state, n the step's name.
+use Prim.Native.Nat.{ℕ, _+_}
+use mathlib.Core.Bool.{Bool, true, not, _&&_, _||_}
+use mathlib.Core.List.{List, [], _∷_, _++_}
+use lib.Dec.{eqb, ltb}
+use lib.ListN.{length, set, replicate}
+use Rattle.words.specs.Each.{tab}
+use Rattle.words.specs.Pick.{if_then_else_}
+use Rattle.words.specs.Words.{at}
+use Rattle.words.specs.Writes.{writes}
+use Rattle.words.specs.Counts.{messages}
+use Rattle.meaning.specs.declared.Tuple.{Tuple}
+use Rattle.meaning.specs.Tuples.{empty, sameTuple}
+use Rattle.kinds.specs.declared.moves.Move.{Move}
+use Rattle.kinds.specs.Moves.{on, making, moveOf}
+use Rattle.model.specs.Table.{poolCount, elementCount, elementAt, poolOf, limitOf, kindIn, modeIn, messageName}
+use Rattle.state.specs.Places.{instanceWords, madePlace, instancePlace}
+use Rattle.state.specs.Instances.{madeCount, instanceAt, instancesOf, queuesOf}
+use Rattle.meaning.specs.Messages.{has}
+use Rattle.meaning.specs.Queues.{messagesOf, sending, consuming}
+use Rattle.meaning.specs.declared.Evaluated.{Evaluated}
+use Rattle.meaning.specs.Assignments.{Assigned}
+use Rattle.meaning.specs.declared.Name.{Name}
+use Rattle.meaning.specs.declared.Answer.{Answer}
+use Rattle.meaning.specs.declared.Traffic.{Traffic}
+use Rattle.meaning.specs.declared.Traffic.the-variants.{Nothing, Consumed, Sent}
+use Rattle.meaning.specs.Requirements.{branchCount, instanceNamed, permitted, granted, belowLimit, roomy}
+use Rattle.meaning.specs.Changes.{expected, received, worked, message, taken, more, moved}
+use Rattle.meaning.specs.Refusals.{Refusal, _unless_, firstRefusal}
+
+-- WHERE. What a name finds: the place of its pool, the element's words, the move of the element's kind and mode in this phase, how many
+-- instances the pool has made and may make, and the instance's words. "startRcv: its template sees only undefined fields."
+abbrev pub poolNamed : List ℕ → Name → ℕ
+poolNamed t n = poolOf t (n .pool)
+
+unfoldable pub elementNamed : List ℕ → Name → List ℕ
+elementNamed t n = elementAt t (poolNamed t n) (n .element)
+
+unfoldable pub moveNamed : List ℕ → Name → Move
+moveNamed t n = moveOf (kindIn (elementNamed t n)) (modeIn (elementNamed t n)) (n .phase)
+
+unfoldable pub instanceOf : List ℕ → ℕ → ℕ → List ℕ
+instanceOf s p i = tab (λ k. at s (instancePlace p i + k)) instanceWords
+
+unfoldable pub before : Move → List ℕ → List ℕ
+before m h = if eqb (m .also) making then replicate instanceWords 0 else h
+
+pub record Site : Type 0 where
+  pub element : List ℕ
+  pub move : Move
+  pub branch : ℕ
+  pub given : Tuple
+  pub made : ℕ
+  pub limit : ℕ
+  pub instance : List ℕ
+
+unfoldable pub siteOf : List ℕ → List ℕ → Name → Site
+siteOf t s n =
+    record {
+      element = elementNamed t n;
+      move = moveNamed t n;
+      branch = n .branch;
+      given = n .given;
+      made = madeCount s (poolNamed t n);
+      limit = limitOf t (poolNamed t n);
+      instance = before (moveNamed t n) (instanceOf s (poolNamed t n) (n .instance));
+    }
+
+-- 11: there is such a pool, element, phase, branch and instance
+unfoldable pub exists : List ℕ → List ℕ → Name → Bool
+exists t s n =
+    ltb (poolNamed t n) (poolCount t)
+    && ltb (n .element) (elementCount t (poolNamed t n))
+    && not (eqb (moveNamed t n .kind) 0)
+    && ltb (n .branch) (branchCount (elementNamed t n) (moveNamed t n))
+    && instanceNamed (moveNamed t n) (n .instance) (madeCount s (poolNamed t n))
+
+-- WHAT IT COMES TO, x being where: the template; the instance after the binds and the assignments; the message sent; the instance after the step.
+abbrev pub receives : Site → Bool
+receives x = eqb (x .move .receives) on
+
+abbrev pub sends : Site → Bool
+sends x = eqb (x .move .sends) on
+
+unfoldable pub template : Site → Evaluated
+template x = expected (x .element) (x .instance) (x .move) (x .branch) (x .given)
+
+unfoldable pub work : Site → Assigned
+work x = worked (x .element) (received (x .element) (x .instance) (x .move) (x .branch) (x .given)) (x .move)
+
+unfoldable pub sent : Site → Evaluated
+sent x = message (x .element) (work x .instance) (x .move) (x .branch)
+
+-- the assignments and the message are defined
+unfoldable pub defined : Site → Bool
+defined x = work x .defined && sent x .defined
+
+-- its values match: those of the template, or none where nothing is received
+unfoldable pub matches : Site → Bool
+matches x = sameTuple (template x .tuple) (x .given)
+
+-- the name of the message received or sent
+abbrev pub nameAt : Site → ℕ
+nameAt x = messageName (x .element) (x .branch)
+
+-- THE QUEUES enter here, and only here: the message consumed is there, the queue sent to holds fewer than 64.
+unfoldable pub queued : Site → List ℕ → Bool
+queued x q = if receives x then has (x .given) (messagesOf q (nameAt x)) else true
+
+unfoldable pub space : Site → List ℕ → Bool
+space x q = if sends x then ltb (length (messagesOf q (nameAt x))) messages else true
+
+-- THE REFUSALS, in the order they are looked at. "Checked in the order of the numbers", but "taskRcv looks for undefined assignments only when
+-- the values match: 14 goes before that 13, and that 13 before 15."
+unfoldable pub refusalsAt : Site → List ℕ → List Refusal
+refusalsAt x q =
+    12 unless permitted (x .element) (x .instance) (x .move) (x .branch) ∷  -- tokens or task counts don't permit the step
+    13 unless granted (x .element) (x .instance) (x .move) (x .branch) ∷  -- condition not true
+    13 unless template x .defined ∷  -- an undefined value in the template
+    13 unless (receives x || defined x) ∷  -- an undefined value in an assignment or the message
+    14 unless matches x ∷  -- values don't match, or were given to a step that receives nothing
+    13 unless defined x ∷  -- taskRcv: an undefined value in an assignment, after the binds
+    15 unless queued x q ∷  -- no equal message queued
+    16 unless belowLimit (x .move) (x .made) (x .limit) ∷  -- startRcv: the pool's limit is reached
+    17 unless space x q ∷  -- the queue sent to holds 64
+    18 unless roomy (x .element) (taken (x .element) (x .move) (x .branch) (x .instance)) (x .move) (x .branch) ∷ []  -- after the taking, would pass 255
+
+unfoldable pub refusals : List ℕ → List ℕ → List ℕ → Name → List Refusal
+refusals t s q n = 11 unless exists t s n ∷ refusalsAt (siteOf t s n) q  -- no such pool, instance, element, phase or branch
+
+-- THE STATE AFTER: the instance's words and the count of its pool; the message consumed or sent.
+unfoldable pub instanceAfter : Site → List ℕ
+instanceAfter x = moved (x .element) (x .move) (x .branch) (taken (x .element) (x .move) (x .branch) (work x .instance))
+
+unfoldable pub madeAfter : Site → ℕ
+madeAfter x = if eqb (x .move .also) making then more (x .made) else x .made
+
+unfoldable pub instancesAfter : List ℕ → List ℕ → Name → List ℕ
+instancesAfter t s n =
+    set (writes (at (instanceAfter (siteOf t s n))) s (instancePlace (poolNamed t n) (n .instance)) instanceWords)
+    (madePlace (poolNamed t n)) (madeAfter (siteOf t s n))
+
+unfoldable pub queuesAfter : Site → List ℕ → List ℕ
+queuesAfter x q =
+    if receives x then consuming q (nameAt x) (x .given)
+    else if sends x then sending q (nameAt x) (sent x .tuple)
+    else q
+
+-- what was consumed or sent
+unfoldable pub traffic : Site → Answer
+traffic x =
+    if receives x then record { number = 0; traffic = Consumed; name = nameAt x; tuple = template x .tuple }
+    else if sends x then record { number = 0; traffic = Sent; name = nameAt x; tuple = sent x .tuple }
+    else record { number = 0; traffic = Nothing; name = 0; tuple = empty }
+
+pub record Outcome : Type 0 where
+  pub answer : Answer
+  pub instances : List ℕ
+  pub queues : List ℕ
+
+-- a refusal says its number and nothing else, and changes nothing
+abbrev pub refused : ℕ → List ℕ → List ℕ → Outcome
+refused number s q = record { answer = record { number = number; traffic = Nothing; name = 0; tuple = empty }; instances = s; queues = q }
+
+unfoldable pub step : List ℕ → List ℕ → List ℕ → Name → Outcome
+step t s q n =
+    if eqb (firstRefusal (refusals t s q n)) 0 then
+    record { answer = traffic (siteOf t s n); instances = instancesAfter t s n; queues = queuesAfter (siteOf t s n) q }
+    else refused (firstRefusal (refusals t s q n)) s q

@@ -1,0 +1,19 @@
+use Rattle.queues.proofs.ShiftLaws.{closed-last}
+use Rattle.queues.specs.Changes.{closedUp}
+use borrow.Author.Needs.{needs}
+use Rattle.queues.proofs.close_up.Statement.{statement}
+use Rattle.queues.proofs.close_up.Tie as tie
+
+pub close-up-spec : {M : Type 1} → statement M
+unfolding closedUp
+close-up-spec =
+    tie.close
+    (tie.spec
+    (λ c κs. search needs)
+    (λ c κs. search needs)
+    (λ c. search needs)
+    (λ c κs. search needs)
+    (λ c. search needs)
+    (λ c. cc)
+    (λ c. search needs)
+    (λ c. closed-last _ _ _ _ _ (c .before .before .queued-in .ensures) (c .before .less-one .ensures) (c .if1 .left)))

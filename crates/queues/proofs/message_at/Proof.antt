@@ -1,0 +1,23 @@
+use borrow.Author.Needs.{needs}
+use Rattle.queues.proofs.message_at.Statement.{statement}
+use Rattle.queues.proofs.message_at.Tie as tie
+
+pub message-at-spec : {M : Type 1} → statement M
+message-at-spec =
+    tie.close
+    (tie.spec
+    (λ c κs. search needs)
+    (λ c κs. search needs)
+    (λ c. search needs)
+    (λ c. search needs)
+    (λ c κs. search needs)
+    (λ c. search needs)
+    (λ c. search needs)
+    (λ c κs. search needs)
+    (λ c. search needs)
+    (λ c. search needs)
+    (λ c κs. search needs)
+    (λ c. search needs)
+    (λ c. search needs)
+    (λ c κs. search needs)
+    (λ c. cc))

@@ -1,0 +1,15 @@
+use Rattle.queues.specs.Changes.{stored}
+use borrow.Author.Needs.{needs}
+use Rattle.queues.proofs.store.Statement.{statement}
+use Rattle.queues.proofs.store.Tie as tie
+
+pub store-spec : {M : Type 1} → statement M
+unfolding stored
+store-spec =
+    tie.close
+    (tie.spec
+    (λ c κs. search needs)
+    (λ c κs. search needs)
+    (λ c κs. search needs)
+    (λ c. search needs)
+    (λ c. cc))

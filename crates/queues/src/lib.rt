@@ -1,0 +1,150 @@
+// The queues of a state: the oldest equal message, one more behind the others, one taken out.
+ghost use mathlib.Core.Path.{_≡_};
+ghost use Prim.Native.Nat.{_+_, _-_, _*_};
+ghost use Rattle.words.specs.Seek.{seek};
+ghost use Rattle.words.specs.Writes.{writes};
+ghost use Rattle.meaning.specs.Tuples.{valueOf};
+ghost use Rattle.words.specs.Words.{at};
+ghost use Rattle.words.specs.Counts.{values};
+ghost use Rattle.state.specs.Places.{slotPlace, slotWords};
+ghost use Rattle.meaning.specs.Queues.{queued, messageAt};
+ghost use Rattle.queues.specs.Changes.{messageIs, oldest, stored, oneMore, extended, closedUp, removed};
+use meaning::Tuple;
+use meaning::empty_tuple;
+use state::places::QUEUE_WORDS;
+use state::places::SLOT_WORDS;
+use values::tuples::same_tuple;
+use values::tuples::value_of;
+use words::Word;
+use words::counts::MESSAGES;
+use words::counts::VALUES;
+use words::less_one;
+use words::put;
+use words::word;
+
+// How many messages queue m holds.
+pub fn queued_in(q: &[Word], m: Word) -> Word
+    ensures { λ r. ⌜ r ≡ queued (now (q .entry)) m ⌝ }
+{
+    word(q, QUEUE_WORDS * (m as usize))
+}
+
+// The place of message k of queue m.
+fn slot_place(m: Word, k: Word) -> usize
+    ensures { λ r. ⌜ r ≡ slotPlace m k ⌝ }
+{
+    QUEUE_WORDS * (m as usize) + 1 + SLOT_WORDS * (k as usize)
+}
+
+// Message k of queue m, oldest first.
+pub fn message_at(q: &[Word], m: Word, k: Word) -> Tuple
+    ensures { λ r. ⌜ r ≡ messageAt (now (q .entry)) m k ⌝ }
+{
+    let i = slot_place(m, k);
+    let length = word(q, i);
+    let a = word(q, i + 1 + 0);
+    let b = word(q, i + 1 + 1);
+    let c = word(q, i + 1 + 2);
+    let d = word(q, i + 1 + 3);
+    Tuple {
+        length: length,
+        values: [a, b, c, d],
+    }
+}
+
+fn message_is(q: &[Word], m: Word, g: Tuple, k: Word) -> bool
+    ensures { λ r. ⌜ r ≡ messageIs (now (q .entry)) m g k ⌝ }
+{
+    same_tuple(message_at(q, m, k), g)
+}
+
+fn oldest_below(q: &[Word], m: Word, g: Tuple, n: Word) -> Word
+    ensures { λ r. ⌜ r ≡ seek (messageIs (now (q .entry)) m g) n ⌝ }
+{
+    let mut k: Word = 0;
+    while k < n {
+        if message_is(q, m, g, k) {
+            return k;
+        }
+        k += 1;
+    }
+    k
+}
+
+// The place of the oldest message equal to g; the count where there is none.
+pub fn oldest_of(q: &[Word], m: Word, g: Tuple) -> Word
+    ensures { λ r. ⌜ r ≡ oldest (now (q .entry)) m g ⌝ }
+{
+    oldest_below(q, m, g, queued_in(q, m))
+}
+
+fn put_values(q: &mut [Word], m: Word, k: Word, g: Tuple)
+    ensures { λ _. ⌜ now (q .exit) ≡ writes (valueOf g) (now (q .entry)) (slotPlace m k + 1) values ⌝ }
+{
+    let i = slot_place(m, k) + 1;
+    let mut j: Word = 0;
+    while j < VALUES {
+        put(q, i + (j as usize), value_of(g, j));
+        j += 1;
+    }
+}
+
+fn store(q: &mut [Word], m: Word, k: Word, g: Tuple)
+    ensures { λ _. ⌜ now (q .exit) ≡ stored (now (q .entry)) m k g ⌝ }
+{
+    put(q, slot_place(m, k), g.length);
+    put_values(q, m, k, g);
+}
+
+// One more, and the most stays.
+fn one_more(n: Word) -> Word
+    ensures { λ r. ⌜ r ≡ oneMore n ⌝ }
+{
+    if n < MESSAGES {
+        return n + 1;
+    }
+    n
+}
+
+// Puts a message behind the others.
+pub fn append(q: &mut [Word], m: Word, g: Tuple)
+    ensures { λ _. ⌜ now (q .exit) ≡ extended (now (q .entry)) m g ⌝ }
+{
+    let n = queued_in(q, m);
+    let next = one_more(n);
+    store(q, m, n, g);
+    put(q, QUEUE_WORDS * (m as usize), next);
+}
+
+// The n messages behind message k, one slot up.
+fn shift(q: &mut [Word], m: Word, k: Word, n: Word)
+    ensures { λ _. ⌜ now (q .exit) ≡ writes (λ j. at (now (q .entry)) (slotPlace m k + j + slotWords)) (now (q .entry)) (slotPlace m k) (slotWords * n) ⌝ }
+{
+    let i = slot_place(m, k);
+    let end = SLOT_WORDS * (n as usize);
+    let mut j: usize = 0;
+    while j < end {
+        let w = word(q, i + j + SLOT_WORDS);
+        put(q, i + j, w);
+        j += 1;
+    }
+}
+
+fn close_up(q: &mut [Word], m: Word, k: Word)
+    ensures { λ _. ⌜ now (q .exit) ≡ closedUp (now (q .entry)) m k ⌝ }
+{
+    let n = less_one(queued_in(q, m));
+    if k < n {
+        shift(q, m, k, n - k);
+    }
+}
+
+// Takes message k out; the others keep their order.
+pub fn remove(q: &mut [Word], m: Word, k: Word)
+    ensures { λ _. ⌜ now (q .exit) ≡ removed (now (q .entry)) m k ⌝ }
+{
+    let n = less_one(queued_in(q, m));
+    close_up(q, m, k);
+    store(q, m, n, empty_tuple());
+    put(q, QUEUE_WORDS * (m as usize), n);
+}
