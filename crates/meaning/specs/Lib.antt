@@ -11,3 +11,4 @@ pub mod Changes
 pub mod Refusals
 pub mod Step
 pub mod Post
+pub mod Points

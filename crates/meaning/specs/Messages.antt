@@ -8,14 +8,14 @@ use Rattle.words.specs.Sum.{one}
 use Rattle.meaning.specs.declared.Tuple.{Tuple}
 use Rattle.meaning.specs.Tuples.{sameTuple}
 
--- one message more, behind the others
-abbrev pub appended : List Tuple → Tuple → List Tuple
-appended ms g = ms ++ (g ∷ [])
-
 -- whether a message equal to g is there
 unfoldable pub has : Tuple → List Tuple → Bool
 has g [] = false
 has g (x ∷ xs) = if sameTuple x g then true else has g xs
+
+-- one message more, behind the others
+abbrev pub appended : List Tuple → Tuple → List Tuple
+appended ms g = ms ++ (g ∷ [])
 
 -- the messages without the oldest one equal to g, the others in their order
 unfoldable pub without : Tuple → List Tuple → List Tuple

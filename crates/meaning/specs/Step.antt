@@ -99,6 +99,10 @@ defined x = work x .defined && sent x .defined
 unfoldable pub matches : Site → Bool
 matches x = sameTuple (template x .tuple) (x .given)
 
+-- the instance with its fields as they will be, after the taking
+unfoldable pub afterTaking : Site → List ℕ
+afterTaking x = taken (x .element) (x .move) (x .branch) (work x .instance)
+
 -- the name of the message received or sent
 abbrev pub nameAt : Site → ℕ
 nameAt x = messageName (x .element) (x .branch)
@@ -123,14 +127,14 @@ refusalsAt x q =
     15 unless queued x q ∷  -- no equal message queued
     16 unless belowLimit (x .move) (x .made) (x .limit) ∷  -- startRcv: the pool's limit is reached
     17 unless space x q ∷  -- the queue sent to holds 64
-    18 unless roomy (x .element) (taken (x .element) (x .move) (x .branch) (x .instance)) (x .move) (x .branch) ∷ []  -- after the taking, would pass 255
+    18 unless roomy (x .element) (afterTaking x) (x .move) (x .branch) ∷ []  -- an edge or task count, after the taking, would pass 255
 
 unfoldable pub refusals : List ℕ → List ℕ → List ℕ → Name → List Refusal
 refusals t s q n = 11 unless exists t s n ∷ refusalsAt (siteOf t s n) q  -- no such pool, instance, element, phase or branch
 
 -- THE STATE AFTER: the instance's words and the count of its pool; the message consumed or sent.
 unfoldable pub instanceAfter : Site → List ℕ
-instanceAfter x = moved (x .element) (x .move) (x .branch) (taken (x .element) (x .move) (x .branch) (work x .instance))
+instanceAfter x = moved (x .element) (x .move) (x .branch) (afterTaking x)
 
 unfoldable pub madeAfter : Site → ℕ
 madeAfter x = if eqb (x .move .also) making then more (x .made) else x .made
