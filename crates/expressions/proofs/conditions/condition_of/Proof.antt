@@ -1,0 +1,13 @@
+use borrow.Author.Needs.{needs}
+use Rattle.expressions.proofs.conditions.condition_of.Statement.{statement}
+use Rattle.expressions.proofs.conditions.condition_of.Tie as tie
+
+ruleset L = (needs)
+
+pub condition-of-spec : {M : Type 1} → statement M
+condition-of-spec =
+    tie.close
+    (tie.spec
+    (λ c κs. search L)
+    (λ c κs. search L)
+    (λ c. cc))  -- returns

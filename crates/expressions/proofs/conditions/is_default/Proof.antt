@@ -1,0 +1,13 @@
+use borrow.Author.Needs.{needs}
+use Rattle.expressions.proofs.conditions.is_default.Statement.{statement}
+use Rattle.expressions.proofs.conditions.is_default.Tie as tie
+
+ruleset L = (needs)
+
+pub is-default-spec : {M : Type 1} → statement M
+is-default-spec =
+    tie.close
+    (tie.spec
+    (λ c κs. search L)
+    (λ c κs. search L)
+    (λ c. cc))  -- returns

@@ -1,0 +1,18 @@
+use borrow.Author.Tests.{eq-eqb, ne-eqb}
+use Rattle.words.proofs.PickLaws.{pick-no, pick-yes}
+use Rattle.meaning.specs.Conditions.{otherFalse}
+use borrow.Author.Needs.{needs}
+use Rattle.expressions.proofs.conditions.other_false.Statement.{statement}
+use Rattle.expressions.proofs.conditions.other_false.Tie as tie
+
+ruleset L = (needs)
+
+pub other-false-spec : {M : Type 1} → statement M
+unfolding otherFalse
+other-false-spec =
+    tie.close
+    (tie.spec
+    (λ c. pick-yes _ _ _ _ (eq-eqb _ _ (c .if1 .taken)) (cc))  -- returns
+    (λ c κs. search L)
+    (λ c κs. search L)
+    (λ c. pick-no _ _ _ _ (ne-eqb _ _ (c .before .before .if1 .left)) (cc)))  -- returns-2

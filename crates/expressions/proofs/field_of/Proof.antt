@@ -1,0 +1,20 @@
+use Rattle.words.proofs.AllLaws.{tests-by, eq-eqb-by, ne-eqb-by}
+use Rattle.words.proofs.PickLaws.{chains, pick-yes, pick-no}
+use Rattle.meaning.specs.Expressions.{fieldOf}
+use borrow.Author.Needs.{needs}
+use Rattle.expressions.proofs.field_of.Statement.{statement}
+use Rattle.expressions.proofs.field_of.Tie as tie
+
+ruleset L = (needs, chains, tests-by)
+
+pub field-of-spec : {M : Type 1} → statement M
+unfolding fieldOf
+field-of-spec =
+    tie.close
+    (tie.spec
+    (λ c. search L)
+    (λ c κs. search L)
+    (λ c. pick-yes _ _ _ _ (eq-eqb-by _ _ _ (c .before .word .ensures) (c .if1 .taken)) (cc))
+    (λ c. search L)
+    (λ c κs. search L)
+    (λ c. pick-no _ _ _ _ (ne-eqb-by _ _ _ (c .before .before .word .ensures) (c .before .if1 .left)) (cc)))

@@ -1,0 +1,22 @@
+use Rattle.words.proofs.PickLaws.{flag-is, pick-no, pick-yes}
+use Rattle.meaning.specs.Templates.{bindOne}
+use borrow.Author.Needs.{needs}
+use Rattle.expressions.proofs.templates.bind_one.Statement.{statement}
+use Rattle.expressions.proofs.templates.bind_one.Tie as tie
+
+ruleset L = (needs)
+
+pub bind-one-spec : {M : Type 1} → statement M
+unfolding bindOne
+bind-one-spec =
+    tie.close
+    (tie.spec
+    (λ c κs. search L)
+    (λ c κs. search L)
+    (λ c. search L)
+    (λ c κs. search L)
+    (λ c κs. search L)
+    (λ c κs. search L)
+    (λ c. search L)
+    (λ c. pick-yes _ _ _ _ (flag-is _ _ _ (c .before .before .before .before .before .before .before .before .does-bind .ensures) (c .before .before .before .before .before .before .before .if1 .taken)) (cc))  -- returns
+    (λ c. pick-no _ _ _ _ (flag-is _ _ _ (c .before .does-bind .ensures) (c .if1 .left)) (cc)))  -- returns-2

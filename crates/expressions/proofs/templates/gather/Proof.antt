@@ -1,0 +1,18 @@
+use Rattle.meaning.specs.Templates.{gathered}
+use borrow.Author.Needs.{needs}
+use Rattle.expressions.proofs.templates.gather.Statement.{statement}
+use Rattle.expressions.proofs.templates.gather.Tie as tie
+
+ruleset L = (needs)
+
+pub gather-spec : {M : Type 1} → statement M
+unfolding gathered
+gather-spec =
+    tie.close
+    (tie.spec
+    (λ c κs. search L)
+    (λ c κs. search L)
+    (λ c κs. search L)
+    (λ c κs. search L)
+    (λ c κs. search L)
+    (λ c. cc))  -- returns

@@ -1,0 +1,84 @@
+// Conditions: a guard, a branch's condition, and the default.
+ghost use mathlib.Core.Path.{_≡_};
+ghost use lib.Dec.{eqb};
+ghost use Rattle.words.specs.All.{all};
+ghost use Rattle.words.specs.Words.{at};
+ghost use Rattle.model.specs.Places.{formPlace, default};
+ghost use Rattle.model.specs.Table.{conditionAt};
+ghost use Rattle.meaning.specs.Conditions.{conditionOf, otherFalse, holds};
+use super::operand;
+use meaning::Truth;
+use model::condition_at;
+use model::exit_count;
+use model::places::ALWAYS;
+use model::places::BELOW;
+use model::places::DEFAULT;
+use model::places::EQUALS;
+use model::places::FORM;
+use model::places::LEFT;
+use model::places::RIGHT;
+use words::Word;
+use words::word;
+
+pub fn condition(x: &[Word], h: &[Word]) -> Truth
+    ensures { λ r. ⌜ r ≡ conditionOf (now (x .entry)) (now (h .entry)) ⌝ }
+{
+    let form = word(x, FORM);
+    if form == ALWAYS {
+        return Truth::True;
+    }
+    let a = operand(x, h, LEFT as Word);
+    let b = operand(x, h, RIGHT as Word);
+    if form == EQUALS {
+        return values::equal(a, b);
+    }
+    if form == BELOW {
+        return values::less(a, b);
+    }
+    Truth::Neither
+}
+
+fn condition_of(el: &[Word], h: &[Word], b: Word) -> Truth
+    ensures { λ r. ⌜ r ≡ conditionOf (conditionAt (now (el .entry)) b) (now (h .entry)) ⌝ }
+{
+    condition(condition_at(el, b), h)
+}
+
+fn other_false(el: &[Word], h: &[Word], b: Word, j: Word) -> bool
+    ensures { λ r. ⌜ r ≡ otherFalse (now (el .entry)) (now (h .entry)) b j ⌝ }
+{
+    if j == b {
+        return true;
+    }
+    values::is_false(condition_of(el, h, j))
+}
+
+fn others_false(el: &[Word], h: &[Word], b: Word, n: Word) -> bool
+    ensures { λ r. ⌜ r ≡ all (otherFalse (now (el .entry)) (now (h .entry)) b) n ⌝ }
+{
+    let mut j: Word = 0;
+    while j < n {
+        if !other_false(el, h, b, j) {
+            return false;
+        }
+        j += 1;
+    }
+    true
+}
+
+fn is_default(el: &[Word], b: Word) -> bool
+    ensures { λ r. ⌜ r ≡ eqb (at (conditionAt (now (el .entry)) b) formPlace) default ⌝ }
+{
+    let x = condition_at(el, b);
+    word(x, FORM) == DEFAULT
+}
+
+// Whether the condition of branch b is true; where it is the default, whether all others are false.
+pub fn does_hold(el: &[Word], h: &[Word], b: Word) -> bool
+    ensures { λ r. ⌜ r ≡ holds (now (el .entry)) (now (h .entry)) b ⌝ }
+{
+    if is_default(el, b) {
+        return others_false(el, h, b, exit_count(el));
+    }
+    values::is_true(condition_of(el, h, b))
+}

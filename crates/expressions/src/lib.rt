@@ -1,0 +1,53 @@
+// Expressions over the fields of an instance.
+ghost use mathlib.Core.Path.{_≡_};
+ghost use Prim.Native.Nat.{_<_};
+ghost use Rattle.meaning.specs.Expressions.{fieldOf, operandOf, expressionOf};
+use meaning::Value;
+use model::places::FORM;
+use model::places::LEFT;
+use model::places::MINUS;
+use model::places::PLUS;
+use model::places::RIGHT;
+use state::places::DEFINED;
+use state::places::FIELD_VALUES;
+use words::Word;
+use words::word;
+
+pub mod assignments;
+pub mod conditions;
+pub mod templates;
+
+// Field d of an instance.
+pub fn field_of(h: &[Word], d: Word) -> Value
+    ensures { λ r. ⌜ r ≡ fieldOf (now (h .entry)) d ⌝ }
+{
+    if word(h, DEFINED + (d as usize)) == 0 {
+        return Value::Undefined;
+    }
+    Value::Number(word(h, FIELD_VALUES + (d as usize)))
+}
+
+// The operand at place p of an expression or a condition x.
+pub fn operand(x: &[Word], h: &[Word], p: Word) -> Value
+    ensures { λ r. ⌜ r ≡ operandOf (now (x .entry)) (now (h .entry)) p ⌝ }
+{
+    let n = word(x, (p as usize) + 1);
+    if word(x, p as usize) == 0 {
+        return Value::Number(n);
+    }
+    field_of(h, n)
+}
+
+pub fn expression(x: &[Word], h: &[Word]) -> Value
+    ensures { λ r. ⌜ r ≡ expressionOf (now (x .entry)) (now (h .entry)) ⌝ }
+{
+    let form = word(x, FORM);
+    let a = operand(x, h, LEFT as Word);
+    if form == PLUS {
+        return values::sum(a, operand(x, h, RIGHT as Word));
+    }
+    if form == MINUS {
+        return values::difference(a, operand(x, h, RIGHT as Word));
+    }
+    a
+}

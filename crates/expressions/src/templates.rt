@@ -1,0 +1,102 @@
+// Templates and messages, worked out; the binds of a template.
+ghost use mathlib.Core.Path.{_≡_};
+ghost use mathlib.Core.Bool.{_&&_};
+ghost use Rattle.meaning.specs.Values.{isDefined};
+ghost use Rattle.meaning.specs.Templates.{binds, itemValue, gathered, evaluated, bindOne, bound};
+use super::expression;
+use meaning::Evaluated;
+use meaning::Tuple;
+use meaning::Value;
+use model::item_at;
+use model::message_length;
+use model::places::BINDING;
+use model::places::FORM;
+use model::places::LEFT;
+use state::put_field;
+use values::is_defined;
+use values::number_in;
+use values::tuples::value_of;
+use words::Word;
+use words::word;
+
+fn does_bind(el: &[Word], b: Word, j: Word) -> bool
+    ensures { λ r. ⌜ r ≡ binds (now (el .entry)) b j ⌝ }
+{
+    if message_length(el, b) <= j {
+        return false;
+    }
+    let x = item_at(el, b, j);
+    word(x, FORM) == BINDING
+}
+
+fn item_value(el: &[Word], b: Word, h: &[Word], g: Tuple, j: Word) -> Value
+    ensures { λ r. ⌜ r ≡ itemValue (now (el .entry)) b (now (h .entry)) g j ⌝ }
+{
+    if message_length(el, b) <= j {
+        return Value::Number(0);
+    }
+    if does_bind(el, b, j) {
+        return Value::Number(value_of(g, j));
+    }
+    expression(item_at(el, b, j), h)
+}
+
+fn all_defined(u: Value, v: Value, w: Value, x: Value) -> bool
+    ensures { λ r. ⌜ r ≡ isDefined u && isDefined v && isDefined w && isDefined x ⌝ }
+{
+    if !is_defined(u) {
+        return false;
+    }
+    if !is_defined(v) {
+        return false;
+    }
+    if !is_defined(w) {
+        return false;
+    }
+    is_defined(x)
+}
+
+fn gather(n: Word, u: Value, v: Value, w: Value, x: Value) -> Evaluated
+    ensures { λ r. ⌜ r ≡ gathered n u v w x ⌝ }
+{
+    let defined = all_defined(u, v, w, x);
+    let tuple = Tuple {
+        length: n,
+        values: [number_in(u), number_in(v), number_in(w), number_in(x)],
+    };
+    Evaluated {
+        defined: defined,
+        tuple: tuple,
+    }
+}
+
+// The message or template of branch b, worked out with the given values where it binds.
+pub fn evaluate(el: &[Word], b: Word, h: &[Word], g: Tuple) -> Evaluated
+    ensures { λ r. ⌜ r ≡ evaluated (now (el .entry)) b (now (h .entry)) g ⌝ }
+{
+    let n = message_length(el, b);
+    let u = item_value(el, b, h, g, 0);
+    let v = item_value(el, b, h, g, 1);
+    let w = item_value(el, b, h, g, 2);
+    let x = item_value(el, b, h, g, 3);
+    gather(n, u, v, w, x)
+}
+
+fn bind_one(el: &[Word], b: Word, g: Tuple, j: Word, h: &mut [Word])
+    ensures { λ _. ⌜ now (h .exit) ≡ bindOne (now (el .entry)) b g j (now (h .entry)) ⌝ }
+{
+    if does_bind(el, b, j) {
+        let x = item_at(el, b, j);
+        put_field(h, word(x, LEFT + 1), value_of(g, j));
+    }
+}
+
+// The binds of branch b's template.
+pub fn bind(el: &[Word], b: Word, g: Tuple, h: &mut [Word])
+    ensures { λ _. ⌜ now (h .exit) ≡ bound (now (el .entry)) b g (now (h .entry)) ⌝ }
+{
+    bind_one(el, b, g, 0, h);
+    bind_one(el, b, g, 1, h);
+    bind_one(el, b, g, 2, h);
+    bind_one(el, b, g, 3, h);
+}
