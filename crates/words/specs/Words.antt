@@ -1,7 +1,7 @@
 -- Words of a block: a read outside it is 0, a write outside it is none (as `set` has it).
-use mathlib.Core.List.{List}
-use Prim.Native.Nat.{ℕ}
-use lib.ListN.{getD}
+use mathlib.Core.List.{List, _++_}
+use Prim.Native.Nat.{ℕ, _-_}
+use lib.ListN.{getD, take, drop}
 
 -- the greatest value of a word
 abbrev pub greatest : ℕ
@@ -10,3 +10,10 @@ greatest = 65535
 -- the word at place i
 abbrev pub at : List ℕ → ℕ → ℕ
 at s i = getD s i 0
+
+-- a part of a block, and the block with that part changed to p, as a part is lent and given back
+abbrev pub part : List ℕ → ℕ → ℕ → List ℕ
+part s from to = take (to - from) (drop from s)
+
+abbrev pub patch : List ℕ → ℕ → ℕ → List ℕ → List ℕ
+patch s from to p = take from s ++ (p ++ drop (to - from) (drop from s))
