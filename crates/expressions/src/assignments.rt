@@ -6,6 +6,7 @@ use super::expression;
 use meaning::Value;
 use model::assignment_at;
 use model::assignment_count;
+use model::places::ASSIGNED;
 use state::put_field;
 use words::Word;
 use words::tail;
@@ -33,7 +34,7 @@ fn assign_one(el: &[Word], j: Word, defined: bool, h: &mut [Word]) -> bool
         return false;
     }
     let a = assignment_at(el, j);
-    let x = expression(tail(a, 1), h);
+    let x = expression(tail(a, ASSIGNED), h);
     assign_value(h, word(a, 0), x)
 }
 

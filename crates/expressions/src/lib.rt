@@ -6,6 +6,7 @@ use meaning::Value;
 use model::places::FORM;
 use model::places::LEFT;
 use model::places::MINUS;
+use model::places::OPERAND_NUMBER;
 use model::places::PLUS;
 use model::places::RIGHT;
 use state::places::DEFINED;
@@ -31,7 +32,7 @@ pub fn field_of(h: &[Word], d: Word) -> Value
 pub fn operand(x: &[Word], h: &[Word], p: Word) -> Value
     ensures { λ r. ⌜ r ≡ operandOf (now (x .entry)) (now (h .entry)) p ⌝ }
 {
-    let n = word(x, (p as usize) + 1);
+    let n = word(x, (p as usize) + OPERAND_NUMBER);
     if word(x, p as usize) == 0 {
         return Value::Number(n);
     }

@@ -12,6 +12,7 @@ use model::message_length;
 use model::places::BINDING;
 use model::places::FORM;
 use model::places::LEFT;
+use model::places::OPERAND_NUMBER;
 use state::put_field;
 use values::is_defined;
 use values::number_in;
@@ -87,7 +88,7 @@ fn bind_one(el: &[Word], b: Word, g: Tuple, j: Word, h: &mut [Word])
 {
     if does_bind(el, b, j) {
         let x = item_at(el, b, j);
-        put_field(h, word(x, LEFT + 1), value_of(g, j));
+        put_field(h, word(x, LEFT + OPERAND_NUMBER), value_of(g, j));
     }
 }
 

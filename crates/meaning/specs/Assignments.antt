@@ -10,6 +10,7 @@ use Rattle.words.specs.Words.{at}
 use Rattle.words.specs.Counts.{assignments}
 use Rattle.meaning.specs.declared.Value.{Value}
 use Rattle.meaning.specs.declared.Value.the-variants.{Undefined, Number}
+use Rattle.model.specs.Places.{assignedIn}
 use Rattle.model.specs.Table.{assignmentCount, assignmentAt}
 use Rattle.state.specs.Instances.{withField}
 use Rattle.meaning.specs.Expressions.{expressionOf}
@@ -26,7 +27,7 @@ assignedValue h d Undefined = record { defined = false; instance = h }
 unfoldable pub assignOne : List ℕ → ℕ → Assigned → Assigned
 assignOne el j a =
     if leb (assignmentCount el) j then a
-    else if a .defined then assignedValue (a .instance) (at (assignmentAt el j) 0) (expressionOf (drop 1 (assignmentAt el j)) (a .instance))
+    else if a .defined then assignedValue (a .instance) (at (assignmentAt el j) 0) (expressionOf (drop assignedIn (assignmentAt el j)) (a .instance))
     else a
 
 unfoldable pub assigned : List ℕ → List ℕ → Assigned

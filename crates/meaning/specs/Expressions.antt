@@ -7,7 +7,7 @@ use Rattle.words.specs.Words.{at}
 use Rattle.meaning.specs.declared.Value.{Value}
 use Rattle.meaning.specs.declared.Value.the-variants.{Undefined, Number}
 use Rattle.meaning.specs.Values.{sumOf, differenceOf}
-use Rattle.model.specs.Places.{formPlace, leftPlace, rightPlace, plus, minus}
+use Rattle.model.specs.Places.{operandNumber, formPlace, leftPlace, rightPlace, plus, minus}
 use Rattle.state.specs.Places.{definedPlace, valuePlace}
 
 -- field d of an instance
@@ -15,7 +15,7 @@ unfoldable pub fieldOf : List ℕ → ℕ → Value
 fieldOf h d = if eqb (at h (definedPlace d)) 0 then Undefined else Number (at h (valuePlace d))
 
 unfoldable pub operandOf : List ℕ → List ℕ → ℕ → Value
-operandOf x h p = if eqb (at x p) 0 then Number (at x (p + 1)) else fieldOf h (at x (p + 1))
+operandOf x h p = if eqb (at x p) 0 then Number (at x (p + operandNumber)) else fieldOf h (at x (p + operandNumber))
 
 unfoldable pub expressionOf : List ℕ → List ℕ → Value
 expressionOf x h =

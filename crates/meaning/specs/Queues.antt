@@ -11,7 +11,7 @@ use Rattle.words.specs.Writes.{writes}
 use Rattle.words.specs.Counts.{values, messages}
 use Rattle.meaning.specs.declared.Tuple.{Tuple}
 use Rattle.meaning.specs.Tuples.{valueOf}
-use Rattle.state.specs.Places.{slotWords, queueWords, queuePlace, slotPlace}
+use Rattle.state.specs.Places.{valuesIn, slotsIn, slotWords, queueWords, queuePlace, slotPlace}
 use Rattle.meaning.specs.Messages.{appended, without}
 
 -- READING: how many messages queue m holds; message k, oldest first; all of them
@@ -19,7 +19,7 @@ abbrev pub queued : List ℕ → ℕ → ℕ
 queued q m = at q (queuePlace m)
 
 abbrev pub valueAt : List ℕ → ℕ → ℕ → ℕ → ℕ
-valueAt q m k j = at q (slotPlace m k + 1 + j)
+valueAt q m k j = at q (slotPlace m k + valuesIn + j)
 
 abbrev pub messageAt : List ℕ → ℕ → ℕ → Tuple
 messageAt q m k = record { length = at q (slotPlace m k); values = valueAt q m k 0 ∷ valueAt q m k 1 ∷ valueAt q m k 2 ∷ valueAt q m k 3 ∷ [] }
@@ -29,14 +29,14 @@ messagesOf q m = tab (messageAt q m) (queued q m)
 
 -- WRITING: word i of a message, of messages one behind the other, of a queue; what is not in use is 0
 unfoldable pub messageWord : Tuple → ℕ → ℕ
-messageWord g i = if eqb i 0 then g .length else valueOf g (i - 1)
+messageWord g i = if eqb i 0 then g .length else valueOf g (i - valuesIn)
 
 unfoldable pub messagesWord : List Tuple → ℕ → ℕ
 messagesWord [] i = 0
 messagesWord (g ∷ gs) i = if ltb i slotWords then messageWord g i else messagesWord gs (i - slotWords)
 
 unfoldable pub queueWord : List Tuple → ℕ → ℕ
-queueWord ms i = if eqb i 0 then length ms else messagesWord ms (i - 1)
+queueWord ms i = if eqb i 0 then length ms else messagesWord ms (i - slotsIn)
 
 -- the queues with these messages in queue m
 unfoldable pub withMessages : List ℕ → ℕ → List Tuple → List ℕ

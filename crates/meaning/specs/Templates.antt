@@ -13,7 +13,7 @@ use Rattle.meaning.specs.declared.Value.the-variants.{Number}
 use Rattle.meaning.specs.declared.Tuple.{Tuple}
 use Rattle.meaning.specs.Values.{isDefined, numberIn}
 use Rattle.meaning.specs.Tuples.{valueOf}
-use Rattle.model.specs.Places.{formPlace, leftPlace, binding}
+use Rattle.model.specs.Places.{operandNumber, formPlace, leftPlace, binding}
 use Rattle.model.specs.Table.{itemAt, messageLength}
 use Rattle.state.specs.Instances.{withField}
 use Rattle.meaning.specs.declared.Evaluated.{Evaluated}
@@ -42,7 +42,7 @@ evaluated el b h g = gathered (messageLength el b) (itemValue el b h g 0) (itemV
 
 -- the instance after the binds of branch b's template
 unfoldable pub bindOne : List ℕ → ℕ → Tuple → ℕ → List ℕ → List ℕ
-bindOne el b g j h = if binds el b j then withField h (at (itemAt el b j) (leftPlace + 1)) (valueOf g j) else h
+bindOne el b g j h = if binds el b j then withField h (at (itemAt el b j) (leftPlace + operandNumber)) (valueOf g j) else h
 
 unfoldable pub bound : List ℕ → ℕ → Tuple → List ℕ → List ℕ
 bound el b g h = iter (bindOne el b g) h values

@@ -9,6 +9,9 @@ operandWords = 2
 abbrev pub aField : ℕ
 aField = 1
 
+abbrev pub operandNumber : ℕ
+operandNumber = 1
+
 -- An expression, an item of a message or a condition: its form, then two operands.
 abbrev pub formPlace : ℕ
 formPlace = 0
@@ -61,33 +64,45 @@ modePlace = 2
 abbrev pub entriesPlace : ℕ
 entriesPlace = 3
 
-abbrev pub exitsPlace : ℕ
-exitsPlace = entriesPlace + 1 + branches
+-- edge j of a list: its count stands before it
+abbrev pub firstEdge : ℕ
+firstEdge = 1
 
--- edge j of a list
 abbrev pub edgePlace : ℕ → ℕ → ℕ
-edgePlace list j = list + 1 + j
+edgePlace list j = list + firstEdge + j
+
+abbrev pub exitsPlace : ℕ
+exitsPlace = edgePlace entriesPlace branches
 
 -- 8 conditions (a guard is the first);
 abbrev pub conditionPlace : ℕ → ℕ
 conditionPlace b = edgePlace exitsPlace branches + expressionWords * b
 
 -- 8 messages: name, length, 4 items (a single message is the first);
+abbrev pub lengthIn : ℕ
+lengthIn = 1
+
+abbrev pub itemsIn : ℕ
+itemsIn = 2
+
 abbrev pub messageWords : ℕ
-messageWords = 2 + expressionWords * values
+messageWords = itemsIn + expressionWords * values
 
 abbrev pub messagePlace : ℕ → ℕ
 messagePlace b = conditionPlace branches + messageWords * b
 
 abbrev pub lengthPlace : ℕ → ℕ
-lengthPlace b = messagePlace b + 1
+lengthPlace b = messagePlace b + lengthIn
 
 abbrev pub itemPlace : ℕ → ℕ → ℕ
-itemPlace b j = messagePlace b + 2 + expressionWords * j
+itemPlace b j = messagePlace b + itemsIn + expressionWords * j
 
 -- the count of assignments, and 4 of them: a field and an expression.
+abbrev pub assignedIn : ℕ
+assignedIn = 1
+
 abbrev pub assignmentWords : ℕ
-assignmentWords = 1 + expressionWords
+assignmentWords = assignedIn + expressionWords
 
 abbrev pub assignmentsPlace : ℕ
 assignmentsPlace = messagePlace branches
@@ -99,8 +114,17 @@ abbrev pub elementWords : ℕ
 elementWords = assignmentPlace assignments
 
 -- A pool: number, limit (n of a miPool, 0 of a `pool`), the count of its elements, 32 elements. The pool count stands before the pools.
+abbrev pub limitIn : ℕ
+limitIn = 1
+
+abbrev pub elementCountIn : ℕ
+elementCountIn = 2
+
+abbrev pub elementsIn : ℕ
+elementsIn = 3
+
 abbrev pub poolWords : ℕ
-poolWords = 3 + elementWords * elements
+poolWords = elementsIn + elementWords * elements
 
 abbrev pub poolsPlace : ℕ
 poolsPlace = 0
@@ -109,13 +133,13 @@ abbrev pub poolPlace : ℕ → ℕ
 poolPlace p = 1 + poolWords * p
 
 abbrev pub limitPlace : ℕ → ℕ
-limitPlace p = poolPlace p + 1
+limitPlace p = poolPlace p + limitIn
 
 abbrev pub elementsPlace : ℕ → ℕ
-elementsPlace p = poolPlace p + 2
+elementsPlace p = poolPlace p + elementCountIn
 
 abbrev pub elementPlace : ℕ → ℕ → ℕ
-elementPlace p e = poolPlace p + 3 + elementWords * e
+elementPlace p e = poolPlace p + elementsIn + elementWords * e
 
 abbrev pub tableWords : ℕ
 tableWords = poolPlace pools

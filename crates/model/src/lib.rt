@@ -16,11 +16,19 @@ pub mod places;
 use places::ASSIGNMENT_COUNT;
 use places::ASSIGNMENT_WORDS;
 use places::CONDITIONS;
+use places::ELEMENT_COUNT;
 use places::ELEMENT_WORDS;
 use places::ENTRIES;
 use places::EXITS;
 use places::EXPRESSION_WORDS;
+use places::FIRST_ASSIGNMENT;
+use places::FIRST_EDGE;
+use places::FIRST_ELEMENT;
+use places::FIRST_ITEM;
+use places::FIRST_POOL;
 use places::KIND;
+use places::LIMIT;
+use places::MESSAGE_LENGTH;
 use places::MESSAGE_WORDS;
 use places::MESSAGES;
 use places::MODE;
@@ -37,7 +45,7 @@ pub fn pool_count(t: &[Word]) -> Word
 pub fn element_count(t: &[Word], p: Word) -> Word
     ensures { λ r. ⌜ r ≡ elementCount (now (t .entry)) p ⌝ }
 {
-    word(t, 1 + POOL_WORDS * (p as usize) + 2)
+    word(t, FIRST_POOL + POOL_WORDS * (p as usize) + ELEMENT_COUNT)
 }
 
 // The words of the table from an element on.
@@ -46,14 +54,14 @@ pub fn element_at(t: &[Word], p: Word, e: Word) -> &[Word]
 {
     tail(
         t,
-        1 + POOL_WORDS * (p as usize) + 3 + ELEMENT_WORDS * (e as usize),
+        FIRST_POOL + POOL_WORDS * (p as usize) + FIRST_ELEMENT + ELEMENT_WORDS * (e as usize),
     )
 }
 
 fn is_numbered(t: &[Word], number: Word, p: Word) -> bool
     ensures { λ r. ⌜ r ≡ numbered (now (t .entry)) number p ⌝ }
 {
-    word(t, 1 + POOL_WORDS * (p as usize)) == number
+    word(t, FIRST_POOL + POOL_WORDS * (p as usize)) == number
 }
 
 fn pool_below(t: &[Word], number: Word, n: Word) -> Word
@@ -80,7 +88,7 @@ pub fn pool_of(t: &[Word], number: Word) -> Word
 pub fn limit_of(t: &[Word], p: Word) -> Word
     ensures { λ r. ⌜ r ≡ limitOf (now (t .entry)) p ⌝ }
 {
-    let n = word(t, 1 + POOL_WORDS * (p as usize) + 1);
+    let n = word(t, FIRST_POOL + POOL_WORDS * (p as usize) + LIMIT);
     if n == 0 {
         return 1;
     }
@@ -124,7 +132,7 @@ pub fn exit_count(el: &[Word]) -> Word
 pub fn edge_at(el: &[Word], list: Word, j: Word) -> Word
     ensures { λ r. ⌜ r ≡ at (now (el .entry)) (edgePlace list j) ⌝ }
 {
-    word(el, (list as usize) + 1 + (j as usize))
+    word(el, (list as usize) + FIRST_EDGE + (j as usize))
 }
 
 // The condition of branch b.
@@ -143,7 +151,7 @@ pub fn message_name(el: &[Word], b: Word) -> Word
 pub fn message_length(el: &[Word], b: Word) -> Word
     ensures { λ r. ⌜ r ≡ messageLength (now (el .entry)) b ⌝ }
 {
-    word(el, MESSAGES + MESSAGE_WORDS * (b as usize) + 1)
+    word(el, MESSAGES + MESSAGE_WORDS * (b as usize) + MESSAGE_LENGTH)
 }
 
 // Item j of the message of branch b.
@@ -152,7 +160,7 @@ pub fn item_at(el: &[Word], b: Word, j: Word) -> &[Word]
 {
     tail(
         el,
-        MESSAGES + MESSAGE_WORDS * (b as usize) + 2 + EXPRESSION_WORDS * (j as usize),
+        MESSAGES + MESSAGE_WORDS * (b as usize) + FIRST_ITEM + EXPRESSION_WORDS * (j as usize),
     )
 }
 
@@ -165,5 +173,5 @@ pub fn assignment_count(el: &[Word]) -> Word
 pub fn assignment_at(el: &[Word], j: Word) -> &[Word]
     ensures { λ r. ⌜ now r ≡ assignmentAt (now (el .entry)) j ⌝ }
 {
-    tail(el, ASSIGNMENT_COUNT + 1 + ASSIGNMENT_WORDS * (j as usize))
+    tail(el, FIRST_ASSIGNMENT + ASSIGNMENT_WORDS * (j as usize))
 }

@@ -11,6 +11,9 @@ pub const OPERAND_WORDS: usize = 2;
 
 pub const A_FIELD: Word = 1;
 
+// its number, or the number of its field
+pub const OPERAND_NUMBER: usize = 1;
+
 // An expression, an item of a message or a condition: its form, then two operands.
 pub const FORM: usize = 0;
 
@@ -47,23 +50,44 @@ pub const MODE: usize = 2;
 
 pub const ENTRIES: usize = 3;
 
-pub const EXITS: usize = ENTRIES + 1 + BRANCHES as usize;
+// Of a list of edges: its count, then the edges.
+pub const FIRST_EDGE: usize = 1;
 
-pub const CONDITIONS: usize = EXITS + 1 + BRANCHES as usize;
+pub const EXITS: usize = ENTRIES + FIRST_EDGE + BRANCHES as usize;
 
-pub const MESSAGE_WORDS: usize = 2 + EXPRESSION_WORDS * VALUES as usize;
+pub const CONDITIONS: usize = EXITS + FIRST_EDGE + BRANCHES as usize;
+
+// Of a message: name, length, items.
+pub const MESSAGE_LENGTH: usize = 1;
+
+pub const FIRST_ITEM: usize = 2;
+
+pub const MESSAGE_WORDS: usize = FIRST_ITEM + EXPRESSION_WORDS * VALUES as usize;
 
 pub const MESSAGES: usize = CONDITIONS + EXPRESSION_WORDS * BRANCHES as usize;
 
-pub const ASSIGNMENT_WORDS: usize = 1 + EXPRESSION_WORDS;
+// Of an assignment: field, expression.
+pub const ASSIGNED: usize = 1;
+
+pub const ASSIGNMENT_WORDS: usize = ASSIGNED + EXPRESSION_WORDS;
 
 pub const ASSIGNMENT_COUNT: usize = MESSAGES + MESSAGE_WORDS * BRANCHES as usize;
 
-pub const ELEMENT_WORDS: usize = ASSIGNMENT_COUNT + 1 + ASSIGNMENT_WORDS * ASSIGNMENTS as usize;
+pub const FIRST_ASSIGNMENT: usize = ASSIGNMENT_COUNT + 1;
+
+pub const ELEMENT_WORDS: usize = FIRST_ASSIGNMENT + ASSIGNMENT_WORDS * ASSIGNMENTS as usize;
 
 // A pool: number, limit, element count, elements. The pool count stands before the pools.
-pub const POOL_WORDS: usize = 3 + ELEMENT_WORDS * ELEMENTS as usize;
+pub const LIMIT: usize = 1;
+
+pub const ELEMENT_COUNT: usize = 2;
+
+pub const FIRST_ELEMENT: usize = 3;
+
+pub const POOL_WORDS: usize = FIRST_ELEMENT + ELEMENT_WORDS * ELEMENTS as usize;
 
 pub const POOL_COUNT: usize = 0;
 
-pub const TABLE_WORDS: usize = 1 + POOL_WORDS * POOLS as usize;
+pub const FIRST_POOL: usize = 1;
+
+pub const TABLE_WORDS: usize = FIRST_POOL + POOL_WORDS * POOLS as usize;

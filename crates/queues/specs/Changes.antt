@@ -12,7 +12,7 @@ use Rattle.words.specs.Writes.{writes}
 use Rattle.words.specs.Counts.{values, messages}
 use Rattle.meaning.specs.declared.Tuple.{Tuple}
 use Rattle.meaning.specs.Tuples.{empty, valueOf, sameTuple}
-use Rattle.state.specs.Places.{slotWords, queuePlace, slotPlace}
+use Rattle.state.specs.Places.{valuesIn, slotWords, queuePlace, slotPlace}
 use Rattle.meaning.specs.Queues.{queued, messageAt}
 
 -- message k is equal to g; the place of the oldest that is, the count where none is
@@ -24,7 +24,7 @@ oldest q m g = seek (messageIs q m g) (queued q m)
 
 -- g stored as message k
 unfoldable pub stored : List ℕ → ℕ → ℕ → Tuple → List ℕ
-stored q m k g = writes (valueOf g) (set q (slotPlace m k) (g .length)) (slotPlace m k + 1) values
+stored q m k g = writes (valueOf g) (set q (slotPlace m k) (g .length)) (slotPlace m k + valuesIn) values
 
 -- a queue holds at most 64
 unfoldable pub oneMore : ℕ → ℕ

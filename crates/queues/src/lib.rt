@@ -6,11 +6,13 @@ ghost use Rattle.words.specs.Writes.{writes};
 ghost use Rattle.meaning.specs.Tuples.{valueOf};
 ghost use Rattle.words.specs.Words.{at};
 ghost use Rattle.words.specs.Counts.{values};
-ghost use Rattle.state.specs.Places.{slotPlace, slotWords};
+ghost use Rattle.state.specs.Places.{slotPlace, slotWords, valuesIn};
 ghost use Rattle.meaning.specs.Queues.{queued, messageAt};
 ghost use Rattle.queues.specs.Changes.{messageIs, oldest, stored, oneMore, extended, closedUp, removed};
 use meaning::Tuple;
 use meaning::empty_tuple;
+use state::places::FIRST_SLOT;
+use state::places::FIRST_VALUE;
 use state::places::QUEUE_WORDS;
 use state::places::SLOT_WORDS;
 use values::tuples::same_tuple;
@@ -33,7 +35,7 @@ pub fn queued_in(q: &[Word], m: Word) -> Word
 fn slot_place(m: Word, k: Word) -> usize
     ensures { λ r. ⌜ r ≡ slotPlace m k ⌝ }
 {
-    QUEUE_WORDS * (m as usize) + 1 + SLOT_WORDS * (k as usize)
+    QUEUE_WORDS * (m as usize) + FIRST_SLOT + SLOT_WORDS * (k as usize)
 }
 
 // Message k of queue m, oldest first.
@@ -42,10 +44,10 @@ pub fn message_at(q: &[Word], m: Word, k: Word) -> Tuple
 {
     let i = slot_place(m, k);
     let length = word(q, i);
-    let a = word(q, i + 1 + 0);
-    let b = word(q, i + 1 + 1);
-    let c = word(q, i + 1 + 2);
-    let d = word(q, i + 1 + 3);
+    let a = word(q, i + FIRST_VALUE + 0);
+    let b = word(q, i + FIRST_VALUE + 1);
+    let c = word(q, i + FIRST_VALUE + 2);
+    let d = word(q, i + FIRST_VALUE + 3);
     Tuple {
         length: length,
         values: [a, b, c, d],
@@ -79,9 +81,9 @@ pub fn oldest_of(q: &[Word], m: Word, g: Tuple) -> Word
 }
 
 fn put_values(q: &mut [Word], m: Word, k: Word, g: Tuple)
-    ensures { λ _. ⌜ now (q .exit) ≡ writes (valueOf g) (now (q .entry)) (slotPlace m k + 1) values ⌝ }
+    ensures { λ _. ⌜ now (q .exit) ≡ writes (valueOf g) (now (q .entry)) (slotPlace m k + valuesIn) values ⌝ }
 {
-    let i = slot_place(m, k) + 1;
+    let i = slot_place(m, k) + FIRST_VALUE;
     let mut j: Word = 0;
     while j < VALUES {
         put(q, i + (j as usize), value_of(g, j));

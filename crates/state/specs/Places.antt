@@ -32,17 +32,23 @@ abbrev pub instancesWords : ℕ
 instancesWords = instancePlace pools 0
 
 -- The queues, from their own start: for each name the count of its messages, then 64 of length and 4 values, oldest first.
+abbrev pub valuesIn : ℕ
+valuesIn = 1
+
 abbrev pub slotWords : ℕ
-slotWords = 1 + values
+slotWords = valuesIn + values
+
+abbrev pub slotsIn : ℕ
+slotsIn = 1
 
 abbrev pub queueWords : ℕ
-queueWords = 1 + slotWords * messages
+queueWords = slotsIn + slotWords * messages
 
 abbrev pub queuePlace : ℕ → ℕ
 queuePlace m = queueWords * m
 
 abbrev pub slotPlace : ℕ → ℕ → ℕ
-slotPlace m k = queuePlace m + 1 + slotWords * k
+slotPlace m k = queuePlace m + slotsIn + slotWords * k
 
 abbrev pub stateWords : ℕ
 stateWords = instancesWords + queuePlace names

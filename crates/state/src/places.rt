@@ -27,8 +27,13 @@ pub const POOL_INSTANCES: usize = INSTANCE_WORDS * INSTANCES as usize;
 pub const INSTANCES_WORDS: usize = FIRST_INSTANCE + POOL_INSTANCES * POOLS as usize;
 
 // The queues, from their own start: for each name the count of its messages, then the messages.
-pub const SLOT_WORDS: usize = 1 + VALUES as usize;
+// Of a message: its length, then its values; of a queue: its count, then its messages.
+pub const FIRST_VALUE: usize = 1;
 
-pub const QUEUE_WORDS: usize = 1 + SLOT_WORDS * MESSAGES as usize;
+pub const FIRST_SLOT: usize = 1;
+
+pub const SLOT_WORDS: usize = FIRST_VALUE + VALUES as usize;
+
+pub const QUEUE_WORDS: usize = FIRST_SLOT + SLOT_WORDS * MESSAGES as usize;
 
 pub const STATE_WORDS: usize = INSTANCES_WORDS + QUEUE_WORDS * NAMES as usize;

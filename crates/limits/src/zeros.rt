@@ -1,0 +1,42 @@
+// Words that are 0, and words within limits.
+ghost use mathlib.Core.Path.{_≡_};
+ghost use Prim.Native.Nat.{_-_};
+ghost use Rattle.words.specs.Words.{at};
+ghost use Rattle.limits.specs.Limits.{within, zeros};
+use words::Word;
+use words::word;
+
+// Whether word i is from low to high.
+pub fn is_within(x: &[Word], i: usize, low: Word, high: Word) -> bool
+    ensures { λ r. ⌜ r ≡ within low high (at (now (x .entry)) i) ⌝ }
+{
+    let n = word(x, i);
+    if n < low {
+        return false;
+    }
+    n <= high
+}
+
+// Whether the first n words are 0.
+pub fn zero_words(x: &[Word], n: usize) -> bool
+    ensures { λ r. ⌜ r ≡ zeros (now (x .entry)) n ⌝ }
+{
+    let mut k: usize = 0;
+    while k < n {
+        if word(x, k) != 0 {
+            return false;
+        }
+        k += 1;
+    }
+    true
+}
+
+// n less k, and 0 where k is greater.
+pub fn less(n: Word, k: usize) -> Word
+    ensures { λ r. ⌜ r ≡ n - k ⌝ }
+{
+    if k < (n as usize) {
+        return n - (k as Word);
+    }
+    0
+}

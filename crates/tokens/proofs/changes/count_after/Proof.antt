@@ -1,0 +1,19 @@
+use Rattle.words.proofs.AllLaws.{tests}
+use Rattle.words.proofs.PickLaws.{chains}
+use Rattle.meaning.specs.Changes.{counted}
+use borrow.Author.Needs.{needs}
+use Rattle.tokens.proofs.changes.count_after.Statement.{statement}
+use Rattle.tokens.proofs.changes.count_after.Tie as tie
+
+ruleset L = (needs, chains, tests)
+
+pub count-after-spec : {M : Type 1} → statement M
+unfolding counted
+count-after-spec =
+    tie.close
+    (tie.spec
+    (λ c κs. search L)
+    (λ c. search L)
+    (λ c κs. search L)
+    (λ c. search L)
+    (λ c. search L))

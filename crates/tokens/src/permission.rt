@@ -1,0 +1,131 @@
+// Whether tokens and counts permit a move (12), and whether there is room for what it puts and raises (18).
+ghost use mathlib.Core.Path.{_≡_};
+ghost use Rattle.meaning.specs.Requirements.{hasToken, hasTokens, canLower, isAlone, permitted, hasRoom, hasRooms, canRaise, roomy};
+use super::edge_from;
+use super::first_edge;
+use super::touched_count;
+use kinds::moves::DOWN;
+use kinds::moves::Move;
+use kinds::moves::NA_NC;
+use kinds::moves::ON;
+use kinds::moves::UP;
+use model::entry_count;
+use model::exit_count;
+use model::mode_in;
+use model::places::ENTRIES;
+use model::places::EXITS;
+use model::task_in;
+use state::active_count;
+use state::ready_count;
+use state::tokens_on;
+use words::Word;
+use words::counts::COUNT_MOST;
+
+// 12.
+fn has_token(el: &[Word], h: &[Word], f: Word, j: Word) -> bool
+    ensures { λ r. ⌜ r ≡ hasToken (now (el .entry)) (now (h .entry)) f j ⌝ }
+{
+    0 < tokens_on(h, edge_from(el, ENTRIES as Word, f, j))
+}
+
+fn has_tokens(el: &[Word], h: &[Word], m: Move, b: Word) -> bool
+    ensures { λ r. ⌜ r ≡ hasTokens (now (el .entry)) (now (h .entry)) m b ⌝ }
+{
+    let f = first_edge(m.takes, b);
+    let n = touched_count(m.takes, entry_count(el));
+    let mut j: Word = 0;
+    while j < n {
+        if !has_token(el, h, f, j) {
+            return false;
+        }
+        j += 1;
+    }
+    true
+}
+
+fn can_lower(cell: Word, n: Word) -> bool
+    ensures { λ r. ⌜ r ≡ canLower cell n ⌝ }
+{
+    if cell == DOWN {
+        return 0 < n;
+    }
+    true
+}
+
+fn is_alone(el: &[Word], h: &[Word], m: Move) -> bool
+    ensures { λ r. ⌜ r ≡ isAlone (now (el .entry)) (now (h .entry)) m ⌝ }
+{
+    if m.alone == ON {
+        if mode_in(el) == NA_NC {
+            let task = task_in(el);
+            let active = active_count(h, task);
+            let ready = ready_count(h, task);
+            if active == 0 {
+                return ready == 0;
+            }
+            return false;
+        }
+        return true;
+    }
+    true
+}
+
+pub fn permits(el: &[Word], h: &[Word], m: Move, b: Word) -> bool
+    ensures { λ r. ⌜ r ≡ permitted (now (el .entry)) (now (h .entry)) m b ⌝ }
+{
+    let task = task_in(el);
+    if !has_tokens(el, h, m, b) {
+        return false;
+    }
+    if !can_lower(m.active, active_count(h, task)) {
+        return false;
+    }
+    if !can_lower(m.ready, ready_count(h, task)) {
+        return false;
+    }
+    is_alone(el, h, m)
+}
+
+// 18, of the instance after the taking.
+fn has_room(el: &[Word], h: &[Word], f: Word, j: Word) -> bool
+    ensures { λ r. ⌜ r ≡ hasRoom (now (el .entry)) (now (h .entry)) f j ⌝ }
+{
+    tokens_on(h, edge_from(el, EXITS as Word, f, j)) < COUNT_MOST
+}
+
+fn has_rooms(el: &[Word], h: &[Word], m: Move, b: Word) -> bool
+    ensures { λ r. ⌜ r ≡ hasRooms (now (el .entry)) (now (h .entry)) m b ⌝ }
+{
+    let f = first_edge(m.puts, b);
+    let n = touched_count(m.puts, exit_count(el));
+    let mut j: Word = 0;
+    while j < n {
+        if !has_room(el, h, f, j) {
+            return false;
+        }
+        j += 1;
+    }
+    true
+}
+
+fn can_raise(cell: Word, n: Word) -> bool
+    ensures { λ r. ⌜ r ≡ canRaise cell n ⌝ }
+{
+    if cell == UP {
+        return n < COUNT_MOST;
+    }
+    true
+}
+
+pub fn is_roomy(el: &[Word], h: &[Word], m: Move, b: Word) -> bool
+    ensures { λ r. ⌜ r ≡ roomy (now (el .entry)) (now (h .entry)) m b ⌝ }
+{
+    let task = task_in(el);
+    if !has_rooms(el, h, m, b) {
+        return false;
+    }
+    if !can_raise(m.active, active_count(h, task)) {
+        return false;
+    }
+    can_raise(m.ready, ready_count(h, task))
+}
