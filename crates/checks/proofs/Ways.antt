@@ -1,0 +1,32 @@
+-- The ways out of the tests, over plain numbers. Assumes nothing.
+use mathlib.Core.Path.{_≡_, sym, _∙_}
+use mathlib.Core.Bool.{Bool, true, false, not, _&&_}
+use Prim.Native.Nat.{ℕ, _+_}
+use lib.Dec.{eqb}
+use borrow.Author.Tests.{eq-eqb, ne-eqb}
+use Rattle.words.specs.Pick.{if_then_else_}
+use Rattle.checks.specs.Checks.{edgeRight}
+
+module _ (x n f : ℕ) where
+  pub right-none : x + n ≡ 0 → true ≡ edgeRight x n f
+  unfolding edgeRight if_then_else_
+  right-none h = rw (eq-eqb (x + n) 0 h)
+
+  pub right-entry : (x + n ≡ 0 → ⊥) → (n ≡ 1 → ⊥) → false ≡ edgeRight x n f
+  unfolding edgeRight if_then_else_
+  right-entry h e = rw (ne-eqb (x + n) 0 h, ne-eqb n 1 e)
+
+  pub right-plain : (x + n ≡ 0 → ⊥) → n ≡ 1 → f ≡ 0 → eqb x 1 ≡ edgeRight x n f
+  unfolding edgeRight if_then_else_
+  right-plain h e z = rw (ne-eqb (x + n) 0 h, eq-eqb n 1 e, eq-eqb f 0 z)
+
+  pub right-first : (x + n ≡ 0 → ⊥) → n ≡ 1 → (f ≡ 0 → ⊥) → eqb x 0 ≡ edgeRight x n f
+  unfolding edgeRight if_then_else_
+  right-first h e z = rw (ne-eqb (x + n) 0 h, eq-eqb n 1 e, ne-eqb f 0 z)
+
+-- received r, sent s, as two calls gave them
+pub apart-no : (r a b : Bool) → r ≡ a → r ≡ false → true ≡ not (a && b)
+apart-no r a b e h = rw (sym e ∙ h)
+
+pub apart-yes : (r a s b : Bool) → r ≡ a → r ≡ true → s ≡ b → not s ≡ not (a && b)
+apart-yes r a s b e h g = rw (sym e ∙ h, g)

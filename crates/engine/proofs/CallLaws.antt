@@ -1,0 +1,83 @@
+-- What the layer below does on a state that fits is what `meaning` says; on any other nothing is done. Assumes nothing.
+use Prim.Native.Nat.{ℕ, _+_, _*_, _<_}
+use mathlib.Core.Path.{_≡_, refl, sym, _∙_, ap, ap₂, subst}
+use mathlib.Core.Bool.{Bool, true, false, _&&_}
+use mathlib.Core.List.{List, _++_}
+use native.Mathlib.Omega.{arith}
+use lib.Dec.{eqb}
+use lib.ListN.{length, take, drop, length-drop, take-append-drop}
+use lib.Seq.{length-take-le}
+use Rattle.words.specs.Pick.{if_then_else_}
+use Rattle.words.specs.Counts.{names}
+use Rattle.words.proofs.AllLaws.{and-left, and-right}
+use Rattle.words.proofs.PickLaws.{pick-yes, pick-no}
+use Rattle.state.specs.Places.{instancesWords, queueWords, stateWords}
+use Rattle.state.specs.Instances.{instancesOf, queuesOf}
+use Rattle.meaning.specs.declared.Name.{Name}
+use Rattle.meaning.specs.declared.Answer.{Answer}
+use Rattle.meaning.specs.declared.Traffic.the-variants.{Nothing}
+use Rattle.meaning.specs.declared.Tuple.{Tuple}
+use Rattle.meaning.specs.Tuples.{empty}
+use Rattle.meaning.specs.Step.{Outcome, refused, step}
+use Rattle.meaning.specs.Post.{Posted, post}
+use Rattle.limits.specs.Limits.{tableFits}
+use Rattle.checks.specs.Checks.{lowest}
+use Rattle.lowest.specs.Model.{modelOf}
+use Rattle.fits.specs.Fits.{stateFits}
+use Rattle.fits.proofs.FitsLaws.{queue-tidy}
+use Rattle.rules.specs.Settled.{Done, settled, posted}
+use Rattle.rules.proofs.StepLaws.{settled-is, posted-is}
+use Rattle.steps.proofs.Traffic.{state-queues, received-name, sent-name}
+use Rattle.engine.specs.Engine.{valid, fitting, stepped, Left, postedTo}
+
+-- what a fitting table and state are
+module _ (t z : List ℕ) (h : fitting t z ≡ true) where
+  pub table-fits : tableFits t ≡ true
+  unfolding fitting valid
+  table-fits = and-left (tableFits t) (eqb (lowest (modelOf t)) 0) (and-left (valid t) (stateFits t (instancesOf z) (queuesOf z)) h)
+
+  pub state-fits : stateFits t (instancesOf z) (queuesOf z) ≡ true
+  unfolding fitting
+  state-fits = and-right (valid t) (stateFits t (instancesOf z) (queuesOf z)) h
+
+module _ (z : List ℕ) (l : length z ≡ stateWords) where
+  pub long-instances : length (instancesOf z) ≡ instancesWords
+  long-instances = length-take-le instancesWords z (omega arith)
+
+  pub long-queues : length (queuesOf z) ≡ queueWords * names
+  long-queues = simp length-drop (omega arith)
+
+module _ (t z : List ℕ) (l : length z ≡ stateWords) (h : fitting t z ≡ true) where
+  settled-step : (n : Name) → settled t (instancesOf z) (queuesOf z) n ≡ step t (instancesOf z) (queuesOf z) n
+  settled-step n =
+      settled-is (queuesOf z) (long-queues z l) (λ m k. queue-tidy (queuesOf z) m (state-queues t (instancesOf z) (queuesOf z) (state-fits t z h) m k)) t (instancesOf z) n
+      (λ e. received-name t (instancesOf z) (queuesOf z) n (table-fits t z h) e)
+      (λ e. sent-name t (instancesOf z) (queuesOf z) n (table-fits t z h) e)
+
+  settled-post : (name : ℕ) (g : Tuple) → posted (queuesOf z) name g ≡ post (queuesOf z) name g
+  settled-post name g =
+      posted-is (queuesOf z) (long-queues z l) (λ m k. queue-tidy (queuesOf z) m (state-queues t (instancesOf z) (queuesOf z) (state-fits t z h) m k)) name g
+
+  pub step-done : (n : Name) (r : Answer) (y : List ℕ) → Done (settled t (instancesOf z) (queuesOf z) n) r y → Done (stepped t z n) r y
+  unfolding stepped if_then_else_
+  step-done n r y d = rw h (subst (λ (o : Outcome). Done o r y) (settled-step n) d)
+
+  pub post-done : (name : ℕ) (g : Tuple) (r : ℕ) (y : List ℕ)
+      → (_≡_ {A = Posted} (record { number = r; queues = queuesOf y }) (posted (queuesOf z) name g)) × (instancesOf y ≡ instancesOf z)
+      → _≡_ {A = Left} (record { number = r; state = y }) (postedTo t z name g)
+  unfolding postedTo if_then_else_
+  post-done name g r y d =
+      let e : _≡_ {A = Posted} (record { number = r; queues = queuesOf y }) (post (queuesOf z) name g) = d .0 ∙ settled-post name g in
+      let n : r ≡ post (queuesOf z) name g .number = ap (λ (o : Posted). o .number) e in
+      let w : queuesOf y ≡ post (queuesOf z) name g .queues = ap (λ (o : Posted). o .queues) e in
+      let k : y ≡ instancesOf z ++ post (queuesOf z) name g .queues = sym (take-append-drop instancesWords y) ∙ ap₂ _++_ (d .1) w in
+      rw h (λ i. record { number = n i; state = k i })
+
+-- a table or a state that does not fit
+pub step-bad : (t z : List ℕ) (n : Name) (r : Answer) → fitting t z ≡ false → r ≡ record { number = 10; traffic = Nothing; name = 0; tuple = empty } → Done (stepped t z n) r z
+unfolding stepped if_then_else_
+step-bad t z n r h e = rw h (record { answer = e; state = sym (take-append-drop instancesWords z) })
+
+pub post-bad : (t z : List ℕ) (name : ℕ) (g : Tuple) → fitting t z ≡ false → _≡_ {A = Left} (record { number = 10; state = z }) (postedTo t z name g)
+unfolding postedTo if_then_else_
+post-bad t z name g h = rw h

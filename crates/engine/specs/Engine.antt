@@ -1,0 +1,50 @@
+-- The public calls: what is lent is checked first, then the call of the layer below. z is a state, its instances and then its queues.
+use Prim.Native.Nat.{ℕ}
+use mathlib.Core.Path.{_≡_}
+use mathlib.Core.Bool.{Bool, _&&_}
+use mathlib.Core.List.{List, _++_}
+use lib.Dec.{eqb}
+use Rattle.words.specs.Pick.{if_then_else_}
+use Rattle.state.specs.Instances.{instancesOf, queuesOf}
+use Rattle.meaning.specs.declared.Name.{Name}
+use Rattle.meaning.specs.declared.Tuple.{Tuple}
+use Rattle.meaning.specs.Step.{Outcome, refused, step}
+use Rattle.meaning.specs.Post.{post}
+use Rattle.limits.specs.Limits.{tableFits}
+use Rattle.checks.specs.Checks.{lowest}
+use Rattle.lowest.specs.Model.{modelOf}
+use Rattle.fits.specs.Fits.{stateFits}
+use Rattle.fits.specs.Fresh.{fresh}
+use Rattle.engine.specs.declared.Verdict.{Verdict}
+
+-- a table that breaks no limit and no check
+unfoldable pub valid : List ℕ → Bool
+valid t = tableFits t && eqb (lowest (modelOf t)) 0
+
+-- "The check of a lent table gives 10 for a broken limit or an unused place not 0, then 4", with the lowest check broken beside it
+unfoldable pub verdictOf : List ℕ → Verdict
+verdictOf t =
+    if tableFits t then
+    if eqb (lowest (modelOf t)) 0 then record { number = 0; beside = 0 } else record { number = 4; beside = lowest (modelOf t) }
+    else record { number = 10; beside = 0 }
+
+-- a number given back, and the state that is left
+pub record Left : Type 0 where
+  pub number : ℕ
+  pub state : List ℕ
+
+-- "every other call gives 10 for all of these"
+unfoldable pub freshened : List ℕ → List ℕ → Left
+freshened t z = if valid t then record { number = 0; state = fresh t } else record { number = 10; state = z }
+
+-- "10: the table breaks a limit or check, or the state doesn't fit the table and the limits"
+unfoldable pub fitting : List ℕ → List ℕ → Bool
+fitting t z = valid t && stateFits t (instancesOf z) (queuesOf z)
+
+unfoldable pub stepped : List ℕ → List ℕ → Name → Outcome
+stepped t z n = if fitting t z then step t (instancesOf z) (queuesOf z) n else refused 10 (instancesOf z) (queuesOf z)
+
+unfoldable pub postedTo : List ℕ → List ℕ → ℕ → Tuple → Left
+postedTo t z name g =
+    if fitting t z then record { number = post (queuesOf z) name g .number; state = instancesOf z ++ post (queuesOf z) name g .queues }
+    else record { number = 10; state = z }

@@ -1,0 +1,112 @@
+// The public calls. Each checks what it is lent, then calls the layer below.
+ghost use mathlib.Core.Path.{_≡_};
+ghost use mathlib.Core.Bool.{true};
+ghost use lib.ListN.{length};
+ghost use Rattle.state.specs.Places.{stateWords};
+ghost use Rattle.engine.specs.Engine.{valid, verdictOf, Left, freshened, fitting, stepped, postedTo};
+ghost use Rattle.meaning.specs.Tuples.{empty};
+ghost use Rattle.rules.specs.Settled.{Done};
+use meaning::Answer;
+use meaning::Name;
+use meaning::Traffic;
+use meaning::Tuple;
+use meaning::empty_tuple;
+use model::places::TABLE_WORDS;
+use state::places::STATE_WORDS;
+use words::Word;
+
+// The numbers given back: accepted; a model check is broken; what was lent is bad.
+pub const ACCEPTED: Word = 0;
+
+pub const CHECK_BROKEN: Word = 4;
+
+pub const BAD: Word = 10;
+
+// The answer of a check: a number, and beside 4 the lowest check broken.
+pub struct Verdict {
+    pub number: Word,
+    pub beside: Word,
+}
+
+// Checks a lent table: 10 for a broken limit or an unused place not 0, then 4, else 0.
+pub fn check(t: &[Word; TABLE_WORDS]) -> Verdict
+    ensures { λ r. ⌜ r ≡ verdictOf (now (t .entry)) ⌝ }
+{
+    if !limits::table_fits(t) {
+        return Verdict {
+            number: BAD,
+            beside: 0,
+        };
+    }
+    let broken = lowest::lowest_broken(t);
+    if broken == 0 {
+        return Verdict {
+            number: ACCEPTED,
+            beside: 0,
+        };
+    }
+    Verdict {
+        number: CHECK_BROKEN,
+        beside: broken,
+    }
+}
+
+fn is_valid(t: &[Word; TABLE_WORDS]) -> bool
+    ensures { λ r. ⌜ r ≡ valid (now (t .entry)) ⌝ }
+{
+    if !limits::table_fits(t) {
+        return false;
+    }
+    lowest::lowest_broken(t) == 0
+}
+
+// Makes a fresh state: 10 where the table is bad, and the state stays; else 0.
+pub fn fresh(t: &[Word; TABLE_WORDS], z: &mut [Word; STATE_WORDS]) -> Word
+    ensures { λ r. ⌜ record { number = r; state = now (z .exit) } ≡ freshened (now (t .entry)) (now (z .entry)) ⌝ }
+{
+    if !is_valid(t) {
+        return BAD;
+    }
+    fits::fresh::begin(t, z);
+    ACCEPTED
+}
+
+fn is_fitting(t: &[Word; TABLE_WORDS], z: &[Word; STATE_WORDS]) -> bool
+    ensures { λ r. ⌜ (r ≡ fitting (now (t .entry)) (now (z .entry))) × (r ≡ true → length (now (z .entry)) ≡ stateWords) ⌝ }
+{
+    if !is_valid(t) {
+        return false;
+    }
+    fits::state_fits(t, z)
+}
+
+fn bad() -> Answer
+    ensures { λ r. ⌜ r ≡ record { number = 10; traffic = Traffic.Nothing; name = 0; tuple = empty } ⌝ }
+{
+    Answer {
+        number: BAD,
+        traffic: Traffic::Nothing,
+        name: 0,
+        tuple: empty_tuple(),
+    }
+}
+
+// Takes a named step: 10 where the table or the state is bad, 11 to 18 where it is refused, and the state stays; else 0, and what was consumed or sent.
+pub fn step(t: &[Word; TABLE_WORDS], z: &mut [Word; STATE_WORDS], n: Name) -> Answer
+    ensures { λ r. ⌜ Done (stepped (now (t .entry)) (now (z .entry)) n) r (now (z .exit)) ⌝ }
+{
+    if !is_fitting(t, z) {
+        return bad();
+    }
+    rules::step_on(t, z, n)
+}
+
+// Posts a message from outside: 10, 19 or 17, and the state stays; else 0.
+pub fn post(t: &[Word; TABLE_WORDS], z: &mut [Word; STATE_WORDS], name: Word, g: Tuple) -> Word
+    ensures { λ r. ⌜ record { number = r; state = now (z .exit) } ≡ postedTo (now (t .entry)) (now (z .entry)) name g ⌝ }
+{
+    if !is_fitting(t, z) {
+        return BAD;
+    }
+    rules::post_on(z, name, g)
+}

@@ -1,0 +1,17 @@
+use Rattle.words.proofs.PickLaws.{pick-no, pick-yes}
+use borrow.Author.Tests.{eq-eqb, ne-eqb}
+use Rattle.meaning.specs.Requirements.{granted}
+use borrow.Author.Needs.{needs}
+use Rattle.fields.proofs.grants.Statement.{statement}
+use Rattle.fields.proofs.grants.Tie as tie
+
+ruleset L = (needs)
+
+pub grants-spec : {M : Type 1} → statement M
+unfolding granted
+grants-spec =
+    tie.close
+    (tie.spec
+    (λ c κs. search L)
+    (λ c. pick-yes _ _ _ _ (eq-eqb _ _ (c .before .if1 .taken)) (cc))  -- returns
+    (λ c. pick-no _ _ _ _ (ne-eqb _ _ (c .if1 .left)) (cc)))  -- returns-2

@@ -1,0 +1,17 @@
+use Rattle.fits.proofs.CallLaws.{message-no, message-yes}
+use Rattle.meaning.specs.Changes.{taken}
+use Rattle.meaning.specs.Step.{before}
+use borrow.Author.Needs.{needs}
+use Rattle.fits.proofs.messages.message_fits.Statement.{statement}
+use Rattle.fits.proofs.messages.message_fits.Tie as tie
+
+ruleset L = (needs)
+
+pub message-fits-spec : {M : Type 1} → statement M
+message-fits-spec =
+    tie.close
+    (tie.spec
+    (λ c κs. search L)
+    (λ c. message-no _ _ _ _ (c .before .before .message-at .ensures) (c .if1 .taken))  -- returns
+    (λ c κs. search L)
+    (λ c. message-yes _ _ _ _ (c .before .before .before .message-at .ensures) (c .before .if1 .left) _ (c .values-fit .ensures)))  -- returns-2

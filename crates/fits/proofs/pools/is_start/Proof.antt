@@ -1,0 +1,18 @@
+use Rattle.fits.specs.Fits.{isStart}
+use Rattle.kinds.proofs.TableLaws.{kind-in}
+use Rattle.meaning.specs.Step.{before}
+use Rattle.words.proofs.PickLaws.{eqb-same}
+use borrow.Author.Needs.{needs}
+use Rattle.fits.proofs.pools.is_start.Statement.{statement}
+use Rattle.fits.proofs.pools.is_start.Tie as tie
+
+ruleset L = (needs, eqb-same)
+
+pub is-start-spec : {M : Type 1} → statement M
+unfolding isStart
+is-start-spec =
+    tie.close
+    (tie.spec
+    (λ c κs. search L)
+    (λ c κs. search L)
+    (λ c. rw (c .kind-in .ensures, c .before .element-at .ensures)))  -- returns

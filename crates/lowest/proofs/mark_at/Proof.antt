@@ -1,0 +1,14 @@
+use borrow.Author.Needs.{needs}
+use Rattle.lowest.proofs.mark_at.Statement.{statement}
+use Rattle.lowest.proofs.mark_at.Tie as tie
+
+ruleset L = (needs)
+
+pub mark-at-spec : {M : Type 1} → statement M
+mark-at-spec =
+    tie.close
+    (tie.spec
+    (λ c κs. search L)
+    (λ c κs. search L)
+    (λ c. search L)
+    (λ c. cc))

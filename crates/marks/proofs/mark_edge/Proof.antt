@@ -1,0 +1,15 @@
+use borrow.Author.Needs.{needs}
+use Rattle.marks.proofs.mark_edge.Statement.{statement}
+use Rattle.marks.proofs.mark_edge.Tie as tie
+
+ruleset L = (needs)
+
+pub mark-edge-spec : {M : Type 1} → statement M
+mark-edge-spec =
+    tie.close
+    (tie.spec
+    (λ c κs. search L)
+    (λ c κs. search L)
+    (λ c κs. search L)
+    (λ c. search L)
+    (λ c. cc))

@@ -1,0 +1,15 @@
+use Rattle.occurrences.specs.Occurrences.{defaults, defaultOnce}
+use borrow.Author.Needs.{needs}
+use Rattle.occurrences.proofs.default_once.Statement.{statement}
+use Rattle.occurrences.proofs.default_once.Tie as tie
+
+ruleset L = (needs)
+
+pub default-once-spec : {M : Type 1} → statement M
+unfolding defaultOnce defaults
+default-once-spec =
+    tie.close
+    (tie.spec
+    (λ c κs. search L)
+    (λ c κs. search L)
+    (λ c. cc))

@@ -1,0 +1,17 @@
+use Rattle.occurrences.specs.Occurrences.{sentCount}
+use borrow.Author.Needs.{needs}
+use Rattle.occurrences.proofs.sent_count.Statement.{statement}
+use Rattle.occurrences.proofs.sent_count.Tie as tie
+
+ruleset L = (needs)
+
+pub sent-count-spec : {M : Type 1} → statement M
+unfolding sentCount
+sent-count-spec =
+    tie.close
+    (tie.spec
+    (λ c κs. search L)
+    (λ c κs. search L)
+    (λ c κs. search L)
+    (λ c κs. search L)
+    (λ c. cc))

@@ -1,0 +1,74 @@
+-- How often something stands in one element el: what the model checks count.
+use mathlib.Core.Bool.{Bool, _&&_}
+use mathlib.Core.List.{List}
+use Prim.Native.Nat.{ℕ, _+_}
+use lib.Dec.{eqb, leb}
+use Rattle.words.specs.All.{all}
+use Rattle.words.specs.Sum.{sum, hit, one}
+use Rattle.words.specs.Words.{at}
+use Rattle.words.specs.Counts.{fields}
+use Rattle.kinds.specs.declared.Kind.{Kind}
+use Rattle.kinds.specs.Kinds.{kindOf, used, start}
+use Rattle.model.specs.Places.{operandNumber, formPlace, leftPlace, binding, default}
+use Rattle.model.specs.Table.{kindIn, taskIn, entryCount, exitCount, entryAt, exitAt, conditionAt, messageName, messageLength, itemAt}
+
+-- how many conditions it has, and messages that it receives or sends: none, one, or one with each exit
+unfoldable pub conditionCount : List ℕ → ℕ
+conditionCount el = used (kindOf (kindIn el) .conditions) (exitCount el)
+
+unfoldable pub receivedCount : List ℕ → ℕ
+receivedCount el = used (kindOf (kindIn el) .receives) (exitCount el)
+
+unfoldable pub sentCount : List ℕ → ℕ
+sentCount el = used (kindOf (kindIn el) .sends) (exitCount el)
+
+-- it is of kind k
+unfoldable pub ofKind : ℕ → List ℕ → ℕ
+ofKind k el = hit (kindIn el) k
+
+-- the edge e as an exit, as an entry, as the first edge of a `start`
+unfoldable pub asExit : ℕ → List ℕ → ℕ
+asExit e el = sum (λ j. hit (exitAt el j) e) (exitCount el)
+
+unfoldable pub asEntry : ℕ → List ℕ → ℕ
+asEntry e el = sum (λ j. hit (entryAt el j) e) (entryCount el)
+
+unfoldable pub asFirst : ℕ → List ℕ → ℕ
+asFirst e el = one (eqb (kindIn el) start && eqb (entryAt el 0) e)
+
+-- the task number n (0 where there is no task)
+unfoldable pub asTask : ℕ → List ℕ → ℕ
+asTask n el = hit (taskIn el) n
+
+-- the message name m, received or sent
+unfoldable pub received : ℕ → List ℕ → ℕ
+received m el = sum (λ j. hit (messageName el j) m) (receivedCount el)
+
+unfoldable pub sent : ℕ → List ℕ → ℕ
+sent m el = sum (λ j. hit (messageName el j) m) (sentCount el)
+
+-- a default among the conditions (only an xorSplit has several)
+abbrev pub conditionForm : List ℕ → ℕ → ℕ
+conditionForm el j = at (conditionAt el j) formPlace
+
+unfoldable pub isDefault : List ℕ → ℕ → ℕ
+isDefault el j = hit (conditionForm el j) default
+
+unfoldable pub defaults : List ℕ → ℕ
+defaults el = sum (isDefault el) (conditionCount el)
+
+unfoldable pub defaultOnce : List ℕ → Bool
+defaultOnce el = leb (defaults el) 1
+
+-- the field d bound by an item x, and in template j
+unfoldable pub bindsField : ℕ → List ℕ → ℕ
+bindsField d x = one (eqb (at x formPlace) binding && eqb (at x (leftPlace + operandNumber)) d)
+
+unfoldable pub timesBound : List ℕ → ℕ → ℕ → ℕ
+timesBound el j d = sum (λ i. bindsField d (itemAt el j i)) (messageLength el j)
+
+unfoldable pub templateOnce : List ℕ → ℕ → Bool
+templateOnce el j = all (λ d. leb (timesBound el j d) 1) fields
+
+unfoldable pub boundOnce : List ℕ → Bool
+boundOnce el = all (templateOnce el) (receivedCount el)

@@ -1,0 +1,148 @@
+// What the model checks count in one element; checks 7 and 8 are about one element alone.
+ghost use mathlib.Core.Path.{_≡_};
+ghost use Prim.Native.Nat.{_≤_};
+ghost use Rattle.occurrences.specs.Occurrences.{conditionCount, receivedCount, sentCount, conditionForm, isDefault, defaultOnce, bindsField, timesBound, templateOnce, boundOnce};
+ghost use Rattle.words.specs.All.{all};
+ghost use Rattle.words.specs.Sum.{sum};
+ghost use Rattle.model.specs.Table.{itemAt};
+use kinds::count_by;
+use kinds::kind_of;
+use model::condition_at;
+use model::exit_count;
+use model::item_at;
+use model::kind_in;
+use model::message_length;
+use model::places::BINDING;
+use model::places::DEFAULT;
+use model::places::FORM;
+use model::places::LEFT;
+use model::places::OPERAND_NUMBER;
+use words::Word;
+use words::counts::FIELDS;
+use words::word;
+
+pub fn condition_count(el: &[Word]) -> Word
+    ensures { λ r. ⌜ r ≡ conditionCount (now (el .entry)) ⌝ }
+{
+    let kind = kind_of(kind_in(el));
+    count_by(kind.conditions, exit_count(el))
+}
+
+pub fn received_count(el: &[Word]) -> Word
+    ensures { λ r. ⌜ r ≡ receivedCount (now (el .entry)) ⌝ }
+{
+    let kind = kind_of(kind_in(el));
+    count_by(kind.receives, exit_count(el))
+}
+
+pub fn sent_count(el: &[Word]) -> Word
+    ensures { λ r. ⌜ r ≡ sentCount (now (el .entry)) ⌝ }
+{
+    let kind = kind_of(kind_in(el));
+    count_by(kind.sends, exit_count(el))
+}
+
+fn condition_form(el: &[Word], j: Word) -> Word
+    ensures { λ r. ⌜ r ≡ conditionForm (now (el .entry)) j ⌝ }
+{
+    word(condition_at(el, j), FORM)
+}
+
+fn is_default(el: &[Word], j: Word) -> usize
+    ensures { λ r. ⌜ (r ≡ isDefault (now (el .entry)) j) × (r ≤ 1) ⌝ }
+{
+    if condition_form(el, j) == DEFAULT {
+        return 1;
+    }
+    0
+}
+
+fn defaults_below(el: &[Word], count: Word) -> usize
+    ensures { λ r. ⌜ r ≡ sum (isDefault (now (el .entry))) count ⌝ }
+{
+    let mut n: usize = 0;
+    let mut j: Word = 0;
+    while j < count {
+        n += is_default(el, j);
+        j += 1;
+    }
+    n
+}
+
+// Whether at most one condition is the default.
+pub fn default_once(el: &[Word]) -> bool
+    ensures { λ r. ⌜ r ≡ defaultOnce (now (el .entry)) ⌝ }
+{
+    defaults_below(el, condition_count(el)) <= 1
+}
+
+// 1 where the item binds field d.
+fn binds_field(d: Word, x: &[Word]) -> usize
+    ensures { λ r. ⌜ (r ≡ bindsField d (now (x .entry))) × (r ≤ 1) ⌝ }
+{
+    if word(x, FORM) != BINDING {
+        return 0;
+    }
+    if word(x, LEFT + OPERAND_NUMBER) != d {
+        return 0;
+    }
+    1
+}
+
+fn item_binds(el: &[Word], j: Word, i: Word, d: Word) -> usize
+    ensures { λ r. ⌜ (r ≡ bindsField d (itemAt (now (el .entry)) j i)) × (r ≤ 1) ⌝ }
+{
+    binds_field(d, item_at(el, j, i))
+}
+
+fn bound_below(el: &[Word], j: Word, d: Word, count: Word) -> usize
+    ensures { λ r. ⌜ r ≡ sum (λ i. bindsField d (itemAt (now (el .entry)) j i)) count ⌝ }
+{
+    let mut n: usize = 0;
+    let mut i: Word = 0;
+    while i < count {
+        n += item_binds(el, j, i, d);
+        i += 1;
+    }
+    n
+}
+
+// How often template j binds field d.
+fn times_bound(el: &[Word], j: Word, d: Word) -> usize
+    ensures { λ r. ⌜ r ≡ timesBound (now (el .entry)) j d ⌝ }
+{
+    bound_below(el, j, d, message_length(el, j))
+}
+
+fn template_once(el: &[Word], j: Word) -> bool
+    ensures { λ r. ⌜ r ≡ templateOnce (now (el .entry)) j ⌝ }
+{
+    let mut d: Word = 0;
+    while d < FIELDS {
+        if times_bound(el, j, d) > 1 {
+            return false;
+        }
+        d += 1;
+    }
+    true
+}
+
+fn templates_once(el: &[Word], count: Word) -> bool
+    ensures { λ r. ⌜ r ≡ all (templateOnce (now (el .entry))) count ⌝ }
+{
+    let mut j: Word = 0;
+    while j < count {
+        if !template_once(el, j) {
+            return false;
+        }
+        j += 1;
+    }
+    true
+}
+
+// Whether no template binds a field twice.
+pub fn bound_once(el: &[Word]) -> bool
+    ensures { λ r. ⌜ r ≡ boundOnce (now (el .entry)) ⌝ }
+{
+    templates_once(el, received_count(el))
+}

@@ -1,0 +1,14 @@
+use borrow.Author.Needs.{needs}
+use Rattle.rules.proofs.move_at.Statement.{statement}
+use Rattle.rules.proofs.move_at.Tie as tie
+
+ruleset L = (needs)
+
+pub move-at-spec : {M : Type 1} → statement M
+move-at-spec =
+    tie.close
+    (tie.spec
+    (λ c κs. search L)
+    (λ c κs. search L)
+    (λ c κs. search L)
+    (λ c. cc))  -- returns

@@ -1,0 +1,179 @@
+// The two parts of a state, lent one after the other.
+ghost use mathlib.Core.Path.{_≡_};
+ghost use mathlib.Core.List.{_++_};
+ghost use lib.ListN.{length};
+ghost use Prim.Native.Nat.{_≤_};
+ghost use Rattle.state.specs.Places.{instancesWords};
+ghost use Rattle.state.specs.Instances.{instancesOf, queuesOf, madeCount};
+ghost use Rattle.meaning.specs.declared.Traffic.the-variants.{Nothing};
+ghost use Rattle.meaning.specs.Tuples.{empty};
+ghost use Rattle.meaning.specs.Step.{instanceOf, before};
+ghost use Rattle.queues.specs.Changes.{oldest, removed};
+ghost use Rattle.rules.specs.Parts.{siteAt, Decided, storedIn, deliveredBy, answerBy, Applied};
+ghost use Rattle.rules.specs.Settled.{posted};
+use super::copies::commit;
+use super::copies::copy_before;
+use super::copies::made_after;
+use super::numbers::has_place;
+use super::numbers::is_postable;
+use super::plans::Plan;
+use super::plans::decide;
+use kinds::moves::Move;
+use kinds::moves::ON;
+use meaning::Answer;
+use meaning::Name;
+use meaning::Traffic;
+use meaning::Tuple;
+use meaning::empty_tuple;
+use model::message_name;
+use queues::append;
+use queues::oldest_of;
+use queues::remove;
+use state::made_count;
+use state::places::INSTANCE_WORDS;
+use state::places::INSTANCES_WORDS;
+use words::Word;
+
+// What a step answers.
+pub fn refuse(number: Word) -> Answer
+    ensures { λ r. ⌜ r ≡ record { number = number; traffic = Nothing; name = 0; tuple = empty } ⌝ }
+{
+    Answer {
+        number: number,
+        traffic: Traffic::Nothing,
+        name: 0,
+        tuple: empty_tuple(),
+    }
+}
+
+fn answer_of(m: Move, name: Word, expected: Tuple, sent: Tuple) -> Answer
+    ensures { λ r. ⌜ r ≡ answerBy m name expected sent ⌝ }
+{
+    if m.receives == ON {
+        return Answer {
+            number: 0,
+            traffic: Traffic::Consumed,
+            name: name,
+            tuple: expected,
+        };
+    }
+    if m.sends == ON {
+        return Answer {
+            number: 0,
+            traffic: Traffic::Sent,
+            name: name,
+            tuple: sent,
+        };
+    }
+    refuse(0)
+}
+
+// Reading.
+pub fn made_in(z: &[Word], p: Word) -> Word
+    requires { ⌜ instancesWords ≤ length (now z) ⌝ }
+    ensures { λ r. ⌜ r ≡ madeCount (instancesOf (now (z .entry))) p ⌝ }
+{
+    made_count(&z[..INSTANCES_WORDS], p)
+}
+
+pub fn copy_in(z: &[Word], m: Move, p: Word, i: Word) -> [Word; INSTANCE_WORDS]
+    requires { ⌜ instancesWords ≤ length (now z) ⌝ }
+    ensures { λ r. ⌜ r ≡ before m (instanceOf (instancesOf (now (z .entry))) p i) ⌝ }
+{
+    copy_before(&z[..INSTANCES_WORDS], m, p, i)
+}
+
+pub fn decide_in(
+    el: &[Word],
+    h: &mut [Word],
+    z: &[Word],
+    m: Move,
+    b: Word,
+    g: Tuple,
+    made: Word,
+    limit: Word,
+) -> Plan
+    requires { ⌜ instancesWords ≤ length (now z) ⌝ }
+    ensures { λ r. ⌜ Decided (siteAt (now (el .entry)) (now (h .entry)) m b g made limit) (queuesOf (now (z .entry))) r (now (h .exit)) ⌝ }
+{
+    decide(el, h, m, b, g, made, limit, &z[INSTANCES_WORDS..])
+}
+
+// Writing.
+fn consume(q: &mut [Word], name: Word, g: Tuple)
+    ensures { λ _. ⌜ now (q .exit) ≡ removed (now (q .entry)) name (oldest (now (q .entry)) name g) ⌝ }
+{
+    let k = oldest_of(q, name, g);
+    remove(q, name, k);
+}
+
+fn deliver(q: &mut [Word], m: Move, name: Word, g: Tuple, sent: Tuple)
+    ensures { λ _. ⌜ now (q .exit) ≡ deliveredBy m name g sent (now (q .entry)) ⌝ }
+{
+    if m.receives == ON {
+        consume(q, name, g);
+        return;
+    }
+    if m.sends == ON {
+        append(q, name, sent);
+        return;
+    }
+}
+
+fn commit_in(z: &mut [Word], p: Word, i: Word, h: &[Word], made: Word)
+    requires { ⌜ instancesWords ≤ length (now z) ⌝ }
+    ensures { λ _. ⌜ now (z .exit) ≡ storedIn (instancesOf (now (z .entry))) p i (now (h .entry)) made ++ queuesOf (now (z .entry)) ⌝ }
+{
+    commit(&mut z[..INSTANCES_WORDS], p, i, h, made);
+}
+
+fn deliver_in(z: &mut [Word], m: Move, name: Word, g: Tuple, sent: Tuple)
+    requires { ⌜ instancesWords ≤ length (now z) ⌝ }
+    ensures { λ _. ⌜ now (z .exit) ≡ instancesOf (now (z .entry)) ++ deliveredBy m name g sent (queuesOf (now (z .entry))) ⌝ }
+{
+    deliver(&mut z[INSTANCES_WORDS..], m, name, g, sent);
+}
+
+// The writes of an accepted step, h being the instance after it, and its answer.
+pub fn apply(
+    el: &[Word],
+    h: &[Word],
+    z: &mut [Word],
+    m: Move,
+    p: Word,
+    n: Name,
+    made: Word,
+    plan: Plan,
+) -> Answer
+    requires { ⌜ instancesWords ≤ length (now z) ⌝ }
+    ensures { λ r. ⌜ Applied (now (el .entry)) (now (h .entry)) (now (z .entry)) m p n made plan r (now (z .exit)) ⌝ }
+{
+    let g = n.given;
+    let expected = plan.expected;
+    let sent = plan.sent;
+    let name = message_name(el, n.branch);
+    let made = made_after(m, made);
+    commit_in(z, p, n.instance, h, made);
+    deliver_in(z, m, name, g, sent);
+    answer_of(m, name, expected, sent)
+}
+
+fn post_to(q: &mut [Word], name: Word, g: Tuple) -> Word
+    ensures { λ r. ⌜ record { number = r; queues = now (q .exit) } ≡ posted (now (q .entry)) name g ⌝ }
+{
+    if !is_postable(name, g.length) {
+        return 19;
+    }
+    if !has_place(q, name) {
+        return 17;
+    }
+    append(q, name, g);
+    0
+}
+
+pub fn post_in(z: &mut [Word], name: Word, g: Tuple) -> Word
+    requires { ⌜ instancesWords ≤ length (now z) ⌝ }
+    ensures { λ r. ⌜ (record { number = r; queues = queuesOf (now (z .exit)) } ≡ posted (queuesOf (now (z .entry))) name g) × (instancesOf (now (z .exit)) ≡ instancesOf (now (z .entry))) ⌝ }
+{
+    post_to(&mut z[INSTANCES_WORDS..], name, g)
+}

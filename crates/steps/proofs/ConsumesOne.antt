@@ -1,0 +1,43 @@
+-- An accepted step that receives takes one message equal to the given one out of its queue, and no other; one that sends puts its message there
+-- once. Assumes nothing.
+use Prim.Native.Nat.{ℕ, _+_, _*_, _<_}
+use mathlib.Core.Path.{_≡_}
+use mathlib.Core.Bool.{true}
+use mathlib.Core.List.{List}
+use native.Mathlib.Omega.{arith}
+use lib.ListN.{length}
+use Rattle.words.specs.Sum.{one}
+use Rattle.words.specs.Counts.{names}
+use Rattle.state.specs.Places.{queueWords}
+use Rattle.limits.specs.Limits.{tableFits}
+use Rattle.meaning.specs.declared.Name.{Name}
+use Rattle.meaning.specs.declared.Tuple.{Tuple}
+use Rattle.meaning.specs.Tuples.{sameTuple}
+use Rattle.meaning.specs.Messages.{times}
+use Rattle.meaning.specs.Queues.{messagesOf}
+use Rattle.meaning.specs.Refusals.{firstRefusal}
+use Rattle.meaning.specs.Step.{Site, siteOf, receives, sends, nameAt, sent, refusals, queuesAfter}
+use Rattle.queues.proofs.QueueLaws.{count-is}
+use Rattle.queues.proofs.ChangeLaws.{times-consuming, times-sending}
+use Rattle.fits.specs.Fits.{stateFits}
+use Rattle.steps.proofs.QueuesAfter.{after-receiving, after-sending}
+use Rattle.steps.proofs.QueueFits.{fits-tidy}
+use Rattle.steps.proofs.Traffic.{state-queues, received-name, received-there, sent-alone, sent-name, sent-space, sent-short}
+
+module _ (t s q : List ℕ) (n : Name) (fits : tableFits t ≡ true) (long : length q ≡ queueWords * names) (state : stateFits t s q ≡ true) (accepted : firstRefusal (refusals t s q n) ≡ 0) where
+  abbrev x : Site
+  x = siteOf t s n
+
+  pub consumes-one : receives x ≡ true → (v : Tuple) → times v (messagesOf (queuesAfter x q) (nameAt x)) + one (sameTuple (x .given) v) ≡ times v (messagesOf q (nameAt x))
+  consumes-one e v =
+      let l : nameAt x < names = received-name t s q n fits accepted e in
+      rw (after-receiving x q e)
+      (times-consuming q (nameAt x) long l (fits-tidy q (nameAt x) (state-queues t s q state (nameAt x) l)) (x .given) v (received-there t s q n fits accepted e))
+
+  pub sends-one : sends x ≡ true → (v : Tuple) → times v (messagesOf (queuesAfter x q) (nameAt x)) ≡ times v (messagesOf q (nameAt x)) + one (sameTuple (sent x .tuple) v)
+  sends-one e v =
+      let l : nameAt x < names = sent-name t s q n fits accepted e in
+      let r = sent-space t s q n fits accepted e in
+      rw (after-sending x q (sent-alone t s q n fits accepted e) e)
+      (times-sending q (nameAt x) long l (fits-tidy q (nameAt x) (state-queues t s q state (nameAt x) l)) (sent x .tuple) (omega (arith, r, count-is q (nameAt x))) v
+      (sent-short t s q n fits accepted e))

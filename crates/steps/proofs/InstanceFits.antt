@@ -1,0 +1,141 @@
+-- Changes to an instance that keep it fit: a count at most 255 at a place it may use, a field defined, all counts cleared. u is the places it may
+-- use, h its words. Assumes nothing.
+use Prim.Native.Nat.{ℕ, _+_, _≤_, _<_}
+use mathlib.Core.Path.{_≡_, sym, _∙_, ap, subst}
+use mathlib.Core.Bool.{true}
+use mathlib.Core.List.{List}
+use native.Mathlib.Omega.{arith}
+use lib.Dec.{eqb, leb}
+use lib.ListN.{length, set, replicate, length-set, length-replicate, getD-replicate}
+use lib.Seq.{getD-set-same, getD-set-other}
+use borrow.Author.Tests.{eqb-true, leb-true, eq-eqb, le-leb}
+use Rattle.words.specs.All.{all}
+use Rattle.words.specs.Each.{tab}
+use Rattle.words.specs.Pick.{if_then_else_}
+use Rattle.words.specs.Words.{at}
+use Rattle.words.specs.Counts.{fields, countMost}
+use Rattle.words.proofs.AllLaws.{and-left, and-right, all-at, all-of}
+use Rattle.words.proofs.ListLaws.{length-tab, getD-tab}
+use Rattle.words.proofs.PickLaws.{and-true}
+use Rattle.words.proofs.WritesLaws.{length-writes, writes-in, writes-above}
+use Rattle.state.specs.Places.{definedPlace, valuePlace, instanceWords}
+use Rattle.state.specs.Instances.{withField}
+use Rattle.meaning.specs.Changes.{cleared}
+use Rattle.fits.specs.Fits.{countFits, fieldFits, instanceFits}
+use Rattle.queues.proofs.SlotLaws.{by-order}
+use Rattle.steps.proofs.Choices.{by-test, chosen, passed, passed-true}
+
+-- ONE WORD
+module _ (u h : List ℕ) (k : ℕ) where
+  count-zero : at h k ≡ 0 → countFits u h k ≡ true
+  unfolding countFits
+  count-zero e = chosen (eqb (at h k) 0) true _ (eq-eqb (at h k) 0 e)
+
+  count-in : at u k ≡ 1 → at h k ≤ countMost → countFits u h k ≡ true
+  unfolding countFits
+  count-in e l =
+      by-test (eqb (at h k) 0) (λ z. chosen (eqb (at h k) 0) true _ z)
+      (λ z. passed (eqb (at h k) 0) true _ z ∙ and-true (eqb (at u k) 1) (leb (at h k) countMost) (eq-eqb (at u k) 1 e) (le-leb (at h k) countMost l))
+
+  pub count-most : countFits u h k ≡ true → at h k ≤ countMost
+  unfolding countFits
+  count-most f =
+      by-test (eqb (at h k) 0) (λ z. let e = eqb-true (at h k) 0 z in omega arith)
+      (λ z. leb-true (at h k) countMost (and-right (eqb (at u k) 1) (leb (at h k) countMost) (passed-true (eqb (at h k) 0) true _ f z)))
+
+  count-same : (g : List ℕ) → at g k ≡ at h k → countFits u h k ≡ true → countFits u g k ≡ true
+  unfolding countFits
+  count-same g e f = rw e f
+
+module _ (h : List ℕ) (d : ℕ) where
+  field-defined : at h (definedPlace d) ≡ 1 → fieldFits h d ≡ true
+  unfolding fieldFits if_then_else_
+  field-defined e = rw e
+
+  field-blank : at h (definedPlace d) ≡ 0 → at h (valuePlace d) ≡ 0 → fieldFits h d ≡ true
+  unfolding fieldFits if_then_else_
+  field-blank e f = rw (e, f)
+
+  field-same : (g : List ℕ) → at g (definedPlace d) ≡ at h (definedPlace d) → at g (valuePlace d) ≡ at h (valuePlace d) → fieldFits h d ≡ true → fieldFits g d ≡ true
+  unfolding fieldFits
+  field-same g e f r = rw (e, f) r
+
+-- AN INSTANCE
+pub record Fit (u h : List ℕ) : Type 0 where
+  pub long : length h ≡ instanceWords
+  pub counts : (k : ℕ) → k < definedPlace 0 → countFits u h k ≡ true
+  pub filled : (d : ℕ) → d < fields → fieldFits h d ≡ true
+
+module _ (u h : List ℕ) where
+  -- from the definition, whatever list its words are read from, and back
+  pub fit-read : (g : List ℕ) → length g ≡ instanceWords → ((k : ℕ) → k < instanceWords → at g k ≡ at h k) → instanceFits u h ≡ true → Fit u g
+  unfolding instanceFits
+  fit-read g l same f = record {
+    long = l;
+    counts = λ k r. count-same u h k g (same k (omega arith)) (all-at (countFits u h) (definedPlace 0) (and-left (all (countFits u h) (definedPlace 0)) (all (fieldFits h) fields) f) k r);
+    filled = λ d r.
+        field-same h d g (same (definedPlace d) (omega arith)) (same (valuePlace d) (omega arith))
+        (all-at (fieldFits h) fields (and-right (all (countFits u h) (definedPlace 0)) (all (fieldFits h) fields) f) d r);
+  }
+
+  pub fit-back : (g : List ℕ) → ((k : ℕ) → k < instanceWords → at g k ≡ at h k) → Fit u h → instanceFits u g ≡ true
+  unfolding instanceFits
+  fit-back g same f =
+      and-true (all (countFits u g) (definedPlace 0)) (all (fieldFits g) fields)
+      (all-of (countFits u g) (definedPlace 0) (λ k r. count-same u h k g (same k (omega arith)) (f .counts k r)))
+      (all-of (fieldFits g) fields (λ d r. field-same h d g (same (definedPlace d) (omega arith)) (same (valuePlace d) (omega arith)) (f .filled d r)))
+
+  -- a count
+  pub fit-set : (k v : ℕ) → k < definedPlace 0 → at u k ≡ 1 → v ≤ countMost → Fit u h → Fit u (set h k v)
+  fit-set k v l e r f = record {
+    long = length-set h k v ∙ f .long;
+    counts = λ j s.
+        by-order j k (λ o. count-same u h j (set h k v) (getD-set-other h k j v 0 (λ z. omega arith)) (f .counts j s))
+        (λ o. let i : k < length h = omega (arith, f .long) in
+        subst (λ y. countFits u (set h k v) y ≡ true) o
+        (count-in u (set h k v) k e (let w : at (set h k v) k ≡ v = getD-set-same h k v 0 i in omega (arith, w))))
+        (λ o. count-same u h j (set h k v) (getD-set-other h k j v 0 (λ z. omega arith)) (f .counts j s));
+    filled = λ d s.
+        field-same h d (set h k v) (getD-set-other h k (definedPlace d) v 0 (λ z. omega arith)) (getD-set-other h k (valuePlace d) v 0 (λ z. omega arith)) (f .filled d s);
+  }
+
+  -- a field
+  pub fit-field : (d v : ℕ) → d < fields → Fit u h → Fit u (withField h d v)
+  fit-field d v l f =
+      let away : (k : ℕ) → (k ≡ definedPlace d → ⊥) → (k ≡ valuePlace d → ⊥) → at (withField h d v) k ≡ at h k =
+      λ k a b. getD-set-other (set h (definedPlace d) 1) (valuePlace d) k v 0 b ∙ getD-set-other h (definedPlace d) k 1 0 a in
+      record {
+        long = length-set (set h (definedPlace d) 1) (valuePlace d) v ∙ length-set h (definedPlace d) 1 ∙ f .long;
+        counts = λ k s. count-same u h k (withField h d v) (away k (λ z. omega arith) (λ z. omega arith)) (f .counts k s);
+        filled = λ c s.
+            by-order c d (λ o. field-same h c (withField h d v) (away (definedPlace c) (λ z. omega arith) (λ z. omega arith)) (away (valuePlace c) (λ z. omega arith) (λ z. omega arith)) (f .filled c s))
+            (λ o. subst (λ y. fieldFits (withField h d v) y ≡ true) o
+            (field-defined (withField h d v) d
+            (getD-set-other (set h (definedPlace d) 1) (valuePlace d) (definedPlace d) v 0 (λ z. omega arith) ∙ getD-set-same h (definedPlace d) 1 0 (omega (arith, f .long)))))
+            (λ o. field-same h c (withField h d v) (away (definedPlace c) (λ z. omega arith) (λ z. omega arith)) (away (valuePlace c) (λ z. omega arith) (λ z. omega arith)) (f .filled c s));
+      }
+
+  -- all counts
+  pub fit-cleared : Fit u h → Fit u (cleared h)
+  unfolding cleared
+  fit-cleared f = record {
+    long = length-writes (λ k. 0) h 0 (definedPlace 0) ∙ f .long;
+    counts = λ k s. count-zero u (cleared h) k (let e : 0 + k ≡ k = omega arith in ap (at (cleared h)) (sym e) ∙ writes-in (λ k. 0) h 0 (definedPlace 0) k s (omega (arith, f .long)));
+    filled = λ d s.
+        field-same h d (cleared h) (writes-above (λ k. 0) h 0 (definedPlace 0) (definedPlace d) (omega arith)) (writes-above (λ k. 0) h 0 (definedPlace 0) (valuePlace d) (omega arith)) (f .filled d s);
+  }
+
+-- nothing but zeros
+pub fit-blank : (u : List ℕ) → Fit u (replicate instanceWords 0)
+fit-blank u = record {
+  long = length-replicate {A = ℕ} instanceWords 0;
+  counts = λ k s. count-zero u (replicate instanceWords 0) k (getD-replicate instanceWords k 0 0 (omega arith));
+  filled = λ d s.
+      field-blank (replicate instanceWords 0) d (getD-replicate instanceWords (definedPlace d) 0 0 (omega arith)) (getD-replicate instanceWords (valuePlace d) 0 0 (omega arith));
+}
+
+-- the same words in another list
+pub instance-same : (u h g : List ℕ) → ((k : ℕ) → k < instanceWords → at g k ≡ at h k) → instanceFits u h ≡ true → instanceFits u g ≡ true
+instance-same u h g same f =
+    let e : (k : ℕ) → k < instanceWords → at (tab (at h) instanceWords) k ≡ at h k = λ k l. getD-tab (at h) instanceWords k 0 l in
+    fit-back u (tab (at h) instanceWords) g (λ k l. same k l ∙ sym (e k l)) (fit-read u h (tab (at h) instanceWords) (length-tab (at h) instanceWords) e f)

@@ -1,0 +1,79 @@
+-- What an accepted step that receives or sends knows of its queue: the name is one of the 16, the message is there or has space, it has at most 4
+-- values. Assumes nothing.
+use Prim.Native.Nat.{ℕ, _≤_, _<_}
+use mathlib.Core.Path.{_≡_, refl}
+use mathlib.Core.Bool.{Bool, true, false, _||_}
+use mathlib.Core.List.{List}
+use lib.Dec.{ltb}
+use lib.ListN.{length}
+use borrow.Author.Tests.{ltb-true, eqb-true, ne-eqb}
+use Rattle.words.specs.All.{all}
+use Rattle.words.specs.Pick.{if_then_else_}
+use Rattle.words.specs.Counts.{pools, names, values, messages}
+use Rattle.words.proofs.AllLaws.{and-left, and-right, all-at}
+use Rattle.kinds.specs.Moves.{on}
+use Rattle.model.specs.Table.{kindIn, modeIn}
+use Rattle.limits.specs.Limits.{tableFits}
+use Rattle.meaning.specs.declared.Name.{Name}
+use Rattle.meaning.specs.Messages.{has}
+use Rattle.meaning.specs.Queues.{messagesOf}
+use Rattle.meaning.specs.Templates.{gathered, evaluated}
+use Rattle.meaning.specs.Changes.{message}
+use Rattle.meaning.specs.Refusals.{firstRefusal}
+use Rattle.meaning.specs.Step.{Site, siteOf, elementNamed, moveNamed, receives, sends, nameAt, sent, queued, space, refusals}
+use Rattle.fits.specs.Fits.{instancesFit, queueFits, stateFits}
+use Rattle.steps.proofs.AcceptedParts.{Accepted, accepted-parts}
+use Rattle.steps.proofs.Choices.{chosen-true}
+use Rattle.steps.proofs.Found.{Found, found, name-few, length-few}
+use Rattle.steps.proofs.Rows.{row-one-way}
+
+-- the queues of a state that fits
+pub state-queues : (t s q : List ℕ) → stateFits t s q ≡ true → (m : ℕ) → m < names → queueFits q m ≡ true
+unfolding stateFits
+state-queues t s q h = all-at (queueFits q) names (and-right (all (instancesFit t s) pools) (all (queueFits q) names) h)
+
+pub state-instances : (t s q : List ℕ) → stateFits t s q ≡ true → (p : ℕ) → p < pools → instancesFit t s p ≡ true
+unfolding stateFits
+state-instances t s q h = all-at (instancesFit t s) pools (and-left (all (instancesFit t s) pools) (all (queueFits q) names) h)
+
+or-left : (a b : Bool) → a ≡ true → a || b ≡ true
+or-left a b e = rw e
+
+or-right : (a b : Bool) → b ≡ true → a || b ≡ true
+or-right true b e = refl
+or-right false b e = e
+
+module _ (t s q : List ℕ) (n : Name) (fits : tableFits t ≡ true) (accepted : firstRefusal (refusals t s q n) ≡ 0) where
+  abbrev x : Site
+  x = siteOf t s n
+
+  pub here : Found t s n
+  here = found t s n (accepted-parts t s q n accepted .0)
+
+  pub site : Accepted x q
+  site = accepted-parts t s q n accepted .1
+
+  -- it receives
+  pub received-name : receives x ≡ true → nameAt x < names
+  received-name e = name-few t s n fits here (or-left (receives x) (sends x) e)
+
+  pub received-there : receives x ≡ true → has (x .given) (messagesOf q (nameAt x)) ≡ true
+  unfolding queued
+  received-there e = chosen-true (receives x) (has (x .given) (messagesOf q (nameAt x))) true (site .waiting) e
+
+  -- it sends
+  module _ (e : sends x ≡ true) where
+    pub sent-alone : receives x ≡ false
+    unfolding siteOf moveNamed
+    sent-alone = ne-eqb (x .move .receives) on (λ f. row-one-way (kindIn (elementNamed t n)) (modeIn (elementNamed t n)) (n .phase) f (eqb-true (x .move .sends) on e))
+
+    pub sent-name : nameAt x < names
+    sent-name = name-few t s n fits here (or-right (receives x) (sends x) e)
+
+    pub sent-space : length (messagesOf q (nameAt x)) < messages
+    unfolding space
+    sent-space = ltb-true (length (messagesOf q (nameAt x))) messages (chosen-true (sends x) (ltb (length (messagesOf q (nameAt x))) messages) true (site .spacious) e)
+
+    pub sent-short : sent x .tuple .length ≤ values
+    unfolding sent message evaluated gathered siteOf if_then_else_
+    sent-short = rw e (length-few t s n fits here (or-right (receives x) (sends x) e))

@@ -1,0 +1,17 @@
+use Rattle.tally.specs.Tally.{marked}
+use borrow.Author.Needs.{needs}
+use Rattle.tally.proofs.mark_place.Statement.{statement}
+use Rattle.tally.proofs.mark_place.Tie as tie
+
+ruleset L = (needs)
+
+pub mark-place-spec : {M : Type 1} → statement M
+unfolding marked
+mark-place-spec =
+    tie.close
+    (tie.spec
+    (λ c κs. search L)
+    (λ c κs. search L)
+    (λ c κs. search L)
+    (λ c. search L)
+    (λ c. cc))

@@ -1,0 +1,14 @@
+use borrow.Author.Needs.{needs}
+use Rattle.verdict.proofs.mark_name.Statement.{statement}
+use Rattle.verdict.proofs.mark_name.Tie as tie
+
+ruleset L = (needs)
+
+pub mark-name-spec : {M : Type 1} → statement M
+mark-name-spec =
+    tie.close
+    (tie.spec
+    (λ c κs. search L)
+    (λ c κs. search L)
+    (λ c. search L)
+    (λ c. cc))
