@@ -12,15 +12,13 @@ use meaning::Traffic;
 use meaning::Tuple;
 use meaning::empty_tuple;
 use model::places::TABLE_WORDS;
+use rules::refusals::ACCEPTED;
+use rules::refusals::BAD;
 use state::places::STATE_WORDS;
 use words::Word;
 
-// The numbers given back: accepted; a model check is broken; what was lent is bad.
-pub const ACCEPTED: Word = 0;
-
+// A model check is broken; the other numbers given back stand with the rules.
 pub const CHECK_BROKEN: Word = 4;
-
-pub const BAD: Word = 10;
 
 // The answer of a check: a number, and beside 4 the lowest check broken.
 pub struct Verdict {

@@ -18,6 +18,8 @@ use super::numbers::has_place;
 use super::numbers::is_postable;
 use super::plans::Plan;
 use super::plans::decide;
+use super::refusals::NOT_POSTABLE;
+use super::refusals::QUEUE_FULL;
 use kinds::moves::Move;
 use kinds::moves::ON;
 use meaning::Answer;
@@ -162,10 +164,10 @@ fn post_to(q: &mut [Word], name: Word, g: Tuple) -> Word
     ensures { λ r. ⌜ record { number = r; queues = now (q .exit) } ≡ posted (now (q .entry)) name g ⌝ }
 {
     if !is_postable(name, g.length) {
-        return 19;
+        return NOT_POSTABLE;
     }
     if !has_place(q, name) {
-        return 17;
+        return QUEUE_FULL;
     }
     append(q, name, g);
     0

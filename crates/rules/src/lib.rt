@@ -27,6 +27,7 @@ mod copies;
 mod halves;
 mod numbers;
 mod plans;
+pub mod refusals;
 
 use halves::apply;
 use halves::copy_in;
@@ -35,6 +36,7 @@ use halves::made_in;
 use halves::post_in;
 use halves::refuse;
 use numbers::is_there;
+use refusals::NO_SUCH;
 
 fn move_at(el: &[Word], phase: Word) -> Move
     ensures { λ r. ⌜ r ≡ moveOf (kindIn (now (el .entry))) (modeIn (now (el .entry))) phase ⌝ }
@@ -74,7 +76,7 @@ fn step_in(t: &[Word], z: &mut [Word], n: Name) -> Answer
     let m = move_at(el, n.phase);
     let made = made_in(z, p);
     if !is_there(t, el, m, p, made, n) {
-        return refuse(11);
+        return refuse(NO_SUCH);
     }
     let limit = limit_of(t, p);
     step_at(el, z, m, p, made, limit, n)

@@ -9,6 +9,14 @@ ghost use Rattle.meaning.specs.Messages.{has};
 ghost use Rattle.meaning.specs.Queues.{messagesOf};
 ghost use Rattle.meaning.specs.Refusals.{firstRefusal};
 ghost use Rattle.rules.specs.Parts.{placed, offered, beforeFields, ofFields, queuedFor, spaceFor, ofQueues};
+use super::refusals::ACCEPTED;
+use super::refusals::LIMIT_REACHED;
+use super::refusals::NOT_MATCHING;
+use super::refusals::NOT_PERMITTED;
+use super::refusals::NOT_QUEUED;
+use super::refusals::NOT_TRUE;
+use super::refusals::QUEUE_FULL;
+use super::refusals::WOULD_PASS;
 use fields::grants;
 use kinds::moves::Move;
 use kinds::moves::ON;
@@ -28,7 +36,7 @@ use words::counts::NAMES;
 use words::counts::VALUES;
 
 // The number of a step that nothing refuses.
-const ALL_HOLD: Word = 0;
+const ALL_HOLD: Word = ACCEPTED;
 
 // 11, of the table.
 fn is_placed(t: &[Word], p: Word, e: Word) -> bool
@@ -68,10 +76,10 @@ pub fn number_before(el: &[Word], h: &[Word], m: Move, b: Word) -> Word
     ensures { λ r. ⌜ r ≡ firstRefusal (beforeFields (now (el .entry)) (now (h .entry)) m b) ⌝ }
 {
     if !permits(el, h, m, b) {
-        return 12;
+        return NOT_PERMITTED;
     }
     if !grants(el, h, m, b) {
-        return 13;
+        return NOT_TRUE;
     }
     ALL_HOLD
 }
@@ -99,13 +107,13 @@ pub fn number_of_fields(m: Move, defined: bool, matches: bool) -> Word
     ensures { λ r. ⌜ r ≡ firstRefusal (ofFields m defined matches) ⌝ }
 {
     if !receives_or(m, defined) {
-        return 13;
+        return NOT_TRUE;
     }
     if !matches {
-        return 14;
+        return NOT_MATCHING;
     }
     if !defined {
-        return 13;
+        return NOT_TRUE;
     }
     ALL_HOLD
 }
@@ -156,16 +164,16 @@ pub fn number_after(
     ensures { λ r. ⌜ r ≡ firstRefusal (ofQueues (now (el .entry)) (now (h .entry)) m b (queuedFor m (now (q .entry)) name g) below (spaceFor m (now (q .entry)) name)) ⌝ }
 {
     if !is_queued(m, q, name, g) {
-        return 15;
+        return NOT_QUEUED;
     }
     if !below {
-        return 16;
+        return LIMIT_REACHED;
     }
     if !has_space(m, q, name) {
-        return 17;
+        return QUEUE_FULL;
     }
     if !is_roomy(el, h, m, b) {
-        return 18;
+        return WOULD_PASS;
     }
     ALL_HOLD
 }

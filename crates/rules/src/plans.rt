@@ -10,6 +10,7 @@ use super::numbers::both;
 use super::numbers::number_after;
 use super::numbers::number_before;
 use super::numbers::number_of_fields;
+use super::refusals::NOT_TRUE;
 use fields::expect;
 use fields::message_of;
 use fields::receive;
@@ -96,7 +97,7 @@ fn prepare(el: &[Word], h: &mut [Word], m: Move, b: Word, g: Tuple) -> Plan
     let expected = template.tuple;
     let is_defined = template.defined;
     if !is_defined {
-        return refused_plan(13);
+        return refused_plan(NOT_TRUE);
     }
     match_fields(el, h, m, b, g, expected)
 }
