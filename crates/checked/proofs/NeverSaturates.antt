@@ -1,0 +1,70 @@
+-- An accepted step on a state that fits puts exactly one token more on each exit that it touches, and raises a count by exactly one. Assumes nothing.
+use Prim.Native.Nat.{ℕ, _+_, _<_}
+use mathlib.Core.Path.{_≡_, sym, _∙_, ap}
+use mathlib.Core.Bool.{true}
+use mathlib.Core.List.{List}
+use lib.Dec.{eqb}
+use borrow.Author.Tests.{eqb-true}
+use Rattle.words.proofs.AllLaws.{and-left}
+use Rattle.kinds.specs.Moves.{up}
+use Rattle.model.specs.Table.{taskIn, exitCount, exitAt}
+use Rattle.state.specs.Instances.{instancesOf, queuesOf, tokens, activeCount, readyCount}
+use Rattle.meaning.specs.declared.Name.{Name}
+use Rattle.meaning.specs.Requirements.{touched, first}
+use Rattle.meaning.specs.Refusals.{firstRefusal}
+use Rattle.meaning.specs.Step.{Outcome, Site, siteOf, poolNamed, elementNamed, moveNamed, afterTaking, instanceAfter, instancesAfter, queuesAfter, traffic, refusals, refused, step}
+use Rattle.fits.specs.Fits.{stateFits}
+use Rattle.steps.proofs.Choices.{by-test, chosen, passed}
+use Rattle.steps.proofs.Found.{Found}
+use Rattle.steps.proofs.NoSaturation.{ExitsApart, no-saturation, active-raised, ready-raised}
+use Rattle.steps.proofs.Traffic.{here}
+use Rattle.engine.specs.Engine.{valid, fitting, stepped}
+use Rattle.engine.proofs.CallLaws.{table-fits, state-fits}
+use Rattle.checked.proofs.ExitsOnce.{exits-apart}
+
+module _ (t z : List ℕ) (n : Name) (fits : fitting t z ≡ true) (accepted : stepped t z n .answer .number ≡ 0) where
+  abbrev s : List ℕ
+  s = instancesOf z
+
+  abbrev q : List ℕ
+  q = queuesOf z
+
+  stepped-is : stepped t z n ≡ step t s q n
+  unfolding stepped
+  stepped-is = chosen (fitting t z) (step t s q n) (refused 10 s q) fits
+
+  -- the number 0 says that nothing was refused
+  pub none-refused : firstRefusal (refusals t s q n) ≡ 0
+  unfolding step
+  none-refused =
+      by-test (eqb (firstRefusal (refusals t s q n)) 0) (eqb-true (firstRefusal (refusals t s q n)) 0)
+      (λ e.
+      ap (λ (o : Outcome). o .answer .number)
+      (sym
+      (stepped-is
+      ∙ passed (eqb (firstRefusal (refusals t s q n)) 0) (record { answer = traffic (siteOf t s n); instances = instancesAfter t s n; queues = queuesAfter (siteOf t s n) q })
+      (refused (firstRefusal (refusals t s q n)) s q) e))
+      ∙ accepted)
+
+  abbrev x : Site
+  x = siteOf t s n
+
+  -- the exits of its element differ
+  pub named-apart : ExitsApart (elementNamed t n)
+  unfolding elementNamed fitting
+  named-apart =
+      let f : Found t s n = here t s q n (table-fits t z fits) none-refused in
+      exits-apart t (and-left (valid t) (stateFits t s q) fits) (poolNamed t n) (f .pool) (n .element) (f .element)
+
+  -- TOKENS
+  pub never-saturates : (j : ℕ) → j < touched (moveNamed t n .puts) (exitCount (elementNamed t n))
+      → tokens (instanceAfter x) (exitAt (elementNamed t n) (first (moveNamed t n .puts) (n .branch) + j))
+      ≡ tokens (afterTaking x) (exitAt (elementNamed t n) (first (moveNamed t n .puts) (n .branch) + j)) + 1
+  never-saturates = no-saturation t s q n (table-fits t z fits) (state-fits t z fits) none-refused named-apart
+
+  -- COUNTS
+  pub active-one-more : moveNamed t n .active ≡ up → activeCount (instanceAfter x) (taskIn (elementNamed t n)) ≡ activeCount (afterTaking x) (taskIn (elementNamed t n)) + 1
+  active-one-more = active-raised t s q n (table-fits t z fits) (state-fits t z fits) none-refused
+
+  pub ready-one-more : moveNamed t n .ready ≡ up → readyCount (instanceAfter x) (taskIn (elementNamed t n)) ≡ readyCount (afterTaking x) (taskIn (elementNamed t n)) + 1
+  ready-one-more = ready-raised t s q n (table-fits t z fits) (state-fits t z fits) none-refused
