@@ -15,6 +15,8 @@ use limits::zeros::zero_words;
 use meaning::Tuple;
 use queues::message_at;
 use queues::queued_in;
+use state::places::FIRST_SLOT;
+use state::places::FIRST_VALUE;
 use state::places::QUEUE_WORDS;
 use state::places::SLOT_WORDS;
 use values::tuples::value_of;
@@ -30,7 +32,11 @@ fn value_at(q: &[Word], m: Word, k: Word, j: Word) -> Word
 {
     word(
         q,
-        QUEUE_WORDS * (m as usize) + 1 + SLOT_WORDS * (k as usize) + 1 + (j as usize),
+        QUEUE_WORDS * (m as usize)
+            + FIRST_SLOT
+            + SLOT_WORDS * (k as usize)
+            + FIRST_VALUE
+            + (j as usize),
     )
 }
 
@@ -79,7 +85,7 @@ fn rest_zero(q: &[Word], m: Word, n: Word) -> bool
     zero_words(
         tail(
             q,
-            QUEUE_WORDS * (m as usize) + 1 + SLOT_WORDS * (n as usize),
+            QUEUE_WORDS * (m as usize) + FIRST_SLOT + SLOT_WORDS * (n as usize),
         ),
         SLOT_WORDS * (rest as usize),
     )
