@@ -1,7 +1,6 @@
 use lib.Seq.{length-take-le, take-all}
 use native.Mathlib.Omega.{arith}
 use Rattle.meaning.specs.Changes.{taken}
-use Rattle.meaning.specs.Step.{before}
 use borrow.Author.Needs.{needs}
 use mathlib.Core.Path.{sym}
 use Rattle.fits.proofs.head.Statement.{statement}

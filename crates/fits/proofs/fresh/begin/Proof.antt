@@ -1,5 +1,4 @@
 use Rattle.fits.proofs.CallLaws.{begin-all}
-use Rattle.meaning.specs.Step.{before}
 use borrow.Author.Needs.{needs}
 use Rattle.fits.proofs.fresh.begin.Statement.{statement}
 use Rattle.fits.proofs.fresh.begin.Tie as tie

@@ -1,6 +1,5 @@
 use Rattle.fits.proofs.CallLaws.{begin-no, begin-yes}
 use Rattle.meaning.specs.Changes.{taken}
-use Rattle.meaning.specs.Step.{before}
 use borrow.Author.Needs.{needs}
 use Rattle.fits.proofs.fresh.begin_pool.Statement.{statement}
 use Rattle.fits.proofs.fresh.begin_pool.Tie as tie

@@ -1,6 +1,5 @@
 use Prim.Native.Nat.{_-_, _≤_}
 use Rattle.fits.specs.Fresh.{begun}
-use Rattle.meaning.specs.Step.{before}
 use Rattle.words.proofs.IterLaws.{iter-done, iter-loop}
 use Rattle.words.specs.Iter.{iter}
 use borrow.Author.Needs.{needs}

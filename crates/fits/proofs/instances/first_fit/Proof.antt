@@ -2,7 +2,6 @@ use Prim.Native.Nat.{_-_, _≤_}
 use Rattle.fits.proofs.CallLaws.{Firsts, firsts, firsts-fail, firsts-more}
 use Rattle.fits.specs.Fits.{instanceFits}
 use Rattle.meaning.specs.Changes.{taken}
-use Rattle.meaning.specs.Step.{before}
 use Rattle.state.specs.Instances.{instanceAt}
 use Rattle.words.proofs.AllLaws.{all-done, all-loop}
 use borrow.Author.Needs.{needs}

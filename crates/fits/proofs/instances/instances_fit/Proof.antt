@@ -1,6 +1,5 @@
 use Rattle.fits.proofs.CallLaws.{made-rest, no-firsts, no-made}
 use Rattle.meaning.specs.Changes.{taken}
-use Rattle.meaning.specs.Step.{before}
 use borrow.Author.Needs.{needs}
 use Rattle.fits.proofs.instances.instances_fit.Statement.{statement}
 use Rattle.fits.proofs.instances.instances_fit.Tie as tie

@@ -1,5 +1,4 @@
 use Rattle.fits.proofs.CallLaws.{made-ones}
-use Rattle.meaning.specs.Step.{before}
 use borrow.Author.Needs.{needs}
 use Rattle.fits.proofs.instances.made_ones_fit.Statement.{statement}
 use Rattle.fits.proofs.instances.made_ones_fit.Tie as tie

@@ -1,6 +1,5 @@
 use Rattle.fits.proofs.MarkLaws.{silent-is}
 use Rattle.kinds.proofs.TableLaws.{kind-in}
-use Rattle.meaning.specs.Step.{before}
 use borrow.Author.Needs.{needs}
 use Rattle.fits.proofs.marks.is_silent.Statement.{statement}
 use Rattle.fits.proofs.marks.is_silent.Tie as tie

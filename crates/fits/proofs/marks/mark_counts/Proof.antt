@@ -1,6 +1,5 @@
 use Rattle.fits.proofs.MarkLaws.{counts-active, counts-both, counts-none}
 use Rattle.meaning.specs.Changes.{taken}
-use Rattle.meaning.specs.Step.{before}
 use borrow.Author.Needs.{needs}
 use Rattle.fits.proofs.marks.mark_counts.Statement.{statement}
 use Rattle.fits.proofs.marks.mark_counts.Tie as tie

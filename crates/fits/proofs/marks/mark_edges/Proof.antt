@@ -1,6 +1,5 @@
 use Prim.Native.Nat.{_-_, _≤_}
 use Rattle.fits.proofs.MarkLaws.{Edged, edged, edged-done}
-use Rattle.meaning.specs.Step.{before}
 use borrow.Author.Needs.{needs}
 use lib.ListN.{length}
 use mathlib.Core.Path.{_≡_}

@@ -1,5 +1,4 @@
 use Rattle.fits.proofs.MarkLaws.{element-marked}
-use Rattle.meaning.specs.Step.{before}
 use borrow.Author.Needs.{needs}
 use Rattle.fits.proofs.marks.mark_element.Statement.{statement}
 use Rattle.fits.proofs.marks.mark_element.Tie as tie

@@ -1,6 +1,5 @@
 use Prim.Native.Nat.{_-_, _≤_}
 use Rattle.fits.proofs.CallLaws.{Marks, marks, marks-done}
-use Rattle.meaning.specs.Step.{before}
 use borrow.Author.Needs.{needs}
 use lib.ListN.{length}
 use mathlib.Core.Path.{_≡_}

@@ -1,6 +1,5 @@
 use Rattle.fits.proofs.CallLaws.{message-no, message-yes}
 use Rattle.meaning.specs.Changes.{taken}
-use Rattle.meaning.specs.Step.{before}
 use borrow.Author.Needs.{needs}
 use Rattle.fits.proofs.messages.message_fits.Statement.{statement}
 use Rattle.fits.proofs.messages.message_fits.Tie as tie

@@ -1,6 +1,5 @@
 use Rattle.fits.specs.Fits.{isStart}
 use Rattle.kinds.proofs.TableLaws.{kind-in}
-use Rattle.meaning.specs.Step.{before}
 use Rattle.words.proofs.PickLaws.{eqb-same}
 use borrow.Author.Needs.{needs}
 use Rattle.fits.proofs.pools.is_start.Statement.{statement}
