@@ -1,4 +1,4 @@
--- The parts of a step as the code looks at them one after the other; together they are the step of Settled (proofs/PartLaws.antt).
+-- The parts of a step as the code looks at them one after the other; together they are the step of Settled (proofs/PlanLaws.antt, proofs/StateLaws.antt).
 use Prim.Native.Nat.{ℕ}
 use mathlib.Core.Path.{_≡_}
 use mathlib.Core.Bool.{Bool, true, not, _&&_, _||_}
