@@ -6,4 +6,5 @@ pub mod WritesLaws
 pub mod IterLaws
 pub mod PickLaws
 pub mod BlockLaws
+pub mod JoinLaws
 pub mod ListLaws
