@@ -1,0 +1,14 @@
+use Rattle.words.proofs.AllLaws.{tests}
+use Rattle.words.proofs.PickLaws.{flag-is}
+use Rattle.lexer.specs.Lexer.{isWord}
+use Rattle.lexer.proofs.ClassLaws.{ors}
+use borrow.Author.Needs.{needs}
+use Rattle.lexer.proofs.is_word.Statement.{statement}
+use Rattle.lexer.proofs.is_word.Tie as tie
+
+ruleset L = (needs, ors, flag-is, tests)
+
+pub is-word-spec : {M : Type 1} → statement M
+unfolding isWord
+is-word-spec =
+    tie.close (tie.spec (λ c κs. search L) (λ c. search L) (λ c κs. search L) (λ c. search L) (λ c. search L))

@@ -1,0 +1,12 @@
+use Rattle.words.proofs.AllLaws.{tests}
+use Rattle.words.proofs.PickLaws.{ands, eqb-same}
+use Rattle.numerals.specs.Numerals.{leadingZero}
+use borrow.Author.Needs.{needs}
+use Rattle.numerals.proofs.leading_zero.Statement.{statement}
+use Rattle.numerals.proofs.leading_zero.Tie as tie
+
+ruleset L = (needs, ands, eqb-same, tests)
+
+pub leading-zero-spec : {M : Type 1} → statement M
+unfolding leadingZero
+leading-zero-spec = tie.close (tie.spec (λ c κs. search L) (λ c. search L) (λ c. search L))
