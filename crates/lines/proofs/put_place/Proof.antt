@@ -1,0 +1,15 @@
+use Rattle.lines.proofs.LineLaws.{place-short}
+use Rattle.buffers.proofs.OverLaws.{wrote, promise-within}
+use Rattle.lines.specs.Lines.{placeLine}
+use mathlib.Core.Path.{refl}
+use borrow.Author.Needs.{needs}
+use Rattle.lines.proofs.put_place.Statement.{statement}
+use Rattle.lines.proofs.put_place.Tie as tie
+
+returns : tie.Need-returns
+unfolding placeLine
+returns c = promise-within _ refl (place-short (c .before .before .before .before .before .before .args .n)) (wrote _ _ (c .before .before .put-row .ensures .0) (c .before .before .put-row .ensures .1))
+
+pub put-place-spec : {M : Type 1} → statement M
+put-place-spec =
+    tie.close (tie.spec (λ c. search needs) (λ c. search needs) (λ c κs. search needs) (λ c. search needs) returns)

@@ -1,0 +1,16 @@
+use Rattle.lines.proofs.LineLaws.{tuple-none, tuple-some, tuple-short}
+use Rattle.buffers.proofs.OverLaws.{wrote, promise-within}
+use borrow.Author.Needs.{needs}
+use Rattle.lines.proofs.put_tuple.Statement.{statement}
+use Rattle.lines.proofs.put_tuple.Tie as tie
+
+returns : tie.Need-returns
+returns c = promise-within _ (tuple-none _ (c .before .before .before .before .if1 .taken)) (tuple-short (c .before .before .before .before .before .before .before .args .g)) (wrote _ _ (c .before .before .put-byte .ensures .0) (c .before .before .put-byte .ensures .1))
+
+returns-2 : tie.Need-returns-2
+returns-2 c = promise-within _ (tuple-some _ (c .before .before .before .before .if1 .left)) (tuple-short (c .before .before .before .before .before .before .before .args .g)) (wrote _ _ (c .before .before .put-values .ensures .0) (c .before .before .put-values .ensures .1))
+
+pub put-tuple-spec : {M : Type 1} → statement M
+put-tuple-spec =
+    tie.close
+    (tie.spec (λ c κs. search needs) (λ c. search needs) returns (λ c κs. search needs) (λ c. search needs) returns-2)
