@@ -1,0 +1,4 @@
+pub mod ReadingLaws
+pub mod WordLaws
+pub mod KeepLaws
+pub mod Points
