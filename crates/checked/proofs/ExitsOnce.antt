@@ -20,7 +20,7 @@ use Rattle.steps.proofs.Choices.{by-test, by-choice, passed-true}
 use Rattle.steps.proofs.Elements.{element-fits, entry-within, exit-within}
 use Rattle.steps.proofs.NoSaturation.{ExitsApart}
 use Rattle.engine.specs.Engine.{valid}
-use Rattle.checked.proofs.Counting.{sum-at, sum-two, hit-same}
+use Rattle.listed.proofs.Counting.{sum-at, sum-two, hit-same}
 use Rattle.checked.proofs.ChecksHold.{valid-fits, pool-checked}
 
 -- an edge that is right stands at most once as an exit and at most once as an entry

@@ -23,8 +23,7 @@ use Rattle.steps.proofs.Choices.{by-choice, chosen}
 use Rattle.steps.proofs.EveryStep.{Fitting, step-keeps-fits, post-keeps-state}
 use Rattle.engine.specs.Engine.{valid, Left, freshened, fitting, stepped, postedTo}
 use Rattle.engine.proofs.CallLaws.{table-fits, state-fits, long-instances, long-queues}
-use Rattle.checked.proofs.ChecksHold.{valid-fits}
-use Rattle.checked.proofs.StartUnique.{starts-once}
+use Rattle.checked.proofs.ChecksHold.{valid-fits, starts-once}
 
 -- a state of the right length that fits a valid table
 pub record Sound (t z : List ℕ) : Type 0 where

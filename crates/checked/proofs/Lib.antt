@@ -1,6 +1,4 @@
-pub mod Counting
 pub mod ChecksHold
-pub mod StartUnique
 pub mod KeepsFitting
 pub mod ExitsOnce
 pub mod NeverSaturates

@@ -12,12 +12,12 @@ use meaning::Traffic;
 use meaning::Tuple;
 use meaning::empty_tuple;
 use model::places::TABLE_WORDS;
-use rules::refusals::ACCEPTED;
-use rules::refusals::BAD;
+use refusals::ACCEPTED;
+use refusals::BAD;
 use state::places::STATE_WORDS;
 use words::Word;
 
-// A model check is broken; the other numbers given back stand with the rules.
+// A model check is broken; the other numbers given back stand with the refusals.
 pub const CHECK_BROKEN: Word = 4;
 
 // The answer of a check: a number, and beside 4 the lowest check broken.
@@ -30,7 +30,7 @@ pub struct Verdict {
 pub fn check(t: &[Word; TABLE_WORDS]) -> Verdict
     ensures { λ r. ⌜ r ≡ verdictOf (now (t .entry)) ⌝ }
 {
-    if !limits::table_fits(t) {
+    if !tables::table_fits(t) {
         return Verdict {
             number: BAD,
             beside: 0,
@@ -52,7 +52,7 @@ pub fn check(t: &[Word; TABLE_WORDS]) -> Verdict
 fn is_valid(t: &[Word; TABLE_WORDS]) -> bool
     ensures { λ r. ⌜ r ≡ valid (now (t .entry)) ⌝ }
 {
-    if !limits::table_fits(t) {
+    if !tables::table_fits(t) {
         return false;
     }
     lowest::lowest_broken(t) == 0

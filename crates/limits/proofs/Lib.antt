@@ -1,4 +1,1 @@
 pub mod ThingsLaws
-pub mod ElementLaws
-pub mod PoolLaws
-pub mod Examples

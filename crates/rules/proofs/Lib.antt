@@ -1,5 +1,3 @@
-pub mod CopyLaws
-pub mod NumberLaws
-pub mod PlanLaws
 pub mod StateLaws
+pub mod DecidingLaws
 pub mod StepLaws

@@ -29,8 +29,11 @@ use Rattle.queues.specs.Changes.{extended}
 use Rattle.meaning.specs.Refusals.{firstRefusal}
 use Rattle.meaning.specs.Requirements.{branchCount, instanceNamed}
 use Rattle.meaning.specs.Step.{siteOf, poolNamed, elementNamed, moveNamed, instanceOf, before, exists, refusals, instancesAfter, madeAfter, traffic, sent}
-use Rattle.rules.specs.declared.plans.Plan.{Plan}
-use Rattle.rules.specs.Parts.{siteAt, placed, offered, Decided, storedIn, madeBy, deliveredBy, answerBy, Applied, settledAt}
+use Rattle.effects.specs.Effects.{storedIn, madeBy, deliveredBy, answerBy}
+use Rattle.refusals.specs.Chain.{placed, offered}
+use Rattle.plans.specs.declared.Plan.{Plan}
+use Rattle.plans.specs.Plans.{siteAt, Decided}
+use Rattle.rules.specs.Parts.{Applied, settledAt}
 use Rattle.rules.specs.Settled.{queuesChanged, settled, posted, Done}
 
 -- what comes back from the second part
@@ -101,7 +104,7 @@ module _ (t z : List ℕ) (n : Name) (p : ℕ) (el : List ℕ) (m : Move) (made 
     (e₂ : el ≡ elementAt t p (n .element))
     (e₃ : m ≡ moveOf (kindIn el) (modeIn el) (n .phase))
     (e₄ : made ≡ madeCount (instancesOf z) p) where
-  there-is : exists t (instancesOf z) n ≡ placed t p (n .element) && offered el m (n .branch) (n .instance) made
+  pub there-is : exists t (instancesOf z) n ≡ placed t p (n .element) && offered el m (n .branch) (n .instance) made
   unfolding exists placed offered elementNamed moveNamed
   there-is = rw (e₄, e₃, e₂, e₁)
       (fives (ltb (poolNamed t n) (poolCount t)) (ltb (n .element) (elementCount t (poolNamed t n))) (not (eqb (moveNamed t n .kind) 0))

@@ -21,8 +21,8 @@ use Rattle.meaning.specs.Step.{Site, siteOf, receives, sends, nameAt, sent, que
 use Rattle.meaning.specs.Post.{Posted, postRefusals, post}
 use Rattle.queues.specs.Changes.{oldest, extended, removed}
 use Rattle.queues.proofs.QueueLaws.{count-is, extended-is, removed-is}
+use Rattle.refusals.proofs.NumberLaws.{numbered, hold-at}
 use Rattle.rules.specs.Settled.{queuesChanged, settled, posted}
-use Rattle.rules.proofs.NumberLaws.{numbered, hold-at}
 
 module _ (q : List ℕ) (long : length q ≡ queueWords * names) (tidy : (m : ℕ) → m < names → Tidy q m) where
   sending-is : (m : ℕ) (g : Tuple) → m < names → ltb (length (messagesOf q m)) messages ≡ true → extended q m g ≡ sending q m g

@@ -5,70 +5,32 @@ ghost use lib.ListN.{length};
 ghost use Prim.Native.Nat.{_≤_};
 ghost use Rattle.state.specs.Places.{instancesWords};
 ghost use Rattle.state.specs.Instances.{instancesOf, queuesOf, madeCount};
-ghost use Rattle.meaning.specs.declared.Traffic.the-variants.{Nothing};
-ghost use Rattle.meaning.specs.Tuples.{empty};
 ghost use Rattle.meaning.specs.Step.{instanceOf, before};
-ghost use Rattle.queues.specs.Changes.{oldest, removed};
-ghost use Rattle.rules.specs.Parts.{siteAt, Decided, storedIn, deliveredBy, answerBy, Applied};
+ghost use Rattle.effects.specs.Effects.{storedIn, deliveredBy};
+ghost use Rattle.plans.specs.Plans.{siteAt, Decided};
+ghost use Rattle.rules.specs.Parts.{Applied};
 ghost use Rattle.rules.specs.Settled.{posted};
-use super::copies::commit;
-use super::copies::copy_before;
-use super::copies::made_after;
-use super::numbers::has_place;
-use super::numbers::is_postable;
-use super::plans::Plan;
-use super::plans::decide;
-use super::refusals::NOT_POSTABLE;
-use super::refusals::QUEUE_FULL;
+use effects::answer_of;
+use effects::copies::commit;
+use effects::copies::copy_before;
+use effects::copies::made_after;
+use effects::deliver;
 use kinds::moves::Move;
-use kinds::moves::ON;
 use meaning::Answer;
 use meaning::Name;
-use meaning::Traffic;
 use meaning::Tuple;
-use meaning::empty_tuple;
 use model::message_name;
+use plans::Plan;
+use plans::decide;
 use queues::append;
-use queues::oldest_of;
-use queues::remove;
+use refusals::NOT_POSTABLE;
+use refusals::QUEUE_FULL;
+use refusals::numbers::has_place;
+use refusals::numbers::is_postable;
 use state::made_count;
 use state::places::INSTANCE_WORDS;
 use state::places::INSTANCES_WORDS;
 use words::Word;
-
-// What a step answers.
-pub fn refuse(number: Word) -> Answer
-    ensures { λ r. ⌜ r ≡ record { number = number; traffic = Nothing; name = 0; tuple = empty } ⌝ }
-{
-    Answer {
-        number: number,
-        traffic: Traffic::Nothing,
-        name: 0,
-        tuple: empty_tuple(),
-    }
-}
-
-fn answer_of(m: Move, name: Word, expected: Tuple, sent: Tuple) -> Answer
-    ensures { λ r. ⌜ r ≡ answerBy m name expected sent ⌝ }
-{
-    if m.receives == ON {
-        return Answer {
-            number: 0,
-            traffic: Traffic::Consumed,
-            name: name,
-            tuple: expected,
-        };
-    }
-    if m.sends == ON {
-        return Answer {
-            number: 0,
-            traffic: Traffic::Sent,
-            name: name,
-            tuple: sent,
-        };
-    }
-    refuse(0)
-}
 
 // Reading.
 pub fn made_in(z: &[Word], p: Word) -> Word
@@ -102,26 +64,6 @@ pub fn decide_in(
 }
 
 // Writing.
-fn consume(q: &mut [Word], name: Word, g: Tuple)
-    ensures { λ _. ⌜ now (q .exit) ≡ removed (now (q .entry)) name (oldest (now (q .entry)) name g) ⌝ }
-{
-    let k = oldest_of(q, name, g);
-    remove(q, name, k);
-}
-
-fn deliver(q: &mut [Word], m: Move, name: Word, g: Tuple, sent: Tuple)
-    ensures { λ _. ⌜ now (q .exit) ≡ deliveredBy m name g sent (now (q .entry)) ⌝ }
-{
-    if m.receives == ON {
-        consume(q, name, g);
-        return;
-    }
-    if m.sends == ON {
-        append(q, name, sent);
-        return;
-    }
-}
-
 fn commit_in(z: &mut [Word], p: Word, i: Word, h: &[Word], made: Word)
     requires { ⌜ instancesWords ≤ length (now z) ⌝ }
     ensures { λ _. ⌜ now (z .exit) ≡ storedIn (instancesOf (now (z .entry))) p i (now (h .entry)) made ++ queuesOf (now (z .entry)) ⌝ }

@@ -6,9 +6,12 @@ ghost use Rattle.kinds.specs.Moves.{moveOf};
 ghost use Rattle.model.specs.Table.{kindIn, modeIn};
 ghost use Rattle.state.specs.Places.{instancesWords};
 ghost use Rattle.state.specs.Instances.{instancesOf, queuesOf};
-ghost use Rattle.meaning.specs.Step.{instanceOf, before};
-ghost use Rattle.rules.specs.Parts.{siteAt, settledAt};
+ghost use Rattle.meaning.specs.Refusals.{firstRefusal};
+ghost use Rattle.meaning.specs.Step.{instanceOf, before, refusals};
+ghost use Rattle.plans.specs.Plans.{siteAt};
+ghost use Rattle.rules.specs.Parts.{settledAt};
 ghost use Rattle.rules.specs.Settled.{settled, posted, Done};
+use effects::refuse;
 use kinds::moves::Move;
 use kinds::moves::move_of;
 use meaning::Answer;
@@ -20,23 +23,20 @@ use model::limit_of;
 use model::mode_in;
 use model::places::TABLE_WORDS;
 use model::pool_of;
+use refusals::NO_SUCH;
+use refusals::numbers::is_there;
 use state::places::STATE_WORDS;
 use words::Word;
 
-mod copies;
+mod deciding;
 mod halves;
-mod numbers;
-mod plans;
-pub mod refusals;
 
+use deciding::number_in;
 use halves::apply;
 use halves::copy_in;
 use halves::decide_in;
 use halves::made_in;
 use halves::post_in;
-use halves::refuse;
-use numbers::is_there;
-use refusals::NO_SUCH;
 
 fn move_at(el: &[Word], phase: Word) -> Move
     ensures { λ r. ⌜ r ≡ moveOf (kindIn (now (el .entry))) (modeIn (now (el .entry))) phase ⌝ }
@@ -87,6 +87,13 @@ pub fn step_on(t: &[Word; TABLE_WORDS], z: &mut [Word; STATE_WORDS], n: Name) ->
     ensures { λ r. ⌜ Done (settled (now (t .entry)) (instancesOf (now (z .entry))) (queuesOf (now (z .entry))) n) r (now (z .exit)) ⌝ }
 {
     step_in(t, z, n)
+}
+
+// The number that refuses a named step, or 0.
+pub fn number_of(t: &[Word; TABLE_WORDS], z: &[Word; STATE_WORDS], n: Name) -> Word
+    ensures { λ r. ⌜ r ≡ firstRefusal (refusals (now (t .entry)) (instancesOf (now (z .entry))) (queuesOf (now (z .entry))) n) ⌝ }
+{
+    number_in(t, z, n)
 }
 
 // A post: the number that refuses it, or 0.

@@ -1,5 +1,5 @@
 use Rattle.rules.proofs.StateLaws.{back}
-use Rattle.rules.specs.Parts.{deliveredBy}
+use Rattle.effects.specs.Effects.{deliveredBy}
 use Rattle.state.specs.Places.{instancesWords}
 use Rattle.words.proofs.BlockLaws.{tail-in}
 use Prim.Native.Nat.{ℕ}

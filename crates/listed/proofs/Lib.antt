@@ -1,0 +1,14 @@
+pub mod Counting
+pub mod ChecksHold
+pub mod StartUnique
+pub mod PoolFound
+pub mod MoveRows
+pub mod Idle
+pub mod ScannedIs
+pub mod RunIs
+pub mod Members
+pub mod SameValues
+pub mod ListedAll
+pub mod ListedOnce
+pub mod ListedTidy
+pub mod RunLaws

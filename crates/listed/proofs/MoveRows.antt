@@ -1,0 +1,84 @@
+-- What the rows of the table of moves say of an element that can move. Assumes nothing.
+use Prim.Native.Nat.{ℕ, _<_}
+use mathlib.Core.Path.{_≡_, refl, sym, _∙_, subst}
+use mathlib.Core.Bool.{Bool, true, _&&_}
+use mathlib.Core.Logic.{⊎-elim}
+use native.Mathlib.Nat.{eq-or-lt-of-le}
+use native.Mathlib.Omega.{arith}
+use lib.Dec.{eqb, ltb}
+use lib.ListN.{getD}
+use borrow.Author.Tests.{eqb-true, ltb-true, eq-eqb, ne-eqb}
+use Rattle.words.specs.Each.{each}
+use Rattle.words.specs.Pick.{if_then_else_}
+use Rattle.words.proofs.AllLaws.{and-right}
+use Rattle.words.proofs.ListLaws.{each-at}
+use Rattle.words.proofs.SeekLaws.{sought}
+use Rattle.kinds.specs.declared.moves.Move.{Move}
+use Rattle.kinds.specs.Kinds.{startRcv, kindOf}
+use Rattle.kinds.specs.Moves.{phases, every, branch, down, making, moves, noMove, rules, modeOf, isRule, ruleOf, moveOf}
+use Rattle.steps.proofs.Choices.{chosen-true, passed-true}
+use Rattle.steps.proofs.Rows.{row-kind, row-making}
+
+module _ (k m p : ℕ) where
+  every-row : (f : Move → Bool) → each f moves ≡ true → f noMove ≡ true → f (moveOf k m p) ≡ true
+  unfolding moveOf
+  every-row f e o = each-at f moves noMove e o (ruleOf k m p)
+
+  -- the row found is of the phase
+  row-phase : (moveOf k m p .kind ≡ 0 → ⊥) → moveOf k m p .phase ≡ p
+  unfolding moveOf ruleOf isRule
+  row-phase there =
+      let s = sought (isRule k m p) rules in
+      let found : isRule k m p (ruleOf k m p) ≡ true = ⊎-elim (λ e. absurd (there (rw e))) (λ h. s .1 h) (eq-or-lt-of-le (s .0)) in
+      let row : Move = getD moves (ruleOf k m p) noMove in
+      eqb-true _ p (and-right (eqb (row .kind) k && eqb (row .mode) (modeOf m)) (eqb (row .phase) p) found)
+
+  pub phase-few : (moveOf k m p .kind ≡ 0 → ⊥) → p < phases
+  unfolding each
+  phase-few there = let h = every-row (λ r. ltb (r .phase) phases) refl refl in omega (arith, row-phase there, ltb-true (moveOf k m p .phase) phases h)
+
+  -- what makes an instance is a rule, and of phase 0
+  making-there : moveOf k m p .also ≡ making → moveOf k m p .kind ≡ 0 → ⊥
+  making-there e z = omega (arith, row-making k m p e)
+
+  making-phase : moveOf k m p .also ≡ making → moveOf k m p .phase ≡ 0
+  unfolding each if_then_else_
+  making-phase e =
+      let h = every-row (λ r. if eqb (r .also) making then eqb (r .phase) 0 else true) refl refl in
+      eqb-true _ 0 (chosen-true _ _ true h (eq-eqb _ making e))
+
+  -- a startRcv makes one
+  startRcv-makes : moveOf k m p .kind ≡ startRcv → moveOf k m p .also ≡ making
+  unfolding each if_then_else_
+  startRcv-makes e =
+      let h = every-row (λ r. if eqb (r .kind) startRcv then eqb (r .also) making else true) refl refl in
+      eqb-true _ making (chosen-true _ _ true h (eq-eqb _ startRcv e))
+
+  -- what takes from every entry is of a kind that has entries
+  pub takes-entries : moveOf k m p .takes ≡ every → 0 < kindOf (moveOf k m p .kind) .entries
+  unfolding each if_then_else_ kindOf
+  takes-entries e =
+      let h = every-row (λ r. if eqb (r .takes) every then ltb 0 (kindOf (r .kind) .entries) else true) refl refl in
+      ltb-true 0 _ (chosen-true _ _ true h (eq-eqb _ every e))
+
+  -- what makes no instance takes from an entry, or else lowers a count
+  pub takes-or-lowers : (moveOf k m p .kind ≡ 0 → ⊥) → (moveOf k m p .also ≡ making → ⊥) → (moveOf k m p .takes ≡ every → ⊥) → (moveOf k m p .takes ≡ branch → ⊥) → (moveOf k m p .active ≡ down → ⊥) → moveOf k m p .ready ≡ down
+  unfolding each if_then_else_
+  takes-or-lowers there o e b a =
+      let h = every-row (λ r. if eqb (r .kind) 0 then true else if eqb (r .also) making then true else if eqb (r .takes) every then true else if eqb (r .takes) branch then true else if eqb (r .active) down then true else eqb (r .ready) down) refl refl in
+      let h1 = passed-true _ true _ h (ne-eqb _ 0 there) in
+      let h2 = passed-true _ true _ h1 (ne-eqb _ making o) in
+      let h3 = passed-true _ true _ h2 (ne-eqb _ every e) in
+      let h4 = passed-true _ true _ h3 (ne-eqb _ branch b) in
+      eqb-true _ down (passed-true _ true _ h4 (ne-eqb _ down a))
+
+-- an element makes instances in each phase in which it has a rule, or in none
+module _ (k m p : ℕ) where
+  pub makes-first : moveOf k m p .also ≡ making → moveOf k m 0 .also ≡ making
+  makes-first e =
+      let z : p ≡ 0 = sym (row-phase k m p (making-there k m p e)) ∙ making-phase k m p e in
+      subst (λ y. moveOf k m y .also ≡ making) z e
+
+  pub makes-always : moveOf k m 0 .also ≡ making → (moveOf k m p .kind ≡ 0 → ⊥) → moveOf k m p .also ≡ making
+  makes-always e there =
+      startRcv-makes k m p (row-kind k m p there ∙ sym (row-kind k m 0 (making-there k m 0 e)) ∙ row-making k m 0 e)

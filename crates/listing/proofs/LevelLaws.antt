@@ -1,0 +1,124 @@
+-- The levels of the listing as lists one behind the other. Assumes nothing.
+use mathlib.Core.Path.{_≡_, _∙_, refl, sym, ap, ap₂}
+use mathlib.Core.Bool.{Bool, true, false, true≢false, false≢true}
+use mathlib.Core.List.{List, [], _∷_}
+use Prim.Native.Nat.{ℕ, zero, suc, _+_}
+use lib.Dec.{eqb}
+use borrow.Author.Tests.{eq-eqb, ne-eqb}
+use Rattle.words.specs.Each.{joined, those}
+use Rattle.words.specs.Pick.{if_then_else_}
+use Rattle.words.proofs.JoinLaws.{joined-ext, those-joined}
+use Rattle.kinds.specs.declared.moves.Move.{Move}
+use Rattle.kinds.specs.Moves.{on, phases}
+use Rattle.model.specs.Table.{poolCount, elementCount, elementAt, messageName}
+use Rattle.state.specs.Instances.{madeCount, instanceAt}
+use Rattle.meaning.specs.declared.Tuple.{Tuple}
+use Rattle.meaning.specs.declared.Name.{Name}
+use Rattle.meaning.specs.Tuples.{empty}
+use Rattle.meaning.specs.Queues.{queued}
+use Rattle.meaning.specs.Requirements.{branchCount}
+use Rattle.listing.specs.declared.Listed.{Listed}
+use Rattle.listing.specs.declared.Scan.{Scan}
+use Rattle.listing.specs.Listing.{offered, places, valuesAt, nameAt, namedBy, moveAt, byPlace, byBranch, byPhase, byElement, accepted, chosen}
+use Rattle.listing.specs.Scanned.{stirs, scanElement, scanInstance, scanPool, scanned, scan}
+use Rattle.listing.specs.Parts.{withValues, byMessage}
+
+named-ext : (f g : Tuple → Name) (ms : List Tuple) → ((v : Tuple) → f v ≡ g v) → namedBy f ms ≡ namedBy g ms
+unfolding namedBy
+named-ext f g [] h = refl
+named-ext f g (m ∷ ms) h = ap₂ _∷_ (h m) (named-ext f g ms h)
+
+joined-one : (f : ℕ → List Name) → joined f 1 ≡ f 0
+unfolding joined
+joined-one f = refl
+
+-- BY QUEUE PLACE: m is the move, n the name without values, x the name of the messages
+module _ (t q : List ℕ) (p i e f b : ℕ) where
+  values-put : (v : Tuple) → nameAt t p i e f b v ≡ withValues (nameAt t p i e f b empty) v
+  unfolding nameAt withValues
+  values-put v = refl
+
+  module _ (test : eqb (moveAt t p e f .receives) on ≡ true) where
+    as-many : places (moveAt t p e f) q (messageName (elementAt t p e) b) ≡ queued q (messageName (elementAt t p e) b)
+    unfolding places if_then_else_
+    as-many = rw test
+
+    at-place : (k : ℕ) → byPlace t q p i e f b k ≡ byMessage q (nameAt t p i e f b empty) (messageName (elementAt t p e) b) k
+    unfolding byPlace byMessage valuesAt if_then_else_
+    at-place k =
+        rw test (named-ext (nameAt t p i e f b) (withValues (nameAt t p i e f b empty)) (offered q (messageName (elementAt t p e) b) k) values-put)
+
+    received-is : byBranch t q p i e f b ≡ joined (byMessage q (nameAt t p i e f b empty) (messageName (elementAt t p e) b)) (queued q (messageName (elementAt t p e) b))
+    unfolding byBranch
+    received-is =
+        rw as-many
+        (joined-ext (byPlace t q p i e f b) (byMessage q (nameAt t p i e f b empty) (messageName (elementAt t p e) b)) (queued q (messageName (elementAt t p e) b)) (λ k l. at-place k))
+
+  module _ (test : eqb (moveAt t p e f .receives) on ≡ false) where
+    one-place : places (moveAt t p e f) q (messageName (elementAt t p e) b) ≡ 1
+    unfolding places if_then_else_
+    one-place = rw test
+
+    one-name : byPlace t q p i e f b 0 ≡ nameAt t p i e f b empty ∷ []
+    unfolding byPlace valuesAt namedBy if_then_else_
+    one-name = rw test
+
+    plain-is : byBranch t q p i e f b ≡ nameAt t p i e f b empty ∷ []
+    unfolding byBranch
+    plain-is = rw one-place (joined-one (byPlace t q p i e f b) ∙ one-name)
+
+  module _ (g : Name → Bool) (m : Move) (n : Name) (k : ℕ) (r : Scan) (m-is : m ≡ moveAt t p e f) (n-is : n ≡ nameAt t p i e f b empty) where
+    pub branch-received : (el : List ℕ) (x : ℕ) → el ≡ elementAt t p e → x ≡ messageName el b → m .receives ≡ on
+        → r ≡ scan (those g (joined (byMessage q n x) (queued q x))) k → r ≡ scan (those g (byBranch t q p i e f b)) k
+    branch-received el x el-is x-is test w =
+        rw (received-is (eq-eqb _ _ (ap (λ (y : Move). y .receives) (sym m-is) ∙ test)), ← n-is, ← el-is, ← x-is) w
+
+    pub branch-plain : (m .receives ≡ on → ⊥) → r ≡ scan (those g (n ∷ [])) k → r ≡ scan (those g (byBranch t q p i e f b)) k
+    branch-plain test w = rw (plain-is (ne-eqb _ _ (λ y. test (ap (λ (v : Move). v .receives) m-is ∙ y))), ← n-is) w
+
+-- BY BRANCH, PHASE
+module _ (t q : List ℕ) (p i e : ℕ) (g : Name → Bool) where
+  pub phase-is : (f : ℕ) → those g (byPhase t q p i e f) ≡ joined (λ b. those g (byBranch t q p i e f b)) (branchCount (elementAt t p e) (moveAt t p e f))
+  unfolding byPhase
+  phase-is f = those-joined g (byBranch t q p i e f) (branchCount (elementAt t p e) (moveAt t p e f))
+
+  pub element-is : those g (byElement t q p i e) ≡ joined (λ f. those g (byPhase t q p i e f)) phases
+  unfolding byElement
+  element-is = those-joined g (byPhase t q p i e) phases
+
+-- AN ELEMENT, passed over or not
+module _ (t s q : List ℕ) (p i e k : ℕ) (r : Scan) where
+  pub element-idle : stirs (elementAt t p e) (instanceAt s p i) i (madeCount s p) ≡ false → r ≡ scan [] k → r ≡ scan (scanElement t s q p i e) k
+  unfolding scanElement if_then_else_
+  element-idle test w = rw test w
+
+  pub element-stirs : stirs (elementAt t p e) (instanceAt s p i) i (madeCount s p) ≡ true → r ≡ scan (those (accepted t s q) (byElement t q p i e)) k → r ≡ scan (scanElement t s q p i e) k
+  unfolding scanElement if_then_else_
+  element-stirs test w = rw test w
+
+-- BY ELEMENT, INSTANCE, POOL
+module _ (t s q : List ℕ) where
+  pub instance-is : (p i : ℕ) → scanInstance t s q p i ≡ joined (scanElement t s q p i) (elementCount t p)
+  unfolding scanInstance
+  instance-is p i = refl
+
+  pub pool-is : (p : ℕ) → scanPool t s q p ≡ joined (scanInstance t s q p) (madeCount s p + 1)
+  unfolding scanPool
+  pool-is p = refl
+
+  pub pools-are : scanned t s q ≡ joined (scanPool t s q) (poolCount t)
+  unfolding scanned
+  pools-are = refl
+
+-- THE ANSWER
+pub chosen-found : (ns : List Name) (k : ℕ) (r : Scan) → r ≡ scan ns k → r .found ≡ true → _≡_ {A = Listed} (record { number = 0; name = r .name }) (chosen ns k)
+unfolding scan chosen
+chosen-found [] k r e h = absurd (false≢true (sym (ap (λ (x : Scan). x .found) e) ∙ h))
+chosen-found (n ∷ ns) zero r e h = ap (λ (x : Scan). record { number = 0; name = x .name }) e
+chosen-found (n ∷ ns) (suc k) r e h = chosen-found ns k r e h
+
+pub chosen-none : (ns : List Name) (k : ℕ) (r : Scan) → r ≡ scan ns k → r .found ≡ false → _≡_ {A = Listed} (record { number = 6; name = r .name }) (chosen ns k)
+unfolding scan chosen
+chosen-none [] k r e h = ap (λ (x : Scan). record { number = 6; name = x .name }) e
+chosen-none (n ∷ ns) zero r e h = absurd (true≢false (sym (ap (λ (x : Scan). x .found) e) ∙ h))
+chosen-none (n ∷ ns) (suc k) r e h = chosen-none ns k r e h

@@ -1,0 +1,4 @@
+pub mod ScanLaws
+pub mod NameLaws
+pub mod LevelLaws
+pub mod StirLaws

@@ -1,0 +1,34 @@
+use Rattle.kinds.specs.Moves.{phases}
+use Rattle.listing.proofs.LevelLaws.{element-is}
+use Rattle.listing.proofs.ScanLaws.{Passed, passed-none, passed-more, level-found, level-passed}
+use Rattle.listing.specs.Parts.{acceptedOn}
+use Rattle.listing.specs.Listing.{byPhase}
+use Rattle.state.specs.Instances.{queuesOf}
+use mathlib.Core.Path.{refl}
+use Prim.Native.Nat.{_≤_, _-_}
+use borrow.Author.Needs.{needs}
+use Rattle.listing.proofs.levels.scan_phases.Statement.{statement}
+use Rattle.listing.proofs.levels.scan_phases.Tie as tie
+
+ruleset L = (needs)
+
+abbrev Inv-loop : tie.InvT-loop
+Inv-loop t z p i e k left₀ f₀ left f = (f ≤ phases) × Passed (λ j. acceptedOn t z (byPhase t (queuesOf z) p i e j)) f k left
+
+abbrev μ-loop : tie.MeasureT-loop
+μ-loop t z p i e k left₀ f₀ left f = phases - f
+
+pub scan-phases-spec : {M : Type 1} → statement M
+scan-phases-spec =
+    tie.close
+    (tie.spec
+    Inv-loop
+    μ-loop
+    (λ c. (search L, passed-none _ _))  -- loop-holds
+    (λ c κs. search L)
+    (λ c. level-found _ _ _ _ _ _ _ _ (element-is _ _ _ _ _ _) refl (c .before .before .loop-test .taken) (c .before .before .before .loop .inv .1) (c .before .scan-phase .ensures) (c .if1 .taken))  -- returns
+    (λ c. search L)
+    (λ c. search L)
+    (λ c. (search L, passed-more _ _ _ _ _ (c .before .before .before .loop .inv .1) (c .before .scan-phase .ensures) (c .if1 .left)))  -- loop-again
+    (λ c κs. search L)
+    (λ c. level-passed _ _ _ _ _ _ _ _ (element-is _ _ _ _ _ _) refl (c .before .loop-test .left) (c .before .before .loop .inv .0) (c .before .before .loop .inv .1) (c .passed .ensures)))  -- returns-2

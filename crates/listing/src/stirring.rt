@@ -1,0 +1,78 @@
+// Whether an element could move in an instance: it has a token on an entry or a count that is not 0, or it makes the instance.
+ghost use mathlib.Core.Path.{_≡_};
+ghost use Rattle.words.specs.All.{all};
+ghost use Rattle.model.specs.Table.{elementAt, entryCount};
+ghost use Rattle.state.specs.Instances.{instancesOf, madeCount, instanceAt};
+ghost use Rattle.listing.specs.Scanned.{isBare, idle, stirs};
+use super::parts::instances_in;
+use kinds::moves::MAKES;
+use kinds::moves::move_of;
+use model::edge_at;
+use model::element_at;
+use model::entry_count;
+use model::kind_in;
+use model::mode_in;
+use model::places::ENTRIES;
+use model::task_in;
+use state::active_count;
+use state::instance_at;
+use state::made_count;
+use state::ready_count;
+use state::tokens_on;
+use words::Word;
+
+fn is_bare(el: &[Word], h: &[Word], j: Word) -> bool
+    ensures { λ r. ⌜ r ≡ isBare (now (el .entry)) (now (h .entry)) j ⌝ }
+{
+    tokens_on(h, edge_at(el, ENTRIES as Word, j)) == 0
+}
+
+fn are_bare(el: &[Word], h: &[Word]) -> bool
+    ensures { λ r. ⌜ r ≡ all (isBare (now (el .entry)) (now (h .entry))) (entryCount (now (el .entry))) ⌝ }
+{
+    let n = entry_count(el);
+    let mut j: Word = 0;
+    while j < n {
+        if !is_bare(el, h, j) {
+            return false;
+        }
+        j += 1;
+    }
+    true
+}
+
+fn is_idle(el: &[Word], h: &[Word]) -> bool
+    ensures { λ r. ⌜ r ≡ idle (now (el .entry)) (now (h .entry)) ⌝ }
+{
+    let task = task_in(el);
+    if !are_bare(el, h) {
+        return false;
+    }
+    if active_count(h, task) != 0 {
+        return false;
+    }
+    ready_count(h, task) == 0
+}
+
+fn can_stir(el: &[Word], h: &[Word], i: Word, made: Word) -> bool
+    ensures { λ r. ⌜ r ≡ stirs (now (el .entry)) (now (h .entry)) i made ⌝ }
+{
+    let m = move_of(kind_in(el), mode_in(el), 0);
+    if m.also == MAKES {
+        return i == made;
+    }
+    if i < made {
+        return !is_idle(el, h);
+    }
+    false
+}
+
+pub fn stirs_at(t: &[Word], z: &[Word], p: Word, i: Word, e: Word) -> bool
+    ensures { λ r. ⌜ r ≡ stirs (elementAt (now (t .entry)) p e) (instanceAt (instancesOf (now (z .entry))) p i) i (madeCount (instancesOf (now (z .entry))) p) ⌝ }
+{
+    let s = instances_in(z);
+    let el = element_at(t, p, e);
+    let h = instance_at(s, p, i);
+    let made = made_count(s, p);
+    can_stir(el, h, i, made)
+}

@@ -1,0 +1,21 @@
+use Rattle.plans.proofs.PlanLaws.{decided-early, decided-late, decided-whole}
+use borrow.Author.Needs.{needs}
+use Rattle.plans.proofs.decide.Statement.{statement}
+use Rattle.plans.proofs.decide.Tie as tie
+
+ruleset L = (needs)
+
+pub decide-spec : {M : Type 1} → statement M
+decide-spec =
+    tie.close
+    (tie.spec
+    (λ c κs. search L)
+    (λ c. search L)
+    (λ c. decided-early _ _ (c .before .before .before .prepare .result) _ (c .before .before .before .prepare .ensures) (c .if1 .taken))  -- returns
+    (λ c κs. search L)
+    (λ c κs. search L)
+    (λ c. search L)
+    (λ c. decided-late _ _ (c .before .before .before .before .before .before .before .prepare .result) _ (c .before .before .before .before .before .before .before .prepare .ensures) (c .before .before .before .before .if1 .left) (c .before .before .number-last .result) (c .before .before .number-last .ensures) _ _ (c .before .if2 .taken) (c .refused-plan .ensures))  -- returns-2
+    (λ c κs. search L)
+    (λ c. search L)
+    (λ c. decided-whole _ _ (c .before .before .before .before .before .before .before .before .before .before .prepare .result) _ (c .before .before .before .before .before .before .before .before .before .before .prepare .ensures) (c .before .before .before .before .before .before .before .if1 .left) (c .before .before .before .before .before .number-last .result) (c .before .before .before .before .before .number-last .ensures) _ (c .before .before .before .before .if2 .left) (c .before .before .change-last .ensures)))  -- returns-3

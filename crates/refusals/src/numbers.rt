@@ -1,0 +1,189 @@
+// The numbers that refuse a step, in the order they are looked at.
+ghost use mathlib.Core.Path.{_≡_};
+ghost use mathlib.Core.Bool.{_&&_, _||_};
+ghost use lib.Dec.{eqb, ltb, leb};
+ghost use lib.ListN.{length};
+ghost use Rattle.words.specs.Counts.{messages, names, values};
+ghost use Rattle.kinds.specs.Moves.{on};
+ghost use Rattle.meaning.specs.Messages.{has};
+ghost use Rattle.meaning.specs.Queues.{messagesOf};
+ghost use Rattle.meaning.specs.Refusals.{firstRefusal};
+ghost use Rattle.refusals.specs.Chain.{placed, offered, beforeFields, ofFields, queuedFor, spaceFor, ofQueues};
+use super::ACCEPTED;
+use super::LIMIT_REACHED;
+use super::NOT_MATCHING;
+use super::NOT_PERMITTED;
+use super::NOT_QUEUED;
+use super::NOT_TRUE;
+use super::QUEUE_FULL;
+use super::WOULD_PASS;
+use fields::grants;
+use kinds::moves::Move;
+use kinds::moves::ON;
+use meaning::Name;
+use meaning::Tuple;
+use model::element_count;
+use model::pool_count;
+use queues::oldest_of;
+use queues::queued_in;
+use tokens::branch_count;
+use tokens::is_named;
+use tokens::permission::is_roomy;
+use tokens::permission::permits;
+use words::Word;
+use words::counts::MESSAGES;
+use words::counts::NAMES;
+use words::counts::VALUES;
+
+// The number of a step that nothing refuses.
+const ALL_HOLD: Word = ACCEPTED;
+
+// 11, of the table.
+fn is_placed(t: &[Word], p: Word, e: Word) -> bool
+    ensures { λ r. ⌜ r ≡ placed (now (t .entry)) p e ⌝ }
+{
+    if p < pool_count(t) {
+        return e < element_count(t, p);
+    }
+    false
+}
+
+// 11, of the move.
+fn is_offered(el: &[Word], m: Move, b: Word, i: Word, made: Word) -> bool
+    ensures { λ r. ⌜ r ≡ offered (now (el .entry)) m b i made ⌝ }
+{
+    if m.kind == 0 {
+        return false;
+    }
+    if b < branch_count(el, m) {
+        return is_named(m, i, made);
+    }
+    false
+}
+
+// 11: there is such a pool, element, phase, branch and instance.
+pub fn is_there(t: &[Word], el: &[Word], m: Move, p: Word, made: Word, n: Name) -> bool
+    ensures { λ r. ⌜ r ≡ placed (now (t .entry)) p (n .element) && offered (now (el .entry)) m (n .branch) (n .instance) made ⌝ }
+{
+    if is_placed(t, p, n.element) {
+        return is_offered(el, m, n.branch, n.instance, made);
+    }
+    false
+}
+
+// 12, and 13 of the guard or the condition.
+pub fn number_before(el: &[Word], h: &[Word], m: Move, b: Word) -> Word
+    ensures { λ r. ⌜ r ≡ firstRefusal (beforeFields (now (el .entry)) (now (h .entry)) m b) ⌝ }
+{
+    if !permits(el, h, m, b) {
+        return NOT_PERMITTED;
+    }
+    if !grants(el, h, m, b) {
+        return NOT_TRUE;
+    }
+    ALL_HOLD
+}
+
+pub fn both(a: bool, b: bool) -> bool
+    ensures { λ r. ⌜ r ≡ a && b ⌝ }
+{
+    if a {
+        return b;
+    }
+    false
+}
+
+fn receives_or(m: Move, a: bool) -> bool
+    ensures { λ r. ⌜ r ≡ eqb (m .receives) on || a ⌝ }
+{
+    if m.receives == ON {
+        return true;
+    }
+    a
+}
+
+// 13, 14, 13 of the fields: where a message is received, its values come first.
+pub fn number_of_fields(m: Move, defined: bool, matches: bool) -> Word
+    ensures { λ r. ⌜ r ≡ firstRefusal (ofFields m defined matches) ⌝ }
+{
+    if !receives_or(m, defined) {
+        return NOT_TRUE;
+    }
+    if !matches {
+        return NOT_MATCHING;
+    }
+    if !defined {
+        return NOT_TRUE;
+    }
+    ALL_HOLD
+}
+
+fn is_present(q: &[Word], name: Word, g: Tuple) -> bool
+    ensures { λ r. ⌜ r ≡ has g (messagesOf (now (q .entry)) name) ⌝ }
+{
+    oldest_of(q, name, g) < queued_in(q, name)
+}
+
+pub fn has_place(q: &[Word], name: Word) -> bool
+    ensures { λ r. ⌜ r ≡ ltb (length (messagesOf (now (q .entry)) name)) messages ⌝ }
+{
+    queued_in(q, name) < MESSAGES
+}
+
+// 15: the message received is queued.
+fn is_queued(m: Move, q: &[Word], name: Word, g: Tuple) -> bool
+    ensures { λ r. ⌜ r ≡ queuedFor m (now (q .entry)) name g ⌝ }
+{
+    if m.receives == ON {
+        return is_present(q, name, g);
+    }
+    true
+}
+
+// 17: the queue sent to holds fewer than it may.
+fn has_space(m: Move, q: &[Word], name: Word) -> bool
+    ensures { λ r. ⌜ r ≡ spaceFor m (now (q .entry)) name ⌝ }
+{
+    if m.sends == ON {
+        return has_place(q, name);
+    }
+    true
+}
+
+// 15 to 18, of the instance after the taking.
+pub fn number_after(
+    el: &[Word],
+    h: &[Word],
+    m: Move,
+    b: Word,
+    g: Tuple,
+    name: Word,
+    below: bool,
+    q: &[Word],
+) -> Word
+    ensures { λ r. ⌜ r ≡ firstRefusal (ofQueues (now (el .entry)) (now (h .entry)) m b (queuedFor m (now (q .entry)) name g) below (spaceFor m (now (q .entry)) name)) ⌝ }
+{
+    if !is_queued(m, q, name, g) {
+        return NOT_QUEUED;
+    }
+    if !below {
+        return LIMIT_REACHED;
+    }
+    if !has_space(m, q, name) {
+        return QUEUE_FULL;
+    }
+    if !is_roomy(el, h, m, b) {
+        return WOULD_PASS;
+    }
+    ALL_HOLD
+}
+
+// 19: the name is one of those that there are, and the values are not too many.
+pub fn is_postable(name: Word, length: Word) -> bool
+    ensures { λ r. ⌜ r ≡ ltb name names && leb length values ⌝ }
+{
+    if name < NAMES {
+        return length <= VALUES;
+    }
+    false
+}

@@ -1,0 +1,40 @@
+-- The number that refuses a step, by what its name finds. Assumes nothing.
+use Prim.Native.Nat.{ℕ}
+use mathlib.Core.Path.{_≡_, _∙_}
+use mathlib.Core.Bool.{true, false, _&&_}
+use mathlib.Core.List.{List}
+use Rattle.words.specs.Pick.{if_then_else_}
+use Rattle.kinds.specs.declared.moves.Move.{Move}
+use Rattle.kinds.specs.Moves.{moveOf}
+use Rattle.model.specs.Table.{kindIn, modeIn, elementAt, poolOf, limitOf}
+use Rattle.state.specs.Instances.{instancesOf, queuesOf, madeCount}
+use Rattle.meaning.specs.declared.Tuple.{Tuple}
+use Rattle.meaning.specs.declared.Name.{Name}
+use Rattle.meaning.specs.Refusals.{firstRefusal}
+use Rattle.meaning.specs.Step.{siteOf, elementNamed, moveNamed, instanceOf, before, refusalsAt, refusals}
+use Rattle.plans.specs.declared.Plan.{Plan}
+use Rattle.plans.specs.Plans.{siteAt, Decided}
+use Rattle.refusals.specs.Chain.{placed, offered}
+use Rattle.rules.proofs.StateLaws.{there-is}
+
+-- h is the copy of the instance h₀
+pub number-by : (el h h₀ : List ℕ) (m : Move) (b : ℕ) (g : Tuple) (made limit : ℕ) (q : List ℕ) (plan : Plan) (copy : List ℕ) → h ≡ h₀
+    → Decided (siteAt el h m b g made limit) q plan copy
+    → plan .number ≡ firstRefusal (refusalsAt (siteAt el h₀ m b g made limit) q)
+number-by el h h₀ m b g made limit q plan copy e d = d .number ∙ rw e
+
+module _ (t z : List ℕ) (n : Name) (p : ℕ) (el : List ℕ) (m : Move) (made : ℕ)
+    (e₁ : p ≡ poolOf t (n .pool))
+    (e₂ : el ≡ elementAt t p (n .element))
+    (e₃ : m ≡ moveOf (kindIn el) (modeIn el) (n .phase))
+    (e₄ : made ≡ madeCount (instancesOf z) p) where
+  pub number-nowhere : placed t p (n .element) && offered el m (n .branch) (n .instance) made ≡ false
+      → 11 ≡ firstRefusal (refusals t (instancesOf z) (queuesOf z) n)
+  unfolding refusals firstRefusal if_then_else_
+  number-nowhere k = rw (there-is t z n p el m made e₁ e₂ e₃ e₄ ∙ k)
+
+  pub number-there : (limit r : ℕ) → placed t p (n .element) && offered el m (n .branch) (n .instance) made ≡ true → limit ≡ limitOf t p
+      → r ≡ firstRefusal (refusalsAt (siteAt el (before m (instanceOf (instancesOf z) p (n .instance))) m (n .branch) (n .given) made limit) (queuesOf z))
+      → r ≡ firstRefusal (refusals t (instancesOf z) (queuesOf z) n)
+  unfolding refusals firstRefusal if_then_else_ siteOf elementNamed moveNamed
+  number-there limit r k e d = rw (there-is t z n p el m made e₁ e₂ e₃ e₄ ∙ k) (rw (e, e₄, e₃, e₂, e₁) at d)

@@ -1,0 +1,47 @@
+// The number that refuses a step, with nothing applied.
+ghost use mathlib.Core.Path.{_≡_};
+ghost use lib.ListN.{length};
+ghost use Prim.Native.Nat.{_≤_};
+ghost use Rattle.state.specs.Places.{instancesWords};
+ghost use Rattle.state.specs.Instances.{instancesOf, queuesOf};
+ghost use Rattle.meaning.specs.Refusals.{firstRefusal};
+ghost use Rattle.meaning.specs.Step.{instanceOf, before, refusalsAt, refusals};
+ghost use Rattle.plans.specs.Plans.{siteAt};
+use super::halves::copy_in;
+use super::halves::decide_in;
+use super::halves::made_in;
+use super::move_at;
+use kinds::moves::Move;
+use meaning::Name;
+use model::element_at;
+use model::limit_of;
+use model::pool_of;
+use refusals::NO_SUCH;
+use refusals::numbers::is_there;
+use words::Word;
+
+// Of a step of instance n.instance of pool p, which exists.
+fn number_at(el: &[Word], z: &[Word], m: Move, p: Word, made: Word, limit: Word, n: Name) -> Word
+    requires { ⌜ instancesWords ≤ length (now z) ⌝ }
+    ensures { λ r. ⌜ r ≡ firstRefusal (refusalsAt (siteAt (now (el .entry)) (before m (instanceOf (instancesOf (now (z .entry))) p (n .instance))) m (n .branch) (n .given) made limit) (queuesOf (now (z .entry)))) ⌝ }
+{
+    let g = n.given;
+    let mut h = copy_in(z, m, p, n.instance);
+    let plan = decide_in(el, &mut h, z, m, n.branch, g, made, limit);
+    plan.number
+}
+
+pub fn number_in(t: &[Word], z: &[Word], n: Name) -> Word
+    requires { ⌜ instancesWords ≤ length (now z) ⌝ }
+    ensures { λ r. ⌜ r ≡ firstRefusal (refusals (now (t .entry)) (instancesOf (now (z .entry))) (queuesOf (now (z .entry))) n) ⌝ }
+{
+    let p = pool_of(t, n.pool);
+    let el = element_at(t, p, n.element);
+    let m = move_at(el, n.phase);
+    let made = made_in(z, p);
+    if !is_there(t, el, m, p, made, n) {
+        return NO_SUCH;
+    }
+    let limit = limit_of(t, p);
+    number_at(el, z, m, p, made, limit, n)
+}

@@ -1,0 +1,51 @@
+// The run: the first listed step, until none is accepted or the limit is used up.
+ghost use mathlib.Core.Path.{_≡_};
+ghost use Rattle.state.specs.Instances.{instancesOf, queuesOf};
+ghost use Rattle.rules.specs.Settled.{settled};
+ghost use Rattle.listing.specs.Scanned.{scanned};
+ghost use Rattle.running.specs.Run.{whether, ranBy};
+use listing::list_on;
+use model::places::TABLE_WORDS;
+use rules::step_on;
+use state::places::STATE_WORDS;
+use words::Word;
+
+// The number of steps taken, and 1 or 0 for whether one is still accepted.
+pub struct Ran {
+    pub steps: Word,
+    pub left: Word,
+}
+
+// 1 or 0 for whether a step is accepted.
+fn whether_left(t: &[Word; TABLE_WORDS], z: &[Word; STATE_WORDS]) -> Word
+    ensures { λ r. ⌜ r ≡ whether (scanned (now (t .entry)) (instancesOf (now (z .entry))) (queuesOf (now (z .entry)))) ⌝ }
+{
+    let first = list_on(t, z, 0);
+    if first.number == 0 {
+        return 1;
+    }
+    0
+}
+
+// Takes the first listed step until none is accepted or the limit is used up.
+pub fn run_on(t: &[Word; TABLE_WORDS], z: &mut [Word; STATE_WORDS], limit: Word) -> Ran
+    ensures { λ r. ⌜ record { steps = r .steps; left = r .left; instances = instancesOf (now (z .exit)); queues = queuesOf (now (z .exit)) } ≡ ranBy (scanned (now (t .entry))) (settled (now (t .entry))) limit (instancesOf (now (z .entry))) (queuesOf (now (z .entry))) ⌝ }
+{
+    let mut steps: Word = 0;
+    while steps < limit {
+        let first = list_on(t, z, 0);
+        if first.number != 0 {
+            return Ran {
+                steps: steps,
+                left: 0,
+            };
+        }
+        step_on(t, z, first.name);
+        steps += 1;
+    }
+    let left = whether_left(t, z);
+    Ran {
+        steps: steps,
+        left: left,
+    }
+}

@@ -1,0 +1,17 @@
+use borrow.Author.Needs.{needs}
+use Rattle.limits.specs.Limits.{conditionsFit}
+use Rattle.tables.proofs.elements.conditions_fit.Statement.{statement}
+use Rattle.tables.proofs.elements.conditions_fit.Tie as tie
+
+ruleset L = (needs)
+
+pub conditions-fit-spec : {M : Type 1} → statement M
+unfolding conditionsFit
+conditions-fit-spec =
+    tie.close
+    (tie.spec
+    (λ c κs. search L)
+    (λ c κs. search L)
+    (λ c κs. search L)
+    (λ c κs. search L)
+    (λ c. cc))

@@ -1,0 +1,13 @@
+use borrow.Author.Needs.{needs}
+use Rattle.tables.proofs.elements.entries_fit.Statement.{statement}
+use Rattle.tables.proofs.elements.entries_fit.Tie as tie
+
+ruleset L = (needs)
+
+pub entries-fit-spec : {M : Type 1} → statement M
+entries-fit-spec =
+    tie.close
+    (tie.spec
+    (λ c κs. search L)
+    (λ c κs. search L)
+    (λ c. cc))

@@ -1,0 +1,14 @@
+use borrow.Author.Needs.{needs}
+use Rattle.tables.proofs.elements.listed_fit.Statement.{statement}
+use Rattle.tables.proofs.elements.listed_fit.Tie as tie
+
+ruleset L = (needs)
+
+pub listed-fit-spec : {M : Type 1} → statement M
+listed-fit-spec =
+    tie.close
+    (tie.spec
+    (λ c κs. search L)
+    (λ c κs. search L)
+    (λ c κs. search L)
+    (λ c. cc))

@@ -1,0 +1,17 @@
+use borrow.Author.Needs.{needs}
+use Rattle.limits.specs.Limits.{messagesFit}
+use Rattle.tables.proofs.elements.messages_fit.Statement.{statement}
+use Rattle.tables.proofs.elements.messages_fit.Tie as tie
+
+ruleset L = (needs)
+
+pub messages-fit-spec : {M : Type 1} → statement M
+unfolding messagesFit
+messages-fit-spec =
+    tie.close
+    (tie.spec
+    (λ c κs. search L)
+    (λ c κs. search L)
+    (λ c κs. search L)
+    (λ c κs. search L)
+    (λ c. cc))

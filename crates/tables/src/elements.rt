@@ -1,0 +1,251 @@
+// Whether an element is within the limits: a kind, and what its row of the table of kinds says.
+ghost use mathlib.Core.Path.{_≡_};
+ghost use lib.ListN.{drop};
+ghost use Prim.Native.Nat.{_+_};
+ghost use Rattle.words.specs.Words.{at};
+ghost use Rattle.words.specs.Counts.{branches, assignments};
+ghost use Rattle.kinds.specs.Kinds.{used};
+ghost use Rattle.model.specs.Places.{entriesPlace, exitsPlace, expressionWords, messageWords, assignmentWords};
+ghost use Rattle.limits.specs.Limits.{things, conditionFits, messageFits, assignmentFits, countFits, edgeFits, edgesFit, taskFits, conditionsFit, messagesFit, assignmentsFit, partsFit, elementFits};
+use kinds::Kind;
+use kinds::MANY;
+use kinds::ONE;
+use kinds::count_by;
+use kinds::kind_of;
+use kinds::moves::A;
+use kinds::moves::NA_NC;
+use limits::parts::assignment_fits;
+use limits::parts::condition_fits;
+use limits::parts::message_fits;
+use limits::zeros::is_within;
+use limits::zeros::less;
+use limits::zeros::zero_words;
+use model::assignment_at;
+use model::assignment_count;
+use model::condition_at;
+use model::kind_in;
+use model::places::ASSIGNMENT_COUNT;
+use model::places::ASSIGNMENT_WORDS;
+use model::places::ENTRIES;
+use model::places::EXITS;
+use model::places::EXPRESSION_WORDS;
+use model::places::FIRST_EDGE;
+use model::places::MESSAGE_WORDS;
+use model::places::MESSAGES;
+use model::places::MODE;
+use model::places::TASK;
+use words::Word;
+use words::counts::ASSIGNMENTS;
+use words::counts::BRANCHES;
+use words::counts::EDGES;
+use words::counts::FEWEST;
+use words::counts::TASKS;
+use words::tail;
+use words::word;
+
+// A list of edges: its count, and the edges, a word each.
+const COUNT: usize = 0;
+
+const EDGE_WORDS: usize = 1;
+
+fn count_fits(column: Word, x: &[Word]) -> bool
+    ensures { λ r. ⌜ r ≡ countFits column (at (now (x .entry)) 0) ⌝ }
+{
+    if column == MANY {
+        return is_within(x, COUNT, FEWEST, BRANCHES);
+    }
+    word(x, COUNT) == column
+}
+
+fn edge_fits(x: &[Word]) -> bool
+    ensures { λ r. ⌜ r ≡ edgeFits (now (x .entry)) ⌝ }
+{
+    is_within(x, 0, 1, EDGES)
+}
+
+fn edge_things(x: &[Word], k: Word) -> bool
+    ensures { λ r. ⌜ r ≡ things (now (x .entry)) 1 branches k edgeFits ⌝ }
+{
+    let mut j: Word = 0;
+    while j < k {
+        if !edge_fits(tail(x, EDGE_WORDS * (j as usize))) {
+            return false;
+        }
+        j += 1;
+    }
+    let rest = less(BRANCHES, k as usize);
+    zero_words(
+        tail(x, EDGE_WORDS * (k as usize)),
+        EDGE_WORDS * (rest as usize),
+    )
+}
+
+// The edges of a list.
+fn listed_fit(x: &[Word]) -> bool
+    ensures { λ r. ⌜ r ≡ things (drop 1 (now (x .entry))) 1 branches (at (now (x .entry)) 0) edgeFits ⌝ }
+{
+    edge_things(tail(x, FIRST_EDGE), word(x, COUNT))
+}
+
+fn edges_fit(column: Word, x: &[Word]) -> bool
+    ensures { λ r. ⌜ r ≡ edgesFit column (now (x .entry)) ⌝ }
+{
+    if !count_fits(column, x) {
+        return false;
+    }
+    listed_fit(x)
+}
+
+// The entries and the exits of an element.
+fn entries_fit(column: Word, el: &[Word]) -> bool
+    ensures { λ r. ⌜ r ≡ edgesFit column (drop entriesPlace (now (el .entry))) ⌝ }
+{
+    edges_fit(column, tail(el, ENTRIES))
+}
+
+fn exits_fit(column: Word, el: &[Word]) -> bool
+    ensures { λ r. ⌜ r ≡ edgesFit column (drop exitsPlace (now (el .entry))) ⌝ }
+{
+    edges_fit(column, tail(el, EXITS))
+}
+
+fn task_fits(task: Word, el: &[Word]) -> bool
+    ensures { λ r. ⌜ r ≡ taskFits task (now (el .entry)) ⌝ }
+{
+    if task == ONE {
+        if !is_within(el, TASK, 1, TASKS) {
+            return false;
+        }
+        if !is_within(el, MODE, A, NA_NC) {
+            return false;
+        }
+        return word(el, ASSIGNMENT_COUNT) <= ASSIGNMENTS;
+    }
+    if word(el, TASK) != 0 {
+        return false;
+    }
+    if word(el, MODE) != 0 {
+        return false;
+    }
+    word(el, ASSIGNMENT_COUNT) == 0
+}
+
+fn condition_things(conditions: Word, x: &[Word], k: Word) -> bool
+    ensures { λ r. ⌜ r ≡ things (now (x .entry)) expressionWords branches k (conditionFits conditions) ⌝ }
+{
+    let mut j: Word = 0;
+    while j < k {
+        if !condition_fits(conditions, tail(x, EXPRESSION_WORDS * (j as usize))) {
+            return false;
+        }
+        j += 1;
+    }
+    let rest = less(BRANCHES, k as usize);
+    zero_words(
+        tail(x, EXPRESSION_WORDS * (k as usize)),
+        EXPRESSION_WORDS * (rest as usize),
+    )
+}
+
+fn conditions_fit(conditions: Word, el: &[Word]) -> bool
+    ensures { λ r. ⌜ r ≡ conditionsFit conditions (now (el .entry)) ⌝ }
+{
+    condition_things(
+        conditions,
+        condition_at(el, 0),
+        count_by(conditions, word(el, EXITS)),
+    )
+}
+
+// How many messages there are, received or sent: u32, for a sum of two words.
+fn message_count(receives: Word, sends: Word, n: Word) -> u32
+    ensures { λ r. ⌜ r ≡ used (receives + sends) n ⌝ }
+{
+    let both = (receives as u32) + (sends as u32);
+    if both == (MANY as u32) {
+        return n as u32;
+    }
+    both
+}
+
+fn message_things(receives: Word, x: &[Word], k: u32) -> bool
+    ensures { λ r. ⌜ r ≡ things (now (x .entry)) messageWords branches k (messageFits receives) ⌝ }
+{
+    let mut j: u32 = 0;
+    while j < k {
+        if !message_fits(receives, tail(x, MESSAGE_WORDS * (j as usize))) {
+            return false;
+        }
+        j += 1;
+    }
+    let rest = less(BRANCHES, k as usize);
+    zero_words(
+        tail(x, MESSAGE_WORDS * (k as usize)),
+        MESSAGE_WORDS * (rest as usize),
+    )
+}
+
+fn messages_fit(receives: Word, sends: Word, el: &[Word]) -> bool
+    ensures { λ r. ⌜ r ≡ messagesFit receives sends (now (el .entry)) ⌝ }
+{
+    message_things(
+        receives,
+        tail(el, MESSAGES),
+        message_count(receives, sends, word(el, EXITS)),
+    )
+}
+
+fn assignment_things(x: &[Word], k: Word) -> bool
+    ensures { λ r. ⌜ r ≡ things (now (x .entry)) assignmentWords assignments k assignmentFits ⌝ }
+{
+    let mut j: Word = 0;
+    while j < k {
+        if !assignment_fits(tail(x, ASSIGNMENT_WORDS * (j as usize))) {
+            return false;
+        }
+        j += 1;
+    }
+    let rest = less(ASSIGNMENTS, k as usize);
+    zero_words(
+        tail(x, ASSIGNMENT_WORDS * (k as usize)),
+        ASSIGNMENT_WORDS * (rest as usize),
+    )
+}
+
+fn assignments_fit(el: &[Word]) -> bool
+    ensures { λ r. ⌜ r ≡ assignmentsFit (now (el .entry)) ⌝ }
+{
+    assignment_things(assignment_at(el, 0), assignment_count(el))
+}
+
+fn parts_fit(kind: Kind, el: &[Word]) -> bool
+    ensures { λ r. ⌜ r ≡ partsFit kind (now (el .entry)) ⌝ }
+{
+    if !task_fits(kind.task, el) {
+        return false;
+    }
+    if !entries_fit(kind.entries, el) {
+        return false;
+    }
+    if !exits_fit(kind.exits, el) {
+        return false;
+    }
+    if !conditions_fit(kind.conditions, el) {
+        return false;
+    }
+    if !messages_fit(kind.receives, kind.sends, el) {
+        return false;
+    }
+    assignments_fit(el)
+}
+
+// Whether an element is within the limits.
+pub fn element_fits(el: &[Word]) -> bool
+    ensures { λ r. ⌜ r ≡ elementFits (now (el .entry)) ⌝ }
+{
+    let kind = kind_of(kind_in(el));
+    if kind.letters == 0 {
+        return false;
+    }
+    parts_fit(kind, el)
+}

@@ -1,0 +1,116 @@
+// Whether a table is within the limits, with 0 in every place that is not in use.
+ghost use mathlib.Core.Path.{_≡_};
+ghost use Prim.Native.Nat.{_-_, _*_};
+ghost use lib.ListN.{drop};
+ghost use Rattle.words.specs.All.{all};
+ghost use Rattle.words.specs.Counts.{pools, elements};
+ghost use Rattle.model.specs.Places.{elementWords, poolWords, poolPlace};
+ghost use Rattle.model.specs.Table.{poolCount, elementCount, elementAt};
+ghost use Rattle.limits.specs.Limits.{zeros, things, elementFits, poolFits, tableFits};
+use limits::zeros::is_within;
+use limits::zeros::less;
+use limits::zeros::zero_words;
+use model::element_at;
+use model::element_count;
+use model::places::ELEMENT_COUNT;
+use model::places::ELEMENT_WORDS;
+use model::places::FIRST_POOL;
+use model::places::LIMIT;
+use model::places::POOL_COUNT;
+use model::places::POOL_WORDS;
+use model::pool_count;
+use words::Word;
+use words::counts::ELEMENTS;
+use words::counts::INSTANCES;
+use words::counts::POOL_NUMBERS;
+use words::counts::POOLS;
+use words::tail;
+use words::word;
+
+pub mod elements;
+
+use elements::element_fits;
+
+fn element_things(x: &[Word], k: Word) -> bool
+    ensures { λ r. ⌜ r ≡ things (now (x .entry)) elementWords elements k elementFits ⌝ }
+{
+    let mut j: Word = 0;
+    while j < k {
+        if !element_fits(tail(x, ELEMENT_WORDS * (j as usize))) {
+            return false;
+        }
+        j += 1;
+    }
+    let rest = less(ELEMENTS, k as usize);
+    zero_words(
+        tail(x, ELEMENT_WORDS * (k as usize)),
+        ELEMENT_WORDS * (rest as usize),
+    )
+}
+
+// The elements of a pool.
+fn elements_fit(t: &[Word], p: Word) -> bool
+    ensures { λ r. ⌜ r ≡ things (elementAt (now (t .entry)) p 0) elementWords elements (elementCount (now (t .entry)) p) elementFits ⌝ }
+{
+    element_things(element_at(t, p, 0), element_count(t, p))
+}
+
+fn pool_fits(t: &[Word], p: Word) -> bool
+    ensures { λ r. ⌜ r ≡ poolFits (now (t .entry)) p ⌝ }
+{
+    let place = FIRST_POOL + POOL_WORDS * (p as usize);
+    if !is_within(t, place, 1, POOL_NUMBERS) {
+        return false;
+    }
+    if INSTANCES < word(t, place + LIMIT) {
+        return false;
+    }
+    if !is_within(t, place + ELEMENT_COUNT, 1, ELEMENTS) {
+        return false;
+    }
+    elements_fit(t, p)
+}
+
+fn pools_below(t: &[Word], n: Word) -> bool
+    ensures { λ r. ⌜ r ≡ all (poolFits (now (t .entry))) n ⌝ }
+{
+    let mut p: Word = 0;
+    while p < n {
+        if !pool_fits(t, p) {
+            return false;
+        }
+        p += 1;
+    }
+    true
+}
+
+// The pools of a table, and the words behind them.
+fn pools_fit(t: &[Word]) -> bool
+    ensures { λ r. ⌜ r ≡ all (poolFits (now (t .entry))) (poolCount (now (t .entry))) ⌝ }
+{
+    pools_below(t, pool_count(t))
+}
+
+fn rest_zero(t: &[Word]) -> bool
+    ensures { λ r. ⌜ r ≡ zeros (drop (poolPlace (poolCount (now (t .entry)))) (now (t .entry))) (poolWords * (pools - poolCount (now (t .entry)))) ⌝ }
+{
+    let n = pool_count(t);
+    let rest = less(POOLS, n as usize);
+    zero_words(
+        tail(t, FIRST_POOL + POOL_WORDS * (n as usize)),
+        POOL_WORDS * (rest as usize),
+    )
+}
+
+// Whether a table is within the limits.
+pub fn table_fits(t: &[Word]) -> bool
+    ensures { λ r. ⌜ r ≡ tableFits (now (t .entry)) ⌝ }
+{
+    if !is_within(t, POOL_COUNT, 1, POOLS) {
+        return false;
+    }
+    if !pools_fit(t) {
+        return false;
+    }
+    rest_zero(t)
+}
