@@ -4,6 +4,7 @@ use mathlib.Core.Path.{_≡_, refl, sym, _∙_, ap, ap₂, subst}
 use mathlib.Core.Bool.{Bool, true, false, _&&_}
 use mathlib.Core.List.{List, _++_}
 use native.Mathlib.Omega.{arith}
+use borrow.Author.Tests.{eqb-true}
 use lib.Dec.{eqb}
 use lib.ListN.{length, take, drop, length-drop, take-append-drop}
 use lib.Seq.{length-take-le}
@@ -26,15 +27,28 @@ use Rattle.lowest.specs.Model.{modelOf}
 use Rattle.fits.specs.Fits.{stateFits}
 use Rattle.fits.proofs.FitsLaws.{queue-tidy}
 use Rattle.rules.specs.Settled.{Done, settled, posted}
-use Rattle.rules.proofs.StepLaws.{settled-is, posted-is}
-use Rattle.steps.proofs.Traffic.{state-queues, received-name, sent-name}
-use Rattle.engine.specs.Engine.{valid, fitting, stepped, Left, postedTo}
+use Rattle.rules.proofs.StepLaws.{posted-is}
+use Rattle.steps.proofs.EveryStep.{Fitting}
+use Rattle.steps.proofs.Traffic.{state-queues}
+use Rattle.listing.specs.declared.Listed.{Listed}
+use Rattle.listing.specs.Listing.{blank, chosen}
+use Rattle.listing.specs.Scanned.{scanned}
+use Rattle.running.specs.Run.{Run, ranBy, ran}
+use Rattle.listed.proofs.ScannedIs.{scanned-is}
+use Rattle.listed.proofs.RunIs.{settled-step, run-is}
+use Rattle.engine.specs.Engine.{valid, fitting, stepped, Left, postedTo, listedAt, RanTo, ended, ranTo}
 
 -- what a fitting table and state are
 module _ (t z : List ℕ) (h : fitting t z ≡ true) where
   pub table-fits : tableFits t ≡ true
   unfolding fitting valid
   table-fits = and-left (tableFits t) (eqb (lowest (modelOf t)) 0) (and-left (valid t) (stateFits t (instancesOf z) (queuesOf z)) h)
+
+  pub checks-hold : lowest (modelOf t) ≡ 0
+  unfolding fitting valid
+  checks-hold =
+      eqb-true (lowest (modelOf t)) 0
+      (and-right (tableFits t) (eqb (lowest (modelOf t)) 0) (and-left (valid t) (stateFits t (instancesOf z) (queuesOf z)) h))
 
   pub state-fits : stateFits t (instancesOf z) (queuesOf z) ≡ true
   unfolding fitting
@@ -48,11 +62,8 @@ module _ (z : List ℕ) (l : length z ≡ stateWords) where
   long-queues = simp length-drop (omega arith)
 
 module _ (t z : List ℕ) (l : length z ≡ stateWords) (h : fitting t z ≡ true) where
-  settled-step : (n : Name) → settled t (instancesOf z) (queuesOf z) n ≡ step t (instancesOf z) (queuesOf z) n
-  settled-step n =
-      settled-is (queuesOf z) (long-queues z l) (λ m k. queue-tidy (queuesOf z) m (state-queues t (instancesOf z) (queuesOf z) (state-fits t z h) m k)) t (instancesOf z) n
-      (λ e. received-name t (instancesOf z) (queuesOf z) n (table-fits t z h) e)
-      (λ e. sent-name t (instancesOf z) (queuesOf z) n (table-fits t z h) e)
+  fits : Fitting t (instancesOf z) (queuesOf z)
+  fits = record { long = long-instances z l; wide = long-queues z l; fits = state-fits t z h }
 
   settled-post : (name : ℕ) (g : Tuple) → posted (queuesOf z) name g ≡ post (queuesOf z) name g
   settled-post name g =
@@ -60,7 +71,7 @@ module _ (t z : List ℕ) (l : length z ≡ stateWords) (h : fitting t z ≡ tru
 
   pub step-done : (n : Name) (r : Answer) (y : List ℕ) → Done (settled t (instancesOf z) (queuesOf z) n) r y → Done (stepped t z n) r y
   unfolding stepped if_then_else_
-  step-done n r y d = rw h (subst (λ (o : Outcome). Done o r y) (settled-step n) d)
+  step-done n r y d = rw h (subst (λ (o : Outcome). Done o r y) (settled-step t (table-fits t z h) (instancesOf z) (queuesOf z) fits n) d)
 
   pub post-done : (name : ℕ) (g : Tuple) (r : ℕ) (y : List ℕ)
       → (_≡_ {A = Posted} (record { number = r; queues = queuesOf y }) (posted (queuesOf z) name g)) × (instancesOf y ≡ instancesOf z)
@@ -73,6 +84,19 @@ module _ (t z : List ℕ) (l : length z ≡ stateWords) (h : fitting t z ≡ tru
       let k : y ≡ instancesOf z ++ post (queuesOf z) name g .queues = sym (take-append-drop instancesWords y) ∙ ap₂ _++_ (d .1) w in
       rw h (λ i. record { number = n i; state = k i })
 
+  pub list-done : (k : ℕ) (r : Listed) → r ≡ chosen (scanned t (instancesOf z) (queuesOf z)) k → r ≡ listedAt t z k
+  unfolding listedAt if_then_else_
+  list-done k r e = rw h (e ∙ ap (λ (ns : List Name). chosen ns k) (scanned-is t (instancesOf z) (queuesOf z) (table-fits t z h) (checks-hold t z h)))
+
+  pub run-done : (limit steps left : ℕ) (y : List ℕ)
+      → _≡_ {A = Run} (record { steps = steps; left = left; instances = instancesOf y; queues = queuesOf y }) (ranBy (scanned t) (settled t) limit (instancesOf z) (queuesOf z))
+      → _≡_ {A = RanTo} (record { number = 0; steps = steps; left = left; state = y }) (ranTo t z limit)
+  unfolding ranTo ended if_then_else_
+  run-done limit steps left y e =
+      let d : _≡_ {A = Run} (record { steps = steps; left = left; instances = instancesOf y; queues = queuesOf y }) (ran t limit (instancesOf z) (queuesOf z))
+            = e ∙ run-is t (table-fits t z h) (checks-hold t z h) limit (instancesOf z) (queuesOf z) fits in
+      rw h ((λ i. record { number = 0; steps = steps; left = left; state = sym (take-append-drop instancesWords y) i }) ∙ ap ended d)
+
 -- a table or a state that does not fit
 pub step-bad : (t z : List ℕ) (n : Name) (r : Answer) → fitting t z ≡ false → r ≡ record { number = 10; traffic = Nothing; name = 0; tuple = empty } → Done (stepped t z n) r z
 unfolding stepped if_then_else_
@@ -81,3 +105,11 @@ step-bad t z n r h e = rw h (record { answer = e; state = sym (take-append-drop 
 pub post-bad : (t z : List ℕ) (name : ℕ) (g : Tuple) → fitting t z ≡ false → _≡_ {A = Left} (record { number = 10; state = z }) (postedTo t z name g)
 unfolding postedTo if_then_else_
 post-bad t z name g h = rw h
+
+pub list-bad : (t z : List ℕ) (k : ℕ) (r : Listed) → fitting t z ≡ false → r ≡ record { number = 10; name = blank } → r ≡ listedAt t z k
+unfolding listedAt if_then_else_
+list-bad t z k r h e = rw h e
+
+pub run-bad : (t z : List ℕ) (limit : ℕ) → fitting t z ≡ false → _≡_ {A = RanTo} (record { number = 10; steps = 0; left = 0; state = z }) (ranTo t z limit)
+unfolding ranTo if_then_else_
+run-bad t z limit h = rw h

@@ -15,6 +15,9 @@ use Rattle.checks.specs.Checks.{lowest}
 use Rattle.lowest.specs.Model.{modelOf}
 use Rattle.fits.specs.Fits.{stateFits}
 use Rattle.fits.specs.Fresh.{fresh}
+use Rattle.listing.specs.declared.Listed.{Listed}
+use Rattle.listing.specs.Listing.{blank, listed, chosen}
+use Rattle.running.specs.Run.{Run, ran}
 use Rattle.engine.specs.declared.Verdict.{Verdict}
 
 -- a table that breaks no limit and no check
@@ -48,3 +51,20 @@ unfoldable pub postedTo : List ℕ → List ℕ → ℕ → Tuple → Left
 postedTo t z name g =
     if fitting t z then record { number = post (queuesOf z) name g .number; state = instancesOf z ++ post (queuesOf z) name g .queues }
     else record { number = 10; state = z }
+
+-- "6: listing: no accepted step with that ordinal"; 10 goes before it
+unfoldable pub listedAt : List ℕ → List ℕ → ℕ → Listed
+listedAt t z k = if fitting t z then chosen (listed t (instancesOf z) (queuesOf z)) k else record { number = 10; name = blank }
+
+-- a number given back, the steps taken, 1 or 0 for whether one is still accepted, and the state that is left
+pub record RanTo : Type 0 where
+  pub number : ℕ
+  pub steps : ℕ
+  pub left : ℕ
+  pub state : List ℕ
+
+unfoldable pub ended : Run → RanTo
+ended r = record { number = 0; steps = r .steps; left = r .left; state = r .instances ++ r .queues }
+
+unfoldable pub ranTo : List ℕ → List ℕ → ℕ → RanTo
+ranTo t z limit = if fitting t z then ended (ran t limit (instancesOf z) (queuesOf z)) else record { number = 10; steps = 0; left = 0; state = z }

@@ -3,9 +3,11 @@ ghost use mathlib.Core.Path.{_≡_};
 ghost use mathlib.Core.Bool.{true};
 ghost use lib.ListN.{length};
 ghost use Rattle.state.specs.Places.{stateWords};
-ghost use Rattle.engine.specs.Engine.{valid, verdictOf, Left, freshened, fitting, stepped, postedTo};
+ghost use Rattle.engine.specs.Engine.{valid, verdictOf, Left, freshened, fitting, stepped, postedTo, listedAt, RanTo, ranTo};
 ghost use Rattle.meaning.specs.Tuples.{empty};
 ghost use Rattle.rules.specs.Settled.{Done};
+ghost use Rattle.listing.specs.Listing.{blank};
+use listing::Listed;
 use meaning::Answer;
 use meaning::Name;
 use meaning::Traffic;
@@ -107,4 +109,56 @@ pub fn post(t: &[Word; TABLE_WORDS], z: &mut [Word; STATE_WORDS], name: Word, g:
         return BAD;
     }
     rules::post_on(z, name, g)
+}
+
+fn unlisted() -> Listed
+    ensures { λ r. ⌜ r ≡ record { number = 10; name = blank } ⌝ }
+{
+    Listed {
+        number: BAD,
+        name: Name {
+            pool: 0,
+            instance: 0,
+            element: 0,
+            phase: 0,
+            branch: 0,
+            given: empty_tuple(),
+        },
+    }
+}
+
+// The k-th accepted step, k from 0: 10 where the table or the state is bad, 6 where there is none with that ordinal; else 0 and its name.
+pub fn list(t: &[Word; TABLE_WORDS], z: &[Word; STATE_WORDS], k: usize) -> Listed
+    ensures { λ r. ⌜ r ≡ listedAt (now (t .entry)) (now (z .entry)) k ⌝ }
+{
+    if !is_fitting(t, z) {
+        return unlisted();
+    }
+    listing::list_on(t, z, k)
+}
+
+// The answer of a run: a number, the steps taken, 1 or 0 for whether one is still accepted.
+pub struct Ran {
+    pub number: Word,
+    pub steps: Word,
+    pub left: Word,
+}
+
+// Takes the first listed step until none is accepted or the limit is used up: 10 where the table or the state is bad, and the state stays; else 0.
+pub fn run(t: &[Word; TABLE_WORDS], z: &mut [Word; STATE_WORDS], limit: Word) -> Ran
+    ensures { λ r. ⌜ record { number = r .number; steps = r .steps; left = r .left; state = now (z .exit) } ≡ ranTo (now (t .entry)) (now (z .entry)) limit ⌝ }
+{
+    if !is_fitting(t, z) {
+        return Ran {
+            number: BAD,
+            steps: 0,
+            left: 0,
+        };
+    }
+    let r = running::run_on(t, z, limit);
+    Ran {
+        number: ACCEPTED,
+        steps: r.steps,
+        left: r.left,
+    }
 }
