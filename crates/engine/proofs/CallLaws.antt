@@ -94,7 +94,7 @@ module _ (t z : List ℕ) (l : length z ≡ stateWords) (h : fitting t z ≡ tru
   unfolding ranTo ended if_then_else_
   run-done limit steps left y e =
       let d : _≡_ {A = Run} (record { steps = steps; left = left; instances = instancesOf y; queues = queuesOf y }) (ran t limit (instancesOf z) (queuesOf z))
-            = e ∙ run-is t (table-fits t z h) (checks-hold t z h) limit (instancesOf z) (queuesOf z) fits in
+      = e ∙ run-is t (table-fits t z h) (checks-hold t z h) limit (instancesOf z) (queuesOf z) fits in
       rw h ((λ i. record { number = 0; steps = steps; left = left; state = sym (take-append-drop instancesWords y) i }) ∙ ap ended d)
 
 -- a table or a state that does not fit

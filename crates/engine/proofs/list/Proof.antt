@@ -10,7 +10,7 @@ returns c = list-bad _ _ _ _ (flag-no _ _ (c .before .before .is-fitting .ensure
 
 returns-2 : tie.Need-returns-2
 returns-2 c =
-    list-done (c .before .before .before .before .args .t .now) (c .before .before .before .before .args .z .now) (c .before .before .before .is-fitting .ensures .1 (not-false _ (c .before .before .if1 .left))) (flag-yes _ _ (c .before .before .before .is-fitting .ensures .0) (c .before .before .if1 .left)) _ _ (c .list-on .ensures)
+    list-done (c .before .before .before .args .t .now) (c .before .before .before .args .z .now) (c .before .before .is-fitting .ensures .1 (not-false _ (c .before .if1 .left))) (flag-yes _ _ (c .before .before .is-fitting .ensures .0) (c .before .if1 .left)) _ _ (c .list-on .ensures)
 
 pub list-spec : {M : Type 1} → statement M
 list-spec = tie.close (tie.spec (λ c κs. search needs) (λ c κs. search needs) returns (λ c κs. search needs) returns-2)
