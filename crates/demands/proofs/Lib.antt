@@ -1,0 +1,14 @@
+pub mod FirstDemand
+pub mod SecondDemand
+pub mod ThirdDemand
+pub mod ListAndRun
+pub mod Firmness
+pub mod FurtherMessages
+pub mod Counts
+pub mod QueuesMore
+pub mod StepMore
+pub mod Numbers
+pub mod Exactly
+pub mod StatesLeft
+pub mod OneMore
+pub mod RunSteps

@@ -1,0 +1,159 @@
+-- The words of the mission's three demands, over the public calls: t is a table, z a state. The theorems stand in proofs/.
+use Prim.Native.Nat.{ℕ, zero, suc, _+_, _<_}
+use mathlib.Core.Path.{_≡_}
+use mathlib.Core.Bool.{Bool, true, false, _&&_}
+use mathlib.Core.List.{List, [], _∷_, _++_}
+use lib.Dec.{eqb, leb}
+use lib.ListN.{length}
+use Rattle.words.specs.All.{all}
+use Rattle.words.specs.Each.{each}
+use Rattle.words.specs.Pick.{if_then_else_}
+use Rattle.words.specs.Sum.{one}
+use Rattle.words.specs.Counts.{names, messages}
+use Rattle.state.specs.Places.{stateWords}
+use Rattle.state.specs.Instances.{instancesOf, queuesOf}
+use Rattle.meaning.specs.declared.Name.{Name}
+use Rattle.meaning.specs.declared.Answer.{Answer}
+use Rattle.meaning.specs.declared.Tuple.{Tuple}
+use Rattle.meaning.specs.Messages.{times}
+use Rattle.meaning.specs.Queues.{messagesOf, sending}
+use Rattle.meaning.specs.Refusals.{Refusal, firstRefusal}
+use Rattle.meaning.specs.Step.{siteOf, refusals, instancesAfter, queuesAfter}
+use Rattle.meaning.specs.Post.{postRefusals}
+use Rattle.rules.specs.Settled.{Done}
+use Rattle.engine.specs.Engine.{Left, fitting, stepped, postedTo, listedAt, RanTo}
+
+-- WHAT IS CALLED: "named steps and posts"
+pub data Act : Type 0 where
+  aStep : Name → Act
+  aPost : ℕ → Tuple → Act
+
+-- the number that the public call gives back, and the state that it leaves
+unfoldable pub did : List ℕ → Act → List ℕ → Left
+did t (aStep n) z = record { number = stepped t z n .answer .number; state = stepped t z n .instances ++ stepped t z n .queues }
+did t (aPost name g) z = postedTo t z name g
+
+-- calls one after the other, each judged in the state that the earlier ones left: their numbers, whether all are accepted, the state after them
+unfoldable pub numbers : List ℕ → List Act → List ℕ → List ℕ
+numbers t [] z = []
+numbers t (a ∷ rest) z = did t a z .number ∷ numbers t rest (did t a z .state)
+
+unfoldable pub allAccepted : List ℕ → List Act → List ℕ → Bool
+allAccepted t [] z = true
+allAccepted t (a ∷ rest) z = eqb (did t a z .number) 0 && allAccepted t rest (did t a z .state)
+
+unfoldable pub after : List ℕ → List Act → List ℕ → List ℕ
+after t [] z = z
+after t (a ∷ rest) z = after t rest (did t a z .state)
+
+-- DEMAND 1. "Bad ones are refused with the number document 01 gives": 10 where table or state are bad, else that of the first condition that does
+-- not hold
+unfoldable pub numberGiven : List ℕ → Act → List ℕ → ℕ
+numberGiven t (aStep n) z = if fitting t z then firstRefusal (refusals t (instancesOf z) (queuesOf z) n) else 10
+numberGiven t (aPost name g) z = if fitting t z then firstRefusal (postRefusals (queuesOf z) name g) else 10
+
+-- the numbers that each call can give
+unfoldable pub among : List ℕ → ℕ → Bool
+among [] k = false
+among (n ∷ ns) k = if eqb k n then true else among ns k
+
+abbrev pub checkNumbers : List ℕ
+checkNumbers = 0 ∷ 4 ∷ 10 ∷ []
+
+abbrev pub freshNumbers : List ℕ
+freshNumbers = 0 ∷ 10 ∷ []
+
+abbrev pub stepNumbers : List ℕ
+stepNumbers = 0 ∷ 10 ∷ 11 ∷ 12 ∷ 13 ∷ 14 ∷ 15 ∷ 16 ∷ 17 ∷ 18 ∷ []
+
+abbrev pub postNumbers : List ℕ
+postNumbers = 0 ∷ 10 ∷ 17 ∷ 19 ∷ []
+
+abbrev pub listNumbers : List ℕ
+listNumbers = 0 ∷ 6 ∷ 10 ∷ []
+
+abbrev pub runNumbers : List ℕ
+runNumbers = 0 ∷ 10 ∷ []
+
+-- DEMAND 2. "A step is accepted exactly when the rules permit it": table and state are right, and every condition of its list of refusals holds
+unfoldable pub allHold : List Refusal → Bool
+allHold rs = each (λ (r : Refusal). r .holds) rs
+
+unfoldable pub permitted : List ℕ → Act → List ℕ → Bool
+permitted t (aStep n) z = fitting t z && allHold (refusals t (instancesOf z) (queuesOf z) n)
+permitted t (aPost name g) z = fitting t z && allHold (postRefusals (queuesOf z) name g)
+
+-- "and the state afterwards is the one they give"
+unfoldable pub given : List ℕ → Act → List ℕ → List ℕ
+given t (aStep n) z = instancesAfter t (instancesOf z) n ++ queuesAfter (siteOf t (instancesOf z) n) (queuesOf z)
+given t (aPost name g) z = instancesOf z ++ sending (queuesOf z) name g
+
+-- permitted or not: "a refused call changes no byte it was lent"
+unfoldable pub stateGiven : List ℕ → Act → List ℕ → List ℕ
+stateGiven t a z = if permitted t a z then given t a z else z
+
+-- the same of calls one after the other, by the rules alone: whether all are permitted, their numbers, the state after them
+unfoldable pub allPermitted : List ℕ → List Act → List ℕ → Bool
+allPermitted t [] z = true
+allPermitted t (a ∷ rest) z = permitted t a z && allPermitted t rest (given t a z)
+
+unfoldable pub numbersGiven : List ℕ → List Act → List ℕ → List ℕ
+numbersGiven t [] z = []
+numbersGiven t (a ∷ rest) z = numberGiven t a z ∷ numbersGiven t rest (stateGiven t a z)
+
+unfoldable pub givenAfter : List ℕ → List Act → List ℕ → List ℕ
+givenAfter t [] z = z
+givenAfter t (a ∷ rest) z = givenAfter t rest (stateGiven t a z)
+
+-- THE RUN by the public list and step: "takes the first listed step until none is accepted or the limit is used up, and returns the number of steps
+-- taken and 1 or 0 for whether one is still accepted"
+unfoldable pub runSteps : List ℕ → ℕ → List ℕ → List Act
+runSteps t zero z = []
+runSteps t (suc limit) z =
+    if eqb (listedAt t z 0 .number) 0 then
+    aStep (listedAt t z 0 .name) ∷ runSteps t limit (did t (aStep (listedAt t z 0 .name)) z .state)
+    else []
+
+unfoldable pub runLeft : List ℕ → List ℕ → ℕ
+runLeft t z = one (eqb (listedAt t z 0 .number) 0)
+
+unfoldable pub ranGiven : List ℕ → ℕ → List ℕ → RanTo
+ranGiven t limit z =
+    record {
+      number = 0;
+      steps = length (runSteps t limit z);
+      left = runLeft t (after t (runSteps t limit z) z);
+      state = after t (runSteps t limit z) z;
+    }
+
+-- DEMAND 3. "two valid states of one model": a state fits its valid table
+pub record Valid (t z : List ℕ) : Type 0 where
+  pub long : length z ≡ stateWords
+  pub fits : fitting t z ≡ true
+
+-- "alike but for further messages in the second's queues": equal instances, and in each queue exactly the further messages e more, "equal ones
+-- counted singly"
+pub record Further (e : ℕ → List Tuple) (z₁ z₂ : List ℕ) : Type 0 where
+  pub alike : instancesOf z₁ ≡ instancesOf z₂
+  pub more : (m : ℕ) → m < names → (g : Tuple) → times g (messagesOf (queuesOf z₂) m) ≡ times g (messagesOf (queuesOf z₁) m) + times g (e m)
+
+-- "no queue, with the further messages added, passes 64"
+unfoldable pub roomFor : (ℕ → List Tuple) → List ℕ → Bool
+roomFor e z = all (λ m. leb (length (messagesOf (queuesOf z) m) + length (e m)) messages) names
+
+-- "ever": at the start and after each
+unfoldable pub neverPasses : List ℕ → (ℕ → List Tuple) → List Act → List ℕ → Bool
+neverPasses t e [] z = roomFor e z
+neverPasses t e (a ∷ rest) z = roomFor e z && neverPasses t e rest (did t a z .state)
+
+-- HOW FIRM THE PROMISES ARE: what the promise of the public call allows, r the number returned and y the state left
+unfoldable pub Allowed : List ℕ → Act → List ℕ → ℕ → List ℕ → Type 0
+Allowed t (aStep n) z r y = (a : Answer) × (r ≡ a .number) × Done (stepped t z n) a y
+Allowed t (aPost name g) z r y = _≡_ {A = Left} (record { number = r; state = y }) (postedTo t z name g)
+
+-- and of calls one after the other, each lent the state x that the one before left
+unfoldable pub AllAllowed : List ℕ → List Act → List ℕ → List ℕ → List ℕ → Type 0
+AllAllowed t [] z [] y = y ≡ z
+AllAllowed t [] z (r ∷ rs) y = ⊥
+AllAllowed t (a ∷ rest) z [] y = ⊥
+AllAllowed t (a ∷ rest) z (r ∷ rs) y = (x : List ℕ) × Allowed t a z r x × AllAllowed t rest x rs y
