@@ -1,0 +1,34 @@
+use mathlib.Core.Path.{refl}
+use native.Mathlib.Omega.{arith}
+use Rattle.buffers.proofs.OverLaws.{wrote}
+use Rattle.shown.specs.Shown.{shownEntries}
+use Rattle.shown.proofs.PieceLaws.{promised, three}
+use borrow.Author.Needs.{needs}
+use Rattle.phrases.proofs.put_entries.Statement.{statement}
+use Rattle.phrases.proofs.put_entries.Tie as tie
+
+-- src/lib.rt:200:1
+returns : tie.Need-returns
+unfolding shownEntries
+returns c = promised _ refl (three _ _ (wrote _ _ (c .before .before .before .before .before .before .before .before .before .before .before .before .put-byte .ensures .0) (c .before .before .before .before .before .before .before .before .before .before .before .before .put-byte .ensures .1)) (c .before .before .before .before .before .before .before .before .before .least .ensures .0) (c .before .before .before .before .before .before .before .put-edges .ensures .0) (c .before .before .before .before .before .before .before .put-edges .ensures .1) (c .before .before .before .before .least2 .ensures .0) (c .before .before .put-byte2 .ensures .0) (c .before .before .put-byte2 .ensures .1)) (omega arith)
+
+pub put-entries-spec : {M : Type 1} → statement M
+put-entries-spec =
+    tie.close
+    (tie.spec
+    (λ c κs. search needs)
+    (λ c κs. search needs)
+    (λ c. search needs)
+    (λ c. search needs)
+    (λ c. search needs)
+    (λ c. search needs)
+    (λ c κs. search needs)
+    (λ c. search needs)
+    (λ c κs. search needs)
+    (λ c. search needs)
+    (λ c. search needs)
+    (λ c. search needs)
+    (λ c κs. search needs)
+    (λ c. search needs)
+    (λ c. search needs)
+    returns)

@@ -1,0 +1,59 @@
+use mathlib.Core.Path.{refl, ap}
+use Prim.Native.Nat.{_+_, _-_, _*_, _≤_}
+use native.Mathlib.Omega.{arith}
+use Rattle.buffers.proofs.OverLaws.{Wrote, wrote-long}
+use Rattle.shown.specs.Lengths.{receivingMost}
+use Rattle.shown.specs.Shown.{shownReceiving, shownReceivingList, commas, separated}
+use Rattle.shown.proofs.PieceLaws.{promised, list-none, list-more, list-done}
+use borrow.Author.Needs.{needs}
+use Rattle.phrases.proofs.put_receiving_list.Statement.{statement}
+use Rattle.phrases.proofs.put_receiving_list.Tie as tie
+
+abbrev Inv-loop : tie.InvT-loop
+Inv-loop out₀ el n end₀ j₀ out end j = (j ≤ n) × (end ≤ j * (1 + receivingMost)) × Wrote (commas (shownReceiving el) j) out₀ end out
+
+abbrev μ-loop : tie.MeasureT-loop
+μ-loop out₀ el n end₀ j₀ out end j = n - j
+
+-- src/lib.rt:294:5
+loop-holds : tie.Need-loop-holds Inv-loop μ-loop
+loop-holds c = (omega arith, omega arith, list-none _ _ _)
+
+-- src/lib.rt:294:5
+loop-again : tie.Need-loop-again Inv-loop μ-loop
+loop-again c = (omega arith, omega arith, list-more _ _ _ _ refl (c .before .before .before .before .before .before .before .before .before .before .before .loop .inv .2) (c .before .before .before .before .before .before .before .before .before .least .ensures .0) (c .before .before .before .before .before .before .before .put-lead .ensures .0) (c .before .before .before .before .before .before .before .put-lead .ensures .1) (c .before .before .before .before .least2 .ensures .0) (c .before .before .put-receiving .ensures .0) (c .before .before .put-receiving .ensures .1))
+
+-- src/lib.rt:288:1
+same-length : tie.Need-same-length Inv-loop μ-loop
+same-length c = wrote-long (c .before .loop .inv .2)
+
+-- src/lib.rt:288:1
+returns : tie.Need-returns Inv-loop μ-loop
+unfolding shownReceivingList
+returns c = promised _ (ap (separated _ _) (c .before .before .word .ensures)) (list-done _ _ _ _ (c .loop-test .left) (c .before .loop .inv .0) (c .before .loop .inv .2)) (omega arith)
+
+pub put-receiving-list-spec : {M : Type 1} → statement M
+put-receiving-list-spec =
+    tie.close
+    (tie.spec
+    Inv-loop
+    μ-loop
+    (λ c κs. search needs)
+    loop-holds
+    (λ c κs. search needs)
+    (λ c. search needs)
+    (λ c. search needs)
+    (λ c. search needs)
+    (λ c κs. search needs)
+    (λ c. search needs)
+    (λ c κs. search needs)
+    (λ c. search needs)
+    (λ c. search needs)
+    (λ c. search needs)
+    (λ c κs. search needs)
+    (λ c. search needs)
+    (λ c. search needs)
+    (λ c. search needs)
+    loop-again
+    same-length
+    returns)
