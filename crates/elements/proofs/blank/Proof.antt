@@ -1,0 +1,16 @@
+use Rattle.elements.specs.Elements.{blank}
+use borrow.Author.Needs.{needs}
+use Rattle.elements.proofs.blank.Statement.{statement}
+use Rattle.elements.proofs.blank.Tie as tie
+
+ruleset L = (needs)
+
+pub blank-spec : {M : Type 1} → statement M
+unfolding blank
+blank-spec =
+    tie.close
+    (tie.spec
+    (λ c κs. search L)
+    (λ c κs. search L)
+    (λ c. search L)
+    (λ c. cc))  -- returns

@@ -1,0 +1,107 @@
+// A text read into a lent table. It is read twice: the first pass judges it, so that a refusal changes nothing; the second fills the table.
+ghost use mathlib.Core.Path.{_≡_};
+ghost use Prim.Native.Nat.{ℕ};
+ghost use lib.Dec.{eqb};
+ghost use Rattle.words.specs.Pick.{if_then_else_};
+ghost use Rattle.reading.specs.declared.Read.the-variants.{At, Refused};
+ghost use Rattle.notation.specs.Notation.{model, tableOf, taken};
+ghost use Rattle.notation.specs.Passes.{keptAll, keptPool, Passed};
+use elements::clear;
+use model::places::TABLE_WORDS;
+use reading::Read;
+use reading::end_at;
+use verdict::MODEL_WORDS;
+use verdict::lowest_in;
+use words::Word;
+use words::counts::TEXT_MOST;
+
+mod keep;
+mod pools;
+
+// The numbers given back: accepted, the text too long, a check broken. 2 and 3 come from the reading.
+pub const READ: Word = 0;
+
+pub const TOO_LONG: Word = 1;
+
+pub const CHECK_BROKEN: Word = 4;
+
+// A number given back; beside 2 and 3 the place, beside 4 the lowest check broken.
+pub struct Reading {
+    pub number: Word,
+    pub beside: usize,
+}
+
+// The whole text, kept in w.
+fn pass(fills: bool, text: &[u8], w: &mut [Word]) -> Read
+    ensures { λ r. ⌜ Passed (keptAll (keptPool fills) 0) (model (now (text .entry))) (now (w .entry)) r (now (w .exit)) ⌝ }
+{
+    let r = pools::pools_at(fills, text, 0, w);
+    let Read::At(q) = r else {
+        return r;
+    };
+    end_at(text, q)
+}
+
+// The table of a text that is not refused.
+fn fill(text: &[u8], t: &mut [Word; TABLE_WORDS])
+    ensures { λ _. ⌜ ((q : ℕ) → model (now (text .entry)) .end ≡ At q → now (t .exit) ≡ tableOf (model (now (text .entry)) .value)) ⌝ }
+{
+    clear(t);
+    pass(true, text, t);
+}
+
+// A refusal's number and place.
+fn refusal(r: Read) -> Reading
+    ensures { λ a. ⌜ ((n p : ℕ) → r ≡ Refused n p → a ≡ record { number = n; beside = p }) ⌝ }
+{
+    match r {
+        Read::Refused(n, p) => Reading {
+            number: n,
+            beside: p,
+        },
+        Read::At(_) => Reading {
+            number: READ,
+            beside: 0,
+        },
+    }
+}
+
+// The answer to a text that is not refused, by the lowest check broken.
+fn checked(broken: Word) -> Reading
+    ensures { λ r. ⌜ r ≡ record { number = if eqb broken 0 then 0 else 4; beside = broken } ⌝ }
+{
+    if broken == 0 {
+        return Reading {
+            number: READ,
+            beside: 0,
+        };
+    }
+    Reading {
+        number: CHECK_BROKEN,
+        beside: broken as usize,
+    }
+}
+
+// Reads a text into the table: 1 to 4, and the table stays; else 0, and every word of the table is the model's.
+pub fn read_into(text: &[u8], t: &mut [Word; TABLE_WORDS]) -> Reading
+    ensures { λ r. ⌜ record { number = r .number; beside = r .beside; table = now (t .exit) } ≡ taken (now (text .entry)) (now (t .entry)) ⌝ }
+{
+    if text.len() > TEXT_MOST {
+        return Reading {
+            number: TOO_LONG,
+            beside: 0,
+        };
+    }
+    let mut m = [0; MODEL_WORDS];
+    let r = pass(false, text, &mut m);
+    let Read::At(_) = r else {
+        return refusal(r);
+    };
+    let broken = lowest_in(&m);
+    let answer = checked(broken);
+    if broken != 0 {
+        return answer;
+    }
+    fill(text, t);
+    answer
+}

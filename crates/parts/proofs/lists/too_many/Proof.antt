@@ -1,0 +1,12 @@
+use Rattle.parts.proofs.ListLaws.{many-yes, many-no}
+use borrow.Author.Needs.{needs}
+use Rattle.parts.proofs.lists.too_many.Statement.{statement}
+use Rattle.parts.proofs.lists.too_many.Tie as tie
+
+pub too-many-spec : {M : Type 1} → statement M
+too-many-spec =
+    tie.close
+    (tie.spec
+    (λ c κs. search needs)
+    (λ c. many-yes _ _ _ _ (c .before .token-at .ensures) (c .if1 .taken))
+    (λ c. many-no _ _ _ _ (c .before .token-at .ensures) (c .if1 .left)))

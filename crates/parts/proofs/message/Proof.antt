@@ -1,0 +1,31 @@
+use Rattle.parts.specs.Parts.{message}
+use Rattle.terms.proofs.ReaderLaws.{stops, goes, sign-stops, sign-goes}
+use Rattle.parts.proofs.ListLaws.{series-by}
+use borrow.Author.Needs.{needs}
+use Rattle.parts.proofs.message.Statement.{statement}
+use Rattle.parts.proofs.message.Tie as tie
+
+pub message-spec : {M : Type 1} → statement M
+unfolding message
+message-spec =
+    tie.close
+    (tie.spec
+    (λ c. search needs)
+    (λ c. search needs)
+    (λ c. search needs)
+    (λ c. search needs)
+    (λ c. search needs)
+    (λ c κs. search needs)
+    (λ c. search needs)
+    (λ c. search needs)
+    (λ c. search needs)
+    (λ c. stops _ _ _ _ _ _ _ _ _ (c .before .before .before .before .number-in .ensures) (c .enum-told .given .1))
+    (λ c κs. search needs)
+    (λ c. search needs)
+    (λ c. search needs)
+    (λ c. search needs)
+    (λ c. goes _ _ _ _ _ _ _ _ _ (c .before .before .before .before .before .before .before .before .number-in .ensures) (c .before .before .before .before .r .given .1) (sign-stops _ _ _ _ _ _ _ _ (c .before .before .sign-at .ensures) (c .enum-told2 .given .1)))
+    (λ c κs. search needs)
+    (λ c κs. search needs)
+    (λ c. search needs)
+    (λ c. goes _ _ _ _ _ _ _ _ _ (c .before .before .before .before .before .before .before .before .before .before .before .before .before .before .number-in .ensures) (c .before .before .before .before .before .before .before .before .before .before .r .given .1) (sign-goes _ _ _ _ _ _ _ _ (c .before .before .before .before .before .before .before .before .sign-at .ensures) (c .before .before .before .before .before .before .s .given .1) (series-by _ _ _ _ _ _ (c .before .before .before .tuple .ensures .0) (c .before .before .series .ensures)))))

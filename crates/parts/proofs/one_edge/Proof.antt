@@ -1,0 +1,22 @@
+use Rattle.parts.specs.Parts.{oneEdge}
+use Rattle.terms.proofs.ReaderLaws.{stops, goes, stored}
+use borrow.Author.Needs.{needs}
+use Rattle.parts.proofs.one_edge.Statement.{statement}
+use Rattle.parts.proofs.one_edge.Tie as tie
+
+pub one-edge-spec : {M : Type 1} → statement M
+unfolding oneEdge
+one-edge-spec =
+    tie.close
+    (tie.spec
+    (λ c. search needs)
+    (λ c. search needs)
+    (λ c. search needs)
+    (λ c κs. search needs)
+    (λ c. search needs)
+    (λ c. search needs)
+    (λ c. search needs)
+    (λ c. stops _ _ _ _ _ _ _ _ _ (c .before .before .before .before .number-in .ensures) (c .enum-told .given .1))
+    (λ c κs. search needs)
+    (λ c. search needs)
+    (λ c. goes _ _ _ _ _ _ _ _ _ (c .before .before .before .before .before .before .before .before .before .number-in .ensures) (c .before .before .before .before .before .r .given .1) (stored _ _ _ (c .before .before .put .ensures))))

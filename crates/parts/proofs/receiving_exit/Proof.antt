@@ -1,0 +1,25 @@
+use Rattle.terms.proofs.ReaderLaws.{sign-stops, stops, sign-goes, goes, sign-last}
+use borrow.Author.Needs.{needs}
+use Rattle.parts.proofs.receiving_exit.Statement.{statement}
+use Rattle.parts.proofs.receiving_exit.Tie as tie
+
+pub receiving-exit-spec : {M : Type 1} → statement M
+receiving-exit-spec =
+    tie.close
+    (tie.spec
+    (λ c κs. search needs)
+    (λ c. search needs)
+    (λ c. search needs)
+    (λ c. sign-stops _ _ _ _ _ _ _ _ (c .before .before .sign-at .ensures) (c .enum-told .given .1))
+    (λ c. search needs)
+    (λ c. search needs)
+    (λ c. search needs)
+    (λ c. search needs)
+    (λ c κs. search needs)
+    (λ c. search needs)
+    (λ c. search needs)
+    (λ c. search needs)
+    (λ c. sign-goes _ _ _ _ _ _ _ _ (c .before .before .before .before .before .before .before .before .before .sign-at .ensures) (c .before .before .before .before .before .before .before .r .given .1) (stops _ _ _ _ _ _ _ _ _ (c .before .before .before .before .number-in .ensures) (c .enum-told2 .given .1)))
+    (λ c κs. search needs)
+    (λ c. search needs)
+    (λ c. sign-goes _ _ _ _ _ _ _ _ (c .before .before .before .before .before .before .before .before .before .before .before .sign-at .ensures) (c .before .before .before .before .before .before .before .before .before .r .given .1) (goes _ _ _ _ _ _ _ _ _ (c .before .before .before .before .before .before .number-in .ensures) (c .before .before .s .given .1) (sign-last _ _ _ _ _ (c .sign-at2 .ensures)))))

@@ -1,0 +1,30 @@
+use Rattle.parts.specs.Parts.{taskPart}
+use Rattle.terms.proofs.ReaderLaws.{stops, goes, sign-stops, sign-goes}
+use borrow.Author.Needs.{needs}
+use Rattle.parts.proofs.task_part.Statement.{statement}
+use Rattle.parts.proofs.task_part.Tie as tie
+
+pub task-part-spec : {M : Type 1} → statement M
+unfolding taskPart
+task-part-spec =
+    tie.close
+    (tie.spec
+    (λ c. search needs)
+    (λ c κs. search needs)
+    (λ c. search needs)
+    (λ c. search needs)
+    (λ c. search needs)
+    (λ c. stops _ _ _ _ _ _ _ _ _ (c .before .before .before .before .number-in .ensures) (c .enum-told .given .1))
+    (λ c κs. search needs)
+    (λ c. search needs)
+    (λ c. search needs)
+    (λ c. search needs)
+    (λ c. goes _ _ _ _ _ _ _ _ _ (c .before .before .before .before .before .before .before .before .number-in .ensures) (c .before .before .before .before .r .given .1) (sign-stops _ _ _ _ _ _ _ _ (c .before .before .sign-at .ensures) (c .enum-told2 .given .1)))
+    (λ c κs. search needs)
+    (λ c. search needs)
+    (λ c. search needs)
+    (λ c. search needs)
+    (λ c. goes _ _ _ _ _ _ _ _ _ (c .before .before .before .before .before .before .before .before .before .before .before .before .before .before .before .number-in .ensures) (c .before .before .before .before .before .before .before .before .before .before .before .r .given .1) (sign-goes _ _ _ _ _ _ _ _ (c .before .before .before .before .before .before .before .before .before .sign-at .ensures) (c .before .before .before .before .before .before .before .s .given .1) (stops _ _ _ _ _ _ _ _ _ (c .before .before .before .before .mode-in .ensures) (c .enum-told3 .given .1))))
+    (λ c κs. search needs)
+    (λ c. search needs)
+    (λ c. goes _ _ _ _ _ _ _ _ _ (c .before .before .before .before .before .before .before .before .before .before .before .before .before .before .before .before .before .before .before .before .number-in .ensures) (c .before .before .before .before .before .before .before .before .before .before .before .before .before .before .before .before .r .given .1) (sign-goes _ _ _ _ _ _ _ _ (c .before .before .before .before .before .before .before .before .before .before .before .before .before .before .sign-at .ensures) (c .before .before .before .before .before .before .before .before .before .before .before .before .s .given .1) (goes _ _ _ _ _ _ _ _ _ (c .before .before .before .before .before .before .before .before .before .mode-in .ensures) (c .before .before .before .before .before .t .given .1) (c .before .before .guard-and-assignments .ensures)))))

@@ -1,0 +1,30 @@
+use Rattle.terms.specs.Terms.{assignment}
+use Rattle.terms.proofs.ReaderLaws.{stops, goes, assign-stops, assign-goes}
+use borrow.Author.Needs.{needs}
+use Rattle.terms.proofs.assignment.Statement.{statement}
+use Rattle.terms.proofs.assignment.Tie as tie
+
+pub assignment-spec : {M : Type 1} → statement M
+unfolding assignment
+assignment-spec =
+    tie.close
+    (tie.spec
+    (λ c. search needs)
+    (λ c. search needs)
+    (λ c. search needs)
+    (λ c. search needs)
+    (λ c κs. search needs)
+    (λ c. search needs)
+    (λ c. search needs)
+    (λ c. search needs)
+    (λ c. stops _ _ _ _ _ _ _ _ _ (c .before .before .before .before .field-in .ensures) (c .enum-told .given .1))
+    (λ c κs. search needs)
+    (λ c. search needs)
+    (λ c. search needs)
+    (λ c. search needs)
+    (λ c. goes _ _ _ _ _ _ _ _ _ (c .before .before .before .before .before .before .before .before .field-in .ensures) (c .before .before .before .before .r .given .1) (assign-stops _ _ _ _ _ _ _ (c .before .before .assign-at .ensures) (c .enum-told2 .given .1)))
+    (λ c. search needs)
+    (λ c. search needs)
+    (λ c κs. search needs)
+    (λ c. search needs)
+    (λ c. goes _ _ _ _ _ _ _ _ _ (c .before .before .before .before .before .before .before .before .before .before .before .before .before .field-in .ensures) (c .before .before .before .before .before .before .before .before .before .r .given .1) (assign-goes _ _ _ _ _ _ _ (c .before .before .before .before .before .before .before .assign-at .ensures) (c .before .before .before .before .before .s .given .1) (c .before .before .expression .ensures))))

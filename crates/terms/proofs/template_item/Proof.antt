@@ -1,0 +1,20 @@
+use Rattle.terms.specs.Terms.{templateItem}
+use Rattle.terms.proofs.ReaderLaws.{at-no, at-yes}
+use borrow.Author.Needs.{needs}
+use Rattle.terms.proofs.template_item.Statement.{statement}
+use Rattle.terms.proofs.template_item.Tie as tie
+
+pub template-item-spec : {M : Type 1} → statement M
+unfolding templateItem
+template-item-spec =
+    tie.close
+    (tie.spec
+    (λ c κs. search needs)
+    (λ c. search needs)
+    (λ c. search needs)
+    (λ c κs. search needs)
+    (λ c. search needs)
+    (λ c. at-no _ _ _ _ _ _ _ (c .before .before .before .before .before .before .sign-at .ensures) (c .before .before .before .before .enum-told .given .1) (c .before .before .expression .ensures))
+    (λ c κs. search needs)
+    (λ c. search needs)
+    (λ c. at-yes _ _ _ _ _ _ (c .before .before .before .before .before .before .before .sign-at .ensures) (c .before .before .before .before .before .binds .given .1) (c .before .before .bind .ensures)))

@@ -1,0 +1,276 @@
+// The terms of an element's text: expressions, items of a template, conditions, assignments, guarded branches; each is stored at its place in the words of the element.
+ghost use mathlib.Core.Path.{_≡_};
+ghost use Prim.Native.Nat.{_≤_};
+ghost use Rattle.model.specs.Places.{itemPlace, conditionPlace};
+ghost use Rattle.terms.specs.Terms.{joint, expression, bind, templateItem, comparison, condition, assignment, guarded};
+ghost use Rattle.terms.specs.Tails.{farthest, joined, compared, isDefault, keepForm, conditionWord, guard};
+ghost use Rattle.reading.specs.Reading.{letters};
+ghost use Rattle.numerals.specs.Numerals.{sameBytes};
+use lexer::Form;
+use lexer::piece;
+use lexer::token_at;
+use model::places::A_FIELD;
+use model::places::ALWAYS;
+use model::places::ASSIGNED;
+use model::places::ASSIGNMENT_WORDS;
+use model::places::BELOW;
+use model::places::BINDING;
+use model::places::CONDITIONS;
+use model::places::DEFAULT;
+use model::places::EQUALS;
+use model::places::EXITS;
+use model::places::EXPRESSION_WORDS;
+use model::places::FIRST_ASSIGNMENT;
+use model::places::FIRST_EDGE;
+use model::places::FIRST_ITEM;
+use model::places::FORM;
+use model::places::LEFT;
+use model::places::MESSAGE_WORDS;
+use model::places::MESSAGES;
+use model::places::MINUS;
+use model::places::OPERAND_NUMBER;
+use model::places::PLUS;
+use model::places::RIGHT;
+use model::places::SINGLE;
+use numerals::same;
+use reading::MISPLACED;
+use reading::Read;
+use reading::assign_at;
+use reading::field_in;
+use reading::number_in;
+use reading::operand_in;
+use reading::sign_at;
+use words::Word;
+use words::counts::EDGES;
+use words::put;
+
+// A form, and the second operand.
+fn joined(text: &[u8], at: usize, x: &mut [Word], place: u32, form: Word) -> Read
+    requires { ⌜ place ≤ farthest ⌝ }
+    ensures { λ r. ⌜ record { end = r; words = now (x .exit) } ≡ joined form place (now (text .entry)) at (now (x .entry)) ⌝ }
+{
+    put(x, place as usize + FORM, form);
+    operand_in(text, at, x, place + RIGHT as u32)
+}
+
+// What stands behind the first operand of an expression.
+fn joint(text: &[u8], at: usize, x: &mut [Word], place: u32) -> Read
+    requires { ⌜ place ≤ farthest ⌝ }
+    ensures { λ r. ⌜ record { end = r; words = now (x .exit) } ≡ joint place (now (text .entry)) at (now (x .entry)) ⌝ }
+{
+    let sum = sign_at(text, at, b'+');
+    let Read::At(q) = sum else {
+        let difference = sign_at(text, at, b'-');
+        let Read::At(q) = difference else {
+            put(x, place as usize + FORM, SINGLE);
+            return Read::At(at);
+        };
+        return joined(text, q, x, place, MINUS);
+    };
+    joined(text, q, x, place, PLUS)
+}
+
+fn expression(text: &[u8], at: usize, x: &mut [Word], place: u32) -> Read
+    requires { ⌜ place ≤ farthest ⌝ }
+    ensures { λ r. ⌜ record { end = r; words = now (x .exit) } ≡ expression place (now (text .entry)) at (now (x .entry)) ⌝ }
+{
+    let r = operand_in(text, at, x, place + LEFT as u32);
+    let Read::At(q) = r else {
+        return r;
+    };
+    joint(text, q, x, place)
+}
+
+// A field that is bound.
+fn bind(text: &[u8], at: usize, x: &mut [Word], place: u32) -> Read
+    requires { ⌜ place ≤ farthest ⌝ }
+    ensures { λ r. ⌜ record { end = r; words = now (x .exit) } ≡ bind place (now (text .entry)) at (now (x .entry)) ⌝ }
+{
+    put(x, place as usize + FORM, BINDING);
+    put(x, place as usize + LEFT, A_FIELD);
+    field_in(text, at, x, place + LEFT as u32 + OPERAND_NUMBER as u32)
+}
+
+fn template_item(text: &[u8], at: usize, x: &mut [Word], place: u32) -> Read
+    requires { ⌜ place ≤ farthest ⌝ }
+    ensures { λ r. ⌜ record { end = r; words = now (x .exit) } ≡ templateItem place (now (text .entry)) at (now (x .entry)) ⌝ }
+{
+    let binds = sign_at(text, at, b'?');
+    let Read::At(q) = binds else {
+        return expression(text, at, x, place);
+    };
+    bind(text, q, x, place)
+}
+
+// The place of item k of the message of branch b.
+fn item_place(b: Word, k: Word) -> u32
+    ensures { λ r. ⌜ (r ≡ itemPlace b k) × (r ≤ farthest) ⌝ }
+{
+    MESSAGES as u32
+        + MESSAGE_WORDS as u32 * (b as u32)
+        + FIRST_ITEM as u32
+        + EXPRESSION_WORDS as u32 * (k as u32)
+}
+
+// Item k of the message of branch b.
+pub fn item_of_message(text: &[u8], at: usize, x: &mut [Word], b: Word, k: Word) -> Read
+    ensures { λ r. ⌜ record { end = r; words = now (x .exit) } ≡ expression (itemPlace b k) (now (text .entry)) at (now (x .entry)) ⌝ }
+{
+    expression(text, at, x, item_place(b, k))
+}
+
+// Item k of the template of branch b.
+pub fn item_of_template(text: &[u8], at: usize, x: &mut [Word], b: Word, k: Word) -> Read
+    ensures { λ r. ⌜ record { end = r; words = now (x .exit) } ≡ templateItem (itemPlace b k) (now (text .entry)) at (now (x .entry)) ⌝ }
+{
+    template_item(text, at, x, item_place(b, k))
+}
+
+// What stands behind the first operand of a condition.
+fn comparison(text: &[u8], at: usize, x: &mut [Word], place: u32) -> Read
+    requires { ⌜ place ≤ farthest ⌝ }
+    ensures { λ r. ⌜ record { end = r; words = now (x .exit) } ≡ comparison place (now (text .entry)) at (now (x .entry)) ⌝ }
+{
+    let equal = sign_at(text, at, b'=');
+    let Read::At(q) = equal else {
+        let r = sign_at(text, at, b'<');
+        let Read::At(q) = r else {
+            return r;
+        };
+        return joined(text, q, x, place, BELOW);
+    };
+    joined(text, q, x, place, EQUALS)
+}
+
+fn compared(text: &[u8], at: usize, x: &mut [Word], place: u32) -> Read
+    requires { ⌜ place ≤ farthest ⌝ }
+    ensures { λ r. ⌜ record { end = r; words = now (x .exit) } ≡ compared place (now (text .entry)) at (now (x .entry)) ⌝ }
+{
+    let r = operand_in(text, at, x, place + LEFT as u32);
+    let Read::At(q) = r else {
+        return r;
+    };
+    comparison(text, q, x, place)
+}
+
+// Whether the token at a place is a given word.
+fn is_spelled(text: &[u8], at: usize, word: &[u8]) -> bool
+    ensures { λ r. ⌜ r ≡ sameBytes (letters (now (text .entry)) at) (now (word .entry)) ⌝ }
+{
+    let token = token_at(text, at);
+    let p = token.at;
+    let q = token.next;
+    same(piece(text, p, q), word)
+}
+
+fn is_default(text: &[u8], at: usize, defaults: bool) -> bool
+    ensures { λ r. ⌜ r ≡ isDefault defaults (now (text .entry)) at ⌝ }
+{
+    if defaults {
+        return is_spelled(text, at, b"default");
+    }
+    false
+}
+
+// A form that a word says.
+fn keep_form(text: &[u8], at: usize, x: &mut [Word], place: u32, form: Word) -> Read
+    ensures { λ r. ⌜ record { end = r; words = now (x .exit) } ≡ keepForm form place (now (text .entry)) at (now (x .entry)) ⌝ }
+{
+    let token = token_at(text, at);
+    let q = token.next;
+    put(x, place as usize + FORM, form);
+    Read::At(q)
+}
+
+// A condition that starts with a word.
+fn condition_word(text: &[u8], at: usize, x: &mut [Word], defaults: bool, place: u32) -> Read
+    requires { ⌜ place ≤ farthest ⌝ }
+    ensures { λ r. ⌜ record { end = r; words = now (x .exit) } ≡ conditionWord defaults place (now (text .entry)) at (now (x .entry)) ⌝ }
+{
+    if is_spelled(text, at, b"true") {
+        return keep_form(text, at, x, place, ALWAYS);
+    }
+    if is_default(text, at, defaults) {
+        return keep_form(text, at, x, place, DEFAULT);
+    }
+    compared(text, at, x, place)
+}
+
+fn condition(text: &[u8], at: usize, x: &mut [Word], defaults: bool, place: u32) -> Read
+    requires { ⌜ place ≤ farthest ⌝ }
+    ensures { λ r. ⌜ record { end = r; words = now (x .exit) } ≡ condition defaults place (now (text .entry)) at (now (x .entry)) ⌝ }
+{
+    let token = token_at(text, at);
+    let p = token.at;
+    let form = token.form;
+    let Form::Word = form else {
+        return Read::Refused(MISPLACED, p);
+    };
+    condition_word(text, at, x, defaults, place)
+}
+
+// The condition of branch b.
+pub fn condition_of(text: &[u8], at: usize, x: &mut [Word], defaults: bool, b: Word) -> Read
+    ensures { λ r. ⌜ record { end = r; words = now (x .exit) } ≡ condition defaults (conditionPlace b) (now (text .entry)) at (now (x .entry)) ⌝ }
+{
+    condition(
+        text,
+        at,
+        x,
+        defaults,
+        CONDITIONS as u32 + EXPRESSION_WORDS as u32 * (b as u32),
+    )
+}
+
+// Assignment j.
+pub fn assignment(text: &[u8], at: usize, x: &mut [Word], j: Word) -> Read
+    ensures { λ r. ⌜ record { end = r; words = now (x .exit) } ≡ assignment j (now (text .entry)) at (now (x .entry)) ⌝ }
+{
+    let place = FIRST_ASSIGNMENT as u32 + ASSIGNMENT_WORDS as u32 * (j as u32);
+    let r = field_in(text, at, x, place);
+    let Read::At(q) = r else {
+        return r;
+    };
+    let s = assign_at(text, q);
+    let Read::At(a) = s else {
+        return s;
+    };
+    expression(text, a, x, place + ASSIGNED as u32)
+}
+
+// Behind the edge of a guarded branch.
+fn guard(text: &[u8], at: usize, x: &mut [Word], b: Word) -> Read
+    ensures { λ r. ⌜ record { end = r; words = now (x .exit) } ≡ guard b (now (text .entry)) at (now (x .entry)) ⌝ }
+{
+    let r = sign_at(text, at, b',');
+    let Read::At(q) = r else {
+        return r;
+    };
+    let s = condition_of(text, q, x, true, b);
+    let Read::At(a) = s else {
+        return s;
+    };
+    sign_at(text, a, b')')
+}
+
+// The guarded branch b of an xorSplit.
+pub fn guarded(text: &[u8], at: usize, x: &mut [Word], b: Word) -> Read
+    ensures { λ r. ⌜ record { end = r; words = now (x .exit) } ≡ guarded b (now (text .entry)) at (now (x .entry)) ⌝ }
+{
+    let r = sign_at(text, at, b'(');
+    let Read::At(q) = r else {
+        return r;
+    };
+    let s = number_in(
+        text,
+        q,
+        x,
+        1,
+        EDGES,
+        EXITS as u32 + FIRST_EDGE as u32 + (b as u32),
+    );
+    let Read::At(a) = s else {
+        return s;
+    };
+    guard(text, a, x, b)
+}
