@@ -1,10 +1,10 @@
 -- What the layer below does on a state that fits is what `meaning` says; on any other nothing is done. Assumes nothing.
-use Prim.Native.Nat.{ℕ, _+_, _*_, _<_}
+use Prim.Native.Nat.{ℕ, _+_, _*_, _≤_, _<_}
 use mathlib.Core.Path.{_≡_, refl, sym, _∙_, ap, ap₂, subst}
 use mathlib.Core.Bool.{Bool, true, false, _&&_}
 use mathlib.Core.List.{List, _++_}
 use native.Mathlib.Omega.{arith}
-use borrow.Author.Tests.{eqb-true}
+use borrow.Author.Tests.{eqb-true, lt-ltb, le-ltb}
 use lib.Dec.{eqb}
 use lib.ListN.{length, take, drop, length-drop, take-append-drop}
 use lib.Seq.{length-take-le}
@@ -36,7 +36,10 @@ use Rattle.listing.specs.Scanned.{scanned}
 use Rattle.running.specs.Run.{Run, ranBy, ran}
 use Rattle.listed.proofs.ScannedIs.{scanned-is}
 use Rattle.listed.proofs.RunIs.{settled-step, run-is}
-use Rattle.engine.specs.Engine.{valid, fitting, stepped, Left, postedTo, listedAt, RanTo, ended, ranTo}
+use Rattle.engine.specs.Engine.{valid, fitting, stepped, Left, postedTo, listedAt, RanTo, ended, ranTo, WrittenTo, written, writtenTo}
+use Rattle.shown.specs.Shown.{shownTable}
+use Rattle.buffers.specs.Buffers.{over}
+use Rattle.buffers.proofs.OverLaws.{over-all}
 
 -- what a fitting table and state are
 module _ (t z : List ℕ) (h : fitting t z ≡ true) where
@@ -113,3 +116,21 @@ list-bad t z k r h e = rw h e
 pub run-bad : (t z : List ℕ) (limit : ℕ) → fitting t z ≡ false → _≡_ {A = RanTo} (record { number = 10; steps = 0; left = 0; state = z }) (ranTo t z limit)
 unfolding ranTo if_then_else_
 run-bad t z limit h = rw h
+
+-- a writing, by the length that was measured
+module _ (t out : List ℕ) where
+  pub write-bad : valid t ≡ false → _≡_ {A = WrittenTo} (record { number = 10; length = 0; buffer = out }) (writtenTo t out)
+  unfolding writtenTo if_then_else_
+  write-bad h = rw h
+
+  pub write-short : (n : ℕ) → valid t ≡ true → n ≡ length (shownTable t) → length out < n → _≡_ {A = WrittenTo} (record { number = 5; length = 0; buffer = out }) (writtenTo t out)
+  unfolding writtenTo written if_then_else_
+  write-short n h e lt = rw (h, lt-ltb (length out) (length (shownTable t)) (subst (λ k. length out < k) e lt))
+
+  pub write-done : (n r : ℕ) (y : List ℕ) → valid t ≡ true → n ≡ length (shownTable t) → n ≤ length out → r ≡ length (shownTable t) → y ≡ over (shownTable t) out
+      → _≡_ {A = WrittenTo} (record { number = 0; length = r; buffer = y }) (writtenTo t out)
+  unfolding writtenTo written if_then_else_
+  write-done n r y h e le l w =
+      let k : length (shownTable t) ≤ length out = subst (λ j. j ≤ length out) e le in
+      let v : y ≡ shownTable t ++ drop (length (shownTable t)) out = w ∙ over-all (shownTable t) out k in
+      rw (h, le-ltb (length out) (length (shownTable t)) k) (λ i. record { number = 0; length = l i; buffer = v i })

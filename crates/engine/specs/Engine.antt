@@ -3,7 +3,8 @@ use Prim.Native.Nat.{ℕ}
 use mathlib.Core.Path.{_≡_}
 use mathlib.Core.Bool.{Bool, _&&_}
 use mathlib.Core.List.{List, _++_}
-use lib.Dec.{eqb}
+use lib.Dec.{eqb, ltb}
+use lib.ListN.{length, drop}
 use Rattle.words.specs.Pick.{if_then_else_}
 use Rattle.state.specs.Instances.{instancesOf, queuesOf}
 use Rattle.meaning.specs.declared.Name.{Name}
@@ -18,6 +19,7 @@ use Rattle.fits.specs.Fresh.{fresh}
 use Rattle.listing.specs.declared.Listed.{Listed}
 use Rattle.listing.specs.Listing.{blank, listed, chosen}
 use Rattle.running.specs.Run.{Run, ran}
+use Rattle.shown.specs.Shown.{shownTable}
 use Rattle.engine.specs.declared.Verdict.{Verdict}
 
 -- a table that breaks no limit and no check
@@ -68,3 +70,17 @@ ended r = record { number = 0; steps = r .steps; left = r .left; state = r .inst
 
 unfoldable pub ranTo : List ℕ → List ℕ → ℕ → RanTo
 ranTo t z limit = if fitting t z then ended (ran t limit (instancesOf z) (queuesOf z)) else record { number = 10; steps = 0; left = 0; state = z }
+
+-- "5: the writer's buffer is shorter than the text", and 10 goes before it; else the text, "and returns the length; the buffer's later bytes stay"
+pub record WrittenTo : Type 0 where
+  pub number : ℕ
+  pub length : ℕ
+  pub buffer : List ℕ
+
+unfoldable pub written : List ℕ → List ℕ → WrittenTo
+written text out =
+    if ltb (length out) (length text) then record { number = 5; length = 0; buffer = out }
+    else record { number = 0; length = length text; buffer = text ++ drop (length text) out }
+
+unfoldable pub writtenTo : List ℕ → List ℕ → WrittenTo
+writtenTo t out = if valid t then written (shownTable t) out else record { number = 10; length = 0; buffer = out }

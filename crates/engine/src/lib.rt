@@ -3,10 +3,12 @@ ghost use mathlib.Core.Path.{_≡_};
 ghost use mathlib.Core.Bool.{true};
 ghost use lib.ListN.{length};
 ghost use Rattle.state.specs.Places.{stateWords};
-ghost use Rattle.engine.specs.Engine.{valid, verdictOf, Left, freshened, fitting, stepped, postedTo, listedAt, RanTo, ranTo};
+ghost use Rattle.engine.specs.Engine.{valid, verdictOf, Left, freshened, fitting, stepped, postedTo, listedAt, RanTo, ranTo, WrittenTo, writtenTo};
 ghost use Rattle.meaning.specs.Tuples.{empty};
 ghost use Rattle.rules.specs.Settled.{Done};
 ghost use Rattle.listing.specs.Listing.{blank};
+ghost use Rattle.notation.specs.Notation.{taken};
+ghost use Rattle.shown.specs.Shown.{shownTable};
 use listing::Listed;
 use meaning::Answer;
 use meaning::Name;
@@ -14,6 +16,7 @@ use meaning::Traffic;
 use meaning::Tuple;
 use meaning::empty_tuple;
 use model::places::TABLE_WORDS;
+use notation::Reading;
 use refusals::ACCEPTED;
 use refusals::BAD;
 use state::places::STATE_WORDS;
@@ -160,5 +163,52 @@ pub fn run(t: &[Word; TABLE_WORDS], z: &mut [Word; STATE_WORDS], limit: Word) ->
         number: ACCEPTED,
         steps: r.steps,
         left: r.left,
+    }
+}
+
+// Reads a text into the lent table: 1, 2 or 3 with its place, 4 with the lowest check broken, and the table stays; else 0, and every word of it is the model's.
+pub fn read(text: &[u8], t: &mut [Word; TABLE_WORDS]) -> Reading
+    ensures { λ r. ⌜ record { number = r .number; beside = r .beside; table = now (t .exit) } ≡ taken (now (text .entry)) (now (t .entry)) ⌝ }
+{
+    notation::read_into(text, t)
+}
+
+// The writer's buffer is shorter than the text.
+pub const TOO_SHORT: Word = 5;
+
+// The answer of a writing: a number, and beside 0 the length of the text.
+pub struct Written {
+    pub number: Word,
+    pub length: usize,
+}
+
+// The length of a table's text: writing into an empty buffer measures it.
+fn text_length(t: &[Word]) -> usize
+    ensures { λ r. ⌜ r ≡ length (shownTable (now (t .entry))) ⌝ }
+{
+    let mut none = [0u8; 1];
+    writer::put_table(t, &mut none)
+}
+
+// Writes the text of a table: 10 where the table is bad, 5 where the buffer is shorter than the text, and the buffer stays; else 0 and its length.
+pub fn write(t: &[Word; TABLE_WORDS], out: &mut [u8]) -> Written
+    ensures { λ r. ⌜ record { number = r .number; length = r .length; buffer = now (out .exit) } ≡ writtenTo (now (t .entry)) (now (out .entry)) ⌝ }
+{
+    if !is_valid(t) {
+        return Written {
+            number: BAD,
+            length: 0,
+        };
+    }
+    if out.len() < text_length(t) {
+        return Written {
+            number: TOO_SHORT,
+            length: 0,
+        };
+    }
+    let n = writer::put_table(t, out);
+    Written {
+        number: ACCEPTED,
+        length: n,
     }
 }
