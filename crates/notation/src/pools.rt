@@ -38,7 +38,7 @@ const NUMBER: usize = 0;
 
 const HEAD_WORDS: usize = 2;
 
-// One thing too many, or none, at a place.
+// Where no more are allowed: 3 at the first thing too many, and 2 where no such thing stands.
 fn one_too_many(item: bool, text: &[u8], at: usize) -> Read
     ensures { λ r. ⌜ r ≡ oneTooMany item (placeOf (now (text .entry)) at) ⌝ }
 {
@@ -50,6 +50,7 @@ fn one_too_many(item: bool, text: &[u8], at: usize) -> Read
     Read::Refused(MISPLACED, p)
 }
 
+// An element, whatever stood in its words.
 fn element_alone(text: &[u8], at: usize, x: &mut [Word; ELEMENT_WORDS]) -> Read
     ensures { λ r. ⌜ record { end = r; value = now (x .exit) } ≡ elementAlone (now (text .entry)) at ⌝ }
 {

@@ -1,9 +1,9 @@
 use Prim.Native.Nat.{_-_, _≤_}
-use borrow.Author.Needs.{needs}
 use lib.ListN.{drop, length, replicate}
 use mathlib.Core.List.{_++_}
 use mathlib.Core.Path.{_≡_}
 use Rattle.elements.proofs.ClearLaws.{clears}
+use borrow.Author.Needs.{needs}
 use Rattle.elements.proofs.clear.Statement.{statement}
 use Rattle.elements.proofs.clear.Tie as tie
 

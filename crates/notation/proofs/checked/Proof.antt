@@ -1,5 +1,4 @@
-use Rattle.notation.proofs.ReadLaws.{check-failed}
-use Rattle.notation.proofs.ReadLaws.{check-passed}
+use Rattle.notation.proofs.ReadLaws.{check-failed, check-passed}
 use borrow.Author.Needs.{needs}
 use Rattle.notation.proofs.checked.Statement.{statement}
 use Rattle.notation.proofs.checked.Tie as tie

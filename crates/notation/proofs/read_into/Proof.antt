@@ -1,3 +1,4 @@
+use native.Mathlib.Omega.{arith}
 use Rattle.notation.proofs.ReadLaws.{too-long, text-refused, check-broken, text-read}
 use borrow.Author.Needs.{needs}
 use Rattle.notation.proofs.read_into.Statement.{statement}
@@ -19,6 +20,6 @@ read-into-spec =
     (λ c. search L)
     (λ c κs. search L)
     (λ c κs. search L)
-    (λ c. check-broken _ _ (c .before .before .before .before .before .before .before .before .before .if1 .left) _ _ (c .before .before .before .before .before .before .before .pass .ensures) _ (c .before .before .before .before .enum-told .given .1) _ (c .before .before .lowest-in .ensures) _ (c .before .checked .ensures) (c .if2 .taken))  -- returns-3
+    (λ c. check-broken _ _ (c .before .before .before .before .before .before .before .before .before .if1 .left) _ _ (c .before .before .before .before .before .before .before .pass .ensures) _ (c .before .before .before .before .enum-told .given .1) _ (c .before .before .lowest-in .ensures) _ (c .before .checked .ensures) (λ z. omega (arith, c .if2 .taken)))  -- returns-3
     (λ c κs. search L)
-    (λ c. text-read _ _ (c .before .before .before .before .before .before .before .before .before .before .before .if1 .left) _ _ (c .before .before .before .before .before .before .before .before .before .pass .ensures) _ (c .before .before .before .before .before .before .enum-told .given .1) _ (c .before .before .before .before .lowest-in .ensures) _ (c .before .before .before .checked .ensures) (c .before .before .if2 .left) _ (c .fill .ensures)))  -- returns-4
+    (λ c. text-read _ _ (c .before .before .before .before .before .before .before .before .before .before .before .if1 .left) _ _ (c .before .before .before .before .before .before .before .before .before .pass .ensures) _ (c .before .before .before .before .before .before .enum-told .given .1) _ (c .before .before .before .before .lowest-in .ensures) _ (c .before .before .before .checked .ensures) (omega (arith, c .before .before .if2 .left)) _ (c .fill .ensures)))  -- returns-4

@@ -1,5 +1,4 @@
-use Rattle.words.proofs.PickLaws.{pick-no}
-use Rattle.words.proofs.PickLaws.{pick-yes}
+use Rattle.words.proofs.PickLaws.{pick-no, pick-yes}
 use Rattle.notation.specs.Passes.{keptElement}
 use borrow.Author.Needs.{needs}
 use Rattle.notation.proofs.keep.keep_element.Statement.{statement}

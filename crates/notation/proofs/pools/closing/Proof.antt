@@ -1,5 +1,4 @@
-use Rattle.notation.proofs.PoolLaws.{closed-multiple}
-use Rattle.notation.proofs.PoolLaws.{closed-plain}
+use Rattle.notation.proofs.PoolLaws.{closed-multiple, closed-plain}
 use borrow.Author.Needs.{needs}
 use Rattle.notation.proofs.pools.closing.Statement.{statement}
 use Rattle.notation.proofs.pools.closing.Tie as tie

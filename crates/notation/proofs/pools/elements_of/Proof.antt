@@ -1,5 +1,4 @@
-use Rattle.notation.proofs.PoolLaws.{only-summed}
-use Rattle.notation.proofs.PoolLaws.{only-placed}
+use Rattle.notation.proofs.PoolLaws.{only-summed, only-placed}
 use borrow.Author.Needs.{needs}
 use Rattle.notation.proofs.pools.elements_of.Statement.{statement}
 use Rattle.notation.proofs.pools.elements_of.Tie as tie

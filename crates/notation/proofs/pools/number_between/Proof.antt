@@ -1,8 +1,4 @@
-use Rattle.reading.proofs.ReadingLaws.{sign-last}
-use Rattle.reading.proofs.ReadingLaws.{then-passed}
-use Rattle.reading.proofs.ReadingLaws.{then-stopped}
-use Rattle.reading.proofs.ReadingLaws.{sign-passed}
-use Rattle.reading.proofs.ReadingLaws.{sign-stopped}
+use Rattle.reading.proofs.ReadingLaws.{sign-last, then-passed, then-stopped, sign-passed, sign-stopped}
 use borrow.Author.Needs.{needs}
 use Rattle.notation.proofs.pools.number_between.Statement.{statement}
 use Rattle.notation.proofs.pools.number_between.Tie as tie

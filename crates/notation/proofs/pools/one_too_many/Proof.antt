@@ -1,5 +1,4 @@
-use Rattle.notation.proofs.PoolLaws.{none-there}
-use Rattle.notation.proofs.PoolLaws.{too-many}
+use Rattle.notation.proofs.PoolLaws.{none-there, too-many}
 use borrow.Author.Needs.{needs}
 use Rattle.notation.proofs.pools.one_too_many.Statement.{statement}
 use Rattle.notation.proofs.pools.one_too_many.Tie as tie

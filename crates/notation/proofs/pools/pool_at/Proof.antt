@@ -1,6 +1,4 @@
-use Rattle.notation.proofs.PoolLaws.{pool-passed}
-use Rattle.notation.proofs.PoolLaws.{pool-unnamed}
-use Rattle.notation.proofs.PoolLaws.{pool-missed}
+use Rattle.notation.proofs.PoolLaws.{pool-passed, pool-unnamed, pool-missed}
 use borrow.Author.Needs.{needs}
 use Rattle.notation.proofs.pools.pool_at.Statement.{statement}
 use Rattle.notation.proofs.pools.pool_at.Tie as tie

@@ -1,6 +1,4 @@
-use Rattle.notation.proofs.PoolLaws.{closing-passed}
-use Rattle.notation.proofs.PoolLaws.{closing-stopped}
-use Rattle.notation.proofs.PoolLaws.{elements-stopped}
+use Rattle.notation.proofs.PoolLaws.{closing-passed, closing-stopped, elements-stopped}
 use borrow.Author.Needs.{needs}
 use Rattle.notation.proofs.pools.pool_inside.Statement.{statement}
 use Rattle.notation.proofs.pools.pool_inside.Tie as tie

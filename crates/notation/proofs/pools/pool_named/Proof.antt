@@ -1,6 +1,4 @@
-use Rattle.notation.proofs.PoolLaws.{not-named}
-use Rattle.notation.proofs.PoolLaws.{multiple-named}
-use Rattle.notation.proofs.PoolLaws.{plain-named}
+use Rattle.notation.proofs.PoolLaws.{not-named, multiple-named, plain-named}
 use borrow.Author.Needs.{needs}
 use Rattle.notation.proofs.pools.pool_named.Statement.{statement}
 use Rattle.notation.proofs.pools.pool_named.Tie as tie

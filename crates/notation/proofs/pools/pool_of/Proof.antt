@@ -1,5 +1,4 @@
-use Rattle.notation.proofs.PoolLaws.{opening-passed}
-use Rattle.notation.proofs.PoolLaws.{opening-stopped}
+use Rattle.notation.proofs.PoolLaws.{opening-passed, opening-stopped}
 use borrow.Author.Needs.{needs}
 use Rattle.notation.proofs.pools.pool_of.Statement.{statement}
 use Rattle.notation.proofs.pools.pool_of.Tie as tie

@@ -1,5 +1,4 @@
-use Rattle.notation.proofs.PoolLaws.{starts-yes}
-use Rattle.notation.proofs.PoolLaws.{starts-no}
+use Rattle.notation.proofs.PoolLaws.{starts-yes, starts-no}
 use borrow.Author.Needs.{needs}
 use Rattle.notation.proofs.pools.starts_pool.Statement.{statement}
 use Rattle.notation.proofs.pools.starts_pool.Tie as tie

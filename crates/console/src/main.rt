@@ -1,0 +1,166 @@
+// The console: a session on standard input, a command a line, that drives every call of the engine; answers go to standard output.
+//
+//   read TEXT          ok, or refused N X; a model that was read replaces the one before and makes a fresh state
+//   step P I E F B V   ok -, ok !M:V (sent), ok ?M:V (consumed), or refused N; V is - or values joined by commas
+//   post M V           ok, or refused N
+//   list K             P I E F B V of the K-th accepted step, or refused N
+//   run N              the line of each step, then: steps N left F
+//   write              the text of the model
+//   fresh              a fresh state: ok
+//   state              a line for each made instance and each queue that is not empty, then: end
+//
+// Any command but read before a model was read: no model. Any other line: bad line.
+use lexer::piece;
+use libc::STDIN_FILENO;
+use model::places::TABLE_WORDS;
+use printing::tell;
+use state::places::STATE_WORDS;
+use words::Word;
+
+mod arguments;
+mod commands;
+mod report;
+
+use commands::command;
+
+const NEWLINE: u8 = 10;
+
+// The bytes of the longest line.
+const LINE: usize = 40000;
+
+// How much of a line there is so far, and whether more came than fits; whether a model was read, and whether the input is at its end.
+struct Session {
+    length: usize,
+    excess: bool,
+    loaded: bool,
+    over: bool,
+}
+
+fn opened() -> Session {
+    Session {
+        length: 0,
+        excess: false,
+        loaded: false,
+        over: false,
+    }
+}
+
+// The line is complete.
+fn complete(
+    s: Session,
+    line: &[u8; LINE],
+    t: &mut [Word; TABLE_WORDS],
+    z: &mut [Word; STATE_WORDS],
+) -> Session {
+    if s.excess {
+        tell(b"bad line\n");
+        return Session {
+            length: 0,
+            excess: false,
+            loaded: s.loaded,
+            over: false,
+        };
+    }
+    let loaded = command(piece(line, 0, s.length), s.loaded, t, z);
+    Session {
+        length: 0,
+        excess: false,
+        loaded: loaded,
+        over: false,
+    }
+}
+
+// One byte more in the line.
+fn extend(s: Session, line: &mut [u8; LINE], b: u8) -> Session {
+    let n = s.length;
+    if n < LINE {
+        line[n] = b;
+        return Session {
+            length: n + 1,
+            excess: false,
+            loaded: s.loaded,
+            over: false,
+        };
+    }
+    Session {
+        length: n,
+        excess: true,
+        loaded: s.loaded,
+        over: false,
+    }
+}
+
+fn take_byte(
+    s: Session,
+    b: u8,
+    line: &mut [u8; LINE],
+    t: &mut [Word; TABLE_WORDS],
+    z: &mut [Word; STATE_WORDS],
+) -> Session {
+    if b == NEWLINE {
+        return complete(s, line, t, z);
+    }
+    extend(s, line, b)
+}
+
+fn take_piece(
+    first: Session,
+    piece: &[u8],
+    line: &mut [u8; LINE],
+    t: &mut [Word; TABLE_WORDS],
+    z: &mut [Word; STATE_WORDS],
+) -> Session {
+    let mut s = first;
+    let mut i: usize = 0;
+    while i < piece.len() {
+        s = take_byte(s, piece[i], line, t, z);
+        i += 1;
+    }
+    s
+}
+
+// A last line without newline counts.
+fn take_rest(
+    s: Session,
+    line: &[u8; LINE],
+    t: &mut [Word; TABLE_WORDS],
+    z: &mut [Word; STATE_WORDS],
+) {
+    if s.length > 0 {
+        complete(s, line, t, z);
+    }
+}
+
+// Reads once, and does what came.
+fn read_some(
+    s: Session,
+    line: &mut [u8; LINE],
+    t: &mut [Word; TABLE_WORDS],
+    z: &mut [Word; STATE_WORDS],
+) -> Session {
+    let mut piece = io::buffer();
+    let n = io::read_full(STDIN_FILENO, &mut piece);
+    if n == 0 {
+        return Session {
+            length: s.length,
+            excess: s.excess,
+            loaded: s.loaded,
+            over: true,
+        };
+    }
+    take_piece(s, &piece[..n], line, t, z)
+}
+
+fn main() {
+    let mut t: [Word; TABLE_WORDS] = [0; TABLE_WORDS];
+    let mut z: [Word; STATE_WORDS] = [0; STATE_WORDS];
+    let mut line: [u8; LINE] = [0; LINE];
+    let mut s = opened();
+    // A proved loop has to end, and nothing says that an input does: the turns are more than any run uses up.
+    let mut turns = u64::MAX;
+    while turns > 0 && !s.over {
+        s = read_some(s, &mut line, &mut t, &mut z);
+        turns -= 1;
+    }
+    take_rest(s, &line, &mut t, &mut z);
+}

@@ -1,0 +1,137 @@
+// The lines of a state: its made instances and its queues.
+use meaning::Tuple;
+use model::places::FIRST_POOL;
+use model::places::POOL_WORDS;
+use model::places::TABLE_WORDS;
+use model::pool_count;
+use printing::tell;
+use printing::tell_number;
+use printing::tell_tuple;
+use queues::message_at;
+use queues::queued_in;
+use state::instance_at;
+use state::made_count;
+use state::places::ACTIVE;
+use state::places::DEFINED;
+use state::places::FIELD_VALUES;
+use state::places::INSTANCES_WORDS;
+use state::places::READY;
+use state::places::STATE_WORDS;
+use words::Word;
+use words::counts::EDGES;
+use words::counts::FIELDS;
+use words::counts::NAMES;
+use words::counts::TASKS;
+use words::tail;
+use words::word;
+
+// `number:value`, a comma before it where another stands there.
+fn tell_pair(is_first: bool, number: Word, value: Word) {
+    if !is_first {
+        tell(b",");
+    }
+    tell_number(number);
+    tell(b":");
+    tell_number(value);
+}
+
+// One pair, where its flag is not 0; answers whether the next one is still the first.
+fn pair_if(is_first: bool, flag: Word, number: Word, value: Word) -> bool {
+    if flag == 0 {
+        return is_first;
+    }
+    tell_pair(is_first, number, value);
+    false
+}
+
+// The pairs of n places: their numbers count from `first`, their flags and values stand from two places on.
+fn tell_pairs(h: &[Word], flags: &[Word], n: Word, first: u8) {
+    let mut is_first = true;
+    let mut k: Word = 0;
+    while k < n {
+        let number = if k < 1000 { k + first as Word } else { k };
+        is_first = pair_if(
+            is_first,
+            word(flags, k as usize),
+            number,
+            word(h, k as usize),
+        );
+        k += 1;
+    }
+    if is_first {
+        tell(b"-");
+    }
+}
+
+fn tell_counts(h: &[Word], n: Word) {
+    tell_pairs(h, h, n, 1);
+}
+
+fn tell_instance(number: Word, i: Word, h: &[Word]) {
+    tell(b"instance ");
+    tell_number(number);
+    tell(b" ");
+    tell_number(i);
+    tell(b" tokens ");
+    tell_counts(h, EDGES);
+    tell(b" active ");
+    tell_counts(tail(h, ACTIVE), TASKS);
+    tell(b" ready ");
+    tell_counts(tail(h, READY), TASKS);
+    tell(b" fields ");
+    tell_pairs(tail(h, FIELD_VALUES), tail(h, DEFINED), FIELDS, 0);
+    tell(b"\n");
+}
+
+fn tell_pool(t: &[Word], z: &[Word], p: Word) {
+    let number = word(t, FIRST_POOL + POOL_WORDS * (p as usize));
+    let made = made_count(z, p);
+    let mut i: Word = 0;
+    while i < made {
+        tell_instance(number, i, instance_at(z, p, i));
+        i += 1;
+    }
+}
+
+fn tell_message(g: Tuple) {
+    tell(b" ");
+    tell_tuple(g);
+}
+
+fn tell_queue(q: &[Word], m: Word) {
+    let n = queued_in(q, m);
+    if n == 0 {
+        return;
+    }
+    tell(b"queue ");
+    tell_number(m);
+    let mut k: Word = 0;
+    while k < n {
+        tell_message(message_at(q, m, k));
+        k += 1;
+    }
+    tell(b"\n");
+}
+
+fn tell_pools(t: &[Word], z: &[Word]) {
+    let n = pool_count(t);
+    let mut p: Word = 0;
+    while p < n {
+        tell_pool(t, z, p);
+        p += 1;
+    }
+}
+
+fn tell_queues(q: &[Word]) {
+    let mut m: Word = 0;
+    while m < NAMES {
+        tell_queue(q, m);
+        m += 1;
+    }
+}
+
+pub fn report(t: &[Word; TABLE_WORDS], z: &[Word; STATE_WORDS]) {
+    tell_pools(t, z);
+    tell_queues(tail(z, INSTANCES_WORDS));
+    tell(b"end\n");
+}

@@ -1,0 +1,5 @@
+pub mod Pieces
+pub mod PartsShort
+pub mod FewParts
+pub mod ElementShort
+pub mod Short

@@ -1,0 +1,57 @@
+-- Lengths of texts that are chosen, put between signs or put one behind the other. Assumes nothing.
+use Prim.Native.Nat.{ℕ, zero, suc, _+_, _*_, _≤_, _<_}
+use mathlib.Core.Path.{_≡_}
+use mathlib.Core.Bool.{Bool, true, false}
+use mathlib.Core.List.{List, [], _∷_, _++_}
+use native.Mathlib.Omega.{arith}
+use lib.Dec.{eqb}
+use lib.ListN.{length, take, length-append}
+use Rattle.words.specs.Each.{joined}
+use Rattle.words.specs.Pick.{if_then_else_}
+use Rattle.words.specs.Sum.{sum}
+use Rattle.words.proofs.SumLaws.{sum-le}
+use Rattle.shown.specs.Shown.{lead, separated, between}
+
+-- a choice, each text by its own bound, or both by one
+pub each-short : (b : Bool) (x y : List ℕ) (m n : ℕ) → length x ≤ m → length y ≤ n → length (if b then x else y) ≤ (if b then m else n)
+unfolding if_then_else_
+each-short true x y m n h l = h
+each-short false x y m n h l = l
+
+pub both-short : (b : Bool) (x y : List ℕ) (most : ℕ) → length x ≤ most → length y ≤ most → length (if b then x else y) ≤ most
+unfolding if_then_else_
+both-short true x y most h l = h
+both-short false x y most h l = l
+
+-- the first k
+pub take-short : (k : ℕ) (w : List ℕ) → length (take k w) ≤ k
+take-short zero w = omega arith
+take-short (suc k) [] = omega arith
+take-short (suc k) (b ∷ w) = omega (arith, take-short k w)
+
+-- between two signs
+pub between-long : (opener closer : ℕ) (w : List ℕ) → length (between opener closer w) ≡ length w + 2
+between-long opener closer w = omega (arith, length-append w (closer ∷ []))
+
+-- pieces one behind the other
+pub joined-short : (f : ℕ → List ℕ) (most : ℕ → ℕ) (n : ℕ) → ((k : ℕ) → k < n → length (f k) ≤ most k) → length (joined f n) ≤ sum most n
+unfolding joined sum
+joined-short f most zero h = omega arith
+joined-short f most (suc n) h =
+    omega (arith, length-append (joined f n) (f n), joined-short f most n (λ k l. h k (omega arith)), h n (omega arith))
+
+-- the same with a sign between them
+pub lead-short : (s k : ℕ) → length (lead s k) ≤ 1
+unfolding lead
+lead-short s k = both-short (eqb k 0) [] (s ∷ []) 1 (omega arith) (omega arith)
+
+pub separated-sum : (s : ℕ) (f : ℕ → List ℕ) (most : ℕ → ℕ) (n : ℕ) → ((k : ℕ) → k < n → length (f k) + 1 ≤ most k) → length (separated s f n) ≤ sum most n
+unfolding separated
+separated-sum s f most n h =
+    joined-short (λ k. lead s k ++ f k) most n (λ k l. omega (arith, length-append (lead s k) (f k), lead-short s k, h k l))
+
+pub separated-short : (s : ℕ) (f : ℕ → List ℕ) (most n : ℕ) → ((k : ℕ) → k < n → length (f k) ≤ most) → length (separated s f n) ≤ n * (most + 1)
+separated-short s f most n h =
+    let each-one = sum-le (λ k. most + 1) (most + 1) n (λ k l. omega arith) in
+    let together = separated-sum s f (λ k. most + 1) n (λ k l. omega (arith, h k l)) in
+    omega arith

@@ -1,0 +1,12 @@
+pub mod ReadsLaws
+pub mod SignReads
+pub mod TripLaws
+pub mod NumberReads
+pub mod ExpressionLaws
+pub mod ExpressionReads
+pub mod ListReads
+pub mod FitsLaws
+pub mod PartReads
+pub mod CodeLaws
+pub mod PartTrips
+pub mod Points
