@@ -1,5 +1,5 @@
--- HOW FIRM THE PROMISES ARE: any two results that the promise of a public call allows coincide, the words lent to it included. Each statement takes the
--- promise of its function twice; a table is lent to be read only. Assumes nothing.
+-- HOW FIRM THE PROMISES ARE: any two results that the promise of a public call allows coincide, the words and bytes lent to it included. Each statement
+-- takes the promise of its function twice; only read changes a table. Assumes nothing.
 use Prim.Native.Nat.{ℕ}
 use mathlib.Core.Path.{_≡_, refl, sym, _∙_, ap, ap₂}
 use mathlib.Core.List.{List, [], _∷_}
@@ -11,7 +11,10 @@ use Rattle.rules.specs.Settled.{Done}
 use Rattle.listing.specs.declared.Listed.{Listed}
 use Rattle.engine.specs.declared.Ran.{Ran}
 use Rattle.engine.specs.declared.Verdict.{Verdict}
-use Rattle.engine.specs.Engine.{Left, verdictOf, freshened, stepped, postedTo, listedAt, RanTo, ranTo}
+use Rattle.engine.specs.declared.Written.{Written}
+use Rattle.engine.specs.Engine.{Left, verdictOf, freshened, stepped, postedTo, listedAt, RanTo, ranTo, WrittenTo, writtenTo}
+use Rattle.notation.specs.declared.Reading.{Reading}
+use Rattle.notation.specs.Notation.{Taken, taken}
 use Rattle.demands.specs.Demands.{Act, aStep, aPost, did, numbers, after, Allowed, AllAllowed}
 
 -- a promise that is an equation, of a number and a state, of an outcome
@@ -50,6 +53,20 @@ module _ (t : List ℕ) where
           ap (λ (o : RanTo). record { number = o .number; steps = o .steps; left = o .left }) p,
           ap (λ (o : RanTo). o .state) p,
         )
+
+  pub read-firm : (text : List ℕ) (r₁ r₂ : Reading) (t₁ t₂ : List ℕ)
+      → _≡_ {A = Taken} (record { number = r₁ .number; beside = r₁ .beside; table = t₁ }) (taken text t)
+      → _≡_ {A = Taken} (record { number = r₂ .number; beside = r₂ .beside; table = t₂ }) (taken text t)
+      → (r₁ ≡ r₂) × (t₁ ≡ t₂)
+  read-firm text r₁ r₂ t₁ t₂ p₁ p₂ =
+      let p = p₁ ∙ sym p₂ in (ap (λ (o : Taken). record { number = o .number; beside = o .beside }) p, ap (λ (o : Taken). o .table) p)
+
+  pub write-firm : (out : List ℕ) (r₁ r₂ : Written) (out₁ out₂ : List ℕ)
+      → _≡_ {A = WrittenTo} (record { number = r₁ .number; length = r₁ .length; buffer = out₁ }) (writtenTo t out)
+      → _≡_ {A = WrittenTo} (record { number = r₂ .number; length = r₂ .length; buffer = out₂ }) (writtenTo t out)
+      → (r₁ ≡ r₂) × (out₁ ≡ out₂)
+  write-firm out r₁ r₂ out₁ out₂ p₁ p₂ =
+      let p = p₁ ∙ sym p₂ in (ap (λ (o : WrittenTo). record { number = o .number; length = o .length }) p, ap (λ (o : WrittenTo). o .buffer) p)
 
   -- WHAT THE PROMISES ALLOW is what the demands speak of: one call
   pub allowed-is : (a : Act) (z : List ℕ) (r : ℕ) (y : List ℕ) → Allowed t a z r y → (r ≡ did t a z .number) × (y ≡ did t a z .state)

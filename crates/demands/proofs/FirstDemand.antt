@@ -1,7 +1,7 @@
 -- DEMAND 1: "Each call ends for all texts, tables, states and step names. Bad ones are refused with the number document 01 gives .. and a refused call
--- changes no byte it was lent." That a call ends is proved of every function by the gate; a table is lent to be read only. Of each call by name: which
--- numbers can come, exactly when each comes, what is left of the state. r is what is returned and y what is left of the state z that was lent, as the
--- call's promise has them. Assumes nothing.
+-- changes no byte it was lent." That a call ends is proved of every function by the gate; a table is lent to be read only, but to `read`, of which and
+-- of `write` ReadAndWrite tells. Of each other call by name: which numbers can come, exactly when each comes, what is left of the state. r is what is
+-- returned and y what is left of the state z that was lent, as the call's promise has them. Assumes nothing.
 use Prim.Native.Nat.{ℕ}
 use mathlib.Core.Path.{_≡_, refl, sym, _∙_, ap, subst}
 use mathlib.Core.Bool.{true, false}

@@ -12,3 +12,6 @@ pub mod Exactly
 pub mod StatesLeft
 pub mod OneMore
 pub mod RunSteps
+pub mod ReaderNumbers
+pub mod ReadAndWrite
+pub mod TextsAndTables

@@ -1,15 +1,17 @@
 -- The words of the mission's three demands, over the public calls: t is a table, z a state. The theorems stand in proofs/.
-use Prim.Native.Nat.{ℕ, zero, suc, _+_, _<_}
+use Prim.Native.Nat.{ℕ, zero, suc, _+_, _<_, _≤_}
 use mathlib.Core.Path.{_≡_}
 use mathlib.Core.Bool.{Bool, true, false, _&&_}
 use mathlib.Core.List.{List, [], _∷_, _++_}
 use lib.Dec.{eqb, leb}
-use lib.ListN.{length}
+use lib.ListN.{length, take}
 use Rattle.words.specs.All.{all}
 use Rattle.words.specs.Each.{each}
 use Rattle.words.specs.Pick.{if_then_else_}
 use Rattle.words.specs.Sum.{one}
 use Rattle.words.specs.Counts.{names, messages}
+use Rattle.words.specs.Words.{at, greatest}
+use Rattle.model.specs.Places.{tableWords}
 use Rattle.state.specs.Places.{stateWords}
 use Rattle.state.specs.Instances.{instancesOf, queuesOf}
 use Rattle.meaning.specs.declared.Name.{Name}
@@ -21,7 +23,7 @@ use Rattle.meaning.specs.Refusals.{Refusal, firstRefusal}
 use Rattle.meaning.specs.Step.{siteOf, refusals, instancesAfter, queuesAfter}
 use Rattle.meaning.specs.Post.{postRefusals}
 use Rattle.rules.specs.Settled.{Done}
-use Rattle.engine.specs.Engine.{Left, fitting, stepped, postedTo, listedAt, RanTo}
+use Rattle.engine.specs.Engine.{Left, fitting, stepped, postedTo, listedAt, RanTo, WrittenTo}
 
 -- WHAT IS CALLED: "named steps and posts"
 pub data Act : Type 0 where
@@ -74,6 +76,12 @@ listNumbers = 0 ∷ 6 ∷ 10 ∷ []
 
 abbrev pub runNumbers : List ℕ
 runNumbers = 0 ∷ 10 ∷ []
+
+abbrev pub readNumbers : List ℕ
+readNumbers = 0 ∷ 1 ∷ 2 ∷ 3 ∷ 4 ∷ []
+
+abbrev pub writeNumbers : List ℕ
+writeNumbers = 0 ∷ 5 ∷ 10 ∷ []
 
 -- DEMAND 2. "A step is accepted exactly when the rules permit it": table and state are right, and every condition of its list of refusals holds
 unfoldable pub allHold : List Refusal → Bool
@@ -145,6 +153,15 @@ roomFor e z = all (λ m. leb (length (messagesOf (queuesOf z) m) + length (e m))
 unfoldable pub neverPasses : List ℕ → (ℕ → List Tuple) → List Act → List ℕ → Bool
 neverPasses t e [] z = roomFor e z
 neverPasses t e (a ∷ rest) z = roomFor e z && neverPasses t e rest (did t a z .state)
+
+-- THE ROUND TRIP: what the type of a lent table says of its words
+pub record Table (t : List ℕ) : Type 0 where
+  pub long : length t ≡ tableWords
+  pub small : (i : ℕ) → at t i ≤ greatest
+
+-- the text that a writing left in the buffer
+abbrev pub textIn : WrittenTo → List ℕ
+textIn w = take (w .length) (w .buffer)
 
 -- HOW FIRM THE PROMISES ARE: what the promise of the public call allows, r the number returned and y the state left
 unfoldable pub Allowed : List ℕ → Act → List ℕ → ℕ → List ℕ → Type 0
