@@ -1,0 +1,5 @@
+pub mod Same
+pub mod Local
+pub mod Readers
+pub mod PlaceRight
+pub mod Points
