@@ -16,7 +16,7 @@ fn one_more(n: Word) -> Word {
 }
 
 // How many words a line has: one more than its blanks.
-pub fn word_count(line: &[u8]) -> Word {
+pub(super) fn word_count(line: &[u8]) -> Word {
     let mut n: Word = 1;
     let mut i: usize = 0;
     while i < line.len() {
@@ -55,7 +55,7 @@ fn start_of(line: &[u8], k: Word) -> usize {
     from
 }
 
-pub fn word_of(line: &[u8], k: Word) -> &[u8] {
+pub(super) fn word_of(line: &[u8], k: Word) -> &[u8] {
     let from = start_of(line, k);
     piece(line, from, next_of(line, BLANK, from))
 }
@@ -66,7 +66,7 @@ pub struct Argument {
     pub value: Word,
 }
 
-pub fn as_argument(word: &[u8]) -> Argument {
+pub(super) fn as_argument(word: &[u8]) -> Argument {
     let n = number_of(word);
     let Number::Value(v) = n else {
         return Argument {
@@ -81,7 +81,7 @@ pub fn as_argument(word: &[u8]) -> Argument {
 }
 
 // Word k of a line as a number.
-pub fn argument_of(line: &[u8], k: Word) -> Argument {
+pub(super) fn argument_of(line: &[u8], k: Word) -> Argument {
     as_argument(word_of(line, k))
 }
 
@@ -137,7 +137,7 @@ fn values_of(word: &[u8]) -> Given {
 }
 
 // `-` for no values, or values joined by commas.
-pub fn as_given(word: &[u8]) -> Given {
+pub(super) fn as_given(word: &[u8]) -> Given {
     if numerals::same(word, b"-") {
         return none_given();
     }

@@ -4,6 +4,9 @@ use super::arguments::argument_of;
 use super::arguments::as_given;
 use super::arguments::word_count;
 use super::arguments::word_of;
+use super::output::tell_name;
+use super::output::tell_refused;
+use super::output::tell_traffic;
 use super::report::report;
 use lexer::piece;
 use meaning::Answer;
@@ -11,10 +14,7 @@ use meaning::Name;
 use model::places::TABLE_WORDS;
 use numerals::same;
 use printing::tell;
-use printing::tell_name;
-use printing::tell_refused;
 use printing::tell_run;
-use printing::tell_traffic;
 use printing::tell_unread;
 use state::places::STATE_WORDS;
 use words::Word;
@@ -244,7 +244,7 @@ fn on_model(line: &[u8], loaded: bool, t: &[Word; TABLE_WORDS], z: &mut [Word; S
 }
 
 // Does what a line says.
-pub fn command(
+pub(super) fn command(
     line: &[u8],
     loaded: bool,
     t: &mut [Word; TABLE_WORDS],

@@ -19,6 +19,7 @@ use words::Word;
 
 mod arguments;
 mod commands;
+mod output;
 mod report;
 
 use commands::command;

@@ -1,12 +1,12 @@
 // The lines of a state: its made instances and its queues.
+use super::output::tell_number;
+use super::output::tell_tuple;
 use meaning::Tuple;
 use model::places::FIRST_POOL;
 use model::places::POOL_WORDS;
 use model::places::TABLE_WORDS;
 use model::pool_count;
 use printing::tell;
-use printing::tell_number;
-use printing::tell_tuple;
 use queues::message_at;
 use queues::queued_in;
 use state::instance_at;
@@ -130,7 +130,7 @@ fn tell_queues(q: &[Word]) {
     }
 }
 
-pub fn report(t: &[Word; TABLE_WORDS], z: &[Word; STATE_WORDS]) {
+pub(super) fn report(t: &[Word; TABLE_WORDS], z: &[Word; STATE_WORDS]) {
     tell_pools(t, z);
     tell_queues(tail(z, INSTANCES_WORDS));
     tell(b"end\n");

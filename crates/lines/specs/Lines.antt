@@ -78,3 +78,10 @@ stepMost = placeMost + 1 + trafficMost
 
 abbrev pub nameMost : ℕ
 nameMost = placeMost + 1 + valuesMost
+
+-- "A refused text prints `refused`, the number and what stands beside it, on one line", its newline with it
+unfoldable pub unreadLine : ℕ → ℕ → List ℕ
+unreadLine number beside = bytes "refused " ++ shown number ++ bytes " " ++ shown beside ++ bytes "\n"
+
+abbrev pub unreadMost : ℕ
+unreadMost = 8 + digits + 1 + digits + 1

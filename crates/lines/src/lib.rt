@@ -6,9 +6,10 @@ ghost use Prim.Native.Nat.{_+_, _≤_};
 ghost use lib.ListN.{length};
 ghost use Rattle.buffers.specs.Buffers.{over};
 ghost use Rattle.decimals.specs.Decimals.{digits};
-ghost use Rattle.lines.specs.Lines.{marked, row, valuesLine, tupleLine, messageLine, trafficLine, placeLine, stepLine, nameLine, valuesMost, trafficMost, placeMost, stepMost, nameMost};
+ghost use Rattle.lines.specs.Lines.{marked, row, valuesLine, tupleLine, messageLine, trafficLine, placeLine, stepLine, nameLine, valuesMost, trafficMost, placeMost, stepMost, nameMost, unreadLine};
 use buffers::least;
 use buffers::put_byte;
+use buffers::put_bytes;
 use decimals::DIGITS;
 use decimals::put_number;
 use meaning::Answer;
@@ -140,4 +141,21 @@ pub fn put_name(out: &mut [u8], n: Name) -> usize
     let given = n.given;
     let rest = least(blank, out.len());
     blank + put_tuple(&mut out[rest..], given)
+}
+
+pub const UNREAD_LINE: usize = 8 + DIGITS + 1 + DIGITS + 1;
+
+// A refused text: the number, and what stands beside it.
+pub fn put_unread(out: &mut [u8], number: Word, beside: Word) -> usize
+    ensures { λ r. ⌜ (r ≡ length (unreadLine number beside)) × (now (out .exit) ≡ over (unreadLine number beside) (now (out .entry))) ⌝ }
+{
+    let word = put_bytes(out, b"refused ");
+    let first = least(word, out.len());
+    let told = word + put_number(&mut out[first..], number);
+    let second = least(told, out.len());
+    let blank = told + put_byte(&mut out[second..], b' ');
+    let third = least(blank, out.len());
+    let all = blank + put_number(&mut out[third..], beside);
+    let last = least(all, out.len());
+    all + put_byte(&mut out[last..], b'\n')
 }

@@ -1,80 +1,61 @@
-// What the programs say on standard output.
+// What the programs share of what they say on standard output. That a text is said is not part of a promise; what it is, and what becomes of the state, is.
+ghost use mathlib.Core.Path.{_≡_};
+ghost use lib.ListN.{length};
+ghost use Rattle.words.specs.Words.{greatest};
+ghost use Rattle.buffers.specs.Buffers.{lesser};
+ghost use Rattle.lines.specs.Lines.{unreadLine};
+ghost use Rattle.engine.specs.Engine.{RanTo, ranTo};
+use buffers::least;
 use engine::Ran;
 use lexer::piece;
 use libc::STDOUT_FILENO;
-use lines::NAME_LINE;
 use lines::STEP_LINE;
+use lines::UNREAD_LINE;
 use meaning::Answer;
 use meaning::Name;
-use meaning::Tuple;
 use model::places::TABLE_WORDS;
 use notation::Reading;
 use state::places::STATE_WORDS;
+use words::GREATEST;
 use words::Word;
 use words::put;
 use words::word;
 
-pub fn tell(text: &[u8]) {
+// Says a text; gives back its length.
+pub fn tell(text: &[u8]) -> usize
+    ensures { λ r. ⌜ r ≡ length (now (text .entry)) ⌝ }
+{
     io::write_all(STDOUT_FILENO, text);
+    text.len()
 }
 
-pub fn tell_number(n: Word) {
-    io::print_decimal(STDOUT_FILENO, n as u64);
-}
-
-pub fn tell_refused(number: Word) {
-    tell(b"refused ");
-    tell_number(number);
-    tell(b"\n");
-}
-
-// A refused text: the number, and what stands beside it.
-pub fn tell_unread(r: Reading) {
-    tell(b"refused ");
-    tell_number(r.number);
-    tell(b" ");
-    io::print_decimal(STDOUT_FILENO, r.beside as u64);
-    tell(b"\n");
-}
-
-// `-`, or the message sent or consumed.
-pub fn tell_traffic(a: Answer) {
-    let mut out = [0u8; STEP_LINE];
-    let n = lines::put_traffic(&mut out, a);
+// Says the line of a refused text; gives back its length. A place above what a word holds, which no text has, is said as the greatest word.
+pub fn tell_unread(r: Reading) -> usize
+    ensures { λ n. ⌜ n ≡ length (unreadLine (r .number) (lesser (r .beside) greatest)) ⌝ }
+{
+    let mut out = [0u8; UNREAD_LINE];
+    let beside = least(r.beside, GREATEST as usize);
+    let n = lines::put_unread(&mut out, r.number, beside as Word);
     tell(piece(&out, 0, n));
+    n
 }
 
 // The line of a step that was taken.
-pub fn tell_step(n: Name, a: Answer) {
+fn tell_step(n: Name, a: Answer) {
     let mut out = [0u8; STEP_LINE];
     let k = lines::put_step(&mut out, n, a);
     tell(piece(&out, 0, k));
     tell(b"\n");
 }
 
-// The name of a step, and its values.
-pub fn tell_name(n: Name) {
-    let mut out = [0u8; NAME_LINE];
-    let k = lines::put_name(&mut out, n);
-    tell(piece(&out, 0, k));
-    tell(b"\n");
-}
-
-// The values of a message, `-` for none.
-pub fn tell_tuple(g: Tuple) {
-    let mut out = [0u8; NAME_LINE];
-    let k = lines::put_tuple(&mut out, g);
-    tell(piece(&out, 0, k));
-}
-
 // Takes the first listed step and says it.
-fn run_once(t: &[Word; TABLE_WORDS], z: &mut [Word; STATE_WORDS]) {
-    let r = engine::list(t, z, 0);
+fn run_once(t: &[Word; TABLE_WORDS], y: &mut [Word; STATE_WORDS]) {
+    let r = engine::list(t, y, 0);
     if r.number != 0 {
         return;
     }
     let name = r.name;
-    let a = engine::step(t, z, name);
+    let a = engine::step(t, y, name);
     tell_step(name, a);
 }
 
@@ -86,24 +67,31 @@ fn copy(z: &[Word; STATE_WORDS], y: &mut [Word; STATE_WORDS]) {
     }
 }
 
-// The answer of a run on a copy of the state: the run itself says no steps.
-fn run_ahead(t: &[Word; TABLE_WORDS], z: &[Word; STATE_WORDS], limit: Word) -> Ran {
-    let mut y: [Word; STATE_WORDS] = [0; STATE_WORDS];
-    copy(z, &mut y);
-    engine::run(t, &mut y, limit)
-}
-
-// A run, a line a step; last the steps and the flag.
-pub fn tell_run(t: &[Word; TABLE_WORDS], z: &mut [Word; STATE_WORDS], limit: Word) {
-    let r = run_ahead(t, z, limit);
+// Takes the first listed step of a copy of the state as often as a run would, and says each.
+fn tell_steps(t: &[Word; TABLE_WORDS], y: &mut [Word; STATE_WORDS], steps: Word) {
     let mut n: Word = 0;
-    while n < r.steps {
-        run_once(t, z);
+    while n < steps {
+        run_once(t, y);
         n += 1;
     }
+}
+
+fn tell_end(steps: Word, left: Word) {
     tell(b"steps ");
-    tell_number(r.steps);
+    io::print_decimal(STDOUT_FILENO, steps as u64);
     tell(b" left ");
-    tell_number(r.left);
+    io::print_decimal(STDOUT_FILENO, left as u64);
     tell(b"\n");
+}
+
+// A run, and a line for each of its steps, taken again on a copy of the state; last the steps and the flag.
+pub fn tell_run(t: &[Word; TABLE_WORDS], z: &mut [Word; STATE_WORDS], limit: Word) -> Ran
+    ensures { λ r. ⌜ record { number = r .number; steps = r .steps; left = r .left; state = now (z .exit) } ≡ ranTo (now (t .entry)) (now (z .entry)) limit ⌝ }
+{
+    let mut y: [Word; STATE_WORDS] = [0; STATE_WORDS];
+    copy(z, &mut y);
+    let r = engine::run(t, z, limit);
+    tell_steps(t, &mut y, r.steps);
+    tell_end(r.steps, r.left);
+    r
 }

@@ -1,0 +1,42 @@
+// What the console says beside what the programs share.
+use lexer::piece;
+use libc::STDOUT_FILENO;
+use lines::NAME_LINE;
+use lines::STEP_LINE;
+use meaning::Answer;
+use meaning::Name;
+use meaning::Tuple;
+use printing::tell;
+use words::Word;
+
+pub(super) fn tell_number(n: Word) {
+    io::print_decimal(STDOUT_FILENO, n as u64);
+}
+
+pub(super) fn tell_refused(number: Word) {
+    tell(b"refused ");
+    tell_number(number);
+    tell(b"\n");
+}
+
+// `-`, or the message sent or consumed.
+pub(super) fn tell_traffic(a: Answer) {
+    let mut out = [0u8; STEP_LINE];
+    let n = lines::put_traffic(&mut out, a);
+    tell(piece(&out, 0, n));
+}
+
+// The name of a step, and its values.
+pub(super) fn tell_name(n: Name) {
+    let mut out = [0u8; NAME_LINE];
+    let k = lines::put_name(&mut out, n);
+    tell(piece(&out, 0, k));
+    tell(b"\n");
+}
+
+// The values of a message, `-` for none.
+pub(super) fn tell_tuple(g: Tuple) {
+    let mut out = [0u8; NAME_LINE];
+    let k = lines::put_tuple(&mut out, g);
+    tell(piece(&out, 0, k));
+}

@@ -1,0 +1,20 @@
+use mathlib.Core.Path.{_∙_, ap}
+use lib.ListN.{length}
+use Rattle.lines.specs.Lines.{unreadLine}
+use borrow.Author.Needs.{needs}
+use Rattle.printing.proofs.tell_unread.Statement.{statement}
+use Rattle.printing.proofs.tell_unread.Tie as tie
+
+pub tell-unread-spec : {M : Type 1} → statement M
+tell-unread-spec =
+    tie.close
+    (tie.spec
+    (λ c. search needs)
+    (λ c κs. search needs)
+    (λ c. search needs)
+    (λ c. search needs)
+    (λ c κs. search needs)
+    (λ c. search needs)
+    (λ c κs. search needs)
+    (λ c κs. search needs)
+    (λ c. (c .before .before .before .before .put-unread .ensures .0) ∙ ap (λ k. length (unreadLine (c .before .before .before .before .before .before .before .args .r .number) k)) (c .before .before .before .before .before .before .least .ensures .0)))  -- returns
