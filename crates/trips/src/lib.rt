@@ -1,1 +1,8 @@
-pub fn nothing() {}
+// Theorems: the parts of an element are read back from their text; there is no code but this.
+ghost use mathlib.Core.Path.{_≡_};
+
+pub fn version() -> usize
+    ensures { λ r. ⌜ r ≡ 1 ⌝ }
+{
+    1
+}
