@@ -1,11 +1,10 @@
-// Texts written at the start of a lent buffer, as far as it goes; what stands behind stays. Each writer returns the length of the whole text, so
-// that one writing into an empty buffer measures it. A writer goes on behind what it wrote by lending the rest, which is empty beyond the end:
-// `let from = least(k, out.len()); let n = put_byte(&mut out[from..], b);`.
+// Texts written into a lent buffer from a place on, as far as the buffer goes; what stands before and behind stays. Each writer returns the place behind
+// its text, beyond the buffer's end too, so that one writing into an empty buffer measures the text.
 ghost use mathlib.Core.Path.{_≡_};
 ghost use mathlib.Core.List.{[], _∷_};
-ghost use Prim.Native.Nat.{_≤_};
+ghost use Prim.Native.Nat.{_+_, _≤_};
 ghost use lib.ListN.{length};
-ghost use Rattle.buffers.specs.Buffers.{over, lesser};
+ghost use Rattle.buffers.specs.Buffers.{lesser, lastPlace, next, Put};
 
 // The lesser of two numbers.
 pub fn least(a: usize, b: usize) -> usize
@@ -14,23 +13,41 @@ pub fn least(a: usize, b: usize) -> usize
     if a <= b { a } else { b }
 }
 
-pub fn put_byte(out: &mut [u8], b: u8) -> usize
-    ensures { λ r. ⌜ (r ≡ length (b ∷ [])) × (now (out .exit) ≡ over (b ∷ []) (now (out .entry))) ⌝ }
+// The place behind another; the greatest stays.
+fn next_place(p: usize) -> usize
+    ensures { λ r. ⌜ r ≡ next p ⌝ }
 {
-    if out.len() > 0 {
-        out[0] = b;
-    }
-    1
+    if p < usize::MAX { p + 1 } else { p }
 }
 
-pub fn put_bytes(out: &mut [u8], s: &[u8]) -> usize
-    ensures { λ r. ⌜ (r ≡ length (now (s .entry))) × (now (out .exit) ≡ over (now (s .entry)) (now (out .entry))) ⌝ }
+// The place n bytes behind another, as far as there are places.
+pub fn further(p: usize, n: usize) -> usize
+    ensures { λ r. ⌜ r ≡ lesser (p + n) lastPlace ⌝ }
 {
-    let end = least(s.len(), out.len());
+    if n <= usize::MAX - p {
+        return p + n;
+    }
+    usize::MAX
+}
+
+pub fn put_byte(out: &mut [u8], from: usize, b: u8) -> usize
+    ensures { λ r. ⌜ Put (b ∷ []) 1 from (now (out .entry)) r (now (out .exit)) ⌝ }
+{
+    let to = next_place(from);
+    if from < out.len() {
+        out[from] = b;
+    }
+    to
+}
+
+pub fn put_bytes(out: &mut [u8], from: usize, s: &[u8]) -> usize
+    ensures { λ r. ⌜ Put (now (s .entry)) (length (now (s .entry))) from (now (out .entry)) r (now (out .exit)) ⌝ }
+{
+    let mut to = from;
     let mut i: usize = 0;
-    while i < end {
-        out[i] = s[i];
+    while i < s.len() {
+        to = put_byte(out, to, s[i]);
         i += 1;
     }
-    s.len()
+    to
 }

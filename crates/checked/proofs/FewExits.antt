@@ -5,7 +5,7 @@ use mathlib.Core.Bool.{true}
 use mathlib.Core.List.{List}
 use native.Mathlib.Omega.{arith}
 use borrow.Author.Tests.{lt-ltb}
-use Rattle.words.specs.Sum.{sum, hit, one}
+use Rattle.words.specs.Sum.{sum, hit, oneIf}
 use Rattle.words.specs.Counts.{edges}
 use Rattle.words.proofs.SumLaws.{sum-le, sum-ext, sum-swap, sum-met}
 use Rattle.model.specs.Table.{poolCount, elementCount, elementAt, entryCount, exitCount, entryAt, exitAt}
@@ -26,7 +26,7 @@ module _ (g : ℕ → ℕ → ℕ) (n : ℕ → ℕ) (c : ℕ) (few : (x : ℕ) 
   row-counted e l =
       sym (sum-swap (λ j x. hit (g e j) (x + 1)) (n e) edges)
       ∙ sum-ones (λ j. sum (λ x. hit (g e j) (x + 1)) edges) (n e)
-      (λ j r. let w = inside e l j r in sum-met (g e j) edges (w .1) ∙ ap one (lt-ltb 0 (g e j) (w .0)))
+      (λ j r. let w = inside e l j r in sum-met (g e j) edges (w .1) ∙ ap oneIf (lt-ltb 0 (g e j) (w .0)))
 
   rows-few : sum n c ≤ edges
   rows-few =

@@ -1,6 +1,6 @@
 pub mod ChecksHold
 pub mod KeepsFitting
 pub mod ExitsOnce
+pub mod NumberGiven
 pub mod NeverSaturates
 pub mod FewExits
-pub mod NeverBad

@@ -1,10 +1,8 @@
 -- An accepted step on a state that fits puts exactly one token more on each exit that it touches, and raises a count by exactly one. Assumes nothing.
 use Prim.Native.Nat.{ℕ, _+_, _<_}
-use mathlib.Core.Path.{_≡_, sym, _∙_, ap}
+use mathlib.Core.Path.{_≡_, sym, _∙_}
 use mathlib.Core.Bool.{true}
 use mathlib.Core.List.{List}
-use lib.Dec.{eqb}
-use borrow.Author.Tests.{eqb-true}
 use Rattle.words.proofs.AllLaws.{and-left}
 use Rattle.kinds.specs.Moves.{up}
 use Rattle.model.specs.Table.{taskIn, exitCount, exitAt}
@@ -12,15 +10,16 @@ use Rattle.state.specs.Instances.{instancesOf, queuesOf, tokens, activeCount, r
 use Rattle.meaning.specs.declared.Name.{Name}
 use Rattle.meaning.specs.Requirements.{touched, first}
 use Rattle.meaning.specs.Refusals.{firstRefusal}
-use Rattle.meaning.specs.Step.{Outcome, Site, siteOf, poolNamed, elementNamed, moveNamed, afterTaking, instanceAfter, instancesAfter, queuesAfter, traffic, refusals, refused, step}
+use Rattle.meaning.specs.Step.{Site, siteOf, poolNamed, elementNamed, moveNamed, afterTaking, instanceAfter, refusals}
 use Rattle.fits.specs.Fits.{stateFits}
-use Rattle.steps.proofs.Choices.{by-test, chosen, passed}
+use Rattle.steps.proofs.Choices.{chosen}
 use Rattle.steps.proofs.Found.{Found}
 use Rattle.steps.proofs.NoSaturation.{ExitsApart, no-saturation, active-raised, ready-raised}
 use Rattle.steps.proofs.Traffic.{here}
 use Rattle.engine.specs.Engine.{valid, fitting, stepped}
 use Rattle.engine.proofs.CallLaws.{table-fits, state-fits}
 use Rattle.checked.proofs.ExitsOnce.{exits-apart}
+use Rattle.checked.proofs.NumberGiven.{stepped-number}
 
 module _ (t z : List ℕ) (n : Name) (fits : fitting t z ≡ true) (accepted : stepped t z n .answer .number ≡ 0) where
   abbrev s : List ℕ
@@ -29,22 +28,9 @@ module _ (t z : List ℕ) (n : Name) (fits : fitting t z ≡ true) (accepted : s
   abbrev q : List ℕ
   q = queuesOf z
 
-  stepped-is : stepped t z n ≡ step t s q n
-  unfolding stepped
-  stepped-is = chosen (fitting t z) (step t s q n) (refused 10 s q) fits
-
   -- the number 0 says that nothing was refused
   pub none-refused : firstRefusal (refusals t s q n) ≡ 0
-  unfolding step
-  none-refused =
-      by-test (eqb (firstRefusal (refusals t s q n)) 0) (eqb-true (firstRefusal (refusals t s q n)) 0)
-      (λ e.
-      ap (λ (o : Outcome). o .answer .number)
-      (sym
-      (stepped-is
-      ∙ passed (eqb (firstRefusal (refusals t s q n)) 0) (record { answer = traffic (siteOf t s n); instances = instancesAfter t s n; queues = queuesAfter (siteOf t s n) q })
-      (refused (firstRefusal (refusals t s q n)) s q) e))
-      ∙ accepted)
+  none-refused = sym (chosen (fitting t z) (firstRefusal (refusals t s q n)) 10 fits) ∙ sym (stepped-number t z n) ∙ accepted
 
   abbrev x : Site
   x = siteOf t s n

@@ -1,3 +1,2 @@
 pub mod Ways
-pub mod AnswerLaws
-pub mod Examples
+pub mod PointsHold

@@ -1,6 +1,6 @@
--- The ways out of the tests, over plain numbers. Assumes nothing.
-use mathlib.Core.Path.{_≡_, sym, _∙_}
-use mathlib.Core.Bool.{Bool, true, false, not, _&&_}
+-- The ways out of the tests of an edge. Assumes nothing.
+use mathlib.Core.Path.{_≡_}
+use mathlib.Core.Bool.{true, false}
 use Prim.Native.Nat.{ℕ, _+_}
 use lib.Dec.{eqb}
 use borrow.Author.Tests.{eq-eqb, ne-eqb}
@@ -23,10 +23,3 @@ module _ (x n f : ℕ) where
   pub right-first : (x + n ≡ 0 → ⊥) → n ≡ 1 → (f ≡ 0 → ⊥) → eqb x 0 ≡ edgeRight x n f
   unfolding edgeRight if_then_else_
   right-first h e z = rw (ne-eqb (x + n) 0 h, eq-eqb n 1 e, ne-eqb f 0 z)
-
--- received r, sent s, as two calls gave them
-pub apart-no : (r a b : Bool) → r ≡ a → r ≡ false → true ≡ not (a && b)
-apart-no r a b e h = rw (sym e ∙ h)
-
-pub apart-yes : (r a s b : Bool) → r ≡ a → r ≡ true → s ≡ b → not s ≡ not (a && b)
-apart-yes r a s b e h g = rw (sym e ∙ h, g)

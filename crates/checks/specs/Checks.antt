@@ -7,10 +7,10 @@ use lib.Dec.{eqb, leb, ltb}
 use Rattle.words.specs.All.{all}
 use Rattle.words.specs.Each.{total, each}
 use Rattle.words.specs.Pick.{if_then_else_}
-use Rattle.words.specs.Sum.{hit, one}
+use Rattle.words.specs.Sum.{hit, oneIf}
 use Rattle.words.specs.Counts.{poolNumbers, edges, tasks, names}
 use Rattle.kinds.specs.Kinds.{start, startRcv}
-use Rattle.occurrences.specs.Occurrences.{ofKind, asExit, asEntry, asFirst, asTask, received, sent, defaultOnce, boundOnce}
+use Rattle.occurrences.specs.Occurrences.{ofKind, asExit, asEntry, asFirst, asTask, asReceived, asSent, defaultOnce, boundOnce}
 
 pub record Pool : Type 0 where
   pub number : ℕ
@@ -61,17 +61,17 @@ check5 p = all (λ k. leb (total (asTask (k + 1)) (p .elements)) 1) tasks
 abbrev pub namesApart : ℕ
 namesApart = 6
 
-unfoldable pub receives : ℕ → Pool → Bool
-receives m p = ltb 0 (total (received m) (p .elements))
+unfoldable pub poolReceives : ℕ → Pool → Bool
+poolReceives m p = ltb 0 (total (asReceived m) (p .elements))
 
-unfoldable pub sends : ℕ → Pool → Bool
-sends m p = ltb 0 (total (sent m) (p .elements))
+unfoldable pub poolSends : ℕ → Pool → Bool
+poolSends m p = ltb 0 (total (asSent m) (p .elements))
 
 unfoldable pub notSentThere : Pool → Bool
-notSentThere p = all (λ m. not (receives m p && sends m p)) names
+notSentThere p = all (λ m. not (poolReceives m p && poolSends m p)) names
 
 unfoldable pub check6 : List Pool → Bool
-check6 ps = all (λ m. leb (total (λ p. one (receives m p)) ps) 1) names && each notSentThere ps
+check6 ps = all (λ m. leb (total (λ p. oneIf (poolReceives m p)) ps) 1) names && each notSentThere ps
 
 -- 7. At most one default in an xorSplit.
 abbrev pub oneDefault : ℕ

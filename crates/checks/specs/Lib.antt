@@ -1,2 +1,2 @@
 pub mod Checks
-pub mod Answers
+pub mod Points

@@ -3,6 +3,7 @@ use lexer::piece;
 use meaning::Tuple;
 use numerals::Number;
 use numerals::number_of;
+use numerals::same;
 use words::GREATEST;
 use words::Word;
 use words::counts::VALUES;
@@ -15,9 +16,9 @@ fn one_more(n: Word) -> Word {
     if n < GREATEST { n + 1 } else { n }
 }
 
-// How many words a line has: one more than its blanks.
-pub(super) fn word_count(line: &[u8]) -> Word {
-    let mut n: Word = 1;
+// How many blanks a line has: as many as words behind the first.
+fn blanks(line: &[u8]) -> Word {
+    let mut n: Word = 0;
     let mut i: usize = 0;
     while i < line.len() {
         if line[i] == BLANK {
@@ -45,9 +46,9 @@ fn behind(line: &[u8], i: usize) -> usize {
 }
 
 // Where word k of a line starts, k from 0.
-fn start_of(line: &[u8], k: Word) -> usize {
+fn start_of(line: &[u8], k: usize) -> usize {
     let mut from: usize = 0;
-    let mut n: Word = 0;
+    let mut n: usize = 0;
     while n < k {
         from = behind(line, next_of(line, BLANK, from));
         n += 1;
@@ -55,7 +56,7 @@ fn start_of(line: &[u8], k: Word) -> usize {
     from
 }
 
-pub(super) fn word_of(line: &[u8], k: Word) -> &[u8] {
+fn word_of(line: &[u8], k: usize) -> &[u8] {
     let from = start_of(line, k);
     piece(line, from, next_of(line, BLANK, from))
 }
@@ -66,7 +67,7 @@ pub struct Argument {
     pub value: Word,
 }
 
-pub(super) fn as_argument(word: &[u8]) -> Argument {
+fn as_argument(word: &[u8]) -> Argument {
     let n = number_of(word);
     let Number::Value(v) = n else {
         return Argument {
@@ -80,9 +81,9 @@ pub(super) fn as_argument(word: &[u8]) -> Argument {
     }
 }
 
-// Word k of a line as a number.
-pub(super) fn argument_of(line: &[u8], k: Word) -> Argument {
-    as_argument(word_of(line, k))
+// Word k of a line as a number, 0 where it is none.
+pub(super) fn number_at(line: &[u8], k: usize) -> Word {
+    as_argument(word_of(line, k)).value
 }
 
 // Values, and whether all of them were numbers.
@@ -137,9 +138,44 @@ fn values_of(word: &[u8]) -> Given {
 }
 
 // `-` for no values, or values joined by commas.
-pub(super) fn as_given(word: &[u8]) -> Given {
-    if numerals::same(word, b"-") {
+fn as_given(word: &[u8]) -> Given {
+    if same(word, b"-") {
         return none_given();
     }
     values_of(word)
+}
+
+// Word k of a line as values.
+pub(super) fn values_at(line: &[u8], k: usize) -> Tuple {
+    as_given(word_of(line, k)).tuple
+}
+
+// Whether a word is an argument of a shape: `n` a number, `v` values.
+fn is_shaped(word: &[u8], shape: u8) -> bool {
+    if shape == b'n' {
+        return as_argument(word).good;
+    }
+    as_given(word).good
+}
+
+fn are_shaped(line: &[u8], shapes: &[u8]) -> bool {
+    let mut k: usize = 0;
+    while k < shapes.len() {
+        if !is_shaped(word_of(line, k + 1), shapes[k]) {
+            return false;
+        }
+        k += 1;
+    }
+    true
+}
+
+// Whether a line is a keyword and arguments of these shapes.
+pub(super) fn is_command(line: &[u8], keyword: &[u8], shapes: &[u8]) -> bool {
+    if !same(word_of(line, 0), keyword) {
+        return false;
+    }
+    if blanks(line) as usize != shapes.len() {
+        return false;
+    }
+    are_shaped(line, shapes)
 }

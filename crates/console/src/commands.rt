@@ -1,13 +1,22 @@
-// The commands of a session. Each answers whether a model has been read.
-use super::arguments::Argument;
-use super::arguments::argument_of;
-use super::arguments::as_given;
-use super::arguments::word_count;
-use super::arguments::word_of;
+// The commands of a session, a function each. Those that make a table answer whether there is one to work on.
+use super::arguments::is_command;
+use super::arguments::number_at;
+use super::arguments::values_at;
+use super::blocks::do_again;
+use super::blocks::do_check;
+use super::blocks::do_clear;
+use super::blocks::do_set_state;
+use super::blocks::do_set_table;
+use super::blocks::is_setting;
+use super::output::bad_line;
+use super::output::no_model;
+use super::output::tell_done;
 use super::output::tell_name;
 use super::output::tell_refused;
 use super::output::tell_traffic;
 use super::report::report;
+use buffers::least;
+use engine::Written;
 use lexer::piece;
 use meaning::Answer;
 use meaning::Name;
@@ -17,49 +26,10 @@ use printing::tell;
 use printing::tell_run;
 use printing::tell_unread;
 use state::places::STATE_WORDS;
+use words::GREATEST;
 use words::Word;
-use words::counts::TEXT_MOST;
-
-fn bad_line() {
-    tell(b"bad line\n");
-}
-
-fn no_model() {
-    tell(b"no model\n");
-}
-
-// A call that gives back only a number.
-fn tell_done(number: Word) {
-    if number == 0 {
-        tell(b"ok\n");
-        return;
-    }
-    tell_refused(number);
-}
-
-fn is_command(line: &[u8], word: &[u8], words: Word) -> bool {
-    if same(word_of(line, 0), word) {
-        return word_count(line) == words;
-    }
-    false
-}
 
 // read
-
-fn read_text(
-    text: &[u8],
-    loaded: bool,
-    t: &mut [Word; TABLE_WORDS],
-    z: &mut [Word; STATE_WORDS],
-) -> bool {
-    let r = engine::read(text, t);
-    if r.number != 0 {
-        tell_unread(r);
-        return loaded;
-    }
-    tell_done(engine::fresh(t, z));
-    true
-}
 
 // The bytes of `read` and its blank.
 const READ: usize = 5;
@@ -68,7 +38,22 @@ fn is_read(line: &[u8]) -> bool {
     same(piece(line, 0, READ), b"read ")
 }
 
-// step
+fn do_read(
+    line: &[u8],
+    loaded: bool,
+    t: &mut [Word; TABLE_WORDS],
+    z: &mut [Word; STATE_WORDS],
+) -> bool {
+    let r = engine::read(piece(line, READ, line.len()), t);
+    if r.number != 0 {
+        tell_unread(r);
+        return loaded;
+    }
+    tell_done(engine::fresh(t, z));
+    true
+}
+
+// step, post, list, run
 
 fn tell_answer(a: Answer) {
     if a.number != 0 {
@@ -80,80 +65,39 @@ fn tell_answer(a: Answer) {
     tell(b"\n");
 }
 
-struct Named {
-    good: bool,
-    name: Name,
-}
-
-fn all_good(a: Argument, b: Argument, c: Argument, d: Argument, e: Argument) -> bool {
-    a.good && b.good && c.good && d.good && e.good
-}
-
-fn name_of(line: &[u8]) -> Named {
-    let pool = argument_of(line, 1);
-    let instance = argument_of(line, 2);
-    let element = argument_of(line, 3);
-    let phase = argument_of(line, 4);
-    let branch = argument_of(line, 5);
-    let g = as_given(word_of(line, 6));
-    let values = g.tuple;
-    Named {
-        good: all_good(pool, instance, element, phase, branch) && g.good,
-        name: Name {
-            pool: pool.value,
-            instance: instance.value,
-            element: element.value,
-            phase: phase.value,
-            branch: branch.value,
-            given: values,
-        },
+fn name_of(line: &[u8]) -> Name {
+    Name {
+        pool: number_at(line, 1),
+        instance: number_at(line, 2),
+        element: number_at(line, 3),
+        phase: number_at(line, 4),
+        branch: number_at(line, 5),
+        given: values_at(line, 6),
     }
 }
 
 fn do_step(line: &[u8], loaded: bool, t: &[Word; TABLE_WORDS], z: &mut [Word; STATE_WORDS]) {
-    let n = name_of(line);
-    if !n.good {
-        bad_line();
-        return;
-    }
     if !loaded {
         no_model();
         return;
     }
-    let name = n.name;
-    tell_answer(engine::step(t, z, name));
+    tell_answer(engine::step(t, z, name_of(line)));
 }
-
-// post
 
 fn do_post(line: &[u8], loaded: bool, t: &[Word; TABLE_WORDS], z: &mut [Word; STATE_WORDS]) {
-    let name = argument_of(line, 1);
-    let g = as_given(word_of(line, 2));
-    if !(name.good && g.good) {
-        bad_line();
-        return;
-    }
     if !loaded {
         no_model();
         return;
     }
-    let values = g.tuple;
-    tell_done(engine::post(t, z, name.value, values));
+    tell_done(engine::post(t, z, number_at(line, 1), values_at(line, 2)));
 }
 
-// list
-
 fn do_list(line: &[u8], loaded: bool, t: &[Word; TABLE_WORDS], z: &[Word; STATE_WORDS]) {
-    let k = argument_of(line, 1);
-    if !k.good {
-        bad_line();
-        return;
-    }
     if !loaded {
         no_model();
         return;
     }
-    let r = engine::list(t, z, k.value as usize);
+    let r = engine::list(t, z, number_at(line, 1) as usize);
     if r.number != 0 {
         tell_refused(r.number);
         return;
@@ -162,32 +106,18 @@ fn do_list(line: &[u8], loaded: bool, t: &[Word; TABLE_WORDS], z: &[Word; STATE_
     tell_name(name);
 }
 
-// run
-
 fn do_run(line: &[u8], loaded: bool, t: &[Word; TABLE_WORDS], z: &mut [Word; STATE_WORDS]) {
-    let limit = argument_of(line, 1);
-    if !limit.good {
-        bad_line();
-        return;
-    }
     if !loaded {
         no_model();
         return;
     }
-    tell_run(t, z, limit.value);
-}
-
-// write, fresh, state
-
-fn do_write(loaded: bool, t: &[Word; TABLE_WORDS]) {
-    if !loaded {
-        no_model();
-        return;
+    let r = tell_run(t, z, number_at(line, 1));
+    if r.number != 0 {
+        tell_refused(r.number);
     }
-    let mut out = [0u8; TEXT_MOST];
-    let r = engine::write(t, &mut out);
-    tell(piece(&out, 0, r.length));
 }
+
+// fresh, state
 
 fn do_fresh(loaded: bool, t: &[Word; TABLE_WORDS], z: &mut [Word; STATE_WORDS]) {
     if !loaded {
@@ -205,45 +135,91 @@ fn do_state(loaded: bool, t: &[Word; TABLE_WORDS], z: &[Word; STATE_WORDS]) {
     report(t, z);
 }
 
-// The commands that stand alone on their line.
-fn alone(line: &[u8], loaded: bool, t: &[Word; TABLE_WORDS], z: &mut [Word; STATE_WORDS]) {
-    if is_command(line, b"write", 1) {
-        do_write(loaded, t);
+// write
+
+// Writes into the bytes of a buffer from a place on.
+fn write_from(t: &[Word; TABLE_WORDS], from: usize, out: &mut [u8]) -> Written {
+    let start = least(from, out.len());
+    engine::write(t, &mut out[start..])
+}
+
+// The buffer lent has so many bytes.
+fn do_write(room: Word, loaded: bool, t: &[Word; TABLE_WORDS]) {
+    if !loaded {
+        no_model();
         return;
     }
-    if is_command(line, b"fresh", 1) {
-        do_fresh(loaded, t, z);
+    let mut out = [0u8; GREATEST as usize];
+    let from = (GREATEST - room) as usize;
+    let r = write_from(t, from, &mut out);
+    if r.number != 0 {
+        tell_refused(r.number);
         return;
     }
-    if is_command(line, b"state", 1) {
-        do_state(loaded, t, z);
+    let buffer = piece(&out, from, GREATEST as usize);
+    tell(piece(buffer, 0, r.length));
+}
+
+// The commands on a table that stays; the last of them that a line can be.
+fn on_table(line: &[u8], loaded: bool, t: &[Word; TABLE_WORDS]) {
+    if is_command(line, b"write", b"") {
+        do_write(GREATEST, loaded, t);
+        return;
+    }
+    if is_command(line, b"write", b"n") {
+        do_write(number_at(line, 1), loaded, t);
+        return;
+    }
+    if is_command(line, b"check", b"") {
+        do_check(loaded, t);
+        return;
+    }
+    if is_command(line, b"again", b"") {
+        do_again(loaded, t);
         return;
     }
     bad_line();
 }
 
-// The commands on a model and its state.
+// The commands on a state as a whole, then those on a table.
+fn on_state(line: &[u8], loaded: bool, t: &[Word; TABLE_WORDS], z: &mut [Word; STATE_WORDS]) {
+    if is_command(line, b"fresh", b"") {
+        do_fresh(loaded, t, z);
+        return;
+    }
+    if is_command(line, b"state", b"") {
+        do_state(loaded, t, z);
+        return;
+    }
+    if is_setting(line, b"state", STATE_WORDS) {
+        do_set_state(line, loaded, z);
+        return;
+    }
+    on_table(line, loaded, t);
+}
+
+// The commands on a model and its state, then those on a state.
 fn on_model(line: &[u8], loaded: bool, t: &[Word; TABLE_WORDS], z: &mut [Word; STATE_WORDS]) {
-    if is_command(line, b"step", 7) {
+    if is_command(line, b"step", b"nnnnnv") {
         do_step(line, loaded, t, z);
         return;
     }
-    if is_command(line, b"post", 3) {
+    if is_command(line, b"post", b"nv") {
         do_post(line, loaded, t, z);
         return;
     }
-    if is_command(line, b"list", 2) {
+    if is_command(line, b"list", b"n") {
         do_list(line, loaded, t, z);
         return;
     }
-    if is_command(line, b"run", 2) {
+    if is_command(line, b"run", b"n") {
         do_run(line, loaded, t, z);
         return;
     }
-    alone(line, loaded, t, z);
+    on_state(line, loaded, t, z);
 }
 
-// Does what a line says.
+// Does what a line says: the commands that make a table, then those on a model.
 pub(super) fn command(
     line: &[u8],
     loaded: bool,
@@ -251,7 +227,13 @@ pub(super) fn command(
     z: &mut [Word; STATE_WORDS],
 ) -> bool {
     if is_read(line) {
-        return read_text(piece(line, READ, line.len()), loaded, t, z);
+        return do_read(line, loaded, t, z);
+    }
+    if is_command(line, b"clear", b"") {
+        return do_clear(t);
+    }
+    if is_setting(line, b"table", TABLE_WORDS) {
+        return do_set_table(line, t);
     }
     on_model(line, loaded, t, z);
     loaded

@@ -1,15 +1,23 @@
-// The console: a session on standard input, a command a line, that drives every call of the engine; answers go to standard output.
+// The console: a session on standard input, a command a line, that drives every call of the engine, on models and on tables and states given word by
+// word; answers go to standard output.
 //
 //   read TEXT          ok, or refused N X; a model that was read replaces the one before and makes a fresh state
 //   step P I E F B V   ok -, ok !M:V (sent), ok ?M:V (consumed), or refused N; V is - or values joined by commas
 //   post M V           ok, or refused N
 //   list K             P I E F B V of the K-th accepted step, or refused N
-//   run N              the line of each step, then: steps N left F
-//   write              the text of the model
-//   fresh              a fresh state: ok
+//   run N              the line of each step, then: steps N left F; or refused N
+//   write              the text of the model, or refused N
+//   write N            the same, into a buffer of N bytes
+//   fresh              a fresh state: ok, or refused N
 //   state              a line for each made instance and each queue that is not empty, then: end
+//   again              the text of the model is read into a second table and written from there: same N, the length of the text; or table differs,
+//                      text differs, refused N
+//   clear              every word of the table is 0: ok
+//   table I V          word I of the table is V: ok
+//   state I V          word I of the state is V: ok
+//   check              ok, or refused N X
 //
-// Any command but read before a model was read: no model. Any other line: bad line.
+// A command other than read, clear and table before one of these made a table: no model. Any other line: bad line.
 use lexer::piece;
 use libc::STDIN_FILENO;
 use model::places::TABLE_WORDS;
@@ -18,6 +26,7 @@ use state::places::STATE_WORDS;
 use words::Word;
 
 mod arguments;
+mod blocks;
 mod commands;
 mod output;
 mod report;
@@ -29,7 +38,7 @@ const NEWLINE: u8 = 10;
 // The bytes of the longest line.
 const LINE: usize = 40000;
 
-// How much of a line there is so far, and whether more came than fits; whether a model was read, and whether the input is at its end.
+// How much of a line there is so far, and whether more came than fits; whether there is a model, and whether the input is at its end.
 struct Session {
     length: usize,
     excess: bool,

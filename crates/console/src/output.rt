@@ -9,6 +9,14 @@ use meaning::Tuple;
 use printing::tell;
 use words::Word;
 
+pub(super) fn bad_line() {
+    tell(b"bad line\n");
+}
+
+pub(super) fn no_model() {
+    tell(b"no model\n");
+}
+
 pub(super) fn tell_number(n: Word) {
     io::print_decimal(STDOUT_FILENO, n as u64);
 }
@@ -19,17 +27,26 @@ pub(super) fn tell_refused(number: Word) {
     tell(b"\n");
 }
 
+// A call that gives back only a number.
+pub(super) fn tell_done(number: Word) {
+    if number == 0 {
+        tell(b"ok\n");
+        return;
+    }
+    tell_refused(number);
+}
+
 // `-`, or the message sent or consumed.
 pub(super) fn tell_traffic(a: Answer) {
     let mut out = [0u8; STEP_LINE];
-    let n = lines::put_traffic(&mut out, a);
+    let n = lines::put_traffic(&mut out, 0, a);
     tell(piece(&out, 0, n));
 }
 
 // The name of a step, and its values.
 pub(super) fn tell_name(n: Name) {
     let mut out = [0u8; NAME_LINE];
-    let k = lines::put_name(&mut out, n);
+    let k = lines::put_name(&mut out, 0, n);
     tell(piece(&out, 0, k));
     tell(b"\n");
 }
@@ -37,6 +54,6 @@ pub(super) fn tell_name(n: Name) {
 // The values of a message, `-` for none.
 pub(super) fn tell_tuple(g: Tuple) {
     let mut out = [0u8; NAME_LINE];
-    let k = lines::put_tuple(&mut out, g);
+    let k = lines::put_tuple(&mut out, 0, g);
     tell(piece(&out, 0, k));
 }

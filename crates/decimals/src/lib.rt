@@ -1,8 +1,5 @@
 // The text of a number: decimal, without leading zeros.
-ghost use mathlib.Core.Path.{_≡_};
-ghost use Prim.Native.Nat.{_≤_};
-ghost use lib.ListN.{length};
-ghost use Rattle.buffers.specs.Buffers.{over};
+ghost use Rattle.buffers.specs.Buffers.{Put};
 ghost use Rattle.decimals.specs.Decimals.{digits, shown};
 use buffers::put_bytes;
 use words::Word;
@@ -10,18 +7,18 @@ use words::Word;
 // The digits of `words::GREATEST`.
 pub const DIGITS: usize = 5;
 
-// A number at a buffer's start, as far as the buffer goes, and its length. The digits are made backwards in a scratch array.
-pub fn put_number(out: &mut [u8], n: Word) -> usize
-    ensures { λ r. ⌜ (r ≡ length (shown n)) × (now (out .exit) ≡ over (shown n) (now (out .entry))) × (r ≤ digits) ⌝ }
+// A number from a place on, as far as the buffer goes, and the place behind it. The digits are made backwards in a scratch array.
+pub fn put_number(out: &mut [u8], from: usize, n: Word) -> usize
+    ensures { λ r. ⌜ Put (shown n) digits from (now (out .entry)) r (now (out .exit)) ⌝ }
 {
     let mut scratch: [u8; DIGITS] = [0; DIGITS];
-    let mut from: usize = DIGITS - 1;
+    let mut first: usize = DIGITS - 1;
     let mut left = n;
     while left >= 10 {
-        scratch[from] = b'0' + (left % 10) as u8;
+        scratch[first] = b'0' + (left % 10) as u8;
         left = left / 10;
-        from -= 1;
+        first -= 1;
     }
-    scratch[from] = b'0' + left as u8;
-    put_bytes(out, &scratch[from..])
+    scratch[first] = b'0' + left as u8;
+    put_bytes(out, from, &scratch[first..])
 }

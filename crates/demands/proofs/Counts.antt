@@ -7,7 +7,7 @@ use native.Mathlib.Nat.{not-suc-le-zero}
 use native.Mathlib.Omega.{arith}
 use lib.ListN.{length, length-append}
 use Rattle.words.specs.Pick.{if_then_else_}
-use Rattle.words.specs.Sum.{one}
+use Rattle.words.specs.Sum.{oneIf}
 use Rattle.meaning.specs.declared.Tuple.{Tuple}
 use Rattle.meaning.specs.Tuples.{sameTuple}
 use Rattle.meaning.specs.Messages.{has, without, times}
@@ -19,7 +19,7 @@ unfolding has times if_then_else_
 has-times g [] h = absurd (false≢true h)
 has-times g (x ∷ xs) h = go (sameTuple x g) h (has-times g xs)
   where
-    go : (b : Bool) → (if b then true else has g xs) ≡ true → (has g xs ≡ true → 0 < times g xs) → 0 < one b + times g xs
+    go : (b : Bool) → (if b then true else has g xs) ≡ true → (has g xs ≡ true → 0 < times g xs) → 0 < oneIf b + times g xs
     go true e rest = omega arith
     go false e rest = omega (arith, rest e)
 
@@ -28,7 +28,7 @@ unfolding has times if_then_else_
 times-has g [] h = absurd (not-suc-le-zero h)
 times-has g (x ∷ xs) h = go (sameTuple x g) h (times-has g xs)
   where
-    go : (b : Bool) → 0 < one b + times g xs → (0 < times g xs → has g xs ≡ true) → (if b then true else has g xs) ≡ true
+    go : (b : Bool) → 0 < oneIf b + times g xs → (0 < times g xs → has g xs ≡ true) → (if b then true else has g xs) ≡ true
     go true l rest = refl
     go false l rest = rest (omega arith)
 
@@ -38,7 +38,7 @@ unfolding times
 times-first x xs = rw (same-refl x) (omega arith)
 
 -- one message more on both sides
-times-next : (v x : Tuple) (xs : List Tuple) → times v (x ∷ xs) ≡ one (sameTuple x v) + times v xs
+times-next : (v x : Tuple) (xs : List Tuple) → times v (x ∷ xs) ≡ oneIf (sameTuple x v) + times v xs
 unfolding times
 times-next v x xs = refl
 

@@ -14,14 +14,17 @@ use Rattle.state.specs.Places.{instancesWords}
 use Rattle.state.specs.Instances.{instancesOf, queuesOf}
 use Rattle.meaning.specs.declared.Name.{Name}
 use Rattle.meaning.specs.declared.Tuple.{Tuple}
+use Rattle.meaning.specs.declared.Traffic.the-variants.{Nothing}
+use Rattle.meaning.specs.Tuples.{empty}
 use Rattle.meaning.specs.Queues.{sending}
 use Rattle.meaning.specs.Refusals.{Refusal, firstRefusal}
 use Rattle.meaning.specs.Post.{Posted, postRefusals, post}
 use Rattle.meaning.specs.Step.{Outcome, siteOf, traffic, instancesAfter, queuesAfter, refusalsAt, refusals, refused, step}
 use Rattle.steps.proofs.Choices.{chosen}
-use Rattle.engine.specs.Engine.{Left, fitting, stepped, postedTo}
-use Rattle.demands.specs.Demands.{Act, aStep, aPost, did, numberGiven, allHold, permitted, given, stateGiven}
-use Rattle.demands.proofs.Numbers.{stepped-number, posted-number}
+use Rattle.engine.specs.Engine.{Left, fitting, Stepped, leaving, stepped, postedTo}
+use Rattle.engine.specs.Calls.{Act, aStep, aPost, did}
+use Rattle.demands.specs.Demands.{numberGiven, allHold, permitted, given, stateGiven}
+use Rattle.checked.proofs.NumberGiven.{stepped-number, posted-number}
 
 -- no refusal is given just where all conditions hold
 abbrev Numbered : List Refusal → Bool
@@ -89,17 +92,17 @@ module _ (t : List ℕ) where
 
   -- the state is the one that the rules give, and as it was where it is not permitted
   pub state-exactly : (a : Act) (z : List ℕ) → did t a z .state ≡ stateGiven t a z
-  unfolding did stateGiven permitted given stepped postedTo if_then_else_
+  unfolding did stateGiven permitted given stepped leaving postedTo if_then_else_
   state-exactly (aStep n) z = go (fitting t z)
     where
-      o : Bool → Outcome
-      o b = if b then step t (instancesOf z) (queuesOf z) n else refused 10 (instancesOf z) (queuesOf z)
+      o : Bool → Stepped
+      o b = if b then leaving (step t (instancesOf z) (queuesOf z) n) else record { answer = record { number = 10; traffic = Nothing; name = 0; tuple = empty }; state = z }
 
-      go : (b : Bool) → o b .instances ++ o b .queues ≡ (if b && allHold (refusals t (instancesOf z) (queuesOf z) n) then instancesAfter t (instancesOf z) n ++ queuesAfter (siteOf t (instancesOf z) n) (queuesOf z) else z)
+      go : (b : Bool) → o b .state ≡ (if b && allHold (refusals t (instancesOf z) (queuesOf z) n) then instancesAfter t (instancesOf z) n ++ queuesAfter (siteOf t (instancesOf z) n) (queuesOf z) else z)
       go true =
           step-state t (instancesOf z) (queuesOf z) n
           ∙ ap (λ (y : List ℕ). if allHold (refusals t (instancesOf z) (queuesOf z) n) then instancesAfter t (instancesOf z) n ++ queuesAfter (siteOf t (instancesOf z) n) (queuesOf z) else y) (whole z)
-      go false = whole z
+      go false = refl
   state-exactly (aPost name g) z = go (fitting t z)
     where
       o : Bool → Left

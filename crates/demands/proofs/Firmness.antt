@@ -1,77 +1,82 @@
--- HOW FIRM THE PROMISES ARE: any two results that the promise of a public call allows coincide, the words and bytes lent to it included. Each statement
--- takes the promise of its function twice; only read changes a table. Assumes nothing.
+-- HOW FIRM THE PROMISES ARE: any two results that the promise of a public call allows coincide, the words and bytes lent to it included; the promise is
+-- the one in the code, its `ensures`. Only read changes a table. Assumes nothing.
 use Prim.Native.Nat.{ℕ}
 use mathlib.Core.Path.{_≡_, refl, sym, _∙_, ap, ap₂}
 use mathlib.Core.List.{List, [], _∷_}
+use denote.Ref.{now}
 use Rattle.meaning.specs.declared.Name.{Name}
 use Rattle.meaning.specs.declared.Answer.{Answer}
 use Rattle.meaning.specs.declared.Tuple.{Tuple}
-use Rattle.meaning.specs.Step.{Outcome}
-use Rattle.rules.specs.Settled.{Done}
 use Rattle.listing.specs.declared.Listed.{Listed}
+use Rattle.notation.specs.declared.Reading.{Reading}
+use Rattle.notation.specs.Notation.{ReadInto}
 use Rattle.engine.specs.declared.Ran.{Ran}
 use Rattle.engine.specs.declared.Verdict.{Verdict}
 use Rattle.engine.specs.declared.Written.{Written}
-use Rattle.engine.specs.Engine.{Left, verdictOf, freshened, stepped, postedTo, listedAt, RanTo, ranTo, WrittenTo, writtenTo}
-use Rattle.notation.specs.declared.Reading.{Reading}
-use Rattle.notation.specs.Notation.{Taken, taken}
-use Rattle.demands.specs.Demands.{Act, aStep, aPost, did, numbers, after, Allowed, AllAllowed}
+use Rattle.engine.specs.Engine.{Left, Stepped, RanTo, WrittenTo}
+use Rattle.engine.specs.Calls.{Act, aStep, aPost, did, numbers, after}
+use Rattle.engine.proofs.check.Reads as check
+use Rattle.engine.proofs.fresh.Reads as fresh
+use Rattle.engine.proofs.step.Reads as step
+use Rattle.engine.proofs.post.Reads as post
+use Rattle.engine.proofs.list.Reads as list
+use Rattle.engine.proofs.run.Reads as run
+use Rattle.engine.proofs.read.Reads as read
+use Rattle.engine.proofs.write.Reads as write
+use Rattle.demands.specs.Demands.{Allowed, AllAllowed}
+use Rattle.demands.proofs.Promises.{Lent, One, Two}
 
--- a promise that is an equation, of a number and a state, of an outcome
-pub one-result : {A : Type 0} (o r₁ r₂ : A) → r₁ ≡ o → r₂ ≡ o → r₁ ≡ r₂
-one-result o r₁ r₂ p₁ p₂ = p₁ ∙ sym p₂
+-- each statement takes the promise of the code twice, for what was lent before
+pub check-firm : (κ : One) (t t₁ t₂ : Lent) (r₁ r₂ : Verdict) → check.Post κ (t, tt) r₁ (t₁, tt) → check.Post κ (t, tt) r₂ (t₂, tt) → r₁ ≡ r₂
+check-firm κ t t₁ t₂ r₁ r₂ p₁ p₂ = p₁ ∙ sym p₂
 
-pub one-left : (o : Left) (r₁ r₂ : ℕ) (z₁ z₂ : List ℕ) → record { number = r₁; state = z₁ } ≡ o → record { number = r₂; state = z₂ } ≡ o → (r₁ ≡ r₂) × (z₁ ≡ z₂)
-one-left o r₁ r₂ z₁ z₂ p₁ p₂ = (ap (λ (y : Left). y .number) (p₁ ∙ sym p₂), ap (λ (y : Left). y .state) (p₁ ∙ sym p₂))
+module _ (κ : Two) where
+  pub fresh-firm : (t z t₁ t₂ z₁ z₂ : Lent) (r₁ r₂ : ℕ) → fresh.Post κ (t, (z, tt)) r₁ (t₁, (z₁, tt)) → fresh.Post κ (t, (z, tt)) r₂ (t₂, (z₂, tt))
+      → (r₁ ≡ r₂) × (now z₁ ≡ now z₂)
+  fresh-firm t z t₁ t₂ z₁ z₂ r₁ r₂ p₁ p₂ = let p = p₁ ∙ sym p₂ in (ap (λ (o : Left). o .number) p, ap (λ (o : Left). o .state) p)
 
-pub one-outcome : (o : Outcome) (r₁ r₂ : Answer) (z₁ z₂ : List ℕ) → Done o r₁ z₁ → Done o r₂ z₂ → (r₁ ≡ r₂) × (z₁ ≡ z₂)
-one-outcome o r₁ r₂ z₁ z₂ p₁ p₂ = (p₁ .answer ∙ sym (p₂ .answer), p₁ .state ∙ sym (p₂ .state))
+  pub step-firm : (t z t₁ t₂ z₁ z₂ : Lent) (n n₁ n₂ : Name) (r₁ r₂ : Answer)
+      → step.Post κ (t, (z, (n, tt))) r₁ (t₁, (z₁, (n₁, tt))) → step.Post κ (t, (z, (n, tt))) r₂ (t₂, (z₂, (n₂, tt)))
+      → (r₁ ≡ r₂) × (now z₁ ≡ now z₂)
+  step-firm t z t₁ t₂ z₁ z₂ n n₁ n₂ r₁ r₂ p₁ p₂ = let p = p₁ ∙ sym p₂ in (ap (λ (o : Stepped). o .answer) p, ap (λ (o : Stepped). o .state) p)
 
-module _ (t : List ℕ) where
-  pub check-firm : (r₁ r₂ : Verdict) → r₁ ≡ verdictOf t → r₂ ≡ verdictOf t → r₁ ≡ r₂
-  check-firm = one-result (verdictOf t)
+  pub post-firm : (t z t₁ t₂ z₁ z₂ : Lent) (name name₁ name₂ : ℕ) (g g₁ g₂ : Tuple) (r₁ r₂ : ℕ)
+      → post.Post κ (t, (z, (name, (g, tt)))) r₁ (t₁, (z₁, (name₁, (g₁, tt)))) → post.Post κ (t, (z, (name, (g, tt)))) r₂ (t₂, (z₂, (name₂, (g₂, tt))))
+      → (r₁ ≡ r₂) × (now z₁ ≡ now z₂)
+  post-firm t z t₁ t₂ z₁ z₂ name name₁ name₂ g g₁ g₂ r₁ r₂ p₁ p₂ = let p = p₁ ∙ sym p₂ in (ap (λ (o : Left). o .number) p, ap (λ (o : Left). o .state) p)
 
-  module _ (z : List ℕ) where
-    pub fresh-firm : (r₁ r₂ : ℕ) (z₁ z₂ : List ℕ) → record { number = r₁; state = z₁ } ≡ freshened t z → record { number = r₂; state = z₂ } ≡ freshened t z → (r₁ ≡ r₂) × (z₁ ≡ z₂)
-    fresh-firm = one-left (freshened t z)
+  pub list-firm : (t z t₁ t₂ z₁ z₂ : Lent) (k k₁ k₂ : ℕ) (r₁ r₂ : Listed)
+      → list.Post κ (t, (z, (k, tt))) r₁ (t₁, (z₁, (k₁, tt))) → list.Post κ (t, (z, (k, tt))) r₂ (t₂, (z₂, (k₂, tt)))
+      → r₁ ≡ r₂
+  list-firm t z t₁ t₂ z₁ z₂ k k₁ k₂ r₁ r₂ p₁ p₂ = p₁ ∙ sym p₂
 
-    pub step-firm : (n : Name) (r₁ r₂ : Answer) (z₁ z₂ : List ℕ) → Done (stepped t z n) r₁ z₁ → Done (stepped t z n) r₂ z₂ → (r₁ ≡ r₂) × (z₁ ≡ z₂)
-    step-firm n = one-outcome (stepped t z n)
+  pub run-firm : (t z t₁ t₂ z₁ z₂ : Lent) (limit limit₁ limit₂ : ℕ) (r₁ r₂ : Ran)
+      → run.Post κ (t, (z, (limit, tt))) r₁ (t₁, (z₁, (limit₁, tt))) → run.Post κ (t, (z, (limit, tt))) r₂ (t₂, (z₂, (limit₂, tt)))
+      → (r₁ ≡ r₂) × (now z₁ ≡ now z₂)
+  run-firm t z t₁ t₂ z₁ z₂ limit limit₁ limit₂ r₁ r₂ p₁ p₂ =
+      let p = p₁ ∙ sym p₂ in (
+        ap (λ (o : RanTo). record { number = o .number; steps = o .steps; left = o .left }) p,
+        ap (λ (o : RanTo). o .state) p,
+      )
 
-    pub post-firm : (name : ℕ) (g : Tuple) (r₁ r₂ : ℕ) (z₁ z₂ : List ℕ) → record { number = r₁; state = z₁ } ≡ postedTo t z name g → record { number = r₂; state = z₂ } ≡ postedTo t z name g → (r₁ ≡ r₂) × (z₁ ≡ z₂)
-    post-firm name g = one-left (postedTo t z name g)
+  pub read-firm : (text t text₁ text₂ t₁ t₂ : Lent) (r₁ r₂ : Reading)
+      → read.Post κ (text, (t, tt)) r₁ (text₁, (t₁, tt)) → read.Post κ (text, (t, tt)) r₂ (text₂, (t₂, tt))
+      → (r₁ ≡ r₂) × (now t₁ ≡ now t₂)
+  read-firm text t text₁ text₂ t₁ t₂ r₁ r₂ p₁ p₂ =
+      let p = p₁ ∙ sym p₂ in (ap (λ (o : ReadInto). record { number = o .number; beside = o .beside }) p, ap (λ (o : ReadInto). o .table) p)
 
-    pub list-firm : (k : ℕ) (r₁ r₂ : Listed) → r₁ ≡ listedAt t z k → r₂ ≡ listedAt t z k → r₁ ≡ r₂
-    list-firm k = one-result (listedAt t z k)
-
-    pub run-firm : (limit : ℕ) (r₁ r₂ : Ran) (z₁ z₂ : List ℕ)
-        → _≡_ {A = RanTo} (record { number = r₁ .number; steps = r₁ .steps; left = r₁ .left; state = z₁ }) (ranTo t z limit)
-        → _≡_ {A = RanTo} (record { number = r₂ .number; steps = r₂ .steps; left = r₂ .left; state = z₂ }) (ranTo t z limit)
-        → (r₁ ≡ r₂) × (z₁ ≡ z₂)
-    run-firm limit r₁ r₂ z₁ z₂ p₁ p₂ =
-        let p = p₁ ∙ sym p₂ in (
-          ap (λ (o : RanTo). record { number = o .number; steps = o .steps; left = o .left }) p,
-          ap (λ (o : RanTo). o .state) p,
-        )
-
-  pub read-firm : (text : List ℕ) (r₁ r₂ : Reading) (t₁ t₂ : List ℕ)
-      → _≡_ {A = Taken} (record { number = r₁ .number; beside = r₁ .beside; table = t₁ }) (taken text t)
-      → _≡_ {A = Taken} (record { number = r₂ .number; beside = r₂ .beside; table = t₂ }) (taken text t)
-      → (r₁ ≡ r₂) × (t₁ ≡ t₂)
-  read-firm text r₁ r₂ t₁ t₂ p₁ p₂ =
-      let p = p₁ ∙ sym p₂ in (ap (λ (o : Taken). record { number = o .number; beside = o .beside }) p, ap (λ (o : Taken). o .table) p)
-
-  pub write-firm : (out : List ℕ) (r₁ r₂ : Written) (out₁ out₂ : List ℕ)
-      → _≡_ {A = WrittenTo} (record { number = r₁ .number; length = r₁ .length; buffer = out₁ }) (writtenTo t out)
-      → _≡_ {A = WrittenTo} (record { number = r₂ .number; length = r₂ .length; buffer = out₂ }) (writtenTo t out)
-      → (r₁ ≡ r₂) × (out₁ ≡ out₂)
-  write-firm out r₁ r₂ out₁ out₂ p₁ p₂ =
+  pub write-firm : (t out t₁ t₂ out₁ out₂ : Lent) (r₁ r₂ : Written)
+      → write.Post κ (t, (out, tt)) r₁ (t₁, (out₁, tt)) → write.Post κ (t, (out, tt)) r₂ (t₂, (out₂, tt))
+      → (r₁ ≡ r₂) × (now out₁ ≡ now out₂)
+  write-firm t out t₁ t₂ out₁ out₂ r₁ r₂ p₁ p₂ =
       let p = p₁ ∙ sym p₂ in (ap (λ (o : WrittenTo). record { number = o .number; length = o .length }) p, ap (λ (o : WrittenTo). o .buffer) p)
 
-  -- WHAT THE PROMISES ALLOW is what the demands speak of: one call
+-- WHAT THE PROMISES ALLOW is what the demands speak of
+module _ (t : List ℕ) where
+  -- one call
   pub allowed-is : (a : Act) (z : List ℕ) (r : ℕ) (y : List ℕ) → Allowed t a z r y → (r ≡ did t a z .number) × (y ≡ did t a z .state)
   unfolding Allowed did
-  allowed-is (aStep n) z r y h = (h .1 ∙ ap (λ (a : Answer). a .number) (h .2 .answer), h .2 .state)
+  allowed-is (aStep n) z r y h = (h .1 ∙ ap (λ (o : Stepped). o .answer .number) (h .2), ap (λ (o : Stepped). o .state) (h .2))
   allowed-is (aPost name g) z r y h = (ap (λ (o : Left). o .number) h, ap (λ (o : Left). o .state) h)
 
   -- and calls one after the other: no later one does anything but its own

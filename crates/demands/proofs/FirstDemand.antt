@@ -23,10 +23,12 @@ use Rattle.checks.specs.Checks.{lowest}
 use Rattle.lowest.specs.Model.{modelOf}
 use Rattle.fits.specs.Fresh.{fresh}
 use Rattle.steps.proofs.Choices.{by-choice, passed}
-use Rattle.rules.specs.Settled.{Done}
-use Rattle.engine.specs.Engine.{Left, valid, verdictOf, freshened, fitting, stepped, postedTo}
-use Rattle.demands.specs.Demands.{Act, aStep, aPost, did, among, checkNumbers, freshNumbers, stepNumbers, postNumbers, permitted, given, stateGiven}
-use Rattle.demands.proofs.Numbers.{Plain, stepped-plain, fresh-number, stepped-number, posted-number, check-numbers, fresh-numbers, step-numbers, post-numbers}
+use Rattle.engine.specs.Engine.{Left, valid, verdictOf, freshened, fitting, Stepped, stepped, postedTo}
+use Rattle.engine.specs.Calls.{Act, aStep, aPost, did}
+use Rattle.demands.specs.Promises.{Freshens, Steps, Posts}
+use Rattle.demands.specs.Demands.{among, checkNumbers, freshNumbers, stepNumbers, postNumbers, permitted, given, stateGiven}
+use Rattle.checked.proofs.NumberGiven.{stepped-number, posted-number}
+use Rattle.demands.proofs.Numbers.{Plain, stepped-plain, fresh-number, check-numbers, fresh-numbers, step-numbers, post-numbers}
 use Rattle.demands.proofs.Exactly.{accepted-exactly, state-exactly}
 
 -- a step or a post with a number other than 0 leaves the state as it was
@@ -54,7 +56,7 @@ module _ (t : List ℕ) where
   check-number-is = check-numbers t
 
 -- FRESH
-module _ (t z : List ℕ) (r : ℕ) (y : List ℕ) (promise : _≡_ {A = Left} (record { number = r; state = y }) (freshened t z)) where
+module _ (t z : List ℕ) (r : ℕ) (y : List ℕ) (promise : Freshens t z r y) where
   fresh-is : r ≡ freshened t z .number
   fresh-is = ap (λ (o : Left). o .number) promise
 
@@ -81,19 +83,22 @@ module _ (t z : List ℕ) (r : ℕ) (y : List ℕ) (promise : _≡_ {A = Left} (
       (made .0, ap (λ (o : Left). o .state) promise ∙ made .1)
 
 -- STEP
-module _ (t z : List ℕ) (n : Name) (r : Answer) (y : List ℕ) (promise : Done (stepped t z n) r y) where
+module _ (t z : List ℕ) (n : Name) (r : Answer) (y : List ℕ) (promise : Steps t z n r y) where
   step-is : r .number ≡ stepped t z n .answer .number
-  step-is = ap (λ (a : Answer). a .number) (promise .answer)
+  step-is = ap (λ (o : Stepped). o .answer .number) promise
 
   pub step-number-is : (r .number ≡ (if fitting t z then firstRefusal (refusals t (instancesOf z) (queuesOf z) n) else 10)) × (among stepNumbers (r .number) ≡ true)
   step-number-is = (step-is ∙ stepped-number t z n, subst (λ (k : ℕ). among stepNumbers k ≡ true) (sym step-is) (step-numbers t z n))
 
   pub step-refused : (r .number ≡ 0 → ⊥) → (y ≡ z) × (r ≡ record { number = r .number; traffic = Nothing; name = 0; tuple = empty })
   unfolding did
-  step-refused k = (promise .state ∙ act-refused t (aStep n) z (λ e. k (step-is ∙ e)), subst Plain (sym (promise .answer)) (stepped-plain t z n) k)
+  step-refused k = (
+    ap (λ (o : Stepped). o .state) promise ∙ act-refused t (aStep n) z (λ e. k (step-is ∙ e)),
+    subst (λ (o : Stepped). Plain (o .answer)) (sym promise) (stepped-plain t z n) k,
+  )
 
 -- POST
-module _ (t z : List ℕ) (name : ℕ) (g : Tuple) (r : ℕ) (y : List ℕ) (promise : _≡_ {A = Left} (record { number = r; state = y }) (postedTo t z name g)) where
+module _ (t z : List ℕ) (name : ℕ) (g : Tuple) (r : ℕ) (y : List ℕ) (promise : Posts t z name g r y) where
   post-is : r ≡ postedTo t z name g .number
   post-is = ap (λ (o : Left). o .number) promise
 

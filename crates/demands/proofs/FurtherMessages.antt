@@ -10,7 +10,7 @@ use lib.ListN.{length}
 use borrow.Author.Tests.{leb-true, le-leb, eq-eqb, ne-eqb}
 use Rattle.words.specs.Each.{each}
 use Rattle.words.specs.Pick.{if_then_else_}
-use Rattle.words.specs.Sum.{one}
+use Rattle.words.specs.Sum.{oneIf}
 use Rattle.words.specs.Counts.{names, values, messages}
 use Rattle.words.proofs.AllLaws.{all-of, and-left, and-right}
 use Rattle.state.specs.Instances.{queuesOf}
@@ -27,11 +27,13 @@ use Rattle.queues.proofs.ReadLaws.{messages-other}
 use Rattle.queues.proofs.ChangeLaws.{times-sending}
 use Rattle.steps.proofs.Choices.{chosen, passed}
 use Rattle.steps.proofs.QueueFits.{isShort, Short, fits-short}
-use Rattle.demands.specs.Demands.{Act, aPost, did, allAccepted, after, Valid, Further, roomFor, neverPasses}
+use Rattle.engine.specs.Calls.{Act, aPost, did, allAccepted, after, Valid}
+use Rattle.demands.specs.Demands.{Further, roomFor, neverPasses}
 use Rattle.demands.proofs.Counts.{times-has, times-lengths}
 use Rattle.demands.proofs.QueuesMore.{queue-tidy}
 use Rattle.demands.proofs.StepMore.{post-named, post-short, post-room}
-use Rattle.demands.proofs.StatesLeft.{did-valid, queues-fit, post-number, post-instances, post-queues}
+use Rattle.checked.proofs.KeepsFitting.{did-valid}
+use Rattle.demands.proofs.StatesLeft.{queues-fit, post-number, post-instances, post-queues}
 use Rattle.demands.proofs.ThirdDemand.{more-messages}
 
 -- a message that is equal to one of short messages is short
@@ -65,7 +67,7 @@ module _ (t : List ℕ) (e : ℕ → List Tuple) (z₁ z₂ : List ℕ) (v : Val
 unfoldable pub only : ℕ → Tuple → ℕ → List Tuple
 only name g m = if eqb m name then g ∷ [] else []
 
-only-here : (name : ℕ) (g v : Tuple) → times v (only name g name) ≡ one (sameTuple g v)
+only-here : (name : ℕ) (g v : Tuple) → times v (only name g name) ≡ oneIf (sameTuple g v)
 unfolding only times
 only-here name g v = ap (times v) (chosen (eqb name name) (g ∷ []) [] (eq-eqb name name refl)) ∙ omega arith
 

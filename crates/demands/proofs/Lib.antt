@@ -2,6 +2,7 @@ pub mod FirstDemand
 pub mod SecondDemand
 pub mod ThirdDemand
 pub mod ListAndRun
+pub mod Promises
 pub mod Firmness
 pub mod FurtherMessages
 pub mod Counts
@@ -15,3 +16,4 @@ pub mod RunSteps
 pub mod ReaderNumbers
 pub mod ReadAndWrite
 pub mod TextsAndTables
+pub mod NeverTen

@@ -5,17 +5,20 @@ use Prim.Native.Nat.{ℕ, zero, suc}
 use mathlib.Core.Path.{_≡_, refl, sym, _∙_, ap, subst}
 use mathlib.Core.Bool.{true, false}
 use mathlib.Core.List.{List, [], _∷_}
+use native.Mathlib.Omega.{arith}
+use lib.Dec.{ltb}
 use lib.ListN.{length}
-use borrow.Author.Tests.{eq-eqb}
+use borrow.Author.Tests.{eq-eqb, lt-ltb, le-ltb, ltb-true, ltb-false}
 use Rattle.words.specs.Pick.{if_then_else_}
 use Rattle.state.specs.Instances.{instancesOf, queuesOf}
 use Rattle.meaning.specs.declared.Name.{Name}
 use Rattle.meaning.specs.Queues.{tidied}
 use Rattle.meaning.specs.Refusals.{firstRefusal}
 use Rattle.meaning.specs.Step.{refusals}
-use Rattle.steps.proofs.Choices.{by-choice, passed, chosen as picked}
+use Rattle.steps.proofs.Choices.{by-test, by-choice, passed, chosen as picked}
 use Rattle.listing.specs.declared.Listed.{Listed}
-use Rattle.listing.specs.Listing.{blank, listed, accepted, chosen}
+use Rattle.naming.specs.Names.{blank, accepted}
+use Rattle.listing.specs.Listing.{listed, chosen}
 use Rattle.running.specs.Run.{ran}
 use Rattle.listed.proofs.SameValues.{withGiven}
 use Rattle.listed.proofs.ListedAll.{listed-all}
@@ -23,7 +26,9 @@ use Rattle.listed.proofs.ListedOnce.{listed-once}
 use Rattle.engine.specs.declared.Ran.{Ran}
 use Rattle.engine.specs.Engine.{fitting, listedAt, RanTo, ended, ranTo}
 use Rattle.engine.proofs.CallLaws.{table-fits, checks-hold, state-fits}
-use Rattle.demands.specs.Demands.{Act, aStep, did, among, listNumbers, runNumbers, allAccepted, after, Valid, runSteps, runLeft, ranGiven}
+use Rattle.engine.specs.Calls.{Act, aStep, did, allAccepted, after, Valid}
+use Rattle.demands.specs.Promises.{Lists, Runs}
+use Rattle.demands.specs.Demands.{among, listNumbers, runNumbers, acceptedSteps, runSteps, runLeft, ranGiven}
 use Rattle.demands.proofs.StatesLeft.{step-number}
 use Rattle.demands.proofs.RunSteps.{listed-is, listed-accepts, run-accepted, run-is-steps}
 
@@ -34,6 +39,18 @@ chosen-or P f g [] k = g
 chosen-or P f g (n ∷ ns) zero = f n
 chosen-or P f g (n ∷ ns) (suc k) = chosen-or P f g ns k
 
+ltb-next : (k m : ℕ) → ltb k m ≡ ltb (suc k) (suc m)
+ltb-next k m =
+    by-test (ltb k m)
+    (λ e. e ∙ sym (lt-ltb (suc k) (suc m) (omega (arith, ltb-true k m e))))
+    (λ e. e ∙ sym (le-ltb (suc k) (suc m) (omega (arith, ltb-false k m e))))
+
+chosen-number : (ns : List Name) (k : ℕ) → chosen ns k .number ≡ (if ltb k (length ns) then 0 else 6)
+unfolding chosen if_then_else_
+chosen-number [] k = rw (le-ltb k 0 (omega arith))
+chosen-number (n ∷ ns) zero = rw (lt-ltb 0 (length (n ∷ ns)) (omega arith))
+chosen-number (n ∷ ns) (suc k) = chosen-number ns k ∙ ap (λ b. if b then 0 else 6) (ltb-next k (length ns))
+
 -- LIST: refusals
 module _ (t z : List ℕ) (k : ℕ) where
   by-listed : (P : Listed → Type 0) → ((n : Name) → P (record { number = 0; name = n })) → P (record { number = 6; name = blank }) → P (record { number = 10; name = blank }) → P (listedAt t z k)
@@ -43,7 +60,7 @@ module _ (t z : List ℕ) (k : ℕ) where
       (λ e. chosen-or P f g (listed t (instancesOf z) (queuesOf z)) k)
       (λ e. h)
 
-  module _ (r : Listed) (promise : r ≡ listedAt t z k) where
+  module _ (r : Listed) (promise : Lists t z k r) where
     pub list-number-is : among listNumbers (r .number) ≡ true
     unfolding among if_then_else_
     list-number-is = rw promise (by-listed (λ (y : Listed). among listNumbers (y .number) ≡ true) (λ n. refl) refl refl)
@@ -60,7 +77,7 @@ module _ (t z : List ℕ) (k : ℕ) where
 -- LIST: the steps that the public step accepts
 module _ (t z : List ℕ) (v : Valid t z) where
   -- nothing else is listed,
-  pub list-accepted : (k : ℕ) (r : Listed) → r ≡ listedAt t z k → r .number ≡ 0 → did t (aStep (r .name)) z .number ≡ 0
+  pub list-accepted : (k : ℕ) (r : Listed) → Lists t z k r → r .number ≡ 0 → did t (aStep (r .name)) z .number ≡ 0
   list-accepted k r p = rw p (listed-accepts t z v k)
 
   -- every one is listed, with 0 behind its values,
@@ -71,6 +88,11 @@ module _ (t z : List ℕ) (v : Valid t z) where
       let w = listed-all t (instancesOf z) (queuesOf z) (table-fits t z (v .fits)) (state-fits t z (v .fits)) n a in
       (w .0, listed-is t z v (w .0) ∙ w .1)
 
+  -- 6 exactly from their number on,
+  pub list-number : (k : ℕ) → listedAt t z k .number ≡ (if ltb k (acceptedSteps t z) then 0 else 6)
+  unfolding acceptedSteps
+  list-number k = ap (λ (y : Listed). y .number) (listed-is t z v k) ∙ chosen-number (listed t (instancesOf z) (queuesOf z)) k
+
   -- and none twice
   pub list-once : (j k : ℕ) → listedAt t z j .number ≡ 0 → listedAt t z j ≡ listedAt t z k → j ≡ k
   list-once j k e same =
@@ -79,7 +101,7 @@ module _ (t z : List ℕ) (v : Valid t z) where
       (sym (listed-is t z v j) ∙ same ∙ listed-is t z v k)
 
 -- RUN
-module _ (t z : List ℕ) (limit : ℕ) (r : Ran) (y : List ℕ) (promise : _≡_ {A = RanTo} (record { number = r .number; steps = r .steps; left = r .left; state = y }) (ranTo t z limit)) where
+module _ (t z : List ℕ) (limit : ℕ) (r : Ran) (y : List ℕ) (promise : Runs t z limit r y) where
   by-ran : (P : RanTo → Type 0) → (fitting t z ≡ true → P (ended (ran t limit (instancesOf z) (queuesOf z)))) → (fitting t z ≡ false → P (record { number = 10; steps = 0; left = 0; state = z }))
       → P (record { number = r .number; steps = r .steps; left = r .left; state = y })
   unfolding ranTo

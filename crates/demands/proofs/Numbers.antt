@@ -1,11 +1,11 @@
 -- The number that each public call gives back: as one equation, what stands beside it, and which numbers can come. Assumes nothing.
 use Prim.Native.Nat.{ℕ}
-use mathlib.Core.Path.{_≡_, refl, sym, _∙_}
+use mathlib.Core.Path.{_≡_, refl}
 use mathlib.Core.Bool.{Bool, true, false}
-use mathlib.Core.List.{List, [], _∷_, _++_}
+use mathlib.Core.List.{List, [], _∷_}
 use native.Mathlib.Omega.{arith}
 use lib.Dec.{eqb}
-use borrow.Author.Tests.{eqb-true, eqb-false}
+use borrow.Author.Tests.{eqb-false}
 use Rattle.words.specs.Each.{each}
 use Rattle.words.specs.Pick.{if_then_else_}
 use Rattle.words.proofs.AllLaws.{and-left, and-right}
@@ -13,48 +13,20 @@ use Rattle.state.specs.Instances.{instancesOf, queuesOf}
 use Rattle.meaning.specs.declared.Name.{Name}
 use Rattle.meaning.specs.declared.Answer.{Answer}
 use Rattle.meaning.specs.declared.Tuple.{Tuple}
-use Rattle.meaning.specs.declared.Traffic.the-variants.{Nothing, Consumed, Sent}
+use Rattle.meaning.specs.declared.Traffic.the-variants.{Nothing}
 use Rattle.meaning.specs.Tuples.{empty}
-use Rattle.meaning.specs.Queues.{sending}
 use Rattle.meaning.specs.Refusals.{Refusal, firstRefusal}
-use Rattle.meaning.specs.Post.{Posted, postRefusals, post}
-use Rattle.meaning.specs.Step.{Outcome, Site, siteOf, receives, sends, nameAt, template, sent, instancesAfter, queuesAfter, traffic, refusalsAt, refusals, refused, step}
+use Rattle.meaning.specs.Post.{postRefusals}
+use Rattle.meaning.specs.Step.{Outcome, siteOf, instancesAfter, queuesAfter, traffic, refusalsAt, refusals, refused, step}
 use Rattle.steps.proofs.Choices.{by-choice}
 use Rattle.checks.specs.Checks.{lowest}
 use Rattle.lowest.specs.Model.{modelOf}
 use Rattle.limits.specs.Limits.{tableFits}
 use Rattle.fits.specs.Fresh.{fresh}
 use Rattle.engine.specs.declared.Verdict.{Verdict}
-use Rattle.engine.specs.Engine.{Left, valid, verdictOf, freshened, fitting, stepped, postedTo}
+use Rattle.engine.specs.Engine.{Left, valid, verdictOf, freshened, fitting, Stepped, leaving, stepped, postedTo}
+use Rattle.checked.proofs.NumberGiven.{traffic-zero, stepped-number, posted-number}
 use Rattle.demands.specs.Demands.{among, checkNumbers, freshNumbers, stepNumbers, postNumbers}
-
--- an accepted step gives 0
-pub traffic-zero : (x : Site) → traffic x .number ≡ 0
-unfolding traffic
-traffic-zero x =
-    by-choice (λ (a : Answer). a .number ≡ 0) (receives x) (record { number = 0; traffic = Consumed; name = nameAt x; tuple = template x .tuple }) _
-    (λ e. refl)
-    (λ e.
-    by-choice (λ (a : Answer). a .number ≡ 0) (sends x) (record { number = 0; traffic = Sent; name = nameAt x; tuple = sent x .tuple })
-    (record { number = 0; traffic = Nothing; name = 0; tuple = empty }) (λ f. refl) (λ f. refl))
-
-step-number : (t s q : List ℕ) (n : Name) → step t s q n .answer .number ≡ firstRefusal (refusals t s q n)
-unfolding step
-step-number t s q n =
-    by-choice (λ (o : Outcome). o .answer .number ≡ firstRefusal (refusals t s q n)) (eqb (firstRefusal (refusals t s q n)) 0)
-    (record { answer = traffic (siteOf t s n); instances = instancesAfter t s n; queues = queuesAfter (siteOf t s n) q })
-    (refused (firstRefusal (refusals t s q n)) s q)
-    (λ e. traffic-zero (siteOf t s n) ∙ sym (eqb-true (firstRefusal (refusals t s q n)) 0 e))
-    (λ e. refl)
-
-post-number : (q : List ℕ) (name : ℕ) (g : Tuple) → post q name g .number ≡ firstRefusal (postRefusals q name g)
-unfolding post
-post-number q name g =
-    by-choice (λ (o : Posted). o .number ≡ firstRefusal (postRefusals q name g)) (eqb (firstRefusal (postRefusals q name g)) 0)
-    (record { number = 0; queues = sending q name g })
-    (record { number = firstRefusal (postRefusals q name g); queues = q })
-    (λ e. sym (eqb-true (firstRefusal (postRefusals q name g)) 0 e))
-    (λ e. refl)
 
 -- a refused step says its number and nothing else
 abbrev pub Plain : Answer → Type 0
@@ -70,9 +42,10 @@ step-plain t s q n =
     (λ e k. refl)
 
 pub stepped-plain : (t z : List ℕ) (n : Name) → Plain (stepped t z n .answer)
-unfolding stepped
+unfolding stepped leaving
 stepped-plain t z n =
-    by-choice (λ (o : Outcome). Plain (o .answer)) (fitting t z) (step t (instancesOf z) (queuesOf z) n) (refused 10 (instancesOf z) (queuesOf z))
+    by-choice (λ (o : Stepped). Plain (o .answer)) (fitting t z) (leaving (step t (instancesOf z) (queuesOf z) n))
+    (record { answer = record { number = 10; traffic = Nothing; name = 0; tuple = empty }; state = z })
     (λ e. step-plain t (instancesOf z) (queuesOf z) n)
     (λ e k. refl)
 
@@ -87,32 +60,13 @@ step-traffic t s q n =
     (λ e k. absurd (eqb-false (firstRefusal (refusals t s q n)) 0 e k))
 
 pub stepped-traffic : (t z : List ℕ) (n : Name) → stepped t z n .answer .number ≡ 0 → stepped t z n .answer ≡ traffic (siteOf t (instancesOf z) n)
-unfolding stepped
+unfolding stepped leaving
 stepped-traffic t z n =
-    by-choice (λ (o : Outcome). o .answer .number ≡ 0 → o .answer ≡ traffic (siteOf t (instancesOf z) n)) (fitting t z) (step t (instancesOf z) (queuesOf z) n)
-    (refused 10 (instancesOf z) (queuesOf z))
+    by-choice (λ (o : Stepped). o .answer .number ≡ 0 → o .answer ≡ traffic (siteOf t (instancesOf z) n)) (fitting t z)
+    (leaving (step t (instancesOf z) (queuesOf z) n))
+    (record { answer = record { number = 10; traffic = Nothing; name = 0; tuple = empty }; state = z })
     (λ e. step-traffic t (instancesOf z) (queuesOf z) n)
     (λ e k. absurd (omega arith))
-
--- THE NUMBER of a step and of a post: 10 where table or state are bad, else that of the first condition that does not hold, 0 where all hold
-pub stepped-number : (t z : List ℕ) (n : Name) → stepped t z n .answer .number ≡ (if fitting t z then firstRefusal (refusals t (instancesOf z) (queuesOf z) n) else 10)
-unfolding stepped if_then_else_
-stepped-number t z n = go (fitting t z)
-  where
-    go : (b : Bool) → (if b then step t (instancesOf z) (queuesOf z) n else refused 10 (instancesOf z) (queuesOf z)) .answer .number ≡ (if b then firstRefusal (refusals t (instancesOf z) (queuesOf z) n) else 10)
-    go true = step-number t (instancesOf z) (queuesOf z) n
-    go false = refl
-
-pub posted-number : (t z : List ℕ) (name : ℕ) (g : Tuple) → postedTo t z name g .number ≡ (if fitting t z then firstRefusal (postRefusals (queuesOf z) name g) else 10)
-unfolding postedTo if_then_else_
-posted-number t z name g = go (fitting t z)
-  where
-    o : Bool → Left
-    o b = if b then record { number = post (queuesOf z) name g .number; state = instancesOf z ++ post (queuesOf z) name g .queues } else record { number = 10; state = z }
-
-    go : (b : Bool) → o b .number ≡ (if b then firstRefusal (postRefusals (queuesOf z) name g) else 10)
-    go true = post-number (queuesOf z) name g
-    go false = refl
 
 pub fresh-number : (t z : List ℕ) → freshened t z .number ≡ (if valid t then 0 else 10)
 unfolding freshened if_then_else_
@@ -126,7 +80,7 @@ fresh-number t z = go (valid t)
     go false = refl
 
 -- a number of one of the refusals, or 0
-first-among : (f : ℕ → Bool) (rs : List Refusal) → f 0 ≡ true → each (λ (r : Refusal). f (r .number)) rs ≡ true → f (firstRefusal rs) ≡ true
+pub first-among : (f : ℕ → Bool) (rs : List Refusal) → f 0 ≡ true → each (λ (r : Refusal). f (r .number)) rs ≡ true → f (firstRefusal rs) ≡ true
 unfolding each firstRefusal
 first-among f [] z h = z
 first-among f (r ∷ rs) z h =

@@ -17,7 +17,8 @@ use Rattle.meaning.specs.Refusals.{firstRefusal}
 use Rattle.meaning.specs.Post.{postRefusals}
 use Rattle.meaning.specs.Step.{siteOf, refusals, instancesAfter, queuesAfter}
 use Rattle.engine.proofs.CallLaws.{table-fits}
-use Rattle.demands.specs.Demands.{Act, aStep, aPost, did, Valid, Further, roomFor}
+use Rattle.engine.specs.Calls.{Act, aStep, aPost, did, Valid}
+use Rattle.demands.specs.Demands.{Further, roomFor}
 use Rattle.demands.proofs.StepMore.{step-accepted-too, step-more, post-accepted-too, post-more}
 use Rattle.demands.proofs.StatesLeft.{queues-fit, step-number, post-number, step-instances, step-queues, post-instances, post-queues}
 

@@ -6,7 +6,7 @@ use mathlib.Core.Bool.{true}
 use mathlib.Core.List.{List, [], _∷_}
 use native.Mathlib.Omega.{arith}
 use lib.ListN.{length, length-append}
-use Rattle.words.specs.Sum.{one}
+use Rattle.words.specs.Sum.{oneIf}
 use Rattle.words.specs.Counts.{names, values, messages}
 use Rattle.state.specs.Places.{queueWords}
 use Rattle.meaning.specs.declared.Tuple.{Tuple}

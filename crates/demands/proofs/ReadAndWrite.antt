@@ -16,27 +16,28 @@ use Rattle.reading.specs.declared.Read.the-variants.{At, Refused}
 use Rattle.reading.specs.Reading.{misplaced, excessive}
 use Rattle.checks.specs.Checks.{lowest}
 use Rattle.notation.specs.declared.Reading.{Reading}
-use Rattle.notation.specs.Notation.{Taken, model, tableOf, checked, judged, taken}
+use Rattle.notation.specs.Notation.{ReadInto, model, tableOf, checked, judged, readInto}
 use Rattle.shown.specs.Shown.{shownTable}
 use Rattle.engine.specs.declared.Written.{Written}
 use Rattle.engine.specs.Engine.{valid, WrittenTo, written, writtenTo}
 use Rattle.steps.proofs.Choices.{by-choice, chosen, passed}
+use Rattle.demands.specs.Promises.{Reads, Writes}
 use Rattle.demands.specs.Demands.{among, readNumbers, writeNumbers}
 use Rattle.demands.proofs.ReaderNumbers.{told, model-told}
 
 -- WHAT A READING LEAVES: a table that was read whole, and no check broken; or a number other than 0 and the table as it was
-pub record Whole (text : List ℕ) (r : Taken) : Type 0 where
+pub record Whole (text : List ℕ) (r : ReadInto) : Type 0 where
   pub place : ℕ
   pub ended : model text .end ≡ At place
   pub sound : lowest (model text .value) ≡ 0
   pub is : r ≡ record { number = 0; beside = 0; table = tableOf (model text .value) }
 
-pub record Stays (t : List ℕ) (r : Taken) : Type 0 where
+pub record Stays (t : List ℕ) (r : ReadInto) : Type 0 where
   pub refused : r .number ≡ 0 → ⊥
   pub among-them : among readNumbers (r .number) ≡ true
   pub table : r .table ≡ t
 
-abbrev pub Either : List ℕ → List ℕ → Taken → Type 0
+abbrev pub Either : List ℕ → List ℕ → ReadInto → Type 0
 Either text t r = Whole text r ⊎ Stays t r
 
 two-or-three : (n p : ℕ) (t : List ℕ) → told (Refused n p) ≡ true → Stays t (record { number = n; beside = p; table = t })
@@ -64,8 +65,8 @@ unfolding judged
 judged-either text t (At q) e h = checked-either text t q e
 judged-either text t (Refused n p) e h = inr (two-or-three n p t h)
 
-pub taken-either : (text t : List ℕ) → Either text t (taken text t)
-unfolding taken among if_then_else_
+pub taken-either : (text t : List ℕ) → Either text t (readInto text t)
+unfolding readInto among if_then_else_
 taken-either text t =
     by-choice (Either text t) (ltb textMost (length text)) (record { number = 1; beside = 0; table = t }) (judged (model text .end) (model text .value) t)
     (λ z. inr (record { refused = λ k. omega (arith, k); among-them = refl; table = refl }))
@@ -73,57 +74,57 @@ taken-either text t =
 
 -- READ: "1: text above 32,768 bytes", then 2 or 3 with its place, then 4 with the lowest check broken, else 0
 module _ (text t : List ℕ) where
-  pub read-above : textMost < length text → taken text t ≡ record { number = 1; beside = 0; table = t }
-  unfolding taken
+  pub read-above : textMost < length text → readInto text t ≡ record { number = 1; beside = 0; table = t }
+  unfolding readInto
   read-above l = chosen (ltb textMost (length text)) (record { number = 1; beside = 0; table = t }) _ (lt-ltb textMost (length text) l)
 
   module _ (l : length text ≤ textMost) where
-    within : taken text t ≡ judged (model text .end) (model text .value) t
-    unfolding taken
+    within : readInto text t ≡ judged (model text .end) (model text .value) t
+    unfolding readInto
     within = passed (ltb textMost (length text)) _ (judged (model text .end) (model text .value) t) (le-ltb textMost (length text) l)
 
-    pub read-misplaced : (n p : ℕ) → model text .end ≡ Refused n p → (among (2 ∷ 3 ∷ []) n ≡ true) × (taken text t ≡ record { number = n; beside = p; table = t })
+    pub read-misplaced : (n p : ℕ) → model text .end ≡ Refused n p → (among (2 ∷ 3 ∷ []) n ≡ true) × (readInto text t ≡ record { number = n; beside = p; table = t })
     unfolding judged told
     read-misplaced n p e = (subst (λ (r : Read). told r ≡ true) e (model-told text), within ∙ ap (λ (r : Read). judged r (model text .value) t) e)
 
     module _ (q : ℕ) (e : model text .end ≡ At q) where
-      to-check : taken text t ≡ checked (lowest (model text .value)) (model text .value) t
+      to-check : readInto text t ≡ checked (lowest (model text .value)) (model text .value) t
       unfolding judged
       to-check = within ∙ ap (λ (r : Read). judged r (model text .value) t) e
 
-      pub read-broken : (lowest (model text .value) ≡ 0 → ⊥) → taken text t ≡ record { number = 4; beside = lowest (model text .value); table = t }
+      pub read-broken : (lowest (model text .value) ≡ 0 → ⊥) → readInto text t ≡ record { number = 4; beside = lowest (model text .value); table = t }
       unfolding checked
       read-broken n = to-check ∙ passed (eqb (lowest (model text .value)) 0) _ (record { number = 4; beside = lowest (model text .value); table = t }) (ne-eqb (lowest (model text .value)) 0 n)
 
-      pub read-passed : lowest (model text .value) ≡ 0 → taken text t ≡ record { number = 0; beside = 0; table = tableOf (model text .value) }
+      pub read-passed : lowest (model text .value) ≡ 0 → readInto text t ≡ record { number = 0; beside = 0; table = tableOf (model text .value) }
       unfolding checked
       read-passed n = to-check ∙ chosen (eqb (lowest (model text .value)) 0) (record { number = 0; beside = 0; table = tableOf (model text .value) }) _ (eq-eqb (lowest (model text .value)) 0 n)
 
 -- the numbers; a number other than 0 leaves the table as it was
-module _ (text t : List ℕ) (r : Reading) (y : List ℕ) (promise : _≡_ {A = Taken} (record { number = r .number; beside = r .beside; table = y }) (taken text t)) where
-  read-is : r .number ≡ taken text t .number
-  read-is = ap (λ (o : Taken). o .number) promise
+module _ (text t : List ℕ) (r : Reading) (y : List ℕ) (promise : Reads text t r y) where
+  read-is : r .number ≡ readInto text t .number
+  read-is = ap (λ (o : ReadInto). o .number) promise
 
-  read-left : y ≡ taken text t .table
-  read-left = ap (λ (o : Taken). o .table) promise
+  read-left : y ≡ readInto text t .table
+  read-left = ap (λ (o : ReadInto). o .table) promise
 
   pub read-number-is : among readNumbers (r .number) ≡ true
   unfolding among if_then_else_
   read-number-is =
       subst (λ (k : ℕ). among readNumbers k ≡ true) (sym read-is)
-      (⊎-elim (λ (w : Whole text (taken text t)). subst (λ (o : Taken). among readNumbers (o .number) ≡ true) (sym (w .is)) refl)
-      (λ (s : Stays t (taken text t)). s .among-them)
+      (⊎-elim (λ (w : Whole text (readInto text t)). subst (λ (o : ReadInto). among readNumbers (o .number) ≡ true) (sym (w .is)) refl)
+      (λ (s : Stays t (readInto text t)). s .among-them)
       (taken-either text t))
 
   pub read-refused : (r .number ≡ 0 → ⊥) → y ≡ t
   read-refused n =
       read-left
-      ∙ ⊎-elim (λ (w : Whole text (taken text t)). absurd (n (read-is ∙ ap (λ (o : Taken). o .number) (w .is)))) (λ (s : Stays t (taken text t)). s .table) (taken-either text t)
+      ∙ ⊎-elim (λ (w : Whole text (readInto text t)). absurd (n (read-is ∙ ap (λ (o : ReadInto). o .number) (w .is)))) (λ (s : Stays t (readInto text t)). s .table) (taken-either text t)
 
   pub read-made : r .number ≡ 0 → (lowest (model text .value) ≡ 0) × (y ≡ tableOf (model text .value))
   read-made n =
-      ⊎-elim (λ (w : Whole text (taken text t)). (w .sound, read-left ∙ ap (λ (o : Taken). o .table) (w .is)))
-      (λ (s : Stays t (taken text t)). absurd (s .refused (sym read-is ∙ n)))
+      ⊎-elim (λ (w : Whole text (readInto text t)). (w .sound, read-left ∙ ap (λ (o : ReadInto). o .table) (w .is)))
+      (λ (s : Stays t (readInto text t)). absurd (s .refused (sym read-is ∙ n)))
       (taken-either text t)
 
 -- WHAT A WRITING LEAVES
@@ -155,7 +156,7 @@ written-number t out = go (valid t) (ltb (length out) (length (shownTable t)))
     go false b = refl
 
 -- WRITE: 10, then 5, else 0; a number other than 0 leaves the buffer as it was
-module _ (t out : List ℕ) (r : Written) (y : List ℕ) (promise : _≡_ {A = WrittenTo} (record { number = r .number; length = r .length; buffer = y }) (writtenTo t out)) where
+module _ (t out : List ℕ) (r : Written) (y : List ℕ) (promise : Writes t out r y) where
   write-is : r .number ≡ writtenTo t out .number
   write-is = ap (λ (o : WrittenTo). o .number) promise
 

@@ -8,7 +8,7 @@ use lib.Dec.{eqb}
 use lib.ListN.{length, take-append-drop}
 use borrow.Author.Tests.{eq-eqb, eqb-true}
 use Rattle.words.specs.Pick.{if_then_else_}
-use Rattle.words.specs.Sum.{one}
+use Rattle.words.specs.Sum.{oneIf}
 use Rattle.words.proofs.PickLaws.{and-true}
 use Rattle.state.specs.Places.{instancesWords}
 use Rattle.state.specs.Instances.{instancesOf, queuesOf}
@@ -18,14 +18,18 @@ use Rattle.meaning.specs.Step.{siteOf, queuesAfter, refusals, step}
 use Rattle.steps.proofs.Choices.{by-choice, chosen as picked}
 use Rattle.steps.proofs.Independence.{accepted-instances}
 use Rattle.listing.specs.declared.Listed.{Listed}
-use Rattle.listing.specs.Listing.{blank, accepted, listed, chosen}
-use Rattle.running.specs.Run.{Run, whether, oneStep, onFirst, ranBy, ran}
+use Rattle.naming.specs.Names.{blank, accepted}
+use Rattle.listing.specs.Listing.{listed, chosen}
+use Rattle.running.specs.Run.{Run, whether, oneStep, ranBy, ran}
+use Rattle.running.proofs.RunLaws.{none-listed, first-listed}
 use Rattle.listed.proofs.ListedAll.{listed-accepted}
 use Rattle.engine.specs.Engine.{fitting, listedAt, RanTo, ended}
-use Rattle.demands.specs.Demands.{Act, aStep, did, allAccepted, after, Valid, runSteps, runLeft, ranGiven}
-use Rattle.demands.proofs.StatesLeft.{did-valid, step-number, step-instances, step-queues}
+use Rattle.checked.proofs.KeepsFitting.{did-valid}
+use Rattle.engine.specs.Calls.{Act, aStep, did, allAccepted, after, Valid}
+use Rattle.demands.specs.Demands.{runSteps, runLeft, ranGiven}
+use Rattle.demands.proofs.StatesLeft.{step-number, step-instances, step-queues}
 
-whether-is : (ns : List Name) → whether ns ≡ one (eqb (chosen ns 0 .number) 0)
+whether-is : (ns : List Name) → whether ns ≡ oneIf (eqb (chosen ns 0 .number) 0)
 unfolding whether chosen
 whether-is [] = refl
 whether-is (n ∷ ns) = refl
@@ -33,16 +37,6 @@ whether-is (n ∷ ns) = refl
 ended-none : (s q : List ℕ) → ended (record { steps = 0; left = 0; instances = s; queues = q }) ≡ record { number = 0; steps = 0; left = 0; state = s ++ q }
 unfolding ended
 ended-none s q = refl
-
--- a run by its first listed step
-module _ (t : List ℕ) (limit : ℕ) (s q : List ℕ) where
-  ran-stops : listed t s q ≡ [] → ran t (suc limit) s q ≡ record { steps = 0; left = 0; instances = s; queues = q }
-  unfolding ran ranBy onFirst
-  ran-stops e = rw e
-
-  ran-goes : (n : Name) (ns : List Name) → listed t s q ≡ n ∷ ns → ran t (suc limit) s q ≡ oneStep (ran t limit (step t s q n .instances) (step t s q n .queues))
-  unfolding ran ranBy onFirst
-  ran-goes n ns e = rw e
 
 module _ (t : List ℕ) where
   module _ (z : List ℕ) (v : Valid t z) where
@@ -137,6 +131,7 @@ module _ (t : List ℕ) where
 
   -- THE RUN
   pub run-is-steps : (limit : ℕ) (z : List ℕ) → Valid t z → ended (ran t limit (instancesOf z) (queuesOf z)) ≡ ranGiven t limit z
+  unfolding ran
   run-is-steps zero z v = run-none z v
   run-is-steps (suc limit) z v = go (listed t (instancesOf z) (queuesOf z)) refl (λ n. run-is-steps limit (did t (aStep n) z .state) (did-valid t (aStep n) z v))
     where
@@ -144,14 +139,14 @@ module _ (t : List ℕ) where
           → ((n : Name) → ended (ran t limit (instancesOf (did t (aStep n) z .state)) (queuesOf (did t (aStep n) z .state))) ≡ ranGiven t limit (did t (aStep n) z .state))
           → ended (ran t (suc limit) (instancesOf z) (queuesOf z)) ≡ ranGiven t (suc limit) z
       go [] e next =
-          ap ended (ran-stops t limit (instancesOf z) (queuesOf z) e)
+          ap ended (none-listed (listed t) (step t) limit (instancesOf z) (queuesOf z) e)
           ∙ ended-none (instancesOf z) (queuesOf z)
           ∙ ap (λ (y : List ℕ). record { number = 0; steps = 0; left = 0; state = y }) (take-append-drop instancesWords z)
           ∙ given-none limit z (first-none z v e)
       go (n ∷ ns) e next =
           let f = first-some z v n ns e in
           let a : did t (aStep n) z .number ≡ 0 = rw f at (listed-accepts z v 0 (ap (λ (y : Listed). y .number) f)) in
-          ap ended (ran-goes t limit (instancesOf z) (queuesOf z) n ns e)
+          ap ended (first-listed (listed t) (step t) limit (instancesOf z) (queuesOf z) n ns e)
           ∙ ended-step (ran t limit (step t (instancesOf z) (queuesOf z) n .instances) (step t (instancesOf z) (queuesOf z) n .queues))
           ∙ ap oneMore (ap₂ (λ (x y : List ℕ). ended (ran t limit x y)) (sym (left-instances z v n a)) (sym (left-queues z v n a)) ∙ next n)
           ∙ sym (given-step limit z n f)

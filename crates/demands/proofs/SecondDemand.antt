@@ -17,10 +17,12 @@ use Rattle.meaning.specs.Post.{postRefusals}
 use Rattle.meaning.specs.Step.{siteOf, exists, traffic, instancesAfter, queuesAfter, refusals}
 use Rattle.steps.proofs.AcceptedParts.{Accepted, accepted-parts, parts-accepted}
 use Rattle.steps.proofs.Choices.{chosen}
-use Rattle.rules.specs.Settled.{Done}
-use Rattle.engine.specs.Engine.{Left, fitting, stepped, postedTo}
-use Rattle.demands.specs.Demands.{Act, aStep, aPost, did, numbers, allAccepted, after, allHold, permitted, given, stateGiven, allPermitted, numbersGiven, givenAfter, AllAllowed}
-use Rattle.demands.proofs.Numbers.{stepped-number, stepped-traffic}
+use Rattle.engine.specs.Engine.{Left, fitting, Stepped, stepped, postedTo}
+use Rattle.engine.specs.Calls.{Act, aStep, aPost, did, numbers, allAccepted, after}
+use Rattle.demands.specs.Promises.{Steps, Posts}
+use Rattle.demands.specs.Demands.{allHold, permitted, given, stateGiven, allPermitted, numbersGiven, givenAfter, AllAllowed}
+use Rattle.checked.proofs.NumberGiven.{stepped-number}
+use Rattle.demands.proofs.Numbers.{stepped-traffic}
 use Rattle.demands.proofs.Exactly.{accepted-exactly, state-exactly, number-exactly, accepted-gives}
 use Rattle.demands.proofs.Firmness.{all-allowed-is}
 
@@ -39,9 +41,9 @@ module _ (t z : List ℕ) where
     abbrev q : List ℕ
     q = queuesOf z
 
-    module _ (r : Answer) (y : List ℕ) (promise : Done (stepped t z n) r y) where
+    module _ (r : Answer) (y : List ℕ) (promise : Steps t z n r y) where
       step-is : r .number ≡ stepped t z n .answer .number
-      step-is = ap (λ (a : Answer). a .number) (promise .answer)
+      step-is = ap (λ (o : Stepped). o .answer .number) promise
 
       pub step-exactly : eqb (r .number) 0 ≡ fitting t z && allHold (refusals t s q n)
       unfolding did permitted
@@ -50,8 +52,8 @@ module _ (t z : List ℕ) where
       pub step-gives : r .number ≡ 0 → (r ≡ traffic (siteOf t s n)) × (y ≡ instancesAfter t s n ++ queuesAfter (siteOf t s n) q)
       unfolding did given
       step-gives e = (
-        promise .answer ∙ stepped-traffic t z n (sym step-is ∙ e),
-        promise .state ∙ accepted-gives t (aStep n) z (sym step-is ∙ e),
+        ap (λ (o : Stepped). o .answer) promise ∙ stepped-traffic t z n (sym step-is ∙ e),
+        ap (λ (o : Stepped). o .state) promise ∙ accepted-gives t (aStep n) z (sym step-is ∙ e),
       )
 
       -- the conditions by name: such a pool, instance, element, phase and branch exist, and all that `Accepted` lists
@@ -70,7 +72,7 @@ module _ (t z : List ℕ) where
           ∙ parts-accepted t s q n e a
 
   -- A POST
-  module _ (name : ℕ) (g : Tuple) (r : ℕ) (y : List ℕ) (promise : _≡_ {A = Left} (record { number = r; state = y }) (postedTo t z name g)) where
+  module _ (name : ℕ) (g : Tuple) (r : ℕ) (y : List ℕ) (promise : Posts t z name g r y) where
     post-is : r ≡ postedTo t z name g .number
     post-is = ap (λ (o : Left). o .number) promise
 

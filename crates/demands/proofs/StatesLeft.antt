@@ -1,7 +1,7 @@
--- From a valid state: it stays valid after every call, and an accepted call leaves the instances and the queues that the rules give. Assumes nothing.
+-- From a valid state an accepted call leaves the instances and the queues that the rules give. Assumes nothing.
 use Prim.Native.Nat.{ℕ}
 use mathlib.Core.Path.{_≡_, _∙_, ap}
-use mathlib.Core.List.{List, [], _∷_, _++_}
+use mathlib.Core.List.{List, _++_}
 use lib.ListN.{length}
 use lib.Seq.{take-at, drop-at}
 use Rattle.state.specs.Places.{instancesWords}
@@ -17,10 +17,10 @@ use Rattle.steps.proofs.OnlyOwn.{length-after}
 use Rattle.steps.proofs.Traffic.{state-queues}
 use Rattle.engine.specs.Engine.{fitting}
 use Rattle.engine.proofs.CallLaws.{state-fits, long-instances, long-queues}
-use Rattle.checked.proofs.KeepsFitting.{Sound, step-keeps-fitting, post-keeps-fitting}
-use Rattle.demands.specs.Demands.{Act, aStep, aPost, did, after, given, Valid}
+use Rattle.engine.specs.Calls.{aStep, aPost, did, Valid}
+use Rattle.demands.specs.Demands.{given}
 use Rattle.demands.proofs.QueuesMore.{QueuesFit}
-use Rattle.demands.proofs.Numbers.{stepped-number, posted-number}
+use Rattle.checked.proofs.NumberGiven.{stepped-number, posted-number}
 use Rattle.demands.proofs.Exactly.{accepted-gives}
 
 -- two parts that are put together
@@ -32,23 +32,6 @@ module _ (s q : List ℕ) (long : length s ≡ instancesWords) where
   queues-of = drop-at s q instancesWords long
 
 module _ (t : List ℕ) where
-  sound : (z : List ℕ) → Valid t z → Sound t z
-  sound z v = record { long = v .long; fits = v .fits }
-
-  sound-valid : (z : List ℕ) → Sound t z → Valid t z
-  sound-valid z v = record { long = v .long; fits = v .fits }
-
-  -- VALID AFTER EVERY CALL, accepted or not
-  pub did-valid : (a : Act) (z : List ℕ) → Valid t z → Valid t (did t a z .state)
-  unfolding did
-  did-valid (aStep n) z v = sound-valid _ (step-keeps-fitting t z (sound z v) n)
-  did-valid (aPost name g) z v = sound-valid _ (post-keeps-fitting t z (sound z v) name g)
-
-  pub after-valid : (acts : List Act) (z : List ℕ) → Valid t z → Valid t (after t acts z)
-  unfolding after
-  after-valid [] z v = v
-  after-valid (a ∷ rest) z v = after-valid rest (did t a z .state) (did-valid a z v)
-
   module _ (z : List ℕ) (v : Valid t z) where
     pub queues-fit : QueuesFit (queuesOf z)
     queues-fit = record { wide = long-queues z (v .long); fits = state-queues t (instancesOf z) (queuesOf z) (state-fits t z (v .fits)) }

@@ -18,7 +18,7 @@ use Rattle.meaning.specs.Messages.{has}
 use Rattle.meaning.specs.Queues.{messagesOf, sending}
 use Rattle.meaning.specs.Refusals.{_unless_, firstRefusal}
 use Rattle.meaning.specs.Post.{postRefusals}
-use Rattle.meaning.specs.Step.{Site, siteOf, receives, sends, nameAt, sent, queued, space, refusals, queuesAfter}
+use Rattle.meaning.specs.Step.{Site, siteOf, receives, sends, messageNamed, sent, queued, space, refusals, queuesAfter}
 use Rattle.steps.proofs.AcceptedParts.{first-holds}
 use Rattle.steps.proofs.Choices.{by-test, by-choice}
 use Rattle.steps.proofs.Independence.{accepted-too}
@@ -51,26 +51,26 @@ module _ (e : ℕ → List Tuple) (q₁ q₂ : List ℕ) (f₁ : QueuesFit q₁)
     abbrev x : Site
     x = siteOf t s n
 
-    within-sent : (k : sends x ≡ true) → length (messagesOf (sending q₁ (nameAt x) (sent x .tuple)) (nameAt x)) + length (e (nameAt x)) ≤ messages
+    within-sent : (k : sends x ≡ true) → length (messagesOf (sending q₁ (messageNamed x) (sent x .tuple)) (messageNamed x)) + length (e (messageNamed x)) ≤ messages
     within-sent k =
-        subst (λ (q : List ℕ). length (messagesOf q (nameAt x)) + length (e (nameAt x)) ≤ messages)
+        subst (λ (q : List ℕ). length (messagesOf q (messageNamed x)) + length (e (messageNamed x)) ≤ messages)
         (after-sending x q₁ (sent-alone t s q₁ n fits accepted k) k)
-        (within (nameAt x) (sent-name t s q₁ n fits accepted k))
+        (within (messageNamed x) (sent-name t s q₁ n fits accepted k))
 
     queued-too : queued x q₂ ≡ true
     unfolding queued
     queued-too =
-        by-choice (λ b. b ≡ true) (receives x) (has (x .given) (messagesOf q₂ (nameAt x))) true
-        (λ r. there-too e q₁ q₂ f₁ f₂ more (nameAt x) (received-name t s q₁ n fits accepted r) (x .given) (received-there t s q₁ n fits accepted r))
+        by-choice (λ b. b ≡ true) (receives x) (has (x .given) (messagesOf q₂ (messageNamed x))) true
+        (λ r. there-too e q₁ q₂ f₁ f₂ more (messageNamed x) (received-name t s q₁ n fits accepted r) (x .given) (received-there t s q₁ n fits accepted r))
         (λ r. refl)
 
     space-too : space x q₂ ≡ true
     unfolding space
     space-too =
-        by-choice (λ b. b ≡ true) (sends x) (ltb (length (messagesOf q₂ (nameAt x))) messages) true
+        by-choice (λ b. b ≡ true) (sends x) (ltb (length (messagesOf q₂ (messageNamed x))) messages) true
         (λ k.
-        lt-ltb (length (messagesOf q₂ (nameAt x))) messages
-        (room-too e q₁ q₂ f₁ f₂ more (nameAt x) (sent-name t s q₁ n fits accepted k) (sent x .tuple) (sent-short t s q₁ n fits accepted k) (sent-space t s q₁ n fits accepted k) (within-sent k)))
+        lt-ltb (length (messagesOf q₂ (messageNamed x))) messages
+        (room-too e q₁ q₂ f₁ f₂ more (messageNamed x) (sent-name t s q₁ n fits accepted k) (sent x .tuple) (sent-short t s q₁ n fits accepted k) (sent-space t s q₁ n fits accepted k) (within-sent k)))
         (λ k. refl)
 
     pub step-accepted-too : firstRefusal (refusals t s q₂ n) ≡ 0
@@ -81,12 +81,12 @@ module _ (e : ℕ → List Tuple) (q₁ q₂ : List ℕ) (f₁ : QueuesFit q₁)
         by-test (receives x)
         (λ r.
         rw (after-receiving x q₁ r, after-receiving x q₂ r)
-        (consumed-more e q₁ q₂ f₁ f₂ more (nameAt x) (received-name t s q₁ n fits accepted r) (x .given) (received-there t s q₁ n fits accepted r)))
+        (consumed-more e q₁ q₂ f₁ f₂ more (messageNamed x) (received-name t s q₁ n fits accepted r) (x .given) (received-there t s q₁ n fits accepted r)))
         (λ r.
         by-test (sends x)
         (λ k.
         rw (after-sending x q₁ r k, after-sending x q₂ r k)
-        (sent-more e q₁ q₂ f₁ f₂ more (nameAt x) (sent-name t s q₁ n fits accepted k) (sent x .tuple) (sent-short t s q₁ n fits accepted k) (sent-space t s q₁ n fits accepted k) (within-sent k)))
+        (sent-more e q₁ q₂ f₁ f₂ more (messageNamed x) (sent-name t s q₁ n fits accepted k) (sent x .tuple) (sent-short t s q₁ n fits accepted k) (sent-space t s q₁ n fits accepted k) (within-sent k)))
         (λ k. rw (after-neither x q₁ r k, after-neither x q₂ r k) more))
 
   -- A POST

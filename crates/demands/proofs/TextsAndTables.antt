@@ -14,7 +14,7 @@ use Rattle.words.proofs.PickLaws.{and-true}
 use Rattle.limits.specs.Limits.{tableFits}
 use Rattle.checks.specs.Checks.{lowest}
 use Rattle.lowest.specs.Model.{modelOf}
-use Rattle.notation.specs.Notation.{Taken, model, tableOf, taken}
+use Rattle.notation.specs.Notation.{ReadInto, model, tableOf, readInto}
 use Rattle.shown.specs.Shown.{shownTable}
 use Rattle.engine.specs.Engine.{valid, verdictOf, freshened, WrittenTo, written, writtenTo}
 use Rattle.steps.proofs.Choices.{by-choice, chosen, passed}
@@ -60,28 +60,28 @@ length-written t out =
     (λ v n. absurd (omega (arith, n)))
 
 module _ (t : List ℕ) (words : Table t) (v : valid t ≡ true) where
-  pub read-what-was-written : (out t₀ : List ℕ) → writtenTo t out .number ≡ 0 → taken (textIn (writtenTo t out)) t₀ ≡ record { number = 0; beside = 0; table = t }
+  pub read-what-was-written : (out t₀ : List ℕ) → writtenTo t out .number ≡ 0 → readInto (textIn (writtenTo t out)) t₀ ≡ record { number = 0; beside = 0; table = t }
   read-what-was-written out t₀ n =
-      ap (λ (text : List ℕ). taken text t₀) (text-written t out n) ∙ read-back t t₀ (words .small) (valid-fits t v) (valid-sound t v) (words .long) (short t v)
+      ap (λ (text : List ℕ). readInto text t₀) (text-written t out n) ∙ read-back t t₀ (words .small) (valid-fits t v) (valid-sound t v) (words .long) (short t v)
 
   -- into a buffer that is long enough, which one of 32,768 bytes is
   pub write-what-was-read : (out t₀ out₂ : List ℕ) → writtenTo t out .number ≡ 0 → writtenTo t out .length ≤ length out₂
-      → (writtenTo (taken (textIn (writtenTo t out)) t₀ .table) out₂ .number ≡ 0)
-      × (textIn (writtenTo (taken (textIn (writtenTo t out)) t₀ .table) out₂) ≡ textIn (writtenTo t out))
+      → (writtenTo (readInto (textIn (writtenTo t out)) t₀ .table) out₂ .number ≡ 0)
+      × (textIn (writtenTo (readInto (textIn (writtenTo t out)) t₀ .table) out₂) ≡ textIn (writtenTo t out))
   write-what-was-read out t₀ out₂ n l =
-      let same : taken (textIn (writtenTo t out)) t₀ .table ≡ t = ap (λ (r : Taken). r .table) (read-what-was-written out t₀ n) in
+      let same : readInto (textIn (writtenTo t out)) t₀ .table ≡ t = ap (λ (r : ReadInto). r .table) (read-what-was-written out t₀ n) in
       let again : writtenTo t out₂ .number ≡ 0 = ap (λ (w : WrittenTo). w .number) (written-whole t out₂ v (subst (λ (k : ℕ). k ≤ length out₂) (length-written t out n) l)) in (
         ap (λ (y : List ℕ). writtenTo y out₂ .number) same ∙ again,
         ap (λ (y : List ℕ). textIn (writtenTo y out₂)) same ∙ text-written t out₂ again ∙ sym (text-written t out n),
       )
 
 -- A TEXT THAT IS READ leaves a table that no later call refuses
-module _ (text t₀ : List ℕ) (n : taken text t₀ .number ≡ 0) where
-  whole : Whole text (taken text t₀)
-  whole = ⊎-elim (λ (w : Whole text (taken text t₀)). w) (λ (s : Stays t₀ (taken text t₀)). absurd (s .refused n)) (taken-either text t₀)
+module _ (text t₀ : List ℕ) (n : readInto text t₀ .number ≡ 0) where
+  whole : Whole text (readInto text t₀)
+  whole = ⊎-elim (λ (w : Whole text (readInto text t₀)). w) (λ (s : Stays t₀ (readInto text t₀)). absurd (s .refused n)) (taken-either text t₀)
 
-  read-table : tableOf (model text .value) ≡ taken text t₀ .table
-  read-table = sym (ap (λ (r : Taken). r .table) (whole .is))
+  read-table : tableOf (model text .value) ≡ readInto text t₀ .table
+  read-table = sym (ap (λ (r : ReadInto). r .table) (whole .is))
 
   model-valid : valid (tableOf (model text .value)) ≡ true
   unfolding valid
@@ -93,17 +93,17 @@ module _ (text t₀ : List ℕ) (n : taken text t₀ .number ≡ 0) where
   model-table : Table (tableOf (model text .value))
   model-table = record { long = read-long text (whole .place) (whole .ended); small = read-small text (whole .place) (whole .ended) }
 
-  pub read-valid : (valid (taken text t₀ .table) ≡ true) × Table (taken text t₀ .table)
+  pub read-valid : (valid (readInto text t₀ .table) ≡ true) × Table (readInto text t₀ .table)
   read-valid = subst (λ (t : List ℕ). (valid t ≡ true) × Table t) read-table (model-valid, model-table)
 
   -- the check of it gives 0, and a fresh state of it is made
-  pub read-then-check : verdictOf (taken text t₀ .table) ≡ record { number = 0; beside = 0 }
-  read-then-check = let t : List ℕ = taken text t₀ .table in check-passed t (valid-fits t (read-valid .0)) (valid-sound t (read-valid .0))
+  pub read-then-check : verdictOf (readInto text t₀ .table) ≡ record { number = 0; beside = 0 }
+  read-then-check = let t : List ℕ = readInto text t₀ .table in check-passed t (valid-fits t (read-valid .0)) (valid-sound t (read-valid .0))
 
-  pub read-then-fresh : (z : List ℕ) → freshened (taken text t₀ .table) z .number ≡ 0
-  read-then-fresh z = fresh-number (taken text t₀ .table) z ∙ chosen (valid (taken text t₀ .table)) 0 10 (read-valid .0)
+  pub read-then-fresh : (z : List ℕ) → freshened (readInto text t₀ .table) z .number ≡ 0
+  read-then-fresh z = fresh-number (readInto text t₀ .table) z ∙ chosen (valid (readInto text t₀ .table)) 0 10 (read-valid .0)
 
   -- and its own text, however the text that was read is spelled, is read as the same table
-  pub read-write-read : (out t₁ : List ℕ) → writtenTo (taken text t₀ .table) out .number ≡ 0
-      → taken (textIn (writtenTo (taken text t₀ .table) out)) t₁ ≡ record { number = 0; beside = 0; table = taken text t₀ .table }
-  read-write-read = read-what-was-written (taken text t₀ .table) (read-valid .1) (read-valid .0)
+  pub read-write-read : (out t₁ : List ℕ) → writtenTo (readInto text t₀ .table) out .number ≡ 0
+      → readInto (textIn (writtenTo (readInto text t₀ .table) out)) t₁ ≡ record { number = 0; beside = 0; table = readInto text t₀ .table }
+  read-write-read = read-what-was-written (readInto text t₀ .table) (read-valid .1) (read-valid .0)

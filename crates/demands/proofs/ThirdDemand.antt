@@ -12,8 +12,9 @@ use Rattle.words.specs.Each.{each}
 use Rattle.words.proofs.AllLaws.{and-left, and-right}
 use Rattle.words.proofs.PickLaws.{and-true}
 use Rattle.meaning.specs.declared.Tuple.{Tuple}
-use Rattle.demands.specs.Demands.{Act, did, numbers, allAccepted, after, Valid, Further, roomFor, neverPasses, AllAllowed}
-use Rattle.demands.proofs.StatesLeft.{did-valid}
+use Rattle.engine.specs.Calls.{Act, did, numbers, allAccepted, after, Valid}
+use Rattle.demands.specs.Demands.{Further, roomFor, neverPasses, AllAllowed}
+use Rattle.checked.proofs.KeepsFitting.{did-valid}
 use Rattle.demands.proofs.OneMore.{one-more}
 use Rattle.demands.proofs.Firmness.{all-allowed-is}
 

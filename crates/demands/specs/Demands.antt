@@ -8,11 +8,10 @@ use lib.ListN.{length, take}
 use Rattle.words.specs.All.{all}
 use Rattle.words.specs.Each.{each}
 use Rattle.words.specs.Pick.{if_then_else_}
-use Rattle.words.specs.Sum.{one}
+use Rattle.words.specs.Sum.{oneIf}
 use Rattle.words.specs.Counts.{names, messages}
 use Rattle.words.specs.Words.{at, greatest}
 use Rattle.model.specs.Places.{tableWords}
-use Rattle.state.specs.Places.{stateWords}
 use Rattle.state.specs.Instances.{instancesOf, queuesOf}
 use Rattle.meaning.specs.declared.Name.{Name}
 use Rattle.meaning.specs.declared.Answer.{Answer}
@@ -22,31 +21,10 @@ use Rattle.meaning.specs.Queues.{messagesOf, sending}
 use Rattle.meaning.specs.Refusals.{Refusal, firstRefusal}
 use Rattle.meaning.specs.Step.{siteOf, refusals, instancesAfter, queuesAfter}
 use Rattle.meaning.specs.Post.{postRefusals}
-use Rattle.rules.specs.Settled.{Done}
-use Rattle.engine.specs.Engine.{Left, fitting, stepped, postedTo, listedAt, RanTo, WrittenTo}
-
--- WHAT IS CALLED: "named steps and posts"
-pub data Act : Type 0 where
-  aStep : Name → Act
-  aPost : ℕ → Tuple → Act
-
--- the number that the public call gives back, and the state that it leaves
-unfoldable pub did : List ℕ → Act → List ℕ → Left
-did t (aStep n) z = record { number = stepped t z n .answer .number; state = stepped t z n .instances ++ stepped t z n .queues }
-did t (aPost name g) z = postedTo t z name g
-
--- calls one after the other, each judged in the state that the earlier ones left: their numbers, whether all are accepted, the state after them
-unfoldable pub numbers : List ℕ → List Act → List ℕ → List ℕ
-numbers t [] z = []
-numbers t (a ∷ rest) z = did t a z .number ∷ numbers t rest (did t a z .state)
-
-unfoldable pub allAccepted : List ℕ → List Act → List ℕ → Bool
-allAccepted t [] z = true
-allAccepted t (a ∷ rest) z = eqb (did t a z .number) 0 && allAccepted t rest (did t a z .state)
-
-unfoldable pub after : List ℕ → List Act → List ℕ → List ℕ
-after t [] z = z
-after t (a ∷ rest) z = after t rest (did t a z .state)
+use Rattle.listing.specs.Listing.{listed}
+use Rattle.engine.specs.Engine.{verdictOf, freshened, fitting, stepped, postedTo, listedAt, RanTo, ranTo, WrittenTo, writtenTo}
+use Rattle.engine.specs.Calls.{Act, aStep, aPost, did, after}
+use Rattle.demands.specs.Promises.{Steps, Posts}
 
 -- DEMAND 1. "Bad ones are refused with the number document 01 gives": 10 where table or state are bad, else that of the first condition that does
 -- not hold
@@ -123,7 +101,7 @@ runSteps t (suc limit) z =
     else []
 
 unfoldable pub runLeft : List ℕ → List ℕ → ℕ
-runLeft t z = one (eqb (listedAt t z 0 .number) 0)
+runLeft t z = oneIf (eqb (listedAt t z 0 .number) 0)
 
 unfoldable pub ranGiven : List ℕ → ℕ → List ℕ → RanTo
 ranGiven t limit z =
@@ -134,13 +112,8 @@ ranGiven t limit z =
       state = after t (runSteps t limit z) z;
     }
 
--- DEMAND 3. "two valid states of one model": a state fits its valid table
-pub record Valid (t z : List ℕ) : Type 0 where
-  pub long : length z ≡ stateWords
-  pub fits : fitting t z ≡ true
-
--- "alike but for further messages in the second's queues": equal instances, and in each queue exactly the further messages e more, "equal ones
--- counted singly"
+-- DEMAND 3. "two valid states of one model, alike but for further messages in the second's queues": equal instances, and in each queue exactly the
+-- further messages e more, "equal ones counted singly"
 pub record Further (e : ℕ → List Tuple) (z₁ z₂ : List ℕ) : Type 0 where
   pub alike : instancesOf z₁ ≡ instancesOf z₂
   pub more : (m : ℕ) → m < names → (g : Tuple) → times g (messagesOf (queuesOf z₂) m) ≡ times g (messagesOf (queuesOf z₁) m) + times g (e m)
@@ -163,10 +136,30 @@ pub record Table (t : List ℕ) : Type 0 where
 abbrev pub textIn : WrittenTo → List ℕ
 textIn w = take (w .length) (w .buffer)
 
+-- WHAT THE ENGINE MADE of a table: a fresh state, and what steps, posts and runs leave of it, accepted or not; z is what stood in the block that was lent
+pub data Made (t : List ℕ) : List ℕ → Type 0 where
+  afresh : (z : List ℕ) → Made t (freshened t z .state)
+  byAct : {z : List ℕ} (a : Act) → Made t z → Made t (did t a z .state)
+  byRun : {z : List ℕ} (limit : ℕ) → Made t z → Made t (ranTo t z limit .state)
+
+-- no call answers 10 to a table and a state
+pub record NeverTen (t z : List ℕ) : Type 0 where
+  pub check : verdictOf t .number ≡ 10 → ⊥
+  pub fresh : (y : List ℕ) → freshened t y .number ≡ 10 → ⊥
+  pub step : (n : Name) → stepped t z n .answer .number ≡ 10 → ⊥
+  pub post : (name : ℕ) (g : Tuple) → postedTo t z name g .number ≡ 10 → ⊥
+  pub list : (k : ℕ) → listedAt t z k .number ≡ 10 → ⊥
+  pub run : (limit : ℕ) → ranTo t z limit .number ≡ 10 → ⊥
+  pub write : (out : List ℕ) → writtenTo t out .number ≡ 10 → ⊥
+
+-- how many steps are accepted
+unfoldable pub acceptedSteps : List ℕ → List ℕ → ℕ
+acceptedSteps t z = length (listed t (instancesOf z) (queuesOf z))
+
 -- HOW FIRM THE PROMISES ARE: what the promise of the public call allows, r the number returned and y the state left
 unfoldable pub Allowed : List ℕ → Act → List ℕ → ℕ → List ℕ → Type 0
-Allowed t (aStep n) z r y = (a : Answer) × (r ≡ a .number) × Done (stepped t z n) a y
-Allowed t (aPost name g) z r y = _≡_ {A = Left} (record { number = r; state = y }) (postedTo t z name g)
+Allowed t (aStep n) z r y = (a : Answer) × (r ≡ a .number) × Steps t z n a y
+Allowed t (aPost name g) z r y = Posts t z name g r y
 
 -- and of calls one after the other, each lent the state x that the one before left
 unfoldable pub AllAllowed : List ℕ → List Act → List ℕ → List ℕ → List ℕ → Type 0

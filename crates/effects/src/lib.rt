@@ -2,7 +2,6 @@
 ghost use mathlib.Core.Path.{_≡_};
 ghost use Rattle.meaning.specs.declared.Traffic.the-variants.{Nothing};
 ghost use Rattle.meaning.specs.Tuples.{empty};
-ghost use Rattle.queues.specs.Changes.{oldest, removed};
 ghost use Rattle.effects.specs.Effects.{deliveredBy, answerBy};
 use kinds::moves::Move;
 use kinds::moves::ON;
@@ -52,19 +51,13 @@ pub fn answer_of(m: Move, name: Word, expected: Tuple, sent: Tuple) -> Answer
     refuse(0)
 }
 
-fn consume(q: &mut [Word], name: Word, g: Tuple)
-    ensures { λ _. ⌜ now (q .exit) ≡ removed (now (q .entry)) name (oldest (now (q .entry)) name g) ⌝ }
-{
-    let k = oldest_of(q, name, g);
-    remove(q, name, k);
-}
-
 // The message of an accepted step, consumed or sent.
 pub fn deliver(q: &mut [Word], m: Move, name: Word, g: Tuple, sent: Tuple)
     ensures { λ _. ⌜ now (q .exit) ≡ deliveredBy m name g sent (now (q .entry)) ⌝ }
 {
     if m.receives == ON {
-        consume(q, name, g);
+        let k = oldest_of(q, name, g);
+        remove(q, name, k);
         return;
     }
     if m.sends == ON {

@@ -155,7 +155,8 @@ part-keeps c =
     (either-reader _ _ _ task-keeps
     (either-reader _ _ _ (message-keeps _ _)
     (either-reader _ _ _ (message-keeps _ _)
-    (either-reader _ _ _ (series-keeps _) branches-keep)))))))
+    (either-reader _ _ _ (series-keeps _)
+    (either-reader _ _ _ branches-keep (λ text at x. refl)))))))))
 
 -- AN ELEMENT
 parts-keep : (s : ℕ) (cs : List ℕ) → Keeps (partsFrom s cs)

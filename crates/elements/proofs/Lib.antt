@@ -1,3 +1,2 @@
 pub mod LengthLaws
-pub mod ClearLaws
 pub mod ElementLaws

@@ -14,10 +14,11 @@ use lexer::token_at;
 use model::places::KIND;
 use numerals::same;
 use parts::part_of;
-use reading::MISPLACED;
 use reading::Read;
 use reading::sign_at;
 use words::Word;
+use words::clear;
+use words::numbers::MISPLACED;
 use words::put;
 use words::wide;
 
@@ -56,18 +57,6 @@ pub fn kind_named(word: &[u8]) -> Word
         return j + 1;
     }
     0
-}
-
-// Every word 0.
-pub fn clear(x: &mut [Word])
-    ensures { λ _. ⌜ now (x .exit) ≡ replicate (length (now (x .entry))) 0 ⌝ }
-{
-    let n = x.len();
-    let mut i = 0;
-    while i < n {
-        put(x, i, 0);
-        i += 1;
-    }
 }
 
 // An element of kind k, and nothing else.

@@ -1,17 +1,16 @@
 -- What the layer below does on a state that fits is what `meaning` says; on any other nothing is done. Assumes nothing.
 use Prim.Native.Nat.{ℕ, _+_, _*_, _≤_, _<_}
-use mathlib.Core.Path.{_≡_, refl, sym, _∙_, ap, ap₂, subst}
-use mathlib.Core.Bool.{Bool, true, false, _&&_}
+use mathlib.Core.Path.{_≡_, sym, _∙_, ap, ap₂, subst}
+use mathlib.Core.Bool.{true, false}
 use mathlib.Core.List.{List, _++_}
 use native.Mathlib.Omega.{arith}
 use borrow.Author.Tests.{eqb-true, lt-ltb, le-ltb}
 use lib.Dec.{eqb}
-use lib.ListN.{length, take, drop, length-drop, take-append-drop}
+use lib.ListN.{length, drop, length-drop, take-append-drop}
 use lib.Seq.{length-take-le}
 use Rattle.words.specs.Pick.{if_then_else_}
 use Rattle.words.specs.Counts.{names}
 use Rattle.words.proofs.AllLaws.{and-left, and-right}
-use Rattle.words.proofs.PickLaws.{pick-yes, pick-no}
 use Rattle.state.specs.Places.{instancesWords, queueWords, stateWords}
 use Rattle.state.specs.Instances.{instancesOf, queuesOf}
 use Rattle.meaning.specs.declared.Name.{Name}
@@ -19,7 +18,7 @@ use Rattle.meaning.specs.declared.Answer.{Answer}
 use Rattle.meaning.specs.declared.Traffic.the-variants.{Nothing}
 use Rattle.meaning.specs.declared.Tuple.{Tuple}
 use Rattle.meaning.specs.Tuples.{empty}
-use Rattle.meaning.specs.Step.{Outcome, refused, step}
+use Rattle.meaning.specs.Step.{Outcome, step}
 use Rattle.meaning.specs.Post.{Posted, post}
 use Rattle.limits.specs.Limits.{tableFits}
 use Rattle.checks.specs.Checks.{lowest}
@@ -31,12 +30,13 @@ use Rattle.rules.proofs.StepLaws.{posted-is}
 use Rattle.steps.proofs.EveryStep.{Fitting}
 use Rattle.steps.proofs.Traffic.{state-queues}
 use Rattle.listing.specs.declared.Listed.{Listed}
-use Rattle.listing.specs.Listing.{blank, chosen}
+use Rattle.naming.specs.Names.{blank}
+use Rattle.listing.specs.Listing.{chosen}
 use Rattle.listing.specs.Scanned.{scanned}
 use Rattle.running.specs.Run.{Run, ranBy, ran}
 use Rattle.listed.proofs.ScannedIs.{scanned-is}
 use Rattle.listed.proofs.RunIs.{settled-step, run-is}
-use Rattle.engine.specs.Engine.{valid, fitting, stepped, Left, postedTo, listedAt, RanTo, ended, ranTo, WrittenTo, written, writtenTo}
+use Rattle.engine.specs.Engine.{valid, fitting, Stepped, leaving, stepped, Left, postedTo, listedAt, RanTo, ended, ranTo, WrittenTo, written, writtenTo}
 use Rattle.shown.specs.Shown.{shownTable}
 use Rattle.buffers.specs.Buffers.{over}
 use Rattle.buffers.proofs.OverLaws.{over-all}
@@ -72,9 +72,11 @@ module _ (t z : List ℕ) (l : length z ≡ stateWords) (h : fitting t z ≡ tru
   settled-post name g =
       posted-is (queuesOf z) (long-queues z l) (λ m k. queue-tidy (queuesOf z) m (state-queues t (instancesOf z) (queuesOf z) (state-fits t z h) m k)) name g
 
-  pub step-done : (n : Name) (r : Answer) (y : List ℕ) → Done (settled t (instancesOf z) (queuesOf z) n) r y → Done (stepped t z n) r y
-  unfolding stepped if_then_else_
-  step-done n r y d = rw h (subst (λ (o : Outcome). Done o r y) (settled-step t (table-fits t z h) (instancesOf z) (queuesOf z) fits n) d)
+  pub step-done : (n : Name) (r : Answer) (y : List ℕ) → Done (settled t (instancesOf z) (queuesOf z) n) r y → _≡_ {A = Stepped} (record { answer = r; state = y }) (stepped t z n)
+  unfolding stepped leaving if_then_else_
+  step-done n r y d =
+      let o : Done (step t (instancesOf z) (queuesOf z) n) r y = subst (λ (o : Outcome). Done o r y) (settled-step t (table-fits t z h) (instancesOf z) (queuesOf z) fits n) d in
+      rw h (λ i. record { answer = o .answer i; state = o .state i })
 
   pub post-done : (name : ℕ) (g : Tuple) (r : ℕ) (y : List ℕ)
       → (_≡_ {A = Posted} (record { number = r; queues = queuesOf y }) (posted (queuesOf z) name g)) × (instancesOf y ≡ instancesOf z)
@@ -101,9 +103,10 @@ module _ (t z : List ℕ) (l : length z ≡ stateWords) (h : fitting t z ≡ tru
       rw h ((λ i. record { number = 0; steps = steps; left = left; state = sym (take-append-drop instancesWords y) i }) ∙ ap ended d)
 
 -- a table or a state that does not fit
-pub step-bad : (t z : List ℕ) (n : Name) (r : Answer) → fitting t z ≡ false → r ≡ record { number = 10; traffic = Nothing; name = 0; tuple = empty } → Done (stepped t z n) r z
+pub step-bad : (t z : List ℕ) (n : Name) (r : Answer) → fitting t z ≡ false → r ≡ record { number = 10; traffic = Nothing; name = 0; tuple = empty }
+    → _≡_ {A = Stepped} (record { answer = r; state = z }) (stepped t z n)
 unfolding stepped if_then_else_
-step-bad t z n r h e = rw h (record { answer = e; state = sym (take-append-drop instancesWords z) })
+step-bad t z n r h e = rw h (λ i. record { answer = e i; state = z })
 
 pub post-bad : (t z : List ℕ) (name : ℕ) (g : Tuple) → fitting t z ≡ false → _≡_ {A = Left} (record { number = 10; state = z }) (postedTo t z name g)
 unfolding postedTo if_then_else_

@@ -1,6 +1,5 @@
 -- The public calls: what is lent is checked first, then the call of the layer below. z is a state, its instances and then its queues.
 use Prim.Native.Nat.{ℕ}
-use mathlib.Core.Path.{_≡_}
 use mathlib.Core.Bool.{Bool, _&&_}
 use mathlib.Core.List.{List, _++_}
 use lib.Dec.{eqb, ltb}
@@ -9,7 +8,10 @@ use Rattle.words.specs.Pick.{if_then_else_}
 use Rattle.state.specs.Instances.{instancesOf, queuesOf}
 use Rattle.meaning.specs.declared.Name.{Name}
 use Rattle.meaning.specs.declared.Tuple.{Tuple}
-use Rattle.meaning.specs.Step.{Outcome, refused, step}
+use Rattle.meaning.specs.declared.Answer.{Answer}
+use Rattle.meaning.specs.declared.Traffic.the-variants.{Nothing}
+use Rattle.meaning.specs.Tuples.{empty}
+use Rattle.meaning.specs.Step.{Outcome, step}
 use Rattle.meaning.specs.Post.{post}
 use Rattle.limits.specs.Limits.{tableFits}
 use Rattle.checks.specs.Checks.{lowest}
@@ -17,7 +19,8 @@ use Rattle.lowest.specs.Model.{modelOf}
 use Rattle.fits.specs.Fits.{stateFits}
 use Rattle.fits.specs.Fresh.{fresh}
 use Rattle.listing.specs.declared.Listed.{Listed}
-use Rattle.listing.specs.Listing.{blank, listed, chosen}
+use Rattle.naming.specs.Names.{blank}
+use Rattle.listing.specs.Listing.{listed, chosen}
 use Rattle.running.specs.Run.{Run, ran}
 use Rattle.shown.specs.Shown.{shownTable}
 use Rattle.engine.specs.declared.Verdict.{Verdict}
@@ -46,8 +49,18 @@ freshened t z = if valid t then record { number = 0; state = fresh t } else reco
 unfoldable pub fitting : List ℕ → List ℕ → Bool
 fitting t z = valid t && stateFits t (instancesOf z) (queuesOf z)
 
-unfoldable pub stepped : List ℕ → List ℕ → Name → Outcome
-stepped t z n = if fitting t z then step t (instancesOf z) (queuesOf z) n else refused 10 (instancesOf z) (queuesOf z)
+-- an answer given back, and the state that is left
+pub record Stepped : Type 0 where
+  pub answer : Answer
+  pub state : List ℕ
+
+unfoldable pub leaving : Outcome → Stepped
+leaving o = record { answer = o .answer; state = o .instances ++ o .queues }
+
+unfoldable pub stepped : List ℕ → List ℕ → Name → Stepped
+stepped t z n =
+    if fitting t z then leaving (step t (instancesOf z) (queuesOf z) n)
+    else record { answer = record { number = 10; traffic = Nothing; name = 0; tuple = empty }; state = z }
 
 unfoldable pub postedTo : List ℕ → List ℕ → ℕ → Tuple → Left
 postedTo t z name g =

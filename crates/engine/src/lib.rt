@@ -3,11 +3,10 @@ ghost use mathlib.Core.Path.{_≡_};
 ghost use mathlib.Core.Bool.{true};
 ghost use lib.ListN.{length};
 ghost use Rattle.state.specs.Places.{stateWords};
-ghost use Rattle.engine.specs.Engine.{valid, verdictOf, Left, freshened, fitting, stepped, postedTo, listedAt, RanTo, ranTo, WrittenTo, writtenTo};
+ghost use Rattle.engine.specs.Engine.{valid, verdictOf, Left, freshened, fitting, Stepped, stepped, postedTo, listedAt, RanTo, ranTo, WrittenTo, writtenTo};
 ghost use Rattle.meaning.specs.Tuples.{empty};
-ghost use Rattle.rules.specs.Settled.{Done};
-ghost use Rattle.listing.specs.Listing.{blank};
-ghost use Rattle.notation.specs.Notation.{taken};
+ghost use Rattle.naming.specs.Names.{blank};
+ghost use Rattle.notation.specs.Notation.{readInto};
 ghost use Rattle.shown.specs.Shown.{shownTable};
 use listing::Listed;
 use meaning::Answer;
@@ -17,15 +16,15 @@ use meaning::Tuple;
 use meaning::empty_tuple;
 use model::places::TABLE_WORDS;
 use notation::Reading;
-use refusals::ACCEPTED;
-use refusals::BAD;
 use state::places::STATE_WORDS;
 use words::Word;
-
-// A model check is broken; the other numbers given back stand with the refusals.
-pub const CHECK_BROKEN: Word = 4;
+use words::numbers::ACCEPTED;
+use words::numbers::BAD;
+use words::numbers::CHECK_BROKEN;
+use words::numbers::TOO_SHORT;
 
 // The answer of a check: a number, and beside 4 the lowest check broken.
+#[repr(C)]
 pub struct Verdict {
     pub number: Word,
     pub beside: Word,
@@ -70,7 +69,7 @@ pub fn fresh(t: &[Word; TABLE_WORDS], z: &mut [Word; STATE_WORDS]) -> Word
     if !is_valid(t) {
         return BAD;
     }
-    fits::fresh::begin(t, z);
+    fresh::begin(t, z);
     ACCEPTED
 }
 
@@ -80,7 +79,7 @@ fn is_fitting(t: &[Word; TABLE_WORDS], z: &[Word; STATE_WORDS]) -> bool
     if !is_valid(t) {
         return false;
     }
-    fits::state_fits(t, z)
+    states::state_fits(t, z)
 }
 
 fn bad() -> Answer
@@ -96,7 +95,7 @@ fn bad() -> Answer
 
 // Takes a named step: 10 where the table or the state is bad, 11 to 18 where it is refused, and the state stays; else 0, and what was consumed or sent.
 pub fn step(t: &[Word; TABLE_WORDS], z: &mut [Word; STATE_WORDS], n: Name) -> Answer
-    ensures { λ r. ⌜ Done (stepped (now (t .entry)) (now (z .entry)) n) r (now (z .exit)) ⌝ }
+    ensures { λ r. ⌜ record { answer = r; state = now (z .exit) } ≡ stepped (now (t .entry)) (now (z .entry)) n ⌝ }
 {
     if !is_fitting(t, z) {
         return bad();
@@ -141,6 +140,7 @@ pub fn list(t: &[Word; TABLE_WORDS], z: &[Word; STATE_WORDS], k: usize) -> Liste
 }
 
 // The answer of a run: a number, the steps taken, 1 or 0 for whether one is still accepted.
+#[repr(C)]
 pub struct Ran {
     pub number: Word,
     pub steps: Word,
@@ -168,15 +168,13 @@ pub fn run(t: &[Word; TABLE_WORDS], z: &mut [Word; STATE_WORDS], limit: Word) ->
 
 // Reads a text into the lent table: 1, 2 or 3 with its place, 4 with the lowest check broken, and the table stays; else 0, and every word of it is the model's.
 pub fn read(text: &[u8], t: &mut [Word; TABLE_WORDS]) -> Reading
-    ensures { λ r. ⌜ record { number = r .number; beside = r .beside; table = now (t .exit) } ≡ taken (now (text .entry)) (now (t .entry)) ⌝ }
+    ensures { λ r. ⌜ record { number = r .number; beside = r .beside; table = now (t .exit) } ≡ readInto (now (text .entry)) (now (t .entry)) ⌝ }
 {
     notation::read_into(text, t)
 }
 
-// The writer's buffer is shorter than the text.
-pub const TOO_SHORT: Word = 5;
-
 // The answer of a writing: a number, and beside 0 the length of the text.
+#[repr(C)]
 pub struct Written {
     pub number: Word,
     pub length: usize,

@@ -4,7 +4,7 @@ ghost use mathlib.Core.Bool.{true};
 ghost use Rattle.meaning.specs.Tuples.{empty};
 ghost use Rattle.meaning.specs.Assignments.{Assigned};
 ghost use Rattle.meaning.specs.Requirements.{granted};
-ghost use Rattle.meaning.specs.Changes.{expected, received, worked, message};
+ghost use Rattle.meaning.specs.Changes.{expected, received, worked, messageSent};
 use expressions::assignments::assign;
 use expressions::conditions::does_hold;
 use expressions::templates::bind;
@@ -66,7 +66,7 @@ pub fn work(el: &[Word], m: Move, h: &mut [Word]) -> bool
 
 // The message of a move that sends.
 pub fn message_of(el: &[Word], h: &[Word], m: Move, b: Word) -> Evaluated
-    ensures { λ r. ⌜ r ≡ message (now (el .entry)) (now (h .entry)) m b ⌝ }
+    ensures { λ r. ⌜ r ≡ messageSent (now (el .entry)) (now (h .entry)) m b ⌝ }
 {
     if m.sends == ON {
         return evaluate(el, b, h, empty_tuple());

@@ -17,10 +17,10 @@ use Rattle.state.specs.Places.{slotWords, queuePlace, slotPlace}
 use Rattle.limits.specs.Limits.{zeros}
 use Rattle.meaning.specs.declared.Tuple.{Tuple}
 use Rattle.meaning.specs.Tuples.{empty, valueOf}
-use Rattle.meaning.specs.Queues.{queued, valueAt, messageAt, messagesOf, messageWord, queueWord, Tidy}
+use Rattle.meaning.specs.Queues.{messageCount, valueAt, messageAt, messagesOf, messageWord, queueWord, Tidy}
 use Rattle.queues.proofs.SlotLaws.{by-below, by-slots, queue-count, queue-word}
 use Rattle.queues.proofs.QueueLaws.{count-is, message-is}
-use Rattle.fits.specs.Fits.{messageFits, queueFits}
+use Rattle.fits.specs.Fits.{slotFits, queueFits}
 
 -- words that are 0
 pub zeros-at : (x : List ℕ) (n i : ℕ) → zeros x n ≡ true → i < n → at x i ≡ 0
@@ -45,8 +45,8 @@ word-empty zero = word-first empty
 word-empty (suc j) = word-next empty j ∙ value-empty j
 
 -- A MESSAGE THAT FITS stands as its words
-message-word : (q : List ℕ) (m k : ℕ) → messageFits q m k ≡ true → (d : ℕ) → d < slotWords → at q (slotPlace m k + d) ≡ messageWord (messageAt q m k) d
-unfolding messageFits
+message-word : (q : List ℕ) (m k : ℕ) → slotFits q m k ≡ true → (d : ℕ) → d < slotWords → at q (slotPlace m k + d) ≡ messageWord (messageAt q m k) d
+unfolding slotFits
 message-word q m k e zero h = let z : slotPlace m k + 0 ≡ slotPlace m k = omega arith in ap (at q) z ∙ sym (word-first (messageAt q m k))
 message-word q m k e (suc j) h =
     let z : slotPlace m k + suc j ≡ slotPlace m k + 1 + j = omega arith in
@@ -57,30 +57,30 @@ message-word q m k e (suc j) h =
 
 -- A QUEUE THAT FITS
 module _ (q : List ℕ) (m : ℕ) (fit : queueFits q m ≡ true) where
-  front : leb (queued q m) messages && all (messageFits q m) (queued q m) ≡ true
+  front : leb (messageCount q m) messages && all (slotFits q m) (messageCount q m) ≡ true
   unfolding queueFits
   front = and-left _ _ fit
 
-  room : queued q m ≤ messages
-  room = leb-true (queued q m) messages (and-left _ _ front)
+  room : messageCount q m ≤ messages
+  room = leb-true (messageCount q m) messages (and-left _ _ front)
 
-  made : (k : ℕ) → k < queued q m → messageFits q m k ≡ true
-  made = all-at (messageFits q m) (queued q m) (and-right (leb (queued q m) messages) _ front)
+  made : (k : ℕ) → k < messageCount q m → slotFits q m k ≡ true
+  made = all-at (slotFits q m) (messageCount q m) (and-right (leb (messageCount q m) messages) _ front)
 
-  behind : zeros (drop (slotPlace m (queued q m)) q) (slotWords * (messages - queued q m)) ≡ true
+  behind : zeros (drop (slotPlace m (messageCount q m)) q) (slotWords * (messages - messageCount q m)) ≡ true
   unfolding queueFits
-  behind = and-right (leb (queued q m) messages && all (messageFits q m) (queued q m)) _ fit
+  behind = and-right (leb (messageCount q m) messages && all (slotFits q m) (messageCount q m)) _ fit
 
   slot : (k d : ℕ) → k < messages → d < slotWords → at q (slotPlace m k + d) ≡ messageWord (getD (messagesOf q m) k empty) d
   slot k d l h =
-      by-below k (queued q m)
+      by-below k (messageCount q m)
       (λ r. message-word q m k (made k r) d h ∙ ap (λ g. messageWord g d) (sym (message-is q m k r)))
       (λ r.
-      let i : ℕ = slotWords * (k - queued q m) + d in
-      let e : slotPlace m k + d ≡ slotPlace m (queued q m) + i = omega arith in
+      let i : ℕ = slotWords * (k - messageCount q m) + d in
+      let e : slotPlace m k + d ≡ slotPlace m (messageCount q m) + i = omega arith in
       ap (at q) e
-      ∙ sym (getD-drop (slotPlace m (queued q m)) q i 0)
-      ∙ zeros-at (drop (slotPlace m (queued q m)) q) (slotWords * (messages - queued q m)) i behind (omega arith)
+      ∙ sym (getD-drop (slotPlace m (messageCount q m)) q i 0)
+      ∙ zeros-at (drop (slotPlace m (messageCount q m)) q) (slotWords * (messages - messageCount q m)) i behind (omega arith)
       ∙ sym (ap (λ g. messageWord g d) (List·getD-eq-default (messagesOf q m) empty (omega (arith, count-is q m))) ∙ word-empty d))
 
   pub queue-tidy : Tidy q m

@@ -10,7 +10,7 @@ use lib.Seq.{getD-drop, getD-take, drop-drop}
 use borrow.Author.Tests.{eqb-true, eqb-false, leb-true, eq-eqb, ne-eqb, le-leb, lt-leb}
 use Rattle.words.specs.All.{all}
 use Rattle.words.specs.Pick.{if_then_else_}
-use Rattle.words.specs.Sum.{one, hit}
+use Rattle.words.specs.Sum.{oneIf, hit}
 use Rattle.words.specs.Words.{at}
 use Rattle.words.specs.Counts.{pools, elements, edges, names, instances, fields, branches, messages, poolNumbers}
 use Rattle.words.proofs.AllLaws.{all-none, all-more, all-of, all-at, and-left, and-right}
@@ -23,9 +23,9 @@ use Rattle.state.specs.Instances.{instancesOf, queuesOf, instanceAt}
 use Rattle.state.specs.Places.{definedPlace, valuePlace, instanceWords, instancePlace, instancesWords, slotWords, slotPlace, queuePlace}
 use Rattle.limits.specs.Limits.{within, zeros, things, countFits as edgeCountFits, edgeFits, edgesFit, taskFits, conditionsFit, messagesFit, partsFit, elementFits, poolFits, tableFits}
 use Rattle.queues.proofs.SlotLaws.{by-below}
-use Rattle.fits.specs.Fits.{startPlace, hasStart, madeFits, usable, countFits, fieldFits, instanceFits, instancesFit, messageFits, queueFits, stateFits}
+use Rattle.fits.specs.Fits.{startPlace, hasStart, madeFits, usable, placeFits, fieldFits, instanceFits, instancesFit, slotFits, queueFits, stateFits}
 use Rattle.fits.specs.Fresh.{firstEdge, fresh}
-use Rattle.fits.proofs.CallLaws.{Firsts, parted, shared}
+use Rattle.fits.proofs.PartLaws.{Firsts, parted, shared}
 use Rattle.fits.proofs.FreshLaws.{Holds, Startable, firstPlace, pools-blank, pools-begun, pools-behind}
 use Rattle.fits.proofs.UsableLaws.{start-in, start-kind, first-usable}
 
@@ -49,12 +49,12 @@ module _ (t : List ℕ) (p : ℕ) where
 
 -- A WORD of an instance
 module _ (u h : List ℕ) (k : ℕ) where
-  count-none : at h k ≡ 0 → countFits u h k ≡ true
-  unfolding countFits if_then_else_
+  count-none : at h k ≡ 0 → placeFits u h k ≡ true
+  unfolding placeFits if_then_else_
   count-none e = rw e
 
-  count-one : at h k ≡ 1 → at u k ≡ 1 → countFits u h k ≡ true
-  unfolding countFits if_then_else_
+  count-one : at h k ≡ 1 → at u k ≡ 1 → placeFits u h k ≡ true
+  unfolding placeFits if_then_else_
   count-one e f = rw (e, f)
 
 field-none : (h : List ℕ) (d : ℕ) → at h (definedPlace d) ≡ 0 → at h (valuePlace d) ≡ 0 → fieldFits h d ≡ true
@@ -64,19 +64,19 @@ field-none h d e f = rw (e, f)
 -- one word of an instance is 1, at a place of tokens that it may use
 module _ (u h : List ℕ) (e : ℕ) (l : e < edges) (may : at u e ≡ 1) (words : (k : ℕ) → k < instanceWords → at h k ≡ hit k e) where
   other-word : (k : ℕ) → k < instanceWords → (k ≡ e → ⊥) → at h k ≡ 0
-  other-word k r n = words k r ∙ ap one (ne-eqb k e n)
+  other-word k r n = words k r ∙ ap oneIf (ne-eqb k e n)
 
   one-token : instanceFits u h ≡ true
   unfolding instanceFits
   one-token =
-      and-true (all (countFits u h) (definedPlace 0)) (all (fieldFits h) fields)
-      (all-of (countFits u h) (definedPlace 0) (λ k r. count k r (eqb k e) refl))
+      and-true (all (placeFits u h) (definedPlace 0)) (all (fieldFits h) fields)
+      (all-of (placeFits u h) (definedPlace 0) (λ k r. count k r (eqb k e) refl))
       (all-of (fieldFits h) fields (λ d r. field-none h d (other-word (definedPlace d) (omega arith) (λ q. omega arith)) (other-word (valuePlace d) (omega arith) (λ q. omega arith))))
     where
-      count : (k : ℕ) → k < definedPlace 0 → (b : Bool) → eqb k e ≡ b → countFits u h k ≡ true
+      count : (k : ℕ) → k < definedPlace 0 → (b : Bool) → eqb k e ≡ b → placeFits u h k ≡ true
       count k r true q =
           let s : k ≡ e = eqb-true k e q in
-          count-one u h k (words k (omega arith) ∙ ap one q) (ap (at u) s ∙ may)
+          count-one u h k (words k (omega arith) ∙ ap oneIf q) (ap (at u) s ∙ may)
       count k r false q = count-none u h k (other-word k (omega arith) (eqb-false k e q))
 
 -- THE INSTANCES of a pool
@@ -98,14 +98,14 @@ module _ (t s : List ℕ) (p : ℕ) where
       (zeros-of (instanceAt s p 1) (instanceWords * (instances - 1))
       (λ k l.
       let q : instancePlace p 1 + k ≡ instancePlace p 0 + (instanceWords + k) = omega arith in
-      getD-drop (instancePlace p 1) s k 0 ∙ ap (at s) q ∙ h .1 (instanceWords + k) (omega arith) ∙ ap one (ne-eqb (instanceWords + k) e (λ f. omega arith))))
+      getD-drop (instancePlace p 1) s k 0 ∙ ap (at s) q ∙ h .1 (instanceWords + k) (omega arith) ∙ ap oneIf (ne-eqb (instanceWords + k) e (λ f. omega arith))))
 
 -- A QUEUE of zeros
 queue-blank : (q : List ℕ) (m : ℕ) → ((j : ℕ) → at q j ≡ 0) → queueFits q m ≡ true
 queue-blank q m h =
     shared q m 0 (sym (h (queuePlace m)))
-    ∙ and-true (leb 0 messages && all (messageFits q m) 0) (zeros (drop (slotPlace m 0) q) (slotWords * (messages - 0)))
-    (and-true (leb 0 messages) (all (messageFits q m) 0) refl (all-none (messageFits q m)))
+    ∙ and-true (leb 0 messages && all (slotFits q m) 0) (zeros (drop (slotPlace m 0) q) (slotWords * (messages - 0)))
+    (and-true (leb 0 messages) (all (slotFits q m) 0) refl (all-none (slotFits q m)))
     (zeros-of (drop (slotPlace m 0) q) (slotWords * (messages - 0)) (λ k l. getD-drop (slotPlace m 0) q k 0 ∙ h (slotPlace m 0 + k)))
 
 -- THE FRESH STATE of a table with at most 4 pools, and the first edge of each start from 1 to 48

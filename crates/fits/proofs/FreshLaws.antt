@@ -12,7 +12,7 @@ use lib.Seq.{getD-set-same, getD-set-other}
 use borrow.Author.Tests.{eqb-true, eqb-false}
 use Rattle.words.specs.Iter.{iter}
 use Rattle.words.specs.Pick.{if_then_else_}
-use Rattle.words.specs.Sum.{one, hit}
+use Rattle.words.specs.Sum.{oneIf, hit}
 use Rattle.words.specs.Words.{at}
 use Rattle.words.specs.Counts.{pools, edges, instances}
 use Rattle.words.proofs.IterLaws.{iter-keeps}
@@ -82,7 +82,7 @@ module _ (t : List ℕ) (p : ℕ) (z : List ℕ) where
           getD-set-other (set z (madePlace p) 1) (instancePlace p 0 + firstPlace t p) (madePlace p) 1 0 (λ q. omega arith)
           ∙ getD-set-same z (madePlace p) 1 0 (omega arith)
 
-      word : (k : ℕ) → k < instanceWords * instances → (b : Bool) → eqb k (firstPlace t p) ≡ b → at (set (set z (madePlace p) 1) (instancePlace p 0 + firstPlace t p) 1) (instancePlace p 0 + k) ≡ one b
+      word : (k : ℕ) → k < instanceWords * instances → (b : Bool) → eqb k (firstPlace t p) ≡ b → at (set (set z (madePlace p) 1) (instancePlace p 0 + firstPlace t p) 1) (instancePlace p 0 + k) ≡ oneIf b
       word k m true q =
           let s : k ≡ firstPlace t p = eqb-true k (firstPlace t p) q in
           rw s (getD-set-same (set z (madePlace p) 1) (instancePlace p 0 + firstPlace t p) 1 0 (omega (arith, length-set z (madePlace p) 1)))

@@ -1,6 +1,5 @@
-pub mod MarkLaws
-pub mod ClearLaws
-pub mod CallLaws
+pub mod PointsHold
+pub mod PartLaws
 pub mod FitsLaws
 pub mod FreshLaws
 pub mod UsableLaws

@@ -19,7 +19,7 @@ use Rattle.state.specs.Places.{tokenPlace, activePlace, readyPlace, definedPlac
 use Rattle.state.specs.Instances.{madeCount, instanceAt}
 use Rattle.limits.specs.Limits.{zeros}
 use Rattle.meaning.specs.Tuples.{valueOf}
-use Rattle.meaning.specs.Queues.{queued, valueAt, messageAt}
+use Rattle.meaning.specs.Queues.{messageCount, valueAt, messageAt}
 
 -- THE POOL. The place of its `start` among its elements; whether it has one; how many instances it may have made.
 unfoldable pub isStart : List ℕ → ℕ → ℕ → Bool
@@ -57,14 +57,14 @@ unfoldable pub usable : List ℕ → ℕ → List ℕ
 usable t p = iter (λ e w. marked w (placesOf (elementAt t p e))) (replicate (definedPlace 0) 0) (elementCount t p)
 
 -- AN INSTANCE, u the places it may use: tokens and counts at most 255, and none elsewhere; a field is defined or not, an undefined one's value 0
-unfoldable pub countFits : List ℕ → List ℕ → ℕ → Bool
-countFits u h k = if eqb (at h k) 0 then true else eqb (at u k) 1 && leb (at h k) countMost
+unfoldable pub placeFits : List ℕ → List ℕ → ℕ → Bool
+placeFits u h k = if eqb (at h k) 0 then true else eqb (at u k) 1 && leb (at h k) countMost
 
 unfoldable pub fieldFits : List ℕ → ℕ → Bool
 fieldFits h d = if eqb (at h (definedPlace d)) 0 then eqb (at h (valuePlace d)) 0 else eqb (at h (definedPlace d)) 1
 
 unfoldable pub instanceFits : List ℕ → List ℕ → Bool
-instanceFits u h = all (countFits u h) (definedPlace 0) && all (fieldFits h) fields
+instanceFits u h = all (placeFits u h) (definedPlace 0) && all (fieldFits h) fields
 
 -- the instances of pool p: the made ones fit, the words of the others are 0
 unfoldable pub instancesFit : List ℕ → List ℕ → ℕ → Bool
@@ -74,15 +74,15 @@ instancesFit t s p =
     && zeros (instanceAt s p (madeCount s p)) (instanceWords * (instances - madeCount s p))
 
 -- A QUEUE: at most 64 messages, each of at most 4 values, 0 behind them and behind the last
-unfoldable pub messageFits : List ℕ → ℕ → ℕ → Bool
-messageFits q m k =
+unfoldable pub slotFits : List ℕ → ℕ → ℕ → Bool
+slotFits q m k =
     leb (messageAt q m k .length) values && all (λ j. eqb (valueAt q m k j) (valueOf (messageAt q m k) j)) values
 
 unfoldable pub queueFits : List ℕ → ℕ → Bool
 queueFits q m =
-    leb (queued q m) messages
-    && all (messageFits q m) (queued q m)
-    && zeros (drop (slotPlace m (queued q m)) q) (slotWords * (messages - queued q m))
+    leb (messageCount q m) messages
+    && all (slotFits q m) (messageCount q m)
+    && zeros (drop (slotPlace m (messageCount q m)) q) (slotWords * (messages - messageCount q m))
 
 -- THE STATE
 unfoldable pub stateFits : List ℕ → List ℕ → List ℕ → Bool

@@ -1,7 +1,7 @@
 -- The number of a rule, as the code's table of letters has it. Assumes nothing.
 use mathlib.Core.Path.{_≡_, refl, sym, _∙_}
 use mathlib.Core.Bool.{Bool, true, false, _&&_, false≢true}
-use mathlib.Core.List.{List, []}
+use mathlib.Core.List.{List}
 use mathlib.Core.Logic.{⊎-elim}
 use Prim.Native.Nat.{ℕ, _+_, _*_, _-_, _≤_, _<_, _/_, _%_}
 use native.Mathlib.Nat.{eq-or-lt-of-le}
@@ -11,6 +11,7 @@ use lib.ListN.{length, getD}
 use mir.Syntax.{w16}
 use mir.Val.{Fits}
 use borrow.Author.Tests.{ltb-true, ne-eqb}
+use Rattle.words.specs.Words.{at}
 use Rattle.words.specs.Each.{each, tab}
 use Rattle.words.proofs.PickLaws.{pick-no, and-false-right}
 use Rattle.words.proofs.SeekLaws.{sought}
@@ -27,17 +28,20 @@ rule-few k m p = sought (isRule k m p) rules .0
 abbrev first : ℕ
 first = 97
 
-abbrev line : ℕ → List ℕ
-line k = tab (λ i. first + ruleOf k (i / phases) (i % phases)) (modes * phases)
+abbrev letters : List ℕ
+letters = tab (λ i. first + ruleOf (i / (modes * phases)) ((i / phases) % modes) (i % phases)) (length kinds * modes * phases)
 
 abbrev letter : ℕ → ℕ → ℕ → ℕ
-letter k m p = getD (getD (tab line (length kinds)) k []) (m * phases + p) 0
+letter k m p = at letters ((k * modes + m) * phases + p)
 
 pub letter-is : (k m p : ℕ) → k < length kinds → m < modes → p < phases → letter k m p ≡ first + ruleOf k m p
 letter-is k m p hk hm hp =
-    let q : (m * phases + p) / phases ≡ m = omega arith in
-    let r : (m * phases + p) % phases ≡ p = omega arith in
-    rw (getD-tab line (length kinds) k [] hk) (getD-tab (λ i. first + ruleOf k (i / phases) (i % phases)) (modes * phases) (m * phases + p) 0 (omega arith) ∙ rw (q, r))
+    let i = (k * modes + m) * phases + p in
+    let at-kind : i / (modes * phases) ≡ k = omega arith in
+    let at-mode : (i / phases) % modes ≡ m = omega arith in
+    let at-phase : i % phases ≡ p = omega arith in
+    getD-tab (λ j. first + ruleOf (j / (modes * phases)) ((j / phases) % modes) (j % phases)) (length kinds * modes * phases) i 0 (omega arith)
+    ∙ rw (at-kind, at-mode, at-phase)
 
 module _ (k m p : ℕ) (hk : k < length kinds) (hm : m < modes) (hp : p < phases) where
   pub letter-least : first ≤ letter k m p

@@ -1,14 +1,15 @@
 -- "A constant table gives each of the fifteen kinds its keyword and its entries and exits." What else an element's text has stands beside them:
 -- reading, writing, limits, checks and stepping are read off this table.
 use mathlib.Core.List.{List, [], _∷_, _++_}
-use Prim.Native.Nat.{ℕ, _-_}
+use mathlib.Core.Path.{_≡_}
+use Prim.Native.Nat.{ℕ, _-_, _<_}
 use Prim.Native.String.{String}
 use lib.Dec.{eqb}
 use lib.ListN.{length, getD, take, replicate}
 use Rattle.words.specs.Pick.{if_then_else_}
 use Rattle.words.specs.Text.{bytes}
 use Rattle.kinds.specs.declared.Kind.{Kind}
-use Rattle.kinds.specs.Cells.{Cell, cell}
+use Rattle.kinds.specs.Cells.{Cell, _holding_, cell}
 
 -- How many there are: none; one; or many, which is a list of 2 to 8 entries or exits, or one condition or message with each exit.
 abbrev pub none : ℕ
@@ -21,17 +22,29 @@ abbrev pub many : ℕ
 many = 2
 
 -- What an element may have beside its entries and exits: task number, mode and assignments; conditions; messages received; messages sent.
+abbrev taskColumn : ℕ
+taskColumn = 0
+
+abbrev conditionsColumn : ℕ
+conditionsColumn = 1
+
+abbrev receivesColumn : ℕ
+receivesColumn = 2
+
+abbrev sendsColumn : ℕ
+sendsColumn = 3
+
 abbrev task-part : Cell
-task-part = record { column = 0; holds = one }
+task-part = taskColumn holding one
 
 abbrev conditions : ℕ → Cell
-conditions n = record { column = 1; holds = n }
+conditions n = conditionsColumn holding n
 
 abbrev receives : ℕ → Cell
-receives n = record { column = 2; holds = n }
+receives n = receivesColumn holding n
 
 abbrev sends : ℕ → Cell
-sends n = record { column = 3; holds = n }
+sends n = sendsColumn holding n
 
 -- the bytes of a text, blanks behind them up to n
 abbrev pub padded : ℕ → String → List ℕ
@@ -45,10 +58,10 @@ kind word parts entries exits others =
       parts = padded 4 parts;
       entries = entries;
       exits = exits;
-      task = cell task-part others;
-      conditions = cell (conditions none) others;
-      receives = cell (receives none) others;
-      sends = cell (sends none) others;
+      task = cell taskColumn others;
+      conditions = cell conditionsColumn others;
+      receives = cell receivesColumn others;
+      sends = cell sendsColumn others;
     }
 
 -- the row of a number that is no kind
@@ -59,23 +72,23 @@ noKind = kind "" "" none none []
 -- assignments, T template, S message, B branches with a template each, G branches with a condition each.
 abbrev pub kinds : List Kind
 kinds =
-    -- keyword, parts, entries, exits, what else
+    -- keyword, parts, entries, exits, what else; the form that document 01 gives it
     noKind ∷
-    kind "start" "EX" one one [] ∷
-    kind "startRcv" "TX" none one (receives one ∷ []) ∷
-    kind "end" "E" one none [] ∷
-    kind "terminate" "E" one none [] ∷
-    kind "endSnd" "ES" one none (sends one ∷ []) ∷
-    kind "interRcv" "ETX" one one (receives one ∷ []) ∷
-    kind "interSnd" "ESX" one one (sends one ∷ []) ∷
-    kind "eventBased" "EB" one many (receives many ∷ []) ∷
-    kind "andSplit" "EY" one many [] ∷
-    kind "andJoin" "FX" many one [] ∷
-    kind "xorJoin" "FX" many one [] ∷
-    kind "xorSplit" "EG" one many (conditions many ∷ []) ∷
-    kind "task" "ENX" one one (task-part ∷ conditions one ∷ []) ∷
-    kind "taskRcv" "ENTX" one one (task-part ∷ conditions one ∷ receives one ∷ []) ∷
-    kind "taskSnd" "ENSX" one one (task-part ∷ conditions one ∷ sends one ∷ []) ∷ []
+    kind "start" "EX" one one [] ∷  -- start(e,f)
+    kind "startRcv" "TX" none one (receives one ∷ []) ∷  -- startRcv(m:T,f)
+    kind "end" "E" one none [] ∷  -- end(e)
+    kind "terminate" "E" one none [] ∷  -- terminate(e)
+    kind "endSnd" "ES" one none (sends one ∷ []) ∷  -- endSnd(e,m:X)
+    kind "interRcv" "ETX" one one (receives one ∷ []) ∷  -- interRcv(e,m:T,f)
+    kind "interSnd" "ESX" one one (sends one ∷ []) ∷  -- interSnd(e,m:X,f)
+    kind "eventBased" "EB" one many (receives many ∷ []) ∷  -- eventBased(e,(m:T,f),..)
+    kind "andSplit" "EY" one many [] ∷  -- andSplit(e,E)
+    kind "andJoin" "FX" many one [] ∷  -- andJoin(E,f)
+    kind "xorJoin" "FX" many one [] ∷  -- xorJoin(E,f)
+    kind "xorSplit" "EG" one many (conditions many ∷ []) ∷  -- xorSplit(e,{(f,C),..})
+    kind "task" "ENX" one one (task-part ∷ conditions one ∷ []) ∷  -- task(e,n,k,C,A,f)
+    kind "taskRcv" "ENTX" one one (task-part ∷ conditions one ∷ receives one ∷ []) ∷  -- taskRcv(e,n,k,C,A,m:T,f)
+    kind "taskSnd" "ENSX" one one (task-part ∷ conditions one ∷ sends one ∷ []) ∷ []  -- taskSnd(e,n,k,C,A,m:X,f)
 
 -- The numbers of the kinds, as they stand in a table.
 abbrev pub start : ℕ
@@ -126,6 +139,11 @@ taskSnd = 15
 -- the row of kind k
 unfoldable pub kindOf : ℕ → Kind
 kindOf k = getD kinds k noKind
+
+-- a row of the table that is kind k's
+pub record RowOf (k row : ℕ) : Type 0 where
+  pub inside : row < length kinds
+  pub same : kindOf row ≡ kindOf k
 
 -- its keyword
 abbrev pub keywordOf : ℕ → List ℕ

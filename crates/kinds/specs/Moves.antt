@@ -8,7 +8,7 @@ use lib.ListN.{getD}
 use Rattle.words.specs.Pick.{if_then_else_}
 use Rattle.words.specs.Seek.{seek}
 use Rattle.kinds.specs.declared.moves.Move.{Move}
-use Rattle.kinds.specs.Cells.{Cell, cell}
+use Rattle.kinds.specs.Cells.{Cell, _holding_, cell}
 use Rattle.kinds.specs.Kinds.{start, startRcv, end, terminate, endSnd, interRcv, interSnd, eventBased, andSplit, andJoin, xorJoin, xorSplit, task, taskRcv, taskSnd}
 
 -- modes of a task: atomic, not atomic and concurrent or not; a row `na` is for both of the latter; o: no mode, or a cell with nothing
@@ -41,27 +41,45 @@ every = 1
 abbrev pub branch : ℕ
 branch = 2
 
+abbrev takesColumn : ℕ
+takesColumn = 0
+
+abbrev putsColumn : ℕ
+putsColumn = 1
+
 abbrev takes : ℕ → Cell
-takes x = record { column = 0; holds = x }
+takes x = takesColumn holding x
 
 abbrev puts : ℕ → Cell
-puts x = record { column = 1; holds = x }
+puts x = putsColumn holding x
 
 -- It asks the guard, or the branch's condition; receives; assigns; sends.
 abbrev pub on : ℕ
 on = 1
 
+abbrev asksColumn : ℕ
+asksColumn = 2
+
+abbrev receivesColumn : ℕ
+receivesColumn = 3
+
+abbrev assignsColumn : ℕ
+assignsColumn = 4
+
+abbrev sendsColumn : ℕ
+sendsColumn = 5
+
 abbrev asks : Cell
-asks = record { column = 2; holds = on }
+asks = asksColumn holding on
 
 abbrev receives : Cell
-receives = record { column = 3; holds = on }
+receives = receivesColumn holding on
 
 abbrev assigns : Cell
-assigns = record { column = 4; holds = on }
+assigns = assignsColumn holding on
 
 abbrev sends : Cell
-sends = record { column = 5; holds = on }
+sends = sendsColumn holding on
 
 -- It raises or lowers a count of the task, and needs both counts 0 where the mode is na_nc.
 abbrev pub up : ℕ
@@ -70,14 +88,23 @@ up = 1
 abbrev pub down : ℕ
 down = 2
 
+abbrev activeColumn : ℕ
+activeColumn = 6
+
+abbrev readyColumn : ℕ
+readyColumn = 7
+
+abbrev aloneColumn : ℕ
+aloneColumn = 8
+
 abbrev active : ℕ → Cell
-active x = record { column = 6; holds = x }
+active x = activeColumn holding x
 
 abbrev ready : ℕ → Cell
-ready x = record { column = 7; holds = x }
+ready x = readyColumn holding x
 
 abbrev alone : Cell
-alone = record { column = 8; holds = on }
+alone = aloneColumn holding on
 
 -- Also: the instance is made by the step; its tokens and task counts are cleared.
 abbrev pub making : ℕ
@@ -86,11 +113,14 @@ making = 1
 abbrev pub clearing : ℕ
 clearing = 2
 
+abbrev alsoColumn : ℕ
+alsoColumn = 9
+
 abbrev makes : Cell
-makes = record { column = 9; holds = making }
+makes = alsoColumn holding making
 
 abbrev clears : Cell
-clears = record { column = 9; holds = clearing }
+clears = alsoColumn holding clearing
 
 abbrev rule : ℕ → ℕ → ℕ → List Cell → Move
 rule kind mode phase deeds =
@@ -98,16 +128,16 @@ rule kind mode phase deeds =
       kind = kind;
       mode = mode;
       phase = phase;
-      takes = cell (takes o) deeds;
-      puts = cell (puts o) deeds;
-      asks = cell asks deeds;
-      receives = cell receives deeds;
-      assigns = cell assigns deeds;
-      sends = cell sends deeds;
-      active = cell (active o) deeds;
-      ready = cell (ready o) deeds;
-      alone = cell alone deeds;
-      also = cell makes deeds;
+      takes = cell takesColumn deeds;
+      puts = cell putsColumn deeds;
+      asks = cell asksColumn deeds;
+      receives = cell receivesColumn deeds;
+      assigns = cell assignsColumn deeds;
+      sends = cell sendsColumn deeds;
+      active = cell activeColumn deeds;
+      ready = cell readyColumn deeds;
+      alone = cell aloneColumn deeds;
+      also = cell alsoColumn deeds;
     }
 
 -- the row where there is no rule

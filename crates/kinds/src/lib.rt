@@ -1,12 +1,12 @@
 // The table of kinds. A kind is 1 to 15; any other number has the row of none.
 ghost use mathlib.Core.Path.{_≡_};
-ghost use Rattle.kinds.specs.Kinds.{kindOf, used};
+ghost use Rattle.kinds.specs.Kinds.{kindOf, RowOf, used};
 use words::Word;
-use words::wide;
+use words::word;
 
 pub mod moves;
 
-// The cells of the last six columns.
+// How many there are: none, one, or as many as a list has.
 pub const NONE: Word = 0;
 
 pub const ONE: Word = 1;
@@ -30,170 +30,141 @@ pub struct Kind {
     pub sends: Word,
 }
 
-struct KindRow(
-    [u8; LETTERS],
-    Word,
-    [u8; PARTS],
-    Word,
-    Word,
-    Word,
-    Word,
-    Word,
-    Word,
-);
-
 // The row of none, and those of the kinds.
 const ROWS: usize = 16;
 
-// keyword, its letters, parts, entries, exits, task, conditions, receives, sends
-const KINDS: [KindRow; ROWS] = [
-    KindRow(
-        *b"          ",
-        0,
-        *b"    ",
-        NONE,
-        NONE,
-        NONE,
-        NONE,
-        NONE,
-        NONE,
-    ),
-    KindRow(
-        *b"start     ",
-        5,
-        *b"EX  ",
-        ONE,
-        ONE,
-        NONE,
-        NONE,
-        NONE,
-        NONE,
-    ),
-    KindRow(
-        *b"startRcv  ",
-        8,
-        *b"TX  ",
-        NONE,
-        ONE,
-        NONE,
-        NONE,
-        ONE,
-        NONE,
-    ),
-    KindRow(
-        *b"end       ",
-        3,
-        *b"E   ",
-        ONE,
-        NONE,
-        NONE,
-        NONE,
-        NONE,
-        NONE,
-    ),
-    KindRow(
-        *b"terminate ",
-        9,
-        *b"E   ",
-        ONE,
-        NONE,
-        NONE,
-        NONE,
-        NONE,
-        NONE,
-    ),
-    KindRow(
-        *b"endSnd    ",
-        6,
-        *b"ES  ",
-        ONE,
-        NONE,
-        NONE,
-        NONE,
-        NONE,
-        ONE,
-    ),
-    KindRow(*b"interRcv  ", 8, *b"ETX ", ONE, ONE, NONE, NONE, ONE, NONE),
-    KindRow(*b"interSnd  ", 8, *b"ESX ", ONE, ONE, NONE, NONE, NONE, ONE),
-    KindRow(
-        *b"eventBased",
-        10,
-        *b"EB  ",
-        ONE,
-        MANY,
-        NONE,
-        NONE,
-        MANY,
-        NONE,
-    ),
-    KindRow(
-        *b"andSplit  ",
-        8,
-        *b"EY  ",
-        ONE,
-        MANY,
-        NONE,
-        NONE,
-        NONE,
-        NONE,
-    ),
-    KindRow(
-        *b"andJoin   ",
-        7,
-        *b"FX  ",
-        MANY,
-        ONE,
-        NONE,
-        NONE,
-        NONE,
-        NONE,
-    ),
-    KindRow(
-        *b"xorJoin   ",
-        7,
-        *b"FX  ",
-        MANY,
-        ONE,
-        NONE,
-        NONE,
-        NONE,
-        NONE,
-    ),
-    KindRow(
-        *b"xorSplit  ",
-        8,
-        *b"EG  ",
-        ONE,
-        MANY,
-        NONE,
-        MANY,
-        NONE,
-        NONE,
-    ),
-    KindRow(*b"task      ", 4, *b"ENX ", ONE, ONE, ONE, ONE, NONE, NONE),
-    KindRow(*b"taskRcv   ", 7, *b"ENTX", ONE, ONE, ONE, ONE, ONE, NONE),
-    KindRow(*b"taskSnd   ", 7, *b"ENSX", ONE, ONE, ONE, ONE, NONE, ONE),
+// "A keyword is compared whole, as fixed bytes": blanks stand behind it.
+const KEYWORDS: [[u8; LETTERS]; ROWS] = [
+    *b"          ",
+    *b"start     ",
+    *b"startRcv  ",
+    *b"end       ",
+    *b"terminate ",
+    *b"endSnd    ",
+    *b"interRcv  ",
+    *b"interSnd  ",
+    *b"eventBased",
+    *b"andSplit  ",
+    *b"andJoin   ",
+    *b"xorJoin   ",
+    *b"xorSplit  ",
+    *b"task      ",
+    *b"taskRcv   ",
+    *b"taskSnd   ",
 ];
+
+// The parts of an element's text: their letters are those of specs/Kinds.antt.
+const PARTS_OF: [[u8; PARTS]; ROWS] = [
+    *b"    ", // none
+    *b"EX  ", // start
+    *b"TX  ", // startRcv
+    *b"E   ", // end
+    *b"E   ", // terminate
+    *b"ES  ", // endSnd
+    *b"ETX ", // interRcv
+    *b"ESX ", // interSnd
+    *b"EB  ", // eventBased
+    *b"EY  ", // andSplit
+    *b"FX  ", // andJoin
+    *b"FX  ", // xorJoin
+    *b"EG  ", // xorSplit
+    *b"ENX ", // task
+    *b"ENTX", // taskRcv
+    *b"ENSX", // taskSnd
+];
+
+// The columns of numbers, in the same order: 0 NONE, 1 ONE, 2 MANY but for the letters.
+const LETTERS_OF: [Word; ROWS] = [0, 5, 8, 3, 9, 6, 8, 8, 10, 8, 7, 7, 8, 4, 7, 7];
+
+const ENTRIES: [Word; ROWS] = [0, 1, 0, 1, 1, 1, 1, 1, 1, 1, 2, 2, 1, 1, 1, 1];
+
+const EXITS: [Word; ROWS] = [0, 1, 1, 0, 0, 0, 1, 1, 2, 2, 1, 1, 2, 1, 1, 1];
+
+const TASK: [Word; ROWS] = [0, 0, 0, 0, 0, 0, 0, 0, 0, 0, 0, 0, 0, 1, 1, 1];
+
+const CONDITIONS: [Word; ROWS] = [0, 0, 0, 0, 0, 0, 0, 0, 0, 0, 0, 0, 2, 1, 1, 1];
+
+const RECEIVES: [Word; ROWS] = [0, 0, 1, 0, 0, 0, 1, 0, 2, 0, 0, 0, 0, 0, 1, 0];
+
+const SENDS: [Word; ROWS] = [0, 0, 0, 0, 0, 1, 0, 1, 0, 0, 0, 0, 0, 0, 0, 1];
+
+// What the row of kind k has in a column.
+pub fn letters_of(k: Word) -> Word
+    ensures { λ r. ⌜ r ≡ kindOf k .letters ⌝ }
+{
+    word(&LETTERS_OF, k as usize)
+}
+
+pub fn entries_of(k: Word) -> Word
+    ensures { λ r. ⌜ r ≡ kindOf k .entries ⌝ }
+{
+    word(&ENTRIES, k as usize)
+}
+
+pub fn exits_of(k: Word) -> Word
+    ensures { λ r. ⌜ r ≡ kindOf k .exits ⌝ }
+{
+    word(&EXITS, k as usize)
+}
+
+pub fn task_of(k: Word) -> Word
+    ensures { λ r. ⌜ r ≡ kindOf k .task ⌝ }
+{
+    word(&TASK, k as usize)
+}
+
+pub fn conditions_of(k: Word) -> Word
+    ensures { λ r. ⌜ r ≡ kindOf k .conditions ⌝ }
+{
+    word(&CONDITIONS, k as usize)
+}
+
+pub fn receives_of(k: Word) -> Word
+    ensures { λ r. ⌜ r ≡ kindOf k .receives ⌝ }
+{
+    word(&RECEIVES, k as usize)
+}
+
+pub fn sends_of(k: Word) -> Word
+    ensures { λ r. ⌜ r ≡ kindOf k .sends ⌝ }
+{
+    word(&SENDS, k as usize)
+}
+
+// The row of kind k; that of none where k is no kind.
+fn row_of(k: Word) -> usize
+    ensures { λ r. ⌜ RowOf k r ⌝ }
+{
+    let i = k as usize;
+    if i < ROWS { i } else { 0 }
+}
+
+pub fn keyword_of(k: Word) -> [u8; LETTERS]
+    ensures { λ r. ⌜ r ≡ kindOf k .keyword ⌝ }
+{
+    KEYWORDS[row_of(k)]
+}
+
+pub fn parts_of(k: Word) -> [u8; PARTS]
+    ensures { λ r. ⌜ r ≡ kindOf k .parts ⌝ }
+{
+    PARTS_OF[row_of(k)]
+}
 
 // The row of kind k.
 pub fn kind_of(k: Word) -> Kind
     ensures { λ r. ⌜ r ≡ kindOf k ⌝ }
 {
-    let i = wide(k);
-    let row = if i < ROWS { i } else { 0 };
-    let r = KINDS[row];
-    let keyword = r.0;
-    let parts = r.2;
     Kind {
-        keyword: keyword,
-        letters: r.1,
-        parts: parts,
-        entries: r.3,
-        exits: r.4,
-        task: r.5,
-        conditions: r.6,
-        receives: r.7,
-        sends: r.8,
+        keyword: keyword_of(k),
+        letters: letters_of(k),
+        parts: parts_of(k),
+        entries: entries_of(k),
+        exits: exits_of(k),
+        task: task_of(k),
+        conditions: conditions_of(k),
+        receives: receives_of(k),
+        sends: sends_of(k),
     }
 }
 

@@ -77,50 +77,36 @@ pub struct Move {
     pub also: Word,
 }
 
-struct MoveRow(
-    Word,
-    Word,
-    Word,
-    Word,
-    Word,
-    Word,
-    Word,
-    Word,
-    Word,
-    Word,
-    Word,
-    Word,
-    Word,
-);
-
 const RULES: usize = 23;
 
+const COLUMNS: usize = 13;
+
 // kind, mode, phase, takes, puts, asks, receives, assigns, sends, active, ready, alone, also
-const MOVES: [MoveRow; RULES + 1] = [
-    MoveRow(START, O, 0, EVERY, EVERY, O, O, O, O, O, O, O, O), // P-Start
-    MoveRow(START_RCV, O, 0, O, EVERY, O, ON, O, O, O, O, O, MAKES), // P-StartRcv
-    MoveRow(END, O, 0, EVERY, O, O, O, O, O, O, O, O, O), // P-End
-    MoveRow(TERMINATE, O, 0, EVERY, O, O, O, O, O, O, O, O, CLEARS), // P-Terminate
-    MoveRow(END_SND, O, 0, EVERY, O, O, O, O, ON, O, O, O, O), // P-EndSnd
-    MoveRow(INTER_RCV, O, 0, EVERY, EVERY, O, ON, O, O, O, O, O, O), // P-InterRcv
-    MoveRow(INTER_SND, O, 0, EVERY, EVERY, O, O, O, ON, O, O, O, O), // P-InterSnd
-    MoveRow(EVENT_BASED, O, 0, EVERY, BRANCH, O, ON, O, O, O, O, O, O), // P-EventG
-    MoveRow(AND_SPLIT, O, 0, EVERY, EVERY, O, O, O, O, O, O, O, O), // P-AndSplit
-    MoveRow(AND_JOIN, O, 0, EVERY, EVERY, O, O, O, O, O, O, O, O), // P-AndJoin
-    MoveRow(XOR_JOIN, O, 0, BRANCH, EVERY, O, O, O, O, O, O, O, O), // P-XorJoin
-    MoveRow(XOR_SPLIT, O, 0, EVERY, BRANCH, ON, O, O, O, O, O, O, O), // P-XorSplit
-    MoveRow(TASK, A, 0, EVERY, EVERY, ON, O, ON, O, O, O, O, O), // P-Task-A
-    MoveRow(TASK_RCV, A, 0, EVERY, EVERY, ON, ON, ON, O, O, O, O, O), // P-TaskRcv-A
-    MoveRow(TASK_SND, A, 0, EVERY, EVERY, ON, O, ON, ON, O, O, O, O), // P-TaskSnd-A
-    MoveRow(TASK, NA, 1, EVERY, O, ON, O, O, O, UP, O, ON, O), // P-Task-N1
-    MoveRow(TASK_RCV, NA, 1, EVERY, O, ON, O, O, O, UP, O, ON, O), // P-TaskRcv-N1
-    MoveRow(TASK_SND, NA, 1, EVERY, O, ON, O, O, O, UP, O, ON, O), // P-TaskSnd-N1
-    MoveRow(TASK, NA, 3, O, EVERY, O, O, ON, O, DOWN, O, O, O), // P-Task-N2
-    MoveRow(TASK_RCV, NA, 2, O, O, O, ON, O, O, DOWN, UP, O, O), // P-TaskRcv-N2
-    MoveRow(TASK_RCV, NA, 3, O, EVERY, O, O, ON, O, O, DOWN, O, O), // P-TaskRcv-N3
-    MoveRow(TASK_SND, NA, 2, O, O, O, O, ON, O, DOWN, UP, O, O), // P-TaskSnd-N2
-    MoveRow(TASK_SND, NA, 3, O, EVERY, O, O, O, ON, O, DOWN, O, O), // P-TaskSnd-N3
-    MoveRow(O, O, 0, O, O, O, O, O, O, O, O, O, O), // none
+const MOVES: [[Word; COLUMNS]; RULES + 1] = [
+    [START, O, 0, EVERY, EVERY, O, O, O, O, O, O, O, O], // P-Start
+    [START_RCV, O, 0, O, EVERY, O, ON, O, O, O, O, O, MAKES], // P-StartRcv
+    [END, O, 0, EVERY, O, O, O, O, O, O, O, O, O], // P-End
+    [TERMINATE, O, 0, EVERY, O, O, O, O, O, O, O, O, CLEARS], // P-Terminate
+    [END_SND, O, 0, EVERY, O, O, O, O, ON, O, O, O, O], // P-EndSnd
+    [INTER_RCV, O, 0, EVERY, EVERY, O, ON, O, O, O, O, O, O], // P-InterRcv
+    [INTER_SND, O, 0, EVERY, EVERY, O, O, O, ON, O, O, O, O], // P-InterSnd
+    [EVENT_BASED, O, 0, EVERY, BRANCH, O, ON, O, O, O, O, O, O], // P-EventG
+    [AND_SPLIT, O, 0, EVERY, EVERY, O, O, O, O, O, O, O, O], // P-AndSplit
+    [AND_JOIN, O, 0, EVERY, EVERY, O, O, O, O, O, O, O, O], // P-AndJoin
+    [XOR_JOIN, O, 0, BRANCH, EVERY, O, O, O, O, O, O, O, O], // P-XorJoin
+    [XOR_SPLIT, O, 0, EVERY, BRANCH, ON, O, O, O, O, O, O, O], // P-XorSplit
+    [TASK, A, 0, EVERY, EVERY, ON, O, ON, O, O, O, O, O], // P-Task-A
+    [TASK_RCV, A, 0, EVERY, EVERY, ON, ON, ON, O, O, O, O, O], // P-TaskRcv-A
+    [TASK_SND, A, 0, EVERY, EVERY, ON, O, ON, ON, O, O, O, O], // P-TaskSnd-A
+    [TASK, NA, 1, EVERY, O, ON, O, O, O, UP, O, ON, O], // P-Task-N1
+    [TASK_RCV, NA, 1, EVERY, O, ON, O, O, O, UP, O, ON, O], // P-TaskRcv-N1
+    [TASK_SND, NA, 1, EVERY, O, ON, O, O, O, UP, O, ON, O], // P-TaskSnd-N1
+    [TASK, NA, 3, O, EVERY, O, O, ON, O, DOWN, O, O, O], // P-Task-N2
+    [TASK_RCV, NA, 2, O, O, O, ON, O, O, DOWN, UP, O, O], // P-TaskRcv-N2
+    [TASK_RCV, NA, 3, O, EVERY, O, O, ON, O, O, DOWN, O, O], // P-TaskRcv-N3
+    [TASK_SND, NA, 2, O, O, O, O, ON, O, DOWN, UP, O, O], // P-TaskSnd-N2
+    [TASK_SND, NA, 3, O, EVERY, O, O, O, ON, O, DOWN, O, O], // P-TaskSnd-N3
+    [O, O, 0, O, O, O, O, O, O, O, O, O, O], // none
 ];
 
 // No mode and the three of a task; no phase and its three.
@@ -128,25 +114,24 @@ const MODES: usize = 4;
 
 const PHASES: usize = 4;
 
-// The rule of a kind (a line), mode (a group of four letters) and phase (a letter of it): a is the first row of MOVES, x the row of none.
-const RULE_OF: [[u8; MODES * PHASES]; ROWS] = [
-    *b"xxxxxxxxxxxxxxxx", // none
-    *b"axxxxxxxxxxxxxxx", // start
-    *b"bxxxxxxxxxxxxxxx", // startRcv
-    *b"cxxxxxxxxxxxxxxx", // end
-    *b"dxxxxxxxxxxxxxxx", // terminate
-    *b"exxxxxxxxxxxxxxx", // endSnd
-    *b"fxxxxxxxxxxxxxxx", // interRcv
-    *b"gxxxxxxxxxxxxxxx", // interSnd
-    *b"hxxxxxxxxxxxxxxx", // eventBased
-    *b"ixxxxxxxxxxxxxxx", // andSplit
-    *b"jxxxxxxxxxxxxxxx", // andJoin
-    *b"kxxxxxxxxxxxxxxx", // xorJoin
-    *b"lxxxxxxxxxxxxxxx", // xorSplit
-    *b"xxxxmxxxxpxsxpxs", // task
-    *b"xxxxnxxxxqtuxqtu", // taskRcv
-    *b"xxxxoxxxxrvwxrvw", // taskSnd
-];
+// The rule of a kind (a line, the first for none), mode (a group of four letters) and phase (a letter of it): a is the first row of MOVES, x the row of none.
+const RULE_OF: [u8; ROWS * MODES * PHASES] = *b"\
+    xxxxxxxxxxxxxxxx\
+    axxxxxxxxxxxxxxx\
+    bxxxxxxxxxxxxxxx\
+    cxxxxxxxxxxxxxxx\
+    dxxxxxxxxxxxxxxx\
+    exxxxxxxxxxxxxxx\
+    fxxxxxxxxxxxxxxx\
+    gxxxxxxxxxxxxxxx\
+    hxxxxxxxxxxxxxxx\
+    ixxxxxxxxxxxxxxx\
+    jxxxxxxxxxxxxxxx\
+    kxxxxxxxxxxxxxxx\
+    lxxxxxxxxxxxxxxx\
+    xxxxmxxxxpxsxpxs\
+    xxxxnxxxxqtuxqtu\
+    xxxxoxxxxrvwxrvw";
 
 // The number of the rule of a kind, mode and phase; RULES where there is none.
 pub fn rule_of(k: Word, m: Word, p: Word) -> Word
@@ -158,9 +143,8 @@ pub fn rule_of(k: Word, m: Word, p: Word) -> Word
     if kind < ROWS {
         if mode < MODES {
             if phase < PHASES {
-                let line = RULE_OF[kind];
-                let i = mode * PHASES + phase;
-                return (line[i] - b'a') as Word;
+                let i = (kind * MODES + mode) * PHASES + phase;
+                return (RULE_OF[i] - b'a') as Word;
             }
         }
     }
@@ -174,18 +158,18 @@ pub fn move_of(k: Word, m: Word, p: Word) -> Move
     let i = wide(rule_of(k, m, p));
     let r = MOVES[i];
     Move {
-        kind: r.0,
-        mode: r.1,
-        phase: r.2,
-        takes: r.3,
-        puts: r.4,
-        asks: r.5,
-        receives: r.6,
-        assigns: r.7,
-        sends: r.8,
-        active: r.9,
-        ready: r.10,
-        alone: r.11,
-        also: r.12,
+        kind: r[0],
+        mode: r[1],
+        phase: r[2],
+        takes: r[3],
+        puts: r[4],
+        asks: r[5],
+        receives: r[6],
+        assigns: r[7],
+        sends: r[8],
+        active: r[9],
+        ready: r[10],
+        alone: r[11],
+        also: r[12],
     }
 }

@@ -1,7 +1,7 @@
--- How many items, assignments, entries and exits an element within the limits has, and how many elements a pool. Assumes nothing.
+-- How many items, assignments, entries and exits an element within the limits has. Assumes nothing.
 use Prim.Native.Nat.{ℕ, _+_, _-_, _*_, _≤_, _<_}
 use mathlib.Core.Path.{_≡_, refl, sym, _∙_, ap}
-use mathlib.Core.Bool.{Bool, true, not, _&&_}
+use mathlib.Core.Bool.{Bool, true, _&&_}
 use mathlib.Core.List.{List}
 use native.Mathlib.Omega.{arith}
 use lib.Dec.{eqb, leb, ltb}
@@ -11,17 +11,17 @@ use borrow.Author.Tests.{eqb-true, leb-true, ltb-true, ltb-false}
 use Rattle.words.specs.All.{all}
 use Rattle.words.specs.Each.{each}
 use Rattle.words.specs.Words.{at}
-use Rattle.words.specs.Counts.{pools, elements, fewest, branches, poolNumbers, tasks, instances, values, assignments}
+use Rattle.words.specs.Counts.{fewest, branches, tasks, values, assignments}
 use Rattle.words.proofs.AllLaws.{and-left, and-right, all-at}
 use Rattle.words.proofs.ListLaws.{each-at}
 use Rattle.kinds.specs.declared.Kind.{Kind}
 use Rattle.kinds.specs.Kinds.{one, many, noKind, kinds, kindOf, used}
 use Rattle.kinds.specs.Moves.{a, na-nc}
-use Rattle.model.specs.Places.{entriesPlace, exitsPlace, firstEdge, lengthIn, messageWords, messagePlace, lengthPlace, elementWords, poolWords, poolPlace, limitPlace}
-use Rattle.model.specs.Table.{poolCount, elementCount, elementAt, kindIn, taskIn, modeIn, exitCount, messageLength, assignmentCount}
-use Rattle.limits.specs.Limits.{within, zeros, things, messageFits, countFits, edgeFits, edgesFit, taskFits, conditionsFit, messagesFit, assignmentsFit, partsFit, elementFits, poolFits, tableFits}
-use Rattle.steps.proofs.Choices.{by-test, by-choice, chosen-true, passed-true}
-use Rattle.steps.proofs.Elements.{message-length}
+use Rattle.model.specs.Places.{entriesPlace, exitsPlace, firstEdge, lengthIn, messageWords, messagePlace, lengthPlace}
+use Rattle.model.specs.Table.{kindIn, taskIn, modeIn, exitCount, messageLength, assignmentCount}
+use Rattle.limits.specs.Limits.{within, zeros, things, messageFits, countFits, edgeFits, edgesFit, taskFits, messagesFit, elementFits}
+use Rattle.steps.proofs.Choices.{by-test, chosen-true, passed-true}
+use Rattle.steps.proofs.Elements.{rowOf, count-used, FittingParts, fitting-parts, message-length}
 
 -- a fact of every row of the table of kinds
 pub every-kind : (f : Kind → Bool) → each f kinds ≡ true → f noKind ≡ true → (k : ℕ) → f (kindOf k) ≡ true
@@ -41,12 +41,6 @@ count-few column n l h =
     (λ e. leb-true n branches (and-right (leb fewest n) (leb n branches) (chosen-true (eqb column many) (within fewest branches n) (eqb n column) h e)))
     (λ e. omega (arith, l, eqb-true n column (passed-true (eqb column many) (within fewest branches n) (eqb n column) h e)))
 
-count-used : (column n : ℕ) → countFits column n ≡ true → used column n ≡ n
-unfolding countFits used
-count-used column n h =
-    by-choice (λ (m : ℕ). m ≡ n) (eqb column many) n column (λ e. refl)
-    (λ e. sym (eqb-true n column (passed-true (eqb column many) (within fewest branches n) (eqb n column) h e)))
-
 edges-count : (column place : ℕ) (el : List ℕ) → edgesFit column (drop place el) ≡ true → countFits column (at el (place + 0)) ≡ true
 unfolding edgesFit
 edges-count column place el h =
@@ -62,97 +56,48 @@ things-behind x w n k right h i l =
 
 -- AN ELEMENT
 module _ (el : List ℕ) (fits : elementFits el ≡ true) where
-  abbrev row : Kind
-  row = kindOf (kindIn el)
-
-  abbrev taskPart : Bool
-  taskPart = taskFits (row .task) el
-
-  abbrev entryPart : Bool
-  entryPart = edgesFit (row .entries) (drop entriesPlace el)
-
-  abbrev exitPart : Bool
-  exitPart = edgesFit (row .exits) (drop exitsPlace el)
-
-  abbrev conditionPart : Bool
-  conditionPart = conditionsFit (row .conditions) el
-
-  abbrev messagePart : Bool
-  messagePart = messagesFit (row .receives) (row .sends) el
-
-  up-to-messages : taskPart && entryPart && exitPart && conditionPart && messagePart ≡ true
-  unfolding elementFits partsFit
-  up-to-messages =
-      and-left (taskPart && entryPart && exitPart && conditionPart && messagePart) (assignmentsFit el)
-      (and-right (not (eqb (row .letters) 0)) (taskPart && entryPart && exitPart && conditionPart && messagePart && assignmentsFit el) fits)
-
-  up-to-exits : taskPart && entryPart && exitPart ≡ true
-  up-to-exits = and-left (taskPart && entryPart && exitPart) conditionPart (and-left (taskPart && entryPart && exitPart && conditionPart) messagePart up-to-messages)
-
-  up-to-entries : taskPart && entryPart ≡ true
-  up-to-entries = and-left (taskPart && entryPart) exitPart up-to-exits
+  parts : FittingParts el
+  parts = fitting-parts el fits
 
   pub entries-few : at el entriesPlace ≤ branches
   entries-few =
-      count-few (row .entries) (at el entriesPlace) (kind-few (kindIn el) .0)
-      (edges-count (row .entries) entriesPlace el (and-right taskPart entryPart up-to-entries))
+      count-few (rowOf el .entries) (at el entriesPlace) (kind-few (kindIn el) .0) (edges-count (rowOf el .entries) entriesPlace el (parts .entries))
 
   -- the exits as its kind has them
-  pub exits-fit : countFits (row .exits) (at el exitsPlace) ≡ true
-  exits-fit = edges-count (row .exits) exitsPlace el (and-right (taskPart && entryPart) exitPart up-to-exits)
+  pub exits-fit : countFits (rowOf el .exits) (at el exitsPlace) ≡ true
+  exits-fit = edges-count (rowOf el .exits) exitsPlace el (parts .exits)
 
   pub exits-few : at el exitsPlace ≤ branches
-  exits-few = count-few (row .exits) (at el exitsPlace) (kind-few (kindIn el) .1) exits-fit
+  exits-few = count-few (rowOf el .exits) (at el exitsPlace) (kind-few (kindIn el) .1) exits-fit
 
   pub exits-all : exitCount el ≡ at el exitsPlace
   unfolding exitCount
-  exits-all = count-used (row .exits) (at el exitsPlace) exits-fit
+  exits-all = count-used (rowOf el .exits) (at el exitsPlace) exits-fit
 
   pub assignments-few : assignmentCount el ≤ assignments
   unfolding taskFits
   assignments-few =
-      let h : taskPart ≡ true = and-left taskPart entryPart up-to-entries in
+      let h = parts .task in
       let ranged : Bool = within 1 tasks (taskIn el) && within a na-nc (modeIn el) in
       let bare : Bool = eqb (taskIn el) 0 && eqb (modeIn el) 0 in
       let some : Bool = ranged && leb (assignmentCount el) assignments in
       let nothing : Bool = bare && eqb (assignmentCount el) 0 in
-      by-test (eqb (row .task) one)
-      (λ e. leb-true (assignmentCount el) assignments (and-right ranged (leb (assignmentCount el) assignments) (chosen-true (eqb (row .task) one) some nothing h e)))
-      (λ e. omega (arith, eqb-true (assignmentCount el) 0 (and-right bare (eqb (assignmentCount el) 0) (passed-true (eqb (row .task) one) some nothing h e))))
+      by-test (eqb (rowOf el .task) one)
+      (λ e. leb-true (assignmentCount el) assignments (and-right ranged (leb (assignmentCount el) assignments) (chosen-true (eqb (rowOf el .task) one) some nothing h e)))
+      (λ e. omega (arith, eqb-true (assignmentCount el) 0 (and-right bare (eqb (assignmentCount el) 0) (passed-true (eqb (rowOf el .task) one) some nothing h e))))
 
   -- the message of a branch, in use or not
   pub items-few : (b : ℕ) → b < branches → messageLength el b ≤ values
   unfolding messagesFit
   items-few b l =
-      let k = used (row .receives + row .sends) (at el exitsPlace) in
+      let k = used (rowOf el .receives + rowOf el .sends) (at el exitsPlace) in
       by-test (ltb b k)
       (λ e. message-length el fits b (ltb-true b k e))
       (λ e.
       let r : k ≤ b = ltb-false b k e in
-      let h = and-right (taskPart && entryPart && exitPart && conditionPart) messagePart up-to-messages in
+      let h = parts .messages in
       let i = messageWords * (b - k) + lengthIn in
-      let z : at (drop (messagePlace 0) el) (messageWords * k + i) ≡ 0 = things-behind (drop (messagePlace 0) el) messageWords branches k (messageFits (row .receives)) h i (omega (arith, l, r)) in
+      let z : at (drop (messagePlace 0) el) (messageWords * k + i) ≡ 0 = things-behind (drop (messagePlace 0) el) messageWords branches k (messageFits (rowOf el .receives)) h i (omega (arith, l, r)) in
       let e : messagePlace 0 + (messageWords * k + i) ≡ lengthPlace b = omega (arith, l, r) in
       let q : messageLength el b ≡ 0 = ap (at el) (sym e) ∙ sym (getD-drop (messagePlace 0) el (messageWords * k + i) 0) ∙ z in
       omega (arith, q))
-
--- A POOL
-module _ (t : List ℕ) (fits : tableFits t ≡ true) (p : ℕ) (there : p < poolCount t) where
-  abbrev headPart : Bool
-  headPart = within 1 poolNumbers (at t (poolPlace p)) && leb (at t (limitPlace p)) instances
-
-  abbrev countPart : Bool
-  countPart = within 1 elements (elementCount t p)
-
-  abbrev elementsPart : Bool
-  elementsPart = things (elementAt t p 0) elementWords elements (elementCount t p) elementFits
-
-  pub elements-few : elementCount t p ≤ elements
-  unfolding tableFits poolFits
-  elements-few =
-      let counted : Bool = within 1 pools (poolCount t) in
-      let all-fit : Bool = all (poolFits t) (poolCount t) in
-      let rest : Bool = zeros (drop (poolPlace (poolCount t)) t) (poolWords * (pools - poolCount t)) in
-      let h : headPart && countPart && elementsPart ≡ true = all-at (poolFits t) (poolCount t) (and-right counted all-fit (and-left (counted && all-fit) rest fits)) p there in
-      leb-true (elementCount t p) elements
-      (and-right (leb 1 (elementCount t p)) (leb (elementCount t p) elements) (and-right headPart countPart (and-left (headPart && countPart) elementsPart h)))

@@ -23,10 +23,10 @@ use Rattle.buffers.proofs.OverLaws.{pieces-short}
 use Rattle.shown.specs.Shown.{lead, between, shownElement, shownElements, shownLimit, shownPool, shownPools, shownTable}
 use Rattle.steps.proofs.Choices.{by-choice}
 use Rattle.steps.proofs.Elements.{element-fits}
+use Rattle.steps.proofs.Elements.{elements-few}
 use Rattle.checked.proofs.ChecksHold.{valid-fits}
 use Rattle.checked.proofs.FewExits.{few-exits}
 use Rattle.lengths.proofs.Pieces.{both-short, between-long, lead-short, separated-sum}
-use Rattle.lengths.proofs.FewParts.{elements-few}
 use Rattle.lengths.proofs.ElementShort.{exitMost, elementMost, element-short}
 
 -- the most bytes of the elements of a pool: 32 elements and 48 exits; and of a pool

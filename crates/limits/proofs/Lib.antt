@@ -1,1 +1,2 @@
-pub mod ThingsLaws
+pub mod BoundLaws
+pub mod PointsHold

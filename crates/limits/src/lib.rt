@@ -1,3 +1,2 @@
-// Whether the parts of an element are within the limits.
-pub mod parts;
+// Words that are within limits, or 0.
 pub mod zeros;

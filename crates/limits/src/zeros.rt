@@ -1,9 +1,11 @@
 // Words that are 0, and words within limits.
 ghost use mathlib.Core.Path.{_≡_};
-ghost use Prim.Native.Nat.{_-_};
+ghost use Prim.Native.Nat.{_-_, _*_};
+ghost use lib.ListN.{drop};
 ghost use Rattle.words.specs.Words.{at};
 ghost use Rattle.limits.specs.Limits.{within, zeros};
 use words::Word;
+use words::tail;
 use words::word;
 
 // Whether word i is from low to high.
@@ -39,4 +41,15 @@ pub fn less(n: Word, k: usize) -> Word
         return n - (k as Word);
     }
     0
+}
+
+// Whether the words behind the first k of `most` things, each of `width` words, are 0.
+pub fn zeros_behind(x: &[Word], width: Word, most: Word, k: u32) -> bool
+    ensures { λ r. ⌜ r ≡ zeros (drop (width * k) (now (x .entry))) (width * (most - k)) ⌝ }
+{
+    let rest = less(most, k as usize);
+    zero_words(
+        tail(x, (width as usize) * (k as usize)),
+        (width as usize) * (rest as usize),
+    )
 }

@@ -5,17 +5,16 @@ use mathlib.Core.Bool.{Bool, true, false}
 use Prim.Native.Nat.{ℕ, zero, suc, _+_, _-_, _≤_}
 use native.Mathlib.Omega.{arith}
 use lib.Dec.{eqb}
-use lib.ListN.{length, take, drop, length-append}
+use lib.ListN.{length, length-append}
 use borrow.Author.Tests.{eq-eqb, ne-eqb}
-use borrow.Rule.Slice.PartMut.{putMid}
 use Rattle.words.specs.Counts.{values}
 use Rattle.words.specs.Pick.{if_then_else_}
 use Rattle.words.specs.Text.{bytes}
 use Rattle.words.specs.Words.{at}
 use Rattle.words.proofs.PickLaws.{pick-yes, pick-no}
 use Rattle.words.specs.Each.{joined}
-use Rattle.buffers.specs.Buffers.{over, lesser}
-use Rattle.buffers.proofs.OverLaws.{Wrote, pieces-none, pieces-more, pieces-done}
+use Rattle.buffers.specs.Buffers.{lesser, Put}
+use Rattle.buffers.proofs.OverLaws.{put-as, put-short, pieces-none, pieces-more, pieces-done}
 use Rattle.decimals.specs.Decimals.{digits, shown}
 use Rattle.decimals.proofs.DecimalLaws.{shown-short}
 use Rattle.meaning.specs.declared.Name.{Name}
@@ -33,20 +32,6 @@ marked-one mark j x e = pick-yes _ _ _ _ (eq-eqb j 0 e) refl
 pub marked-more : (mark : List ℕ) (j x : ℕ) → (j ≡ 0 → ⊥) → mark ++ shown x ≡ marked mark j x
 unfolding marked
 marked-more mark j x e = pick-no _ _ _ _ (ne-eqb j 0 e) refl
-
--- a row in a loop: x is the word that was read
-pub row-start : (mark s out : List ℕ) → Wrote (row mark s 0) out 0 out
-unfolding row
-row-start mark s out = pieces-none (λ j. marked mark j (at s j)) out
-
-pub row-more : (mark s : List ℕ) {out o m : List ℕ} {end from n : ℕ} (j x : ℕ) → x ≡ at s j → Wrote (row mark s j) out end o → from ≡ lesser end (length o) → n ≡ length (marked mark j x) → m ≡ over (marked mark j x) (take (length o - from) (drop from o)) → Wrote (row mark s (j + 1)) out (end + n) (putMid from (length o - from) o m)
-unfolding row
-row-more mark s {o = o} {from = from} j x e w l p q =
-    pieces-more (λ j. marked mark j (at s j)) j w l (p ∙ ap (λ y. length (marked mark j y)) e) (q ∙ ap (λ y. over (marked mark j y) (take (length o - from) (drop from o))) e)
-
-pub row-done : (mark s : List ℕ) {out now : List ℕ} {r : ℕ} (n j : ℕ) → n ≤ j → j ≤ n → Wrote (row mark s j) out r now → Wrote (row mark s n) out r now
-unfolding row
-row-done mark s n j h l w = pieces-done (λ j. marked mark j (at s j)) n j h l w
 
 -- a choice of texts is no longer than both
 choice : (b : Bool) (x y : List ℕ) (n : ℕ) → length x ≤ n → length y ≤ n → length (if b then x else y) ≤ n
@@ -75,6 +60,19 @@ pub row-short : (mark : ℕ) (s : List ℕ) (n : ℕ) → length (row (mark ∷ 
 row-short mark s zero = omega (arith, row-none (mark ∷ []) s)
 row-short mark s (suc zero) = omega (arith, row-next (mark ∷ []) s 0, row-none (mark ∷ []) s, marked-first (mark ∷ []) (at s 0))
 row-short mark s (suc (suc n)) = omega (arith, row-next (mark ∷ []) s (suc n), row-short mark s (suc n), marked-short mark (suc n) (at s (suc n)))
+
+-- a row in a loop: x is the word that was read
+pub row-start : (mark : ℕ) (s : List ℕ) (from : ℕ) (out : List ℕ) → Put (row (mark ∷ []) s 0) (rowMost 0) from out from out
+unfolding row
+row-start mark s from out = pieces-none (λ j. marked (mark ∷ []) j (at s j)) from out
+
+pub row-more : (mark : ℕ) (s : List ℕ) {out o now : List ℕ} {m m′ from k r : ℕ} (j x : ℕ) → x ≡ at s j → Put (row (mark ∷ []) s j) m from out k o → Put (marked (mark ∷ []) j x) m′ k o r now → Put (row (mark ∷ []) s (j + 1)) (rowMost (j + 1)) from out r now
+unfolding row
+row-more mark s j x e h p = put-short (pieces-more (λ i. marked (mark ∷ []) i (at s i)) j h (put-as (marked (mark ∷ []) j (at s j)) (ap (marked (mark ∷ []) j) e) p)) (row-short mark s (j + 1))
+
+pub row-done : (mark : ℕ) (s : List ℕ) {out now : List ℕ} {m from r : ℕ} (n j : ℕ) → n ≤ j → j ≤ n → Put (row (mark ∷ []) s j) m from out r now → Put (row (mark ∷ []) s n) (rowMost n) from out r now
+unfolding row
+row-done mark s n j h l w = put-short (pieces-done (λ i. marked (mark ∷ []) i (at s i)) n j h l w) (row-short mark s n)
 
 pub values-short : (g : Tuple) → length (valuesLine g) ≤ valuesMost
 unfolding valuesLine lesser

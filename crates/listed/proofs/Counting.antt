@@ -9,7 +9,7 @@ use native.Mathlib.Omega.{arith}
 use lib.Dec.{eqb}
 use borrow.Author.Tests.{eq-eqb, eqb-true}
 use Rattle.words.specs.Each.{each, tab}
-use Rattle.words.specs.Sum.{sum, hit, one}
+use Rattle.words.specs.Sum.{sum, hit, oneIf}
 use Rattle.words.proofs.AllLaws.{and-left, and-right}
 use Rattle.words.proofs.EachLaws.{each-append}
 
@@ -52,14 +52,14 @@ module _ (f : ℕ → ℕ) where
 
 -- a count of one
 pub hit-same : (a b : ℕ) → a ≡ b → hit a b ≡ 1
-hit-same a b e = ap one (eq-eqb a b e)
+hit-same a b e = ap oneIf (eq-eqb a b e)
 
 pub same-hit : (a b : ℕ) → 0 < hit a b → a ≡ b
 same-hit a b h = go (eqb a b) refl
   where
     go : (c : Bool) → eqb a b ≡ c → a ≡ b
     go true e = eqb-true a b e
-    go false e = let z : hit a b ≡ 0 = ap one e in absurd (omega arith)
+    go false e = let z : hit a b ≡ 0 = ap oneIf e in absurd (omega arith)
 
 -- a test that passes at all of a function's first n values
 pub each-tab : {A : Type 0} (f : A → Bool) (g : ℕ → A) (n : ℕ) → each f (tab g n) ≡ true → (i : ℕ) → i < n → f (g i) ≡ true

@@ -22,15 +22,15 @@ use Rattle.model.specs.Places.{entriesPlace}
 use Rattle.model.specs.Table.{kindIn, taskIn, modeIn, entryCount, entryAt}
 use Rattle.state.specs.Places.{tokenPlace, activePlace, readyPlace, instanceWords, instancePlace}
 use Rattle.state.specs.Instances.{madeCount, instanceAt, tokens, activeCount, readyCount}
-use Rattle.limits.specs.Limits.{within, countFits, taskFits, edgesFit, partsFit, elementFits, tableFits}
+use Rattle.limits.specs.Limits.{within, countFits, edgesFit, elementFits, tableFits}
 use Rattle.meaning.specs.declared.Name.{Name}
-use Rattle.meaning.specs.Requirements.{touched, first, branchCount, instanceNamed, hasToken, hasTokens, canLower, isAlone, permitted}
+use Rattle.meaning.specs.Requirements.{touched, first, branchCount, instanceNamed, hasToken, hasTokens, canLower, isAlone, countsPermit}
 use Rattle.meaning.specs.Refusals.{firstRefusal}
 use Rattle.meaning.specs.Step.{siteOf, poolNamed, elementNamed, moveNamed, instanceOf, before, refusals}
 use Rattle.listing.specs.Scanned.{isBare, idle, stirs}
 use Rattle.steps.proofs.Choices.{by-test, by-choice, chosen, passed, chosen-true}
 use Rattle.steps.proofs.ChangesFit.{touched-within}
-use Rattle.steps.proofs.Elements.{task-few, entry-within}
+use Rattle.steps.proofs.Elements.{rowOf, fitting-parts, task-few, entry-within}
 use Rattle.steps.proofs.Found.{Found, element-named}
 use Rattle.steps.proofs.MadeAfter.{named-made}
 use Rattle.steps.proofs.Rows.{row-kind}
@@ -39,11 +39,10 @@ use Rattle.listed.proofs.MoveRows.{takes-entries, takes-or-lowers, make
 
 -- an element of a kind that has entries has some
 entry-some : (el : List ℕ) → elementFits el ≡ true → 0 < kindOf (kindIn el) .entries → 0 < entryCount el
-unfolding elementFits partsFit edgesFit countFits entryCount used
+unfolding edgesFit countFits entryCount used
 entry-some el fits some =
-    let row : Kind = kindOf (kindIn el) in
-    let parts : partsFit row el ≡ true = and-right (not (eqb (row .letters) 0)) (partsFit row el) fits in
-    let entries : edgesFit (row .entries) (drop entriesPlace el) ≡ true = and-right (taskFits (row .task) el) _ (and-left _ _ (and-left _ _ (and-left _ _ (and-left _ _ parts)))) in
+    let row : Kind = rowOf el in
+    let entries = fitting-parts el fits .entries in
     let count : countFits (row .entries) (at (drop entriesPlace el) 0) ≡ true = and-left (countFits (row .entries) (at (drop entriesPlace el) 0)) _ entries in
     let here : at (drop entriesPlace el) 0 ≡ at el entriesPlace = getD-drop entriesPlace el 0 0 in
     by-choice (λ n. 0 < n) (eqb (row .entries) many) (at el entriesPlace) (row .entries)
@@ -64,7 +63,7 @@ touched-branch cell n e =
 
 -- AN IDLE ELEMENT el: w is the words of an instance as they stand in a state, h the same words as a step sees them, m a move and b a branch
 module _ (el h w : List ℕ) (m : Move) (b : ℕ) (fits : elementFits el ≡ true) (same : (k : ℕ) → k < instanceWords → at h k ≡ at w k)
-    (few : m .takes ≡ branch → b < entryCount el) (still : idle el w ≡ true) (permits : permitted el h m b ≡ true) where
+    (few : m .takes ≡ branch → b < entryCount el) (still : idle el w ≡ true) (permits : countsPermit el h m b ≡ true) where
   bare : all (isBare el w) (entryCount el) ≡ true
   unfolding idle
   bare = and-left (all (isBare el w) (entryCount el)) _ (and-left _ (eqb (readyCount w (taskIn el)) 0) still)
@@ -78,15 +77,15 @@ module _ (el h w : List ℕ) (m : Move) (b : ℕ) (fits : elementFits el ≡ tru
   no-ready = eqb-true (readyCount w (taskIn el)) 0 (and-right (all (isBare el w) (entryCount el) && eqb (activeCount w (taskIn el)) 0) (eqb (readyCount w (taskIn el)) 0) still)
 
   permits-tokens : hasTokens el h m b ≡ true
-  unfolding permitted
+  unfolding countsPermit
   permits-tokens = and-left (hasTokens el h m b) _ (and-left _ _ (and-left _ (isAlone el h m) permits))
 
   permits-active : canLower (m .active) (activeCount h (taskIn el)) ≡ true
-  unfolding permitted
+  unfolding countsPermit
   permits-active = and-right (hasTokens el h m b) _ (and-left _ _ (and-left _ (isAlone el h m) permits))
 
   permits-ready : canLower (m .ready) (readyCount h (taskIn el)) ≡ true
-  unfolding permitted
+  unfolding countsPermit
   permits-ready = and-right (hasTokens el h m b && canLower (m .active) (activeCount h (taskIn el))) (canLower (m .ready) (readyCount h (taskIn el))) (and-left _ (isAlone el h m) permits)
 
   -- it takes nothing
@@ -154,7 +153,7 @@ module _ (t s q : List ℕ) (n : Name) (fits : tableFits t ≡ true) (accepted :
         ∙ getD-tab (λ k. at s (instancePlace p i + k)) instanceWords k 0 l
         ∙ sym (getD-drop (instancePlace p i) s k 0)
 
-    permits : permitted el (siteOf t s n .instance) m (n .branch) ≡ true
+    permits : countsPermit el (siteOf t s n .instance) m (n .branch) ≡ true
     unfolding siteOf
     permits = site t s q n fits accepted .permits
 

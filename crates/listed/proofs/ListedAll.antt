@@ -25,7 +25,7 @@ use Rattle.meaning.specs.declared.Name.{Name}
 use Rattle.meaning.specs.declared.Evaluated.{Evaluated}
 use Rattle.meaning.specs.Tuples.{empty, valueOf, sameTuple}
 use Rattle.meaning.specs.Messages.{has}
-use Rattle.meaning.specs.Queues.{queued, valueAt, messageAt, messagesOf, tidied}
+use Rattle.meaning.specs.Queues.{messageCount, valueAt, messageAt, messagesOf, tidied}
 use Rattle.meaning.specs.Requirements.{branchCount, instanceNamed}
 use Rattle.meaning.specs.Changes.{expected}
 use Rattle.meaning.specs.Refusals.{firstRefusal}
@@ -34,8 +34,9 @@ use Rattle.queues.specs.Changes.{messageIs, oldest}
 use Rattle.queues.proofs.MessageLaws.{seek-has}
 use Rattle.queues.proofs.QueueLaws.{present-is}
 use Rattle.values.proofs.TupleLaws.{same-length, same-value, same-sym, same-trans}
-use Rattle.fits.specs.Fits.{messageFits, queueFits, stateFits}
-use Rattle.listing.specs.Listing.{offered, places, valuesAt, nameAt, namedBy, byPlace, byBranch, byPhase, byElement, byInstance, byPool, names, accepted, listed, chosen}
+use Rattle.fits.specs.Fits.{slotFits, queueFits, stateFits}
+use Rattle.naming.specs.Names.{offered, stepName, namedBy, accepted}
+use Rattle.listing.specs.Listing.{places, valuesAt, byPlace, byBranch, byPhase, byElement, byInstance, byPool, stepNames, listed, chosen}
 use Rattle.steps.proofs.Choices.{by-test, passed, chosen as picked, chosen-true}
 use Rattle.steps.proofs.Found.{Found}
 use Rattle.steps.proofs.MadeAfter.{named-made}
@@ -55,22 +56,22 @@ pub tidied-empty : tidied empty ≡ empty
 unfolding tidied valueOf if_then_else_
 tidied-empty = refl
 
-pub message-tidy : (q : List ℕ) (m : ℕ) → queueFits q m ≡ true → (k : ℕ) → k < queued q m → tidied (messageAt q m k) ≡ messageAt q m k
-unfolding queueFits messageFits tidied
+pub message-tidy : (q : List ℕ) (m : ℕ) → queueFits q m ≡ true → (k : ℕ) → k < messageCount q m → tidied (messageAt q m k) ≡ messageAt q m k
+unfolding queueFits slotFits tidied
 message-tidy q m fit k l =
-    let c : messageFits q m k ≡ true = all-at (messageFits q m) (queued q m) (and-right (leb (queued q m) messages) _ (and-left _ _ fit)) k l in
+    let c : slotFits q m k ≡ true = all-at (slotFits q m) (messageCount q m) (and-right (leb (messageCount q m) messages) _ (and-left _ _ fit)) k l in
     let w = and-right (leb (messageAt q m k .length) values) (all (λ j. eqb (valueAt q m k j) (valueOf (messageAt q m k) j)) values) c in
     let v : (j : ℕ) → j < values → valueOf (messageAt q m k) j ≡ valueAt q m k j = λ j r. sym (eqb-true (valueAt q m k j) (valueOf (messageAt q m k) j) (all-at (λ j. eqb (valueAt q m k j) (valueOf (messageAt q m k) j)) values w j r)) in
     rw (v 0 (omega arith), v 1 (omega arith), v 2 (omega arith), v 3 (omega arith))
 
 -- THE OLDEST EQUAL MESSAGE is offered
 offered-oldest : (q : List ℕ) (m : ℕ) (g : Tuple) → has g (messagesOf q m) ≡ true
-    → (oldest q m g < queued q m) × (sameTuple (messageAt q m (oldest q m g)) g ≡ true) × (offered q m (oldest q m g) ≡ messageAt q m (oldest q m g) ∷ [])
+    → (oldest q m g < messageCount q m) × (sameTuple (messageAt q m (oldest q m g)) g ≡ true) × (offered q m (oldest q m g) ≡ messageAt q m (oldest q m g) ∷ [])
 unfolding oldest messageIs offered
 offered-oldest q m g h =
     let k : ℕ = oldest q m g in
-    let found = sought (messageIs q m g) (queued q m) in
-    let l : k < queued q m = ltb-true k (queued q m) (present-is q m g ∙ h) in
+    let found = sought (messageIs q m g) (messageCount q m) in
+    let l : k < messageCount q m = ltb-true k (messageCount q m) (present-is q m g ∙ h) in
     let same : sameTuple (messageAt q m k) g ≡ true = found .1 l in
     let v : Tuple = messageAt q m k in
     let older = sought (messageIs q m v) k in
@@ -113,7 +114,7 @@ module _ (t s q : List ℕ) (n : Name) (fits : tableFits t ≡ true) (state : st
       let v : Tuple = messageAt q name k in (
         k,
         v,
-        subst (λ c. k < c) (sym (picked (eqb (m .receives) on) (queued q name) 1 e)) (o .0),
+        subst (λ c. k < c) (sym (picked (eqb (m .receives) on) (messageCount q name) 1 e)) (o .0),
         subst (member v) (sym (picked (eqb (m .receives) on) (offered q name k) (empty ∷ []) e ∙ o .2)) (inl refl),
         o .1,
         message-tidy q name (state-queues t s q state name (received-name t s q n fits allowed e)) k (o .0),
@@ -124,7 +125,7 @@ module _ (t s q : List ℕ) (n : Name) (fits : tableFits t ≡ true) (state : st
   plain-given e = (
     0,
     empty,
-    subst (λ c. 0 < c) (sym (passed (eqb (m .receives) on) (queued q name) 1 e)) (omega arith),
+    subst (λ c. 0 < c) (sym (passed (eqb (m .receives) on) (messageCount q name) 1 e)) (omega arith),
     subst (member empty) (sym (passed (eqb (m .receives) on) (offered q name 0) (empty ∷ []) e)) (inl refl),
     subst (λ (v : Evaluated). sameTuple (v .tuple) (n .given) ≡ true) (passed (eqb (m .receives) on) _ (record { defined = true; tuple = empty }) e) (site t s q n fits allowed .matched),
     tidied-empty,
@@ -150,8 +151,8 @@ module _ (t s q : List ℕ) (n : Name) (fits : tableFits t ≡ true) (state : st
       (λ e. omega (arith, named-made t s n f e))
 
   -- AMONG THE NAMES, level by level
-  tidy-member : member (withGiven n (tidied (n .given))) (names t s q)
-  unfolding names byPool byInstance byElement byPhase byBranch byPlace nameAt elementNamed moveNamed
+  tidy-member : member (withGiven n (tidied (n .given))) (stepNames t s q)
+  unfolding stepNames byPool byInstance byElement byPhase byBranch byPlace stepName elementNamed moveNamed
   tidy-member =
       let z = given-there in
       let v : Tuple = z .1 in
@@ -160,16 +161,16 @@ module _ (t s q : List ℕ) (n : Name) (fits : tableFits t ≡ true) (state : st
       let e : ℕ = n .element in
       let c : ℕ = n .phase in
       let b : ℕ = n .branch in
-      let whole : nameAt t p i e c b v ≡ withGiven n (tidied (n .given)) =
+      let whole : stepName t p i e c b v ≡ withGiven n (tidied (n .given)) =
       λ d. record { pool = number-is d; instance = i; element = e; phase = c; branch = b; given = w d } in
-      subst (λ y. member y (names t s q)) whole
-      (member-joined (byPool t s q) (nameAt t p i e c b v) (poolCount t) p (f .pool)
-      (member-joined (byInstance t q p) (nameAt t p i e c b v) (madeCount s p + 1) i instance-there
-      (member-joined (byElement t q p i) (nameAt t p i e c b v) (elementCount t p) e (f .element)
-      (member-joined (byPhase t q p i e) (nameAt t p i e c b v) phases c phase-there
-      (member-joined (byBranch t q p i e c) (nameAt t p i e c b v) (branchCount el m) b (f .branch)
-      (member-joined (byPlace t q p i e c b) (nameAt t p i e c b v) (places m q name) (z .0) (z .2)
-      (member-named (nameAt t p i e c b) v (valuesAt m q name (z .0)) (z .3))))))))
+      subst (λ y. member y (stepNames t s q)) whole
+      (member-joined (byPool t s q) (stepName t p i e c b v) (poolCount t) p (f .pool)
+      (member-joined (byInstance t q p) (stepName t p i e c b v) (madeCount s p + 1) i instance-there
+      (member-joined (byElement t q p i) (stepName t p i e c b v) (elementCount t p) e (f .element)
+      (member-joined (byPhase t q p i e) (stepName t p i e c b v) phases c phase-there
+      (member-joined (byBranch t q p i e c) (stepName t p i e c b v) (branchCount el m) b (f .branch)
+      (member-joined (byPlace t q p i e c b) (stepName t p i e c b v) (places m q name) (z .0) (z .2)
+      (member-named (stepName t p i e c b) v (valuesAt m q name (z .0)) (z .3))))))))
 
   tidy-accepted : accepted t s q (withGiven n (tidied (n .given))) ≡ true
   unfolding accepted
@@ -186,10 +187,10 @@ unfolding listed accepted
 listed-all t s q fits state n e =
     let a = eqb-true (firstRefusal (refusals t s q n)) 0 e in
     let r : Name = withGiven n (tidied (n .given)) in
-    member-chosen r (listed t s q) (member-those (accepted t s q) r (names t s q) (tidy-accepted t s q n fits state a) (tidy-member t s q n fits state a))
+    member-chosen r (listed t s q) (member-those (accepted t s q) r (stepNames t s q) (tidy-accepted t s q n fits state a) (tidy-member t s q n fits state a))
 
 -- and nothing else
 pub listed-accepted : (t s q : List ℕ) (k : ℕ) → chosen (listed t s q) k .number ≡ 0 → accepted t s q (chosen (listed t s q) k .name) ≡ true
 unfolding listed
 listed-accepted t s q k e =
-    those-member (accepted t s q) (chosen (listed t s q) k .name) (names t s q) (chosen-member (listed t s q) k e) .0
+    those-member (accepted t s q) (chosen (listed t s q) k .name) (stepNames t s q) (chosen-member (listed t s q) k e) .0

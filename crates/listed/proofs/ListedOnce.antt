@@ -23,12 +23,13 @@ use Rattle.meaning.specs.declared.Tuple.{Tuple}
 use Rattle.meaning.specs.declared.Name.{Name}
 use Rattle.meaning.specs.Tuples.{empty}
 use Rattle.meaning.specs.Messages.{has}
-use Rattle.meaning.specs.Queues.{queued, messageAt}
+use Rattle.meaning.specs.Queues.{messageCount, messageAt}
 use Rattle.meaning.specs.Requirements.{branchCount}
 use Rattle.queues.specs.Changes.{messageIs, oldest}
 use Rattle.queues.proofs.MessageLaws.{seek-has}
 use Rattle.values.proofs.TupleLaws.{same-refl}
-use Rattle.listing.specs.Listing.{offered, places, valuesAt, nameAt, namedBy, moveAt, byPlace, byBranch, byPhase, byElement, byInstance, byPool, names, accepted, listed, chosen}
+use Rattle.naming.specs.Names.{offered, stepName, namedBy, accepted}
+use Rattle.listing.specs.Listing.{places, valuesAt, moveAt, byPlace, byBranch, byPhase, byElement, byInstance, byPool, stepNames, listed, chosen}
 use Rattle.steps.proofs.Choices.{by-test, by-choice, passed, chosen as picked}
 use Rattle.listed.proofs.Members.{member, once, joined-member, once-joined, once-those, chosen-once}
 use Rattle.listed.proofs.PoolFound.{pool-found}
@@ -62,13 +63,13 @@ module _ (q : List ℕ) (c k : ℕ) where
   abbrev older : Bool
   older = has v (tab (messageAt q c) k)
 
-  oldest-place : k < queued q c → older ≡ false → oldest q c v ≡ k
+  oldest-place : k < messageCount q c → older ≡ false → oldest q c v ≡ k
   unfolding oldest messageIs
   oldest-place l o =
       let r : k ≤ seek (messageIs q c v) k = ltb-false (seek (messageIs q c v) k) k (seek-has v (messageAt q c) k ∙ o) in
-      sym (seek-found (messageIs q c v) (queued q c) k l (omega (arith, r, sought (messageIs q c v) k .0)) (same-refl v))
+      sym (seek-found (messageIs q c v) (messageCount q c) k l (omega (arith, r, sought (messageIs q c v) k .0)) (same-refl v))
 
-  offered-place : (g : Tuple) → k < queued q c → member g (offered q c k) → oldest q c g ≡ k
+  offered-place : (g : Tuple) → k < messageCount q c → member g (offered q c k) → oldest q c g ≡ k
   unfolding offered member
   offered-place g l h =
       by-test older
@@ -78,41 +79,41 @@ module _ (q : List ℕ) (c k : ℕ) where
 module _ (t s q : List ℕ) where
   -- WHAT STANDS AT A LEVEL says where: x is a name
   module _ (x : Name) where
-    place-is : (p i e f b k : ℕ) → member x (byPlace t q p i e f b k) → x ≡ nameAt t p i e f b (x .given)
-    unfolding byPlace nameAt
+    place-is : (p i e f b k : ℕ) → member x (byPlace t q p i e f b k) → x ≡ stepName t p i e f b (x .given)
+    unfolding byPlace stepName
     place-is p i e f b k h =
-        let z = named-member (nameAt t p i e f b) x (valuesAt (moveAt t p e f) q (messageName (elementAt t p e) b) k) h in
-        z .2 ∙ ap (nameAt t p i e f b) (sym (ap (λ (y : Name). y .given) (z .2)))
+        let z = named-member (stepName t p i e f b) x (valuesAt (moveAt t p e f) q (messageName (elementAt t p e) b) k) h in
+        z .2 ∙ ap (stepName t p i e f b) (sym (ap (λ (y : Name). y .given) (z .2)))
 
-    branch-is : (p i e f b : ℕ) → member x (byBranch t q p i e f b) → x ≡ nameAt t p i e f b (x .given)
+    branch-is : (p i e f b : ℕ) → member x (byBranch t q p i e f b) → x ≡ stepName t p i e f b (x .given)
     unfolding byBranch
     branch-is p i e f b h =
         let z = joined-member (byPlace t q p i e f b) x (places (moveAt t p e f) q (messageName (elementAt t p e) b)) h in
         place-is p i e f b (z .0) (z .2)
 
-    phase-is : (p i e f : ℕ) → member x (byPhase t q p i e f) → x ≡ nameAt t p i e f (x .branch) (x .given)
-    unfolding byPhase nameAt
+    phase-is : (p i e f : ℕ) → member x (byPhase t q p i e f) → x ≡ stepName t p i e f (x .branch) (x .given)
+    unfolding byPhase stepName
     phase-is p i e f h =
         let z = joined-member (byBranch t q p i e f) x (branchCount (elementAt t p e) (moveAt t p e f)) h in
         let w = branch-is p i e f (z .0) (z .2) in
-        w ∙ ap (λ b. nameAt t p i e f b (x .given)) (sym (ap (λ (y : Name). y .branch) w))
+        w ∙ ap (λ b. stepName t p i e f b (x .given)) (sym (ap (λ (y : Name). y .branch) w))
 
-    element-is : (p i e : ℕ) → member x (byElement t q p i e) → x ≡ nameAt t p i e (x .phase) (x .branch) (x .given)
-    unfolding byElement nameAt
+    element-is : (p i e : ℕ) → member x (byElement t q p i e) → x ≡ stepName t p i e (x .phase) (x .branch) (x .given)
+    unfolding byElement stepName
     element-is p i e h =
         let z = joined-member (byPhase t q p i e) x phases h in
         let w = phase-is p i e (z .0) (z .2) in
-        w ∙ ap (λ f. nameAt t p i e f (x .branch) (x .given)) (sym (ap (λ (y : Name). y .phase) w))
+        w ∙ ap (λ f. stepName t p i e f (x .branch) (x .given)) (sym (ap (λ (y : Name). y .phase) w))
 
-    instance-is : (p i : ℕ) → member x (byInstance t q p i) → x ≡ nameAt t p i (x .element) (x .phase) (x .branch) (x .given)
-    unfolding byInstance nameAt
+    instance-is : (p i : ℕ) → member x (byInstance t q p i) → x ≡ stepName t p i (x .element) (x .phase) (x .branch) (x .given)
+    unfolding byInstance stepName
     instance-is p i h =
         let z = joined-member (byElement t q p i) x (elementCount t p) h in
         let w = element-is p i (z .0) (z .2) in
-        w ∙ ap (λ e. nameAt t p i e (x .phase) (x .branch) (x .given)) (sym (ap (λ (y : Name). y .element) w))
+        w ∙ ap (λ e. stepName t p i e (x .phase) (x .branch) (x .given)) (sym (ap (λ (y : Name). y .element) w))
 
     pool-is : (p : ℕ) → member x (byPool t s q p) → x .pool ≡ at t (poolPlace p)
-    unfolding byPool nameAt
+    unfolding byPool stepName
     pool-is p h =
         let z = joined-member (byInstance t q p) x (madeCount s p + 1) h in
         ap (λ (y : Name). y .pool) (instance-is p (z .0) (z .2))
@@ -120,21 +121,21 @@ module _ (t s q : List ℕ) where
   -- NOTHING TWICE, level by level
   once-place : (p i e f b k : ℕ) → once (byPlace t q p i e f b k)
   unfolding byPlace
-  once-place p i e f b k = once-values (nameAt t p i e f b) (moveAt t p e f) q (messageName (elementAt t p e) b) k
+  once-place p i e f b k = once-values (stepName t p i e f b) (moveAt t p e f) q (messageName (elementAt t p e) b) k
 
   once-branch : (p i e f b : ℕ) → once (byBranch t q p i e f b)
-  unfolding byBranch byPlace places valuesAt nameAt
+  unfolding byBranch byPlace places valuesAt stepName
   once-branch p i e f b =
       by-test (eqb (m .receives) on)
       (λ o.
       once-joined (byPlace t q p i e f b) (λ (x : Name). oldest q c (x .given)) (places m q c)
-      (λ k l x h. let z = named-member (nameAt t p i e f b) x (valuesAt m q c k) h in
+      (λ k l x h. let z = named-member (stepName t p i e f b) x (valuesAt m q c k) h in
       ap (λ (y : Name). oldest q c (y .given)) (z .2)
-      ∙ offered-place q c k (z .0) (subst (λ n. k < n) (picked (eqb (m .receives) on) (queued q c) 1 o) l) (subst (member (z .0)) (picked (eqb (m .receives) on) (offered q c k) (empty ∷ []) o) (z .1)))
+      ∙ offered-place q c k (z .0) (subst (λ n. k < n) (picked (eqb (m .receives) on) (messageCount q c) 1 o) l) (subst (member (z .0)) (picked (eqb (m .receives) on) (offered q c k) (empty ∷ []) o) (z .1)))
       (λ k l. once-place p i e f b k))
       (λ o.
       once-joined (byPlace t q p i e f b) (λ (x : Name). 0) (places m q c)
-      (λ k l x h. omega (arith, subst (λ n. k < n) (passed (eqb (m .receives) on) (queued q c) 1 o) l))
+      (λ k l x h. omega (arith, subst (λ n. k < n) (passed (eqb (m .receives) on) (messageCount q c) 1 o) l))
       (λ k l. once-place p i e f b k))
     where
       m : Move
@@ -144,36 +145,36 @@ module _ (t s q : List ℕ) where
       c = messageName (elementAt t p e) b
 
   once-phase : (p i e f : ℕ) → once (byPhase t q p i e f)
-  unfolding byPhase nameAt
+  unfolding byPhase stepName
   once-phase p i e f =
       once-joined (byBranch t q p i e f) (λ (x : Name). x .branch) (branchCount (elementAt t p e) (moveAt t p e f))
       (λ b l x h. ap (λ (y : Name). y .branch) (branch-is x p i e f b h))
       (λ b l. once-branch p i e f b)
 
   once-element : (p i e : ℕ) → once (byElement t q p i e)
-  unfolding byElement nameAt
+  unfolding byElement stepName
   once-element p i e =
       once-joined (byPhase t q p i e) (λ (x : Name). x .phase) phases
       (λ f l x h. ap (λ (y : Name). y .phase) (phase-is x p i e f h))
       (λ f l. once-phase p i e f)
 
   once-instance : (p i : ℕ) → once (byInstance t q p i)
-  unfolding byInstance nameAt
+  unfolding byInstance stepName
   once-instance p i =
       once-joined (byElement t q p i) (λ (x : Name). x .element) (elementCount t p)
       (λ e l x h. ap (λ (y : Name). y .element) (element-is x p i e h))
       (λ e l. once-element p i e)
 
   once-pool : (p : ℕ) → once (byPool t s q p)
-  unfolding byPool nameAt
+  unfolding byPool stepName
   once-pool p =
       once-joined (byInstance t q p) (λ (x : Name). x .instance) (madeCount s p + 1)
       (λ i l x h. ap (λ (y : Name). y .instance) (instance-is x p i h))
       (λ i l. once-instance p i)
 
   module _ (fits : tableFits t ≡ true) (sound : lowest (modelOf t) ≡ 0) where
-    once-names : once (names t s q)
-    unfolding names
+    once-names : once (stepNames t s q)
+    unfolding stepNames
     once-names =
         once-joined (byPool t s q) (λ (x : Name). poolOf t (x .pool)) (poolCount t)
         (λ p l x h. ap (poolOf t) (pool-is x p h) ∙ pool-found t fits sound p l)
@@ -182,4 +183,4 @@ module _ (t s q : List ℕ) where
     -- THE LISTING
     pub listed-once : (j k : ℕ) → chosen (listed t s q) j .number ≡ 0 → chosen (listed t s q) j ≡ chosen (listed t s q) k → j ≡ k
     unfolding listed
-    listed-once = chosen-once (listed t s q) (once-those (accepted t s q) (names t s q) once-names)
+    listed-once = chosen-once (listed t s q) (once-those (accepted t s q) (stepNames t s q) once-names)

@@ -19,11 +19,12 @@ use Rattle.meaning.specs.declared.Tuple.{Tuple}
 use Rattle.meaning.specs.declared.Name.{Name}
 use Rattle.meaning.specs.Tuples.{empty, sameTuple}
 use Rattle.meaning.specs.Messages.{has}
-use Rattle.meaning.specs.Queues.{queued, messageAt, tidied}
+use Rattle.meaning.specs.Queues.{messageCount, messageAt, tidied}
 use Rattle.meaning.specs.Requirements.{branchCount}
 use Rattle.meaning.specs.Refusals.{firstRefusal}
 use Rattle.meaning.specs.Step.{siteOf, elementNamed, moveNamed, refusals}
-use Rattle.listing.specs.Listing.{offered, places, valuesAt, nameAt, moveAt, byPlace, byBranch, byPhase, byElement, byInstance, byPool, names, accepted, listed, chosen}
+use Rattle.naming.specs.Names.{offered, stepName, accepted}
+use Rattle.listing.specs.Listing.{places, valuesAt, moveAt, byPlace, byBranch, byPhase, byElement, byInstance, byPool, stepNames, listed, chosen}
 use Rattle.steps.proofs.Choices.{by-test, passed, chosen as picked}
 use Rattle.steps.proofs.Traffic.{state-queues, received-name}
 use Rattle.listed.proofs.Members.{member, joined-member, those-member, chosen-member}
@@ -48,7 +49,7 @@ values-tidy m q c k g fit l h = by-test (eqb (m .receives) on) received plain
 
     received : eqb (m .receives) on ≡ true → tidied g ≡ g
     received o =
-        let r : k < queued q c = subst (λ n. k < n) (picked (eqb (m .receives) on) (queued q c) 1 o) l in
+        let r : k < messageCount q c = subst (λ n. k < n) (picked (eqb (m .receives) on) (messageCount q c) 1 o) l in
         let w : member g (offered q c k) = subst (member g) (picked (eqb (m .receives) on) (offered q c k) (empty ∷ []) o) h in
         by-test older
         (λ y. absurd (subst (member g) (picked older [] (v ∷ []) y) w))
@@ -59,21 +60,21 @@ values-tidy m q c k g fit l h = by-test (eqb (m .receives) on) received plain
 
 module _ (t s q : List ℕ) (fits : tableFits t ≡ true) (sound : lowest (modelOf t) ≡ 0) (state : stateFits t s q ≡ true) where
   -- an accepted name, by the place of its pool
-  queue-fits : (p i e f b : ℕ) (g : Tuple) → p < poolCount t → accepted t s q (nameAt t p i e f b g) ≡ true
+  queue-fits : (p i e f b : ℕ) (g : Tuple) → p < poolCount t → accepted t s q (stepName t p i e f b g) ≡ true
       → eqb (moveAt t p e f .receives) on ≡ true → queueFits q (messageName (elementAt t p e) b) ≡ true
-  unfolding accepted siteOf moveNamed elementNamed nameAt
+  unfolding accepted siteOf moveNamed elementNamed stepName
   queue-fits p i e f b g l a =
-      let n : Name = nameAt t p i e f b g in
+      let n : Name = stepName t p i e f b g in
       subst (λ o. eqb (moveAt t o e f .receives) on ≡ true → queueFits q (messageName (elementAt t o e) b) ≡ true) (pool-found t fits sound p l)
       (λ r. state-queues t s q state _ (received-name t s q n fits (eqb-true (firstRefusal (refusals t s q n)) 0 a) r))
 
   -- level by level: x is a name
   module _ (x : Name) (a : accepted t s q x ≡ true) where
     place-tidy : (p i e f b k : ℕ) → p < poolCount t → k < places (moveAt t p e f) q (messageName (elementAt t p e) b) → member x (byPlace t q p i e f b k) → tidied (x .given) ≡ x .given
-    unfolding byPlace nameAt
+    unfolding byPlace stepName
     place-tidy p i e f b k l r h =
         let c : ℕ = messageName (elementAt t p e) b in
-        let n = named-member (nameAt t p i e f b) x (valuesAt (moveAt t p e f) q c k) h in
+        let n = named-member (stepName t p i e f b) x (valuesAt (moveAt t p e f) q c k) h in
         let g : x .given ≡ n .0 = ap (λ (y : Name). y .given) (n .2) in
         subst (λ (y : Tuple). tidied y ≡ y) (sym g)
         (values-tidy (moveAt t p e f) q c k (n .0) (queue-fits p i e f b (n .0) l (subst (λ (y : Name). accepted t s q y ≡ true) (n .2) a)) r (n .1))
@@ -98,8 +99,8 @@ module _ (t s q : List ℕ) (fits : tableFits t ≡ true) (sound : lowest (model
         let z = joined-member (byElement t q p (y .0)) x (elementCount t p) (y .2) in
         element-tidy p (y .0) (z .0) l (z .2)
 
-    name-tidy : member x (names t s q) → tidied (x .given) ≡ x .given
-    unfolding names
+    name-tidy : member x (stepNames t s q) → tidied (x .given) ≡ x .given
+    unfolding stepNames
     name-tidy h = let z = joined-member (byPool t s q) x (poolCount t) h in pool-tidy (z .0) (z .1) (z .2)
 
   -- THE LISTING
@@ -107,7 +108,7 @@ module _ (t s q : List ℕ) (fits : tableFits t ≡ true) (sound : lowest (model
   unfolding listed
   listed-tidy k e =
       let x : Name = chosen (listed t s q) k .name in
-      let m = those-member (accepted t s q) x (names t s q) (chosen-member (listed t s q) k e) in
+      let m = those-member (accepted t s q) x (stepNames t s q) (chosen-member (listed t s q) k e) in
       name-tidy x (m .0) (m .1)
 
   -- two that agree but for equal values are one

@@ -1,6 +1,6 @@
 -- The run as the code makes it is the run: t is a table within the limits that breaks no check, (s, q) a state that fits it. Assumes nothing.
 use Prim.Native.Nat.{ℕ, zero, suc}
-use mathlib.Core.Path.{_≡_, refl, _∙_, ap}
+use mathlib.Core.Path.{_≡_, refl, sym, _∙_, ap}
 use mathlib.Core.Bool.{true}
 use mathlib.Core.List.{List, [], _∷_}
 use Rattle.limits.specs.Limits.{tableFits}
@@ -13,20 +13,12 @@ use Rattle.rules.specs.Settled.{settled}
 use Rattle.rules.proofs.StepLaws.{settled-is}
 use Rattle.listing.specs.Listing.{listed}
 use Rattle.listing.specs.Scanned.{scanned}
-use Rattle.running.specs.Run.{Run, whether, onFirst, oneStep, ranBy, ran}
+use Rattle.running.specs.Run.{whether, oneStep, ranBy, ran}
+use Rattle.running.proofs.RunLaws.{none-listed, first-listed}
 use Rattle.steps.proofs.EveryStep.{Fitting, step-keeps-fits}
 use Rattle.steps.proofs.Traffic.{state-queues, received-name, sent-name}
 use Rattle.listed.proofs.ScannedIs.{scanned-is}
 use Rattle.listed.proofs.StartUnique.{starts-once}
-
--- the same names, and the same rest for each
-on-first : (ns ms : List Name) (r : Run) (f g : Name → Run) → ns ≡ ms → ((n : Name) → f n ≡ g n) → onFirst ns r f ≡ onFirst ms r g
-unfolding onFirst
-on-first ns ms r f g e h = ap (λ (l : List Name). onFirst l r f) e ∙ go ms
-  where
-    go : (ms : List Name) → onFirst ms r f ≡ onFirst ms r g
-    go [] = refl
-    go (n ∷ ns) = ap oneStep (h n)
 
 module _ (t : List ℕ) (fits : tableFits t ≡ true) where
   -- A STEP as the code makes it
@@ -37,15 +29,24 @@ module _ (t : List ℕ) (fits : tableFits t ≡ true) where
       (λ e. sent-name t s q n fits e)
 
   module _ (sound : lowest (modelOf t) ≡ 0) where
+    limit-none : (s q : List ℕ) → ranBy (scanned t) (settled t) zero s q ≡ ranBy (listed t) (step t) zero s q
+    unfolding ranBy
+    limit-none s q = ap (λ (ns : List Name). record { steps = 0; left = whether ns; instances = s; queues = q }) (scanned-is t s q fits sound)
+
     -- THE RUN
     pub run-is : (limit : ℕ) (s q : List ℕ) → Fitting t s q → ranBy (scanned t) (settled t) limit s q ≡ ran t limit s q
-    unfolding ranBy ran
-    run-is zero s q f = ap (λ (ns : List Name). record { steps = 0; left = whether ns; instances = s; queues = q }) (scanned-is t s q fits sound)
+    unfolding ran
+    run-is zero s q f = limit-none s q
     run-is (suc limit) s q f =
-        on-first (scanned t s q) (listed t s q) (record { steps = 0; left = 0; instances = s; queues = q })
-        (λ n. ranBy (scanned t) (settled t) limit (settled t s q n .instances) (settled t s q n .queues))
-        (λ n. ranBy (listed t) (step t) limit (step t s q n .instances) (step t s q n .queues))
-        (scanned-is t s q fits sound)
-        (λ n.
-        ap (λ (o : Outcome). ranBy (scanned t) (settled t) limit (o .instances) (o .queues)) (settled-step s q f n)
-        ∙ run-is limit (step t s q n .instances) (step t s q n .queues) (step-keeps-fits t s q fits f (starts-once t sound) n))
+        go (listed t s q) refl
+        (λ n. run-is limit (step t s q n .instances) (step t s q n .queues) (step-keeps-fits t s q fits f (starts-once t sound) n))
+      where
+        go : (ns : List Name) → listed t s q ≡ ns
+            → ((n : Name) → ranBy (scanned t) (settled t) limit (step t s q n .instances) (step t s q n .queues) ≡ ranBy (listed t) (step t) limit (step t s q n .instances) (step t s q n .queues))
+            → ranBy (scanned t) (settled t) (suc limit) s q ≡ ranBy (listed t) (step t) (suc limit) s q
+        go [] e next = none-listed (scanned t) (settled t) limit s q (scanned-is t s q fits sound ∙ e) ∙ sym (none-listed (listed t) (step t) limit s q e)
+        go (n ∷ ns) e next =
+            first-listed (scanned t) (settled t) limit s q n ns (scanned-is t s q fits sound ∙ e)
+            ∙ ap (λ (o : Outcome). oneStep (ranBy (scanned t) (settled t) limit (o .instances) (o .queues))) (settled-step s q f n)
+            ∙ ap oneStep (next n)
+            ∙ sym (first-listed (listed t) (step t) limit s q n ns e)

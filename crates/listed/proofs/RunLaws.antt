@@ -12,18 +12,14 @@ use Rattle.meaning.specs.declared.Name.{Name}
 use Rattle.meaning.specs.Step.{step}
 use Rattle.fits.specs.Fits.{stateFits}
 use Rattle.listing.specs.declared.Listed.{Listed}
-use Rattle.listing.specs.Listing.{accepted, listed, chosen}
-use Rattle.running.specs.Run.{Run, whether, oneStep, onFirst, ranBy, ran}
+use Rattle.naming.specs.Names.{accepted}
+use Rattle.listing.specs.Listing.{listed, chosen}
+use Rattle.running.specs.Run.{Run, whether, oneStep, ranBy, ran}
+use Rattle.running.proofs.RunLaws.{by-listing}
 use Rattle.steps.proofs.Choices.{by-test}
 use Rattle.steps.proofs.EveryStep.{Fitting, step-keeps-fits}
 use Rattle.listed.proofs.ListedAll.{listed-all, listed-accepted}
 use Rattle.listed.proofs.StartUnique.{starts-once}
-
--- what holds of a run that stops, and of one step before a run of which it holds, holds of what follows on a list
-on-either : (P : Run → Type 0) (ns : List Name) (r : Run) (f : Name → Run) → (ns ≡ [] → P r) → ((n : Name) → P (oneStep (f n))) → P (onFirst ns r f)
-unfolding onFirst
-on-either P [] r f a b = a refl
-on-either P (n ∷ ns) r f a b = b n
 
 -- THE FLAG: whether a step is accepted
 whether-empty : (ns : List Name) → whether ns ≡ 0 → (k : ℕ) → chosen ns k .number ≡ 0 → ⊥
@@ -51,7 +47,7 @@ module _ (t : List ℕ) where
   unfolding ran ranBy oneStep whether
   run-left zero s q = refl
   run-left (suc limit) s q =
-      on-either (λ (r : Run). r .left ≡ whether (listed t (r .instances) (r .queues))) (listed t s q) _ _
+      by-listing (listed t) (step t) limit s q (λ (r : Run). r .left ≡ whether (listed t (r .instances) (r .queues)))
       (λ e. ap whether (sym e))
       (λ n. run-left limit (step t s q n .instances) (step t s q n .queues))
 
@@ -59,7 +55,7 @@ module _ (t : List ℕ) where
   unfolding ran ranBy oneStep
   run-most zero s q = omega arith
   run-most (suc limit) s q =
-      on-either (λ (r : Run). r .steps ≤ suc limit) (listed t s q) _ _
+      by-listing (listed t) (step t) limit s q (λ (r : Run). r .steps ≤ suc limit)
       (λ e. omega arith)
       (λ n. omega (arith, run-most limit (step t s q n .instances) (step t s q n .queues)))
 
@@ -67,7 +63,7 @@ module _ (t : List ℕ) where
   unfolding ran ranBy oneStep
   run-stops zero s q = λ l. absurd (omega arith)
   run-stops (suc limit) s q =
-      on-either (λ (r : Run). r .steps < suc limit → r .left ≡ 0) (listed t s q) _ _
+      by-listing (listed t) (step t) limit s q (λ (r : Run). r .steps < suc limit → r .left ≡ 0)
       (λ e l. refl)
       (λ n l. run-stops limit (step t s q n .instances) (step t s q n .queues) (omega arith))
 
@@ -75,6 +71,6 @@ module _ (t : List ℕ) where
   unfolding ran ranBy oneStep
   run-keeps-fits fits sound zero s q f = f
   run-keeps-fits fits sound (suc limit) s q f =
-      on-either (λ (r : Run). Fitting t (r .instances) (r .queues)) (listed t s q) _ _
+      by-listing (listed t) (step t) limit s q (λ (r : Run). Fitting t (r .instances) (r .queues))
       (λ e. f)
       (λ n. run-keeps-fits fits sound limit (step t s q n .instances) (step t s q n .queues) (step-keeps-fits t s q fits f (starts-once t sound) n))

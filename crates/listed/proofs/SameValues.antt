@@ -22,9 +22,9 @@ use Rattle.meaning.specs.Expressions.{expressionOf}
 use Rattle.meaning.specs.Templates.{binds, itemValue, evaluated, bindOne, bound}
 use Rattle.meaning.specs.Assignments.{Assigned}
 use Rattle.meaning.specs.Requirements.{roomy}
-use Rattle.meaning.specs.Changes.{expected, received, message, taken}
+use Rattle.meaning.specs.Changes.{expected, received, messageSent, taken}
 use Rattle.meaning.specs.Refusals.{firstRefusal}
-use Rattle.meaning.specs.Step.{Site, siteOf, elementNamed, moveNamed, exists, receives, template, work, sent, defined, matches, afterTaking, nameAt, queued, space, refusals}
+use Rattle.meaning.specs.Step.{Site, siteOf, elementNamed, moveNamed, exists, receives, template, work, sent, defined, matches, afterTaking, messageNamed, queued, space, refusals}
 use Rattle.values.proofs.TupleLaws.{same-value, same-sym, same-trans}
 use Rattle.queues.proofs.MessageLaws.{same-both}
 use Rattle.steps.proofs.AcceptedParts.{Accepted, accepted-parts, parts-accepted}
@@ -69,7 +69,7 @@ module _ (x : Site) (g : Tuple) (same : sameTuple (x .given) g ≡ true) where
 
   sent-same : sent x ≡ sent y
   unfolding sent
-  sent-same = ap (λ (w : Assigned). message (x .element) (w .instance) (x .move) (x .branch)) work-same
+  sent-same = ap (λ (w : Assigned). messageSent (x .element) (w .instance) (x .move) (x .branch)) work-same
 
   defined-same : defined x ≡ defined y
   unfolding defined
@@ -90,7 +90,7 @@ module _ (x : Site) (g : Tuple) (same : sameTuple (x .given) g ≡ true) where
         matched = same-trans (template y .tuple) (x .given) g (sym (ap (λ (v : Evaluated). sameTuple (v .tuple) (x .given)) template-same) ∙ a .matched) same;
         worked-out = sym defined-same ∙ a .worked-out;
         waiting =
-            ap (λ (b : Bool). if receives x then b else true) (sym (has-same (x .given) g same (messagesOf q (nameAt x)))) ∙ a .waiting;
+            ap (λ (b : Bool). if receives x then b else true) (sym (has-same (x .given) g same (messagesOf q (messageNamed x)))) ∙ a .waiting;
         limited = a .limited;
         spacious = a .spacious;
         roomed = sym (ap (λ (h : List ℕ). roomy (x .element) h (x .move) (x .branch)) taking-same) ∙ a .roomed;

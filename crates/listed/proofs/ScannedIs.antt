@@ -18,7 +18,8 @@ use Rattle.meaning.specs.Requirements.{branchCount}
 use Rattle.meaning.specs.Refusals.{firstRefusal}
 use Rattle.meaning.specs.Step.{refusals, elementNamed}
 use Rattle.kinds.specs.Moves.{phases}
-use Rattle.listing.specs.Listing.{places, valuesAt, nameAt, namedBy, moveAt, byPlace, byBranch, byPhase, byElement, byInstance, byPool, names, accepted, listed}
+use Rattle.naming.specs.Names.{stepName, namedBy, accepted}
+use Rattle.listing.specs.Listing.{places, valuesAt, moveAt, byPlace, byBranch, byPhase, byElement, byInstance, byPool, stepNames, listed}
 use Rattle.listing.specs.Scanned.{stirs, scanElement, scanInstance, scanPool, scanned}
 use Rattle.steps.proofs.Choices.{by-test, by-choice}
 use Rattle.listed.proofs.PoolFound.{pool-found}
@@ -44,15 +45,15 @@ module _ (t s q : List ℕ) (fits : tableFits t ≡ true) (sound : lowest (model
     stirred = stirs (elementAt t p e) (instanceAt s p i) i (madeCount s p)
 
     -- AN ELEMENT that does not stir has no accepted name
-    accepted-stirred : (f b : ℕ) (g : Tuple) → accepted t s q (nameAt t p i e f b g) ≡ true → stirred ≡ true
-    unfolding accepted nameAt elementNamed
+    accepted-stirred : (f b : ℕ) (g : Tuple) → accepted t s q (stepName t p i e f b g) ≡ true → stirred ≡ true
+    unfolding accepted stepName elementNamed
     accepted-stirred f b g y =
-        let n : Name = nameAt t p i e f b g in
+        let n : Name = stepName t p i e f b g in
         subst (λ o. stirs (elementAt t o e) (instanceAt s o i) i (madeCount s o) ≡ true) (pool-found t fits sound p l)
         (accepted-stirs t s q n fits (eqb-true (firstRefusal (refusals t s q n)) 0 y))
 
-    none-accepted : stirred ≡ false → (f b : ℕ) (g : Tuple) → accepted t s q (nameAt t p i e f b g) ≡ false
-    none-accepted o f b g = by-test (accepted t s q (nameAt t p i e f b g)) (λ y. absurd (false≢true (sym o ∙ accepted-stirred f b g y))) (λ y. y)
+    none-accepted : stirred ≡ false → (f b : ℕ) (g : Tuple) → accepted t s q (stepName t p i e f b g) ≡ false
+    none-accepted o f b g = by-test (accepted t s q (stepName t p i e f b g)) (λ y. absurd (false≢true (sym o ∙ accepted-stirred f b g y))) (λ y. y)
 
     nothing-there : stirred ≡ false → those (accepted t s q) (byElement t q p i e) ≡ []
     unfolding byElement byPhase byBranch byPlace
@@ -60,7 +61,7 @@ module _ (t s q : List ℕ) (fits : tableFits t ≡ true) (sound : lowest (model
         those-joined-nothing (accepted t s q) (byPhase t q p i e) phases
         (λ f. those-joined-nothing (accepted t s q) (byBranch t q p i e f) (branchCount (elementAt t p e) (moveAt t p e f))
         (λ b. those-joined-nothing (accepted t s q) (byPlace t q p i e f b) (places (moveAt t p e f) q (messageName (elementAt t p e) b))
-        (λ k. those-named-nothing (accepted t s q) (nameAt t p i e f b) (valuesAt (moveAt t p e f) q (messageName (elementAt t p e) b) k)
+        (λ k. those-named-nothing (accepted t s q) (stepName t p i e f b) (valuesAt (moveAt t p e f) q (messageName (elementAt t p e) b) k)
         (none-accepted o f b))))
 
     element-is : those (accepted t s q) (byElement t q p i e) ≡ scanElement t s q p i e
@@ -82,7 +83,7 @@ module _ (t s q : List ℕ) (fits : tableFits t ≡ true) (sound : lowest (model
 
   -- THE LISTING
   pub scanned-is : scanned t s q ≡ listed t s q
-  unfolding scanned listed names
+  unfolding scanned listed stepNames
   scanned-is =
       sym (those-joined (accepted t s q) (byPool t s q) (poolCount t)
       ∙ joined-ext (λ p. those (accepted t s q) (byPool t s q p)) (scanPool t s q) (poolCount t) pool-is)

@@ -7,7 +7,7 @@ use mathlib.Core.List.{List}
 use native.Mathlib.Omega.{arith}
 use lib.Dec.{eqb}
 use borrow.Author.Tests.{eqb-true, eqb-false, ltb-true}
-use Rattle.words.specs.Sum.{sum, hit, one}
+use Rattle.words.specs.Sum.{sum, hit, oneIf}
 use Rattle.words.proofs.EachLaws.{total-tab}
 use Rattle.words.proofs.SeekLaws.{sought}
 use Rattle.words.proofs.SumLaws.{sum-add}
@@ -46,7 +46,7 @@ module _ (t : List ℕ) (v : lowest (modelOf t) ≡ 0) (p : ℕ) (there : p < po
     where
       go : (b : Bool) → eqb (kindIn (elementAt t p e)) start ≡ b → Begins (elementAt t p e)
       go true s = inl (eqb-true (kindIn (elementAt t p e)) start s)
-      go false s = let z : hit (kindIn (elementAt t p e)) start ≡ 0 = ap one s in inr (same-hit (kindIn (elementAt t p e)) startRcv (omega arith))
+      go false s = let z : hit (kindIn (elementAt t p e)) start ≡ 0 = ap oneIf s in inr (same-hit (kindIn (elementAt t p e)) startRcv (omega arith))
 
   -- there is one
   pub start-there : (e : ℕ) × (e < elementCount t p) × Begins (elementAt t p e)

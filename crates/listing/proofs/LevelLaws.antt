@@ -15,13 +15,14 @@ use Rattle.state.specs.Instances.{madeCount, instanceAt}
 use Rattle.meaning.specs.declared.Tuple.{Tuple}
 use Rattle.meaning.specs.declared.Name.{Name}
 use Rattle.meaning.specs.Tuples.{empty}
-use Rattle.meaning.specs.Queues.{queued}
+use Rattle.meaning.specs.Queues.{messageCount}
 use Rattle.meaning.specs.Requirements.{branchCount}
 use Rattle.listing.specs.declared.Listed.{Listed}
-use Rattle.listing.specs.declared.Scan.{Scan}
-use Rattle.listing.specs.Listing.{offered, places, valuesAt, nameAt, namedBy, moveAt, byPlace, byBranch, byPhase, byElement, accepted, chosen}
-use Rattle.listing.specs.Scanned.{stirs, scanElement, scanInstance, scanPool, scanned, scan}
-use Rattle.listing.specs.Parts.{withValues, byMessage}
+use Rattle.naming.specs.declared.Scan.{Scan}
+use Rattle.naming.specs.Names.{offered, stepName, namedBy, accepted}
+use Rattle.listing.specs.Listing.{places, valuesAt, moveAt, byPlace, byBranch, byPhase, byElement, chosen}
+use Rattle.naming.specs.Parts.{scan, withValues, byMessage}
+use Rattle.listing.specs.Scanned.{stirs, scanElement, scanInstance, scanPool, scanned}
 
 named-ext : (f g : Tuple → Name) (ms : List Tuple) → ((v : Tuple) → f v ≡ g v) → namedBy f ms ≡ namedBy g ms
 unfolding namedBy
@@ -34,42 +35,42 @@ joined-one f = refl
 
 -- BY QUEUE PLACE: m is the move, n the name without values, x the name of the messages
 module _ (t q : List ℕ) (p i e f b : ℕ) where
-  values-put : (v : Tuple) → nameAt t p i e f b v ≡ withValues (nameAt t p i e f b empty) v
-  unfolding nameAt withValues
+  values-put : (v : Tuple) → stepName t p i e f b v ≡ withValues (stepName t p i e f b empty) v
+  unfolding stepName withValues
   values-put v = refl
 
   module _ (test : eqb (moveAt t p e f .receives) on ≡ true) where
-    as-many : places (moveAt t p e f) q (messageName (elementAt t p e) b) ≡ queued q (messageName (elementAt t p e) b)
+    as-many : places (moveAt t p e f) q (messageName (elementAt t p e) b) ≡ messageCount q (messageName (elementAt t p e) b)
     unfolding places if_then_else_
     as-many = rw test
 
-    at-place : (k : ℕ) → byPlace t q p i e f b k ≡ byMessage q (nameAt t p i e f b empty) (messageName (elementAt t p e) b) k
+    at-place : (k : ℕ) → byPlace t q p i e f b k ≡ byMessage q (stepName t p i e f b empty) (messageName (elementAt t p e) b) k
     unfolding byPlace byMessage valuesAt if_then_else_
     at-place k =
-        rw test (named-ext (nameAt t p i e f b) (withValues (nameAt t p i e f b empty)) (offered q (messageName (elementAt t p e) b) k) values-put)
+        rw test (named-ext (stepName t p i e f b) (withValues (stepName t p i e f b empty)) (offered q (messageName (elementAt t p e) b) k) values-put)
 
-    received-is : byBranch t q p i e f b ≡ joined (byMessage q (nameAt t p i e f b empty) (messageName (elementAt t p e) b)) (queued q (messageName (elementAt t p e) b))
+    received-is : byBranch t q p i e f b ≡ joined (byMessage q (stepName t p i e f b empty) (messageName (elementAt t p e) b)) (messageCount q (messageName (elementAt t p e) b))
     unfolding byBranch
     received-is =
         rw as-many
-        (joined-ext (byPlace t q p i e f b) (byMessage q (nameAt t p i e f b empty) (messageName (elementAt t p e) b)) (queued q (messageName (elementAt t p e) b)) (λ k l. at-place k))
+        (joined-ext (byPlace t q p i e f b) (byMessage q (stepName t p i e f b empty) (messageName (elementAt t p e) b)) (messageCount q (messageName (elementAt t p e) b)) (λ k l. at-place k))
 
   module _ (test : eqb (moveAt t p e f .receives) on ≡ false) where
     one-place : places (moveAt t p e f) q (messageName (elementAt t p e) b) ≡ 1
     unfolding places if_then_else_
     one-place = rw test
 
-    one-name : byPlace t q p i e f b 0 ≡ nameAt t p i e f b empty ∷ []
+    one-name : byPlace t q p i e f b 0 ≡ stepName t p i e f b empty ∷ []
     unfolding byPlace valuesAt namedBy if_then_else_
     one-name = rw test
 
-    plain-is : byBranch t q p i e f b ≡ nameAt t p i e f b empty ∷ []
+    plain-is : byBranch t q p i e f b ≡ stepName t p i e f b empty ∷ []
     unfolding byBranch
     plain-is = rw one-place (joined-one (byPlace t q p i e f b) ∙ one-name)
 
-  module _ (g : Name → Bool) (m : Move) (n : Name) (k : ℕ) (r : Scan) (m-is : m ≡ moveAt t p e f) (n-is : n ≡ nameAt t p i e f b empty) where
+  module _ (g : Name → Bool) (m : Move) (n : Name) (k : ℕ) (r : Scan) (m-is : m ≡ moveAt t p e f) (n-is : n ≡ stepName t p i e f b empty) where
     pub branch-received : (el : List ℕ) (x : ℕ) → el ≡ elementAt t p e → x ≡ messageName el b → m .receives ≡ on
-        → r ≡ scan (those g (joined (byMessage q n x) (queued q x))) k → r ≡ scan (those g (byBranch t q p i e f b)) k
+        → r ≡ scan (those g (joined (byMessage q n x) (messageCount q x))) k → r ≡ scan (those g (byBranch t q p i e f b)) k
     branch-received el x el-is x-is test w =
         rw (received-is (eq-eqb _ _ (ap (λ (y : Move). y .receives) (sym m-is) ∙ test)), ← n-is, ← el-is, ← x-is) w
 

@@ -1,4 +1,2 @@
-pub mod ScanLaws
-pub mod NameLaws
 pub mod LevelLaws
 pub mod StirLaws

@@ -1,53 +1,35 @@
 -- THE LISTING: t the table, s the instances, q the queues of a state. All names that a step could have, in the order of document 01, and of these the
 -- accepted ones: "by pool in text order, instance, element, phase, branch, queue place".
 use Prim.Native.Nat.{ℕ, zero, suc, _+_}
-use mathlib.Core.Bool.{Bool, true, false, not}
 use mathlib.Core.List.{List, [], _∷_}
 use lib.Dec.{eqb}
-use Rattle.words.specs.Each.{tab, joined, those}
+use Rattle.words.specs.Each.{joined, those}
 use Rattle.words.specs.Pick.{if_then_else_}
-use Rattle.words.specs.Words.{at}
 use Rattle.kinds.specs.declared.moves.Move.{Move}
 use Rattle.kinds.specs.Moves.{on, phases, moveOf}
-use Rattle.model.specs.Places.{poolPlace}
 use Rattle.model.specs.Table.{poolCount, elementCount, elementAt, kindIn, modeIn, messageName}
 use Rattle.state.specs.Instances.{madeCount}
 use Rattle.meaning.specs.declared.Tuple.{Tuple}
 use Rattle.meaning.specs.declared.Name.{Name}
 use Rattle.meaning.specs.Tuples.{empty}
-use Rattle.meaning.specs.Messages.{has}
-use Rattle.meaning.specs.Queues.{queued, messageAt}
+use Rattle.meaning.specs.Queues.{messageCount}
 use Rattle.meaning.specs.Requirements.{branchCount}
-use Rattle.meaning.specs.Refusals.{firstRefusal}
-use Rattle.meaning.specs.Step.{refusals}
+use Rattle.naming.specs.Names.{offered, stepName, namedBy, accepted, blank}
 use Rattle.listing.specs.declared.Listed.{Listed}
-
--- "equal messages appear once, at the oldest": message k of queue m, where no older one is equal to it
-unfoldable pub offered : List ℕ → ℕ → ℕ → List Tuple
-offered q m k = if has (messageAt q m k) (tab (messageAt q m) k) then [] else messageAt q m k ∷ []
 
 -- "The values are the message consumed, else empty": how many queue places a move looks at, and the values at place k
 unfoldable pub places : Move → List ℕ → ℕ → ℕ
-places m q name = if eqb (m .receives) on then queued q name else 1
+places m q name = if eqb (m .receives) on then messageCount q name else 1
 
 unfoldable pub valuesAt : Move → List ℕ → ℕ → ℕ → List Tuple
 valuesAt m q name k = if eqb (m .receives) on then offered q name k else empty ∷ []
-
--- the name of a step of element e of the pool at place p; a pool is named by its number
-unfoldable pub nameAt : List ℕ → ℕ → ℕ → ℕ → ℕ → ℕ → Tuple → Name
-nameAt t p i e f b g = record { pool = at t (poolPlace p); instance = i; element = e; phase = f; branch = b; given = g }
-
--- a list of at most one tuple, as a name
-unfoldable pub namedBy : (Tuple → Name) → List Tuple → List Name
-namedBy f [] = []
-namedBy f (g ∷ gs) = f g ∷ namedBy f gs
 
 abbrev pub moveAt : List ℕ → ℕ → ℕ → ℕ → Move
 moveAt t p e f = moveOf (kindIn (elementAt t p e)) (modeIn (elementAt t p e)) f
 
 -- THE NAMES, from the inside out: by queue place, branch, phase, element, instance (the unmade one is the last), pool
 unfoldable pub byPlace : List ℕ → List ℕ → ℕ → ℕ → ℕ → ℕ → ℕ → ℕ → List Name
-byPlace t q p i e f b k = namedBy (nameAt t p i e f b) (valuesAt (moveAt t p e f) q (messageName (elementAt t p e) b) k)
+byPlace t q p i e f b k = namedBy (stepName t p i e f b) (valuesAt (moveAt t p e f) q (messageName (elementAt t p e) b) k)
 
 unfoldable pub byBranch : List ℕ → List ℕ → ℕ → ℕ → ℕ → ℕ → ℕ → List Name
 byBranch t q p i e f b = joined (byPlace t q p i e f b) (places (moveAt t p e f) q (messageName (elementAt t p e) b))
@@ -64,20 +46,14 @@ byInstance t q p i = joined (byElement t q p i) (elementCount t p)
 unfoldable pub byPool : List ℕ → List ℕ → List ℕ → ℕ → List Name
 byPool t s q p = joined (byInstance t q p) (madeCount s p + 1)
 
-unfoldable pub names : List ℕ → List ℕ → List ℕ → List Name
-names t s q = joined (byPool t s q) (poolCount t)
+unfoldable pub stepNames : List ℕ → List ℕ → List ℕ → List Name
+stepNames t s q = joined (byPool t s q) (poolCount t)
 
--- THE ACCEPTED ONES: nothing refuses the step
-unfoldable pub accepted : List ℕ → List ℕ → List ℕ → Name → Bool
-accepted t s q n = eqb (firstRefusal (refusals t s q n)) 0
-
+-- THE ACCEPTED ONES
 unfoldable pub listed : List ℕ → List ℕ → List ℕ → List Name
-listed t s q = those (accepted t s q) (names t s q)
+listed t s q = those (accepted t s q) (stepNames t s q)
 
 -- "The listing gives the k-th accepted step, k from 0"; "6: no accepted step with that ordinal". A refusal has a blank name beside it.
-abbrev pub blank : Name
-blank = record { pool = 0; instance = 0; element = 0; phase = 0; branch = 0; given = empty }
-
 unfoldable pub chosen : List Name → ℕ → Listed
 chosen [] k = record { number = 6; name = blank }
 chosen (n ∷ ns) zero = record { number = 0; name = n }

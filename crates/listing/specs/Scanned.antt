@@ -1,8 +1,8 @@
 -- The listing as the code goes through it: an element that cannot move is passed over before anything else is worked out. On a table that passes the
 -- checks it is the listing (crate listed).
-use Prim.Native.Nat.{ℕ, zero, suc, _+_}
-use mathlib.Core.Bool.{Bool, true, false, not, _&&_, _||_}
-use mathlib.Core.List.{List, [], _∷_}
+use Prim.Native.Nat.{ℕ, _+_}
+use mathlib.Core.Bool.{Bool, false, not, _&&_}
+use mathlib.Core.List.{List, []}
 use lib.Dec.{eqb, ltb}
 use Rattle.words.specs.All.{all}
 use Rattle.words.specs.Each.{joined, those}
@@ -11,8 +11,8 @@ use Rattle.kinds.specs.Moves.{making, moveOf}
 use Rattle.model.specs.Table.{poolCount, elementCount, elementAt, kindIn, modeIn, taskIn, entryCount, entryAt}
 use Rattle.state.specs.Instances.{madeCount, instanceAt, tokens, activeCount, readyCount}
 use Rattle.meaning.specs.declared.Name.{Name}
-use Rattle.listing.specs.declared.Scan.{Scan}
-use Rattle.listing.specs.Listing.{byElement, accepted, blank}
+use Rattle.naming.specs.Names.{accepted}
+use Rattle.listing.specs.Listing.{byElement}
 
 -- no entry edge of an element carries a token, and its task's counts are 0
 unfoldable pub isBare : List ℕ → List ℕ → ℕ → Bool
@@ -39,9 +39,3 @@ scanPool t s q p = joined (scanInstance t s q p) (madeCount s p + 1)
 
 unfoldable pub scanned : List ℕ → List ℕ → List ℕ → List Name
 scanned t s q = joined (scanPool t s q) (poolCount t)
-
--- the k-th of a list, or what is left of k behind it
-unfoldable pub scan : List Name → ℕ → Scan
-scan [] k = record { found = false; left = k; name = blank }
-scan (n ∷ ns) zero = record { found = true; left = 0; name = n }
-scan (n ∷ ns) (suc k) = scan ns k

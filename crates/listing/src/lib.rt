@@ -5,30 +5,21 @@ ghost use Rattle.listing.specs.Listing.{chosen};
 ghost use Rattle.listing.specs.Scanned.{scanned};
 use meaning::Name;
 use model::places::TABLE_WORDS;
-use refusals::ACCEPTED;
 use state::places::STATE_WORDS;
 use words::Word;
+use words::numbers::ACCEPTED;
 
 mod levels;
-mod names;
 mod parts;
 mod stirring;
 
 use levels::scan_pools;
-
-// no accepted step with that ordinal
-pub const NOT_LISTED: Word = 6;
+use words::numbers::NOT_LISTED;
 
 // The number given back, and beside 0 the name of the step.
+#[repr(C)]
 pub struct Listed {
     pub number: Word,
-    pub name: Name,
-}
-
-// The k-th of some names, or what is left of k behind them.
-pub struct Scan {
-    pub found: bool,
-    pub left: usize,
     pub name: Name,
 }
 

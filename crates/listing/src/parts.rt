@@ -1,6 +1,6 @@
-// What the listing reads of a table and of a state: the two parts of a state, the move of an element.
+// What the listing reads of a table and of a state: the instances of a state, the move of an element.
 ghost use mathlib.Core.Path.{_≡_};
-ghost use Rattle.state.specs.Instances.{instancesOf, queuesOf};
+ghost use Rattle.state.specs.Instances.{instancesOf};
 ghost use Rattle.listing.specs.Listing.{moveAt};
 use kinds::moves::Move;
 use kinds::moves::move_of;
@@ -9,7 +9,6 @@ use model::kind_in;
 use model::mode_in;
 use state::places::INSTANCES_WORDS;
 use words::Word;
-use words::tail;
 
 pub fn instances_in(z: &[Word]) -> &[Word]
     ensures { λ r. ⌜ now r ≡ instancesOf (now (z .entry)) ⌝ }
@@ -18,12 +17,6 @@ pub fn instances_in(z: &[Word]) -> &[Word]
         return &z[..INSTANCES_WORDS];
     }
     z
-}
-
-pub fn queues_in(z: &[Word]) -> &[Word]
-    ensures { λ r. ⌜ now r ≡ queuesOf (now (z .entry)) ⌝ }
-{
-    tail(z, INSTANCES_WORDS)
 }
 
 pub fn move_at(t: &[Word], p: Word, e: Word, f: Word) -> Move

@@ -4,7 +4,7 @@ use mathlib.Core.List.{List}
 use Prim.Native.Nat.{ℕ}
 use lib.ListN.{replicate}
 use Rattle.words.specs.Each.{tab}
-use Rattle.words.specs.Sum.{one}
+use Rattle.words.specs.Sum.{oneIf}
 use Rattle.words.specs.Words.{at}
 use Rattle.model.specs.Places.{poolPlace, limitPlace}
 use Rattle.model.specs.Table.{poolCount, elementCount, elementAt}

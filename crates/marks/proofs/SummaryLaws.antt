@@ -9,7 +9,7 @@ use lib.Dec.{eqb}
 use lib.ListN.{getD}
 use Rattle.words.specs.Counts.{edges, tasks, names}
 use Rattle.words.specs.Each.{total}
-use Rattle.words.specs.Sum.{sum, hit, one}
+use Rattle.words.specs.Sum.{sum, hit, oneIf}
 use Rattle.words.specs.Words.{at}
 use Rattle.words.proofs.SumLaws.{sum-ext}
 use Rattle.kinds.specs.Kinds.{start, startRcv}
@@ -17,7 +17,7 @@ use Rattle.model.specs.Table.{kindIn, taskIn, entryAt, messageName}
 use Rattle.tally.specs.Tally.{Region, noRegion, oneRegion, apart, capped}
 use Rattle.tally.proofs.TallyLaws.{hit-iff}
 use Rattle.tally.proofs.RegionLaws.{sum-one, tallied-at}
-use Rattle.occurrences.specs.Occurrences.{asExit, asEntry, asFirst, asTask, ofKind, received, receivedCount, sent, sentCount, defaultOnce, boundOnce}
+use Rattle.occurrences.specs.Occurrences.{asExit, asEntry, asFirst, asTask, ofKind, asReceived, receivedCount, asSent, sentCount, defaultOnce, boundOnce}
 use Rattle.marks.specs.Summary.{exitsFrom, entriesFrom, firstsFrom, tasksFrom, startsFrom, receivedFrom, sentFrom, defaultsFrom, bindsFrom, summaryWords, edgeRegion, nameRegion, firstCount, edgeRegions, headRegions, nameRegions, flagRegions, regions, summary}
 
 regions-apart : (el : List ℕ) → apart 0 (regions el) ≡ true
@@ -43,7 +43,7 @@ module _ (e : ℕ) (h : 0 < e) (l : e ≤ edges) where
   unfolding regions edgeRegions edgeRegion asEntry
   entries-at = summary-at 1 entriesFrom edges e (asEntry e) (λ el. refl) (λ el. refl) h l (omega arith) (λ el. refl)
 
-  first-is : (t : Bool) (f : ℕ → ℕ) → sum (λ j. hit (f j) e) (one t) ≡ one (t && eqb (f 0) e)
+  first-is : (t : Bool) (f : ℕ → ℕ) → sum (λ j. hit (f j) e) (oneIf t) ≡ oneIf (t && eqb (f 0) e)
   unfolding sum
   first-is true f = zero-add (hit (f 0) e)
   first-is false f = refl
@@ -68,28 +68,28 @@ module _ (m : ℕ) (l : m < names) where
   named : (el : List ℕ) (n : ℕ) → sum (λ j. hit (messageName el j + 1) (m + 1)) n ≡ sum (λ j. hit (messageName el j) m) n
   named el n = sum-ext _ _ n (λ j q. hit-iff (messageName el j + 1) (m + 1) (messageName el j) m (λ w. omega arith) (λ w. omega arith))
 
-  pub received-at : (els : List (List ℕ)) → at (summary els) (receivedFrom + (m + 1)) ≡ capped (total (received m) els)
-  unfolding regions edgeRegions headRegions nameRegions nameRegion received
-  received-at = summary-at 5 receivedFrom names (m + 1) (received m) (λ el. refl) (λ el. refl) (omega arith) (omega arith) (omega arith) (λ el. named el (receivedCount el))
+  pub received-at : (els : List (List ℕ)) → at (summary els) (receivedFrom + (m + 1)) ≡ capped (total (asReceived m) els)
+  unfolding regions edgeRegions headRegions nameRegions nameRegion asReceived
+  received-at = summary-at 5 receivedFrom names (m + 1) (asReceived m) (λ el. refl) (λ el. refl) (omega arith) (omega arith) (omega arith) (λ el. named el (receivedCount el))
 
-  pub sent-at : (els : List (List ℕ)) → at (summary els) (sentFrom + (m + 1)) ≡ capped (total (sent m) els)
-  unfolding regions edgeRegions headRegions nameRegions nameRegion sent
-  sent-at = summary-at 6 sentFrom names (m + 1) (sent m) (λ el. refl) (λ el. refl) (omega arith) (omega arith) (omega arith) (λ el. named el (sentCount el))
+  pub sent-at : (els : List (List ℕ)) → at (summary els) (sentFrom + (m + 1)) ≡ capped (total (asSent m) els)
+  unfolding regions edgeRegions headRegions nameRegions nameRegion asSent
+  sent-at = summary-at 6 sentFrom names (m + 1) (asSent m) (λ el. refl) (λ el. refl) (omega arith) (omega arith) (omega arith) (λ el. named el (sentCount el))
 
 -- what an element breaks by itself
-flag : (t : Bool) → sum (λ j. hit (one (not t)) 1) 1 ≡ one (not t)
+flag : (t : Bool) → sum (λ j. hit (oneIf (not t)) 1) 1 ≡ oneIf (not t)
 unfolding sum
 flag true = refl
 flag false = refl
 
-pub defaults-at : (els : List (List ℕ)) → at (summary els) (defaultsFrom + 1) ≡ capped (total (λ el. one (not (defaultOnce el))) els)
+pub defaults-at : (els : List (List ℕ)) → at (summary els) (defaultsFrom + 1) ≡ capped (total (λ el. oneIf (not (defaultOnce el))) els)
 unfolding regions edgeRegions headRegions nameRegions flagRegions oneRegion
 defaults-at =
-    summary-at 7 defaultsFrom 1 1 (λ el. one (not (defaultOnce el))) (λ el. refl) (λ el. refl) (omega arith) (omega arith) (omega arith)
+    summary-at 7 defaultsFrom 1 1 (λ el. oneIf (not (defaultOnce el))) (λ el. refl) (λ el. refl) (omega arith) (omega arith) (omega arith)
     (λ el. flag (defaultOnce el))
 
-pub binds-at : (els : List (List ℕ)) → at (summary els) (bindsFrom + 1) ≡ capped (total (λ el. one (not (boundOnce el))) els)
+pub binds-at : (els : List (List ℕ)) → at (summary els) (bindsFrom + 1) ≡ capped (total (λ el. oneIf (not (boundOnce el))) els)
 unfolding regions edgeRegions headRegions nameRegions flagRegions oneRegion
 binds-at =
-    summary-at 8 bindsFrom 1 1 (λ el. one (not (boundOnce el))) (λ el. refl) (λ el. refl) (omega arith) (omega arith) (omega arith)
+    summary-at 8 bindsFrom 1 1 (λ el. oneIf (not (boundOnce el))) (λ el. refl) (λ el. refl) (omega arith) (omega arith) (omega arith)
     (λ el. flag (boundOnce el))

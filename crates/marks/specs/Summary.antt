@@ -5,7 +5,7 @@ use mathlib.Core.List.{List, [], _∷_, _++_}
 use Prim.Native.Nat.{ℕ, _+_}
 use lib.Dec.{eqb}
 use Rattle.words.specs.Counts.{edges, tasks, names}
-use Rattle.words.specs.Sum.{one}
+use Rattle.words.specs.Sum.{oneIf}
 use Rattle.words.specs.Words.{at}
 use Rattle.kinds.specs.Kinds.{start, startRcv}
 use Rattle.model.specs.Places.{entriesPlace, exitsPlace, edgePlace}
@@ -54,7 +54,7 @@ nameRegion from el n = record { from = from; most = names; number = λ j. messag
 
 -- the entry of a `start` is a first edge
 unfoldable pub firstCount : List ℕ → ℕ
-firstCount el = one (eqb (kindIn el) start)
+firstCount el = oneIf (eqb (kindIn el) start)
 
 -- what an element marks
 unfoldable pub edgeRegions : List ℕ → List Region
@@ -70,7 +70,7 @@ unfoldable pub nameRegions : List ℕ → List Region
 nameRegions el = nameRegion receivedFrom el (receivedCount el) ∷ nameRegion sentFrom el (sentCount el) ∷ []
 
 unfoldable pub flagRegions : List ℕ → List Region
-flagRegions el = oneRegion defaultsFrom 1 (one (not (defaultOnce el))) ∷ oneRegion bindsFrom 1 (one (not (boundOnce el))) ∷ []
+flagRegions el = oneRegion defaultsFrom 1 (oneIf (not (defaultOnce el))) ∷ oneRegion bindsFrom 1 (oneIf (not (boundOnce el))) ∷ []
 
 unfoldable pub regions : List ℕ → List Region
 regions el = edgeRegions el ++ (headRegions el ++ (nameRegions el ++ flagRegions el))

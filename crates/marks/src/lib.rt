@@ -2,7 +2,7 @@
 ghost use mathlib.Core.Path.{_≡_};
 ghost use Prim.Native.Nat.{_+_};
 ghost use mathlib.Core.Bool.{not};
-ghost use Rattle.words.specs.Sum.{one};
+ghost use Rattle.words.specs.Sum.{oneIf};
 ghost use Rattle.words.specs.Words.{at};
 ghost use Rattle.words.specs.Counts.{edges, names};
 ghost use Rattle.model.specs.Places.{edgePlace};
@@ -118,7 +118,7 @@ fn mark_names(s: &mut [Word], el: &[Word])
 
 // 1 for what is not kept.
 fn broken(kept: bool) -> usize
-    ensures { λ r. ⌜ r ≡ one (not kept) ⌝ }
+    ensures { λ r. ⌜ r ≡ oneIf (not kept) ⌝ }
 {
     if kept {
         return 0;

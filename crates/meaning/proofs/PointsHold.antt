@@ -1,8 +1,7 @@
 -- Every starred point of document 01 holds of the definitions: one claim, computed. Assumes nothing.
 use mathlib.Core.Path.{_≡_, refl}
-use mathlib.Core.Bool.{true}
 use Rattle.words.specs.All.{all}
-use Rattle.words.specs.Each.{each, tab}
+use Rattle.words.specs.Each.{tab}
 use Rattle.words.specs.Iter.{iter}
 use Rattle.words.specs.Pick.{if_then_else_}
 use Rattle.words.specs.Seek.{seek}
@@ -18,13 +17,13 @@ use Rattle.meaning.specs.Expressions.{fieldOf, operandOf, expressionOf}
 use Rattle.meaning.specs.Conditions.{conditionOf, otherFalse, holds}
 use Rattle.meaning.specs.Templates.{binds, itemValue, gathered, evaluated, bindOne, bound}
 use Rattle.meaning.specs.Assignments.{assignedValue, assignOne, assigned}
-use Rattle.meaning.specs.Requirements.{touched, first, branchCount, instanceNamed, hasToken, hasTokens, canLower, isAlone, permitted, granted, belowLimit, hasRoom, hasRooms, canRaise, roomy}
-use Rattle.meaning.specs.Changes.{expected, received, worked, message, takeOne, taken, more, counted, activeChanged, readyChanged, putOne, puts, cleared, moved}
+use Rattle.meaning.specs.Requirements.{touched, first, branchCount, instanceNamed, hasToken, hasTokens, canLower, isAlone, countsPermit, granted, belowLimit, hasRoom, hasRooms, canRaise, roomy}
+use Rattle.meaning.specs.Changes.{expected, received, worked, messageSent, takeOne, taken, more, countChanged, activeChanged, readyChanged, putOne, puts, cleared, moved}
 use Rattle.meaning.specs.Refusals.{firstRefusal}
 use Rattle.meaning.specs.Step.{elementNamed, moveNamed, instanceOf, before, siteOf, exists, template, work, sent, defined, matches, afterTaking, queued, space, refusalsAt, refusals, instanceAfter, madeAfter, instancesAfter, queuesAfter, traffic, step}
 use Rattle.meaning.specs.Post.{postRefusals, post}
-use Rattle.meaning.specs.Points.{Point, points}
+use Rattle.meaning.specs.Points.{points, Hold}
 
-pub points-hold : each (λ (p : Point). p .holds) points ≡ true
-unfolding all each tab iter if_then_else_ seek writes kindOf used modeOf isRule ruleOf moveOf numbered poolOf limitOf entryCount exitCount sumOf differenceOf equalOf lessOf isTrue isFalse isDefined numberIn valueOf sameTuple has without times messagesOf messageWord messagesWord queueWord withMessages fieldOf operandOf expressionOf conditionOf otherFalse holds binds itemValue gathered evaluated bindOne bound assignedValue assignOne assigned touched first branchCount instanceNamed hasToken hasTokens canLower isAlone permitted granted belowLimit hasRoom hasRooms canRaise roomy expected received worked message takeOne taken more counted activeChanged readyChanged putOne puts cleared moved firstRefusal elementNamed moveNamed instanceOf before siteOf exists template work sent defined matches afterTaking queued space refusalsAt refusals instanceAfter madeAfter instancesAfter queuesAfter traffic step postRefusals post
-points-hold = refl
+pub points-hold : Hold points
+unfolding all tab iter if_then_else_ seek writes kindOf used modeOf isRule ruleOf moveOf numbered poolOf limitOf entryCount exitCount sumOf differenceOf equalOf lessOf isTrue isFalse isDefined numberIn valueOf sameTuple has without times messagesOf messageWord messagesWord queueWord withMessages fieldOf operandOf expressionOf conditionOf otherFalse holds binds itemValue gathered evaluated bindOne bound assignedValue assignOne assigned touched first branchCount instanceNamed hasToken hasTokens canLower isAlone countsPermit granted belowLimit hasRoom hasRooms canRaise roomy expected received worked messageSent takeOne taken more countChanged activeChanged readyChanged putOne puts cleared moved firstRefusal elementNamed moveNamed instanceOf before siteOf exists template work sent defined matches afterTaking queued space refusalsAt refusals instanceAfter madeAfter instancesAfter queuesAfter traffic step postRefusals post
+points-hold = (refl, (refl, (refl, (refl, (refl, (refl, (refl, (refl, (refl, (refl, (refl, (refl, (refl, (refl, (refl, (refl, (refl, (refl, (refl, (refl, (refl, (refl, (refl, (refl, (refl, (refl, (refl, (refl, (refl, (refl, tt))))))))))))))))))))))))))))))

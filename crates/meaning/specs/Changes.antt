@@ -31,31 +31,31 @@ received el h m b g = if eqb (m .receives) on then bound el b g h else h
 unfoldable pub worked : List ℕ → List ℕ → Move → Assigned
 worked el h m = if eqb (m .assigns) on then assigned el h else record { defined = true; instance = h }
 
-unfoldable pub message : List ℕ → List ℕ → Move → ℕ → Evaluated
-message el h m b = if eqb (m .sends) on then evaluated el b h empty else record { defined = true; tuple = empty }
+unfoldable pub messageSent : List ℕ → List ℕ → Move → ℕ → Evaluated
+messageSent el h m b = if eqb (m .sends) on then evaluated el b h empty else record { defined = true; tuple = empty }
 
 -- TOKENS AND COUNTS. "Entry tokens are taken and exit tokens put, one each."
 unfoldable pub takeOne : List ℕ → ℕ → ℕ → List ℕ → List ℕ
-takeOne el f j h = withTokens h (entryAt el (f + j)) (tokens h (entryAt el (f + j)) - 1)
+takeOne el from j h = withTokens h (entryAt el (from + j)) (tokens h (entryAt el (from + j)) - 1)
 
 unfoldable pub taken : List ℕ → Move → ℕ → List ℕ → List ℕ
 taken el m b h = iter (takeOne el (first (m .takes) b)) h (touched (m .takes) (entryCount el))
 
 -- one more; that an accepted step never meets the end, 255, is what refusal 18 is for
 unfoldable pub more : ℕ → ℕ
-more n = if ltb n countMost then n + 1 else n
+more count = if ltb count countMost then count + 1 else count
 
-unfoldable pub counted : ℕ → ℕ → ℕ
-counted cell n = if eqb cell up then more n else if eqb cell down then n - 1 else n
+unfoldable pub countChanged : ℕ → ℕ → ℕ
+countChanged cell count = if eqb cell up then more count else if eqb cell down then count - 1 else count
 
 unfoldable pub activeChanged : List ℕ → Move → List ℕ → List ℕ
-activeChanged el m h = withActive h (taskIn el) (counted (m .active) (activeCount h (taskIn el)))
+activeChanged el m h = withActive h (taskIn el) (countChanged (m .active) (activeCount h (taskIn el)))
 
 unfoldable pub readyChanged : List ℕ → Move → List ℕ → List ℕ
-readyChanged el m h = withReady h (taskIn el) (counted (m .ready) (readyCount h (taskIn el)))
+readyChanged el m h = withReady h (taskIn el) (countChanged (m .ready) (readyCount h (taskIn el)))
 
 unfoldable pub putOne : List ℕ → ℕ → ℕ → List ℕ → List ℕ
-putOne el f j h = withTokens h (exitAt el (f + j)) (more (tokens h (exitAt el (f + j))))
+putOne el from j h = withTokens h (exitAt el (from + j)) (more (tokens h (exitAt el (from + j))))
 
 unfoldable pub puts : List ℕ → Move → ℕ → List ℕ → List ℕ
 puts el m b h = iter (putOne el (first (m .puts) b)) h (touched (m .puts) (exitCount el))

@@ -1,4 +1,4 @@
--- "C is `true`, or two operands joined by `=` or `<`; in xorSplit also `default`." x is the words of a condition, el an element's, h an instance's.
+-- "C is `true`, or two operands joined by `=` or `<`; in xorSplit also `default`." w is the words of a condition, el an element's, h an instance's.
 use Prim.Native.Nat.{ℕ}
 use mathlib.Core.Bool.{Bool, true}
 use mathlib.Core.List.{List}
@@ -15,10 +15,10 @@ use Rattle.meaning.specs.Expressions.{operandOf}
 
 -- `default` by itself holds neither true nor false
 unfoldable pub conditionOf : List ℕ → List ℕ → Truth
-conditionOf x h =
-    if eqb (at x formPlace) always then True
-    else if eqb (at x formPlace) equals then equalOf (operandOf x h leftPlace) (operandOf x h rightPlace)
-    else if eqb (at x formPlace) below then lessOf (operandOf x h leftPlace) (operandOf x h rightPlace)
+conditionOf w h =
+    if eqb (at w formPlace) always then True
+    else if eqb (at w formPlace) equals then equalOf (operandOf w h leftPlace) (operandOf w h rightPlace)
+    else if eqb (at w formPlace) below then lessOf (operandOf w h leftPlace) (operandOf w h rightPlace)
     else Neither
 
 -- "xorSplit: any branch whose condition is true; default when all others are false." A guard is the condition of branch 0.

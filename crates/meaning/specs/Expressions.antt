@@ -1,4 +1,4 @@
--- "An operand is a number or a field. An expression is an operand, or two joined by `+` or `-`." x is the words of an expression, h an instance's.
+-- "An operand is a number or a field. An expression is an operand, or two joined by `+` or `-`." w is the words of an expression, h an instance's.
 use Prim.Native.Nat.{ℕ, _+_}
 use mathlib.Core.List.{List}
 use lib.Dec.{eqb}
@@ -15,10 +15,10 @@ unfoldable pub fieldOf : List ℕ → ℕ → Value
 fieldOf h d = if eqb (at h (definedPlace d)) 0 then Undefined else Number (at h (valuePlace d))
 
 unfoldable pub operandOf : List ℕ → List ℕ → ℕ → Value
-operandOf x h p = if eqb (at x p) 0 then Number (at x (p + operandNumber)) else fieldOf h (at x (p + operandNumber))
+operandOf w h place = if eqb (at w place) 0 then Number (at w (place + operandNumber)) else fieldOf h (at w (place + operandNumber))
 
 unfoldable pub expressionOf : List ℕ → List ℕ → Value
-expressionOf x h =
-    if eqb (at x formPlace) plus then sumOf (operandOf x h leftPlace) (operandOf x h rightPlace)
-    else if eqb (at x formPlace) minus then differenceOf (operandOf x h leftPlace) (operandOf x h rightPlace)
-    else operandOf x h leftPlace
+expressionOf w h =
+    if eqb (at w formPlace) plus then sumOf (operandOf w h leftPlace) (operandOf w h rightPlace)
+    else if eqb (at w formPlace) minus then differenceOf (operandOf w h leftPlace) (operandOf w h rightPlace)
+    else operandOf w h leftPlace

@@ -4,7 +4,7 @@ use Prim.Native.Nat.{ℕ, _+_}
 use mathlib.Core.Bool.{Bool, true, false}
 use mathlib.Core.List.{List, [], _∷_, _++_}
 use Rattle.words.specs.Pick.{if_then_else_}
-use Rattle.words.specs.Sum.{one}
+use Rattle.words.specs.Sum.{oneIf}
 use Rattle.meaning.specs.declared.Tuple.{Tuple}
 use Rattle.meaning.specs.Tuples.{sameTuple}
 
@@ -25,4 +25,4 @@ without g (x ∷ xs) = if sameTuple x g then xs else x ∷ without g xs
 -- how often a message equal to g is there
 unfoldable pub times : Tuple → List Tuple → ℕ
 times g [] = 0
-times g (x ∷ xs) = one (sameTuple x g) + times g xs
+times g (x ∷ xs) = oneIf (sameTuple x g) + times g xs

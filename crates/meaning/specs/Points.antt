@@ -1,28 +1,26 @@
 -- The starred points of document 01 ('Points to try'): one table. Each row says in the document's words what is tried, and tries it by a step on a
--- small table and state: pool 1 with one element, its instance 0, messages under name 0.
+-- small table and state: pool 1 with one element, its instance 0, messages under name 0. Rows behind them try what else is easily got wrong.
 use Prim.Native.Nat.{ℕ, _+_, _-_, _*_}
 use Prim.Native.String.{String}
-use mathlib.Core.Bool.{Bool, true, false, _&&_}
+use mathlib.Core.Path.{_≡_}
 use mathlib.Core.List.{List, [], _∷_, _++_}
-use lib.Dec.{eqb}
 use lib.ListN.{length, replicate}
 use Rattle.words.specs.Words.{greatest}
 use Rattle.words.specs.Counts.{branches, values, pools}
-use Rattle.kinds.specs.Kinds.{startRcv, interRcv, xorSplit, task}
+use Rattle.kinds.specs.Kinds.{startRcv, terminate, interRcv, xorSplit, task}
 use Rattle.kinds.specs.Moves.{o, a, na-c, na-nc}
 use Rattle.model.specs.Places.{aField, single, plus, minus, binding, always, default, equals, expressionWords, messageWords}
 use Rattle.state.specs.Places.{instanceWords, instancePlace, queueWords}
-use Rattle.state.specs.Instances.{withTokens, withActive, withField}
-use Rattle.meaning.specs.declared.Value.{Value}
-use Rattle.meaning.specs.declared.Value.the-variants.{Undefined, Number}
+use Rattle.state.specs.Instances.{madeCount, instanceAt, tokens, activeCount, readyCount, withTokens, withActive, withReady, withField}
 use Rattle.meaning.specs.declared.Tuple.{Tuple}
 use Rattle.meaning.specs.declared.Name.{Name}
+use Rattle.meaning.specs.Values.{numberIn}
 use Rattle.meaning.specs.Tuples.{empty}
 use Rattle.meaning.specs.Messages.{times}
-use Rattle.meaning.specs.Queues.{messagesOf, withMessages}
+use Rattle.meaning.specs.Queues.{messagesOf}
 use Rattle.meaning.specs.Expressions.{fieldOf}
 use Rattle.meaning.specs.Post.{post}
-use Rattle.meaning.specs.Step.{Outcome, step, instanceOf}
+use Rattle.meaning.specs.Step.{Outcome, step}
 
 -- WORDS OF A TABLE. A block with 0 behind what it holds; operands, expressions, conditions.
 abbrev filled : ℕ → List ℕ → List ℕ
@@ -75,25 +73,38 @@ instances made h = made ∷ (replicate (pools - 1) 0 ++ filled (instanceWords * 
 abbrev message : ℕ → ℕ → ℕ → Tuple
 message n x y = record { length = n; values = filled values (x ∷ y ∷ []) }
 
+abbrev slots : List Tuple → List ℕ
+slots [] = []
+slots (g ∷ gs) = g .length ∷ (g .values ++ slots gs)
+
 abbrev queue : List Tuple → List ℕ
-queue ms = withMessages (replicate queueWords 0) 0 ms
+queue ms = filled queueWords (length ms ∷ slots ms)
 
 abbrev name : ℕ → ℕ → ℕ → Tuple → Name
 name i phase branch given = record { pool = 1; instance = i; element = 0; phase = phase; branch = branch; given = given }
 
--- WHAT CAME OF IT. The number given back; a field of instance 0; how often a message is queued.
-abbrev gives : Outcome → ℕ → Bool
-gives x n = eqb (x .answer .number) n
+-- WHAT CAME OF IT. The number given back; the value of a field of instance 0; how many instances are made; tokens of instance i on edge e, its active
+-- and its ready count of task 1; how often a message is queued.
+abbrev answered : Outcome → ℕ
+answered x = x .answer .number
 
-abbrev is : Value → ℕ → Bool
-is (Number x) n = eqb x n
-is Undefined n = false
+abbrev field : Outcome → ℕ → ℕ
+field x k = numberIn (fieldOf (instanceAt (x .instances) 0 0) k)
 
-abbrev field : Outcome → ℕ → Value
-field x k = fieldOf (instanceOf (x .instances) 0 0) k
+abbrev made : Outcome → ℕ
+made x = madeCount (x .instances) 0
 
-abbrev queued : Outcome → Tuple → ℕ
-queued x g = times g (messagesOf (x .queues) 0)
+abbrev tokensIn : Outcome → ℕ → ℕ → ℕ
+tokensIn x i e = tokens (instanceAt (x .instances) 0 i) e
+
+abbrev activeIn : Outcome → ℕ → ℕ
+activeIn x i = activeCount (instanceAt (x .instances) 0 i) 1
+
+abbrev readyIn : Outcome → ℕ → ℕ
+readyIn x i = readyCount (instanceAt (x .instances) 0 i) 1
+
+abbrev waiting : List ℕ → Tuple → ℕ
+waiting q g = times g (messagesOf q 0)
 
 -- task(1,1,a,true,{d0:=x},2), tried once
 abbrev assigning : ℕ → List ℕ → Outcome
@@ -108,12 +119,11 @@ guarded c = step (table 0 (element task 1 a (1 ∷ []) (2 ∷ []) c [] 0 [])) (i
 
 -- interRcv(1,0:T,2) with messages queued, one of them named
 abbrev receiving : List ℕ → List Tuple → Tuple → Outcome
-receiving t ms g = step (table 0 (element interRcv 0 o (1 ∷ []) (2 ∷ []) [] t 0 [])) (instances 1 fresh) (queue ms) (name 0 0 0 g)
+receiving template ms g = step (table 0 (element interRcv 0 o (1 ∷ []) (2 ∷ []) [] template 0 [])) (instances 1 fresh) (queue ms) (name 0 0 0 g)
 
--- the same with two equal messages posted
-abbrev consuming-one : List ℕ → Tuple → Outcome
-consuming-one t g =
-    step (table 0 (element interRcv 0 o (1 ∷ []) (2 ∷ []) [] t 0 [])) (instances 1 fresh) (post (post (queue []) 0 g .queues) 0 g .queues) (name 0 0 0 g)
+-- (7,9)
+abbrev seven-nine : Tuple
+seven-nine = message 2 7 9
 
 -- <7,?d1>
 abbrev seven-bind : List ℕ
@@ -140,36 +150,61 @@ abbrev making-of : ℕ → ℕ → Outcome
 making-of made i =
     step (table 2 (element startRcv 0 o [] (1 ∷ []) [] (tuple 0 []) 0 [])) (instances made fresh) (queue (empty ∷ empty ∷ [])) (name i 0 0 empty)
 
+-- terminate(1) with a token on edge 2 too, and both counts of task 1 not 0
+abbrev terminating : Outcome
+terminating =
+    step (table 0 (element terminate 0 o (1 ∷ []) [] [] [] 0 [])) (instances 1 (withReady (withActive (withTokens fresh 2 1) 1 1) 1 1)) (queue []) (name 0 0 0 empty)
+
+-- task(1,1,na_c,d0=7,{},2) with active 1 and d0 = 8, phase 3
+abbrev completing : Outcome
+completing =
+    step (table 0 (element task 1 na-c (1 ∷ []) (2 ∷ []) (form equals (d 0) (number 7)) [] 0 [])) (instances 1 (withField (withActive fresh 1 1) 0 8)) (queue []) (name 0 3 0 empty)
+
 -- THE TABLE
 pub record Point : Type 0 where
   pub says : String
-  pub holds : Bool
+  pub comes : ℕ
+  pub due : ℕ
 
-infix 70 _shown-by_
-abbrev _shown-by_ : String → Bool → Point
-s shown-by b = record { says = s; holds = b }
+infix 70 _shown-by_being_
+abbrev _shown-by_being_ : String → ℕ → ℕ → Point
+s shown-by x being n = record { says = s; comes = x; due = n }
 
 abbrev pub points : List Point
 points =
-    "65,535+0 is 65,535" shown-by is (field (assigning-d0 (form plus (number greatest) (number 0))) 0) greatest ∷
-    "65,535+1 is undefined" shown-by gives (assigning-d0 (form plus (number greatest) (number 1))) 13 ∷
-    "0-1 is undefined" shown-by gives (assigning-d0 (form minus (number 0) (number 1))) 13 ∷
-    "Undefined = undefined does not hold" shown-by gives (guarded (form equals (d 0) (d 1))) 13 ∷
-    "Undefined = undefined does not fail either" shown-by gives (splitting-undefined 1) 13 ∷
-    "<7,?d1> matches (7,9)" shown-by gives (receiving seven-bind (message 2 7 9 ∷ []) (message 2 7 9)) 0 ∷
-    "with d1 = 9" shown-by is (field (receiving seven-bind (message 2 7 9 ∷ []) (message 2 7 9)) 1) 9 ∷
-    "not (8,9)" shown-by gives (receiving seven-bind (message 2 8 9 ∷ []) (message 2 8 9)) 14 ∷
-    "not (7)" shown-by gives (receiving seven-bind (message 1 7 0 ∷ []) (message 1 7 0)) 14 ∷
-    "<> matches the empty tuple" shown-by gives (receiving (tuple 0 []) (empty ∷ []) empty) 0 ∷
-    "{d0:=1,d1:=d0} gives 1" shown-by is (field (assigning 2 (0 becomes alone (number 1) ++ 1 becomes alone (d 0))) 0) 1 ∷
-    "and 1" shown-by is (field (assigning 2 (0 becomes alone (number 1) ++ 1 becomes alone (d 0))) 1) 1 ∷
-    "{d0:=d5}, d5 undefined: 13" shown-by gives (assigning-d0 (alone (d 5))) 13 ∷
-    "Two equal messages, one consumed" shown-by gives (consuming-one seven-bind (message 2 7 9)) 0 ∷
-    "one stays" shown-by eqb (queued (consuming-one seven-bind (message 2 7 9)) (message 2 7 9)) 1 ∷
-    "na_nc with active 1: phase 1 gives 12" shown-by gives (beginning na-nc) 12 ∷
-    "na_c is accepted" shown-by gives (beginning na-c) 0 ∷
-    "xorSplit with one false, one undefined and a default: no branch: not the first" shown-by gives (splitting 0) 13 ∷
-    "not the second" shown-by gives (splitting 1) 13 ∷
-    "not the default" shown-by gives (splitting 2) 13 ∷
-    "miPool limit 2, matching messages queued: the second is made" shown-by gives (making-of 1 1) 0 ∷
-    "a third gives 16" shown-by gives (making-of 2 2) 16 ∷ []
+    "65,535+0 is 65,535" shown-by field (assigning-d0 (form plus (number greatest) (number 0))) 0 being greatest ∷
+    "65,535+1 is undefined" shown-by answered (assigning-d0 (form plus (number greatest) (number 1))) being 13 ∷
+    "0-1 is undefined" shown-by answered (assigning-d0 (form minus (number 0) (number 1))) being 13 ∷
+    "Undefined = undefined does not hold" shown-by answered (guarded (form equals (d 0) (d 1))) being 13 ∷
+    "Undefined = undefined does not fail either" shown-by answered (splitting-undefined 1) being 13 ∷
+    "<7,?d1> matches (7,9)" shown-by answered (receiving seven-bind (seven-nine ∷ []) seven-nine) being 0 ∷
+    "with d1 = 9" shown-by field (receiving seven-bind (seven-nine ∷ []) seven-nine) 1 being 9 ∷
+    "not (8,9)" shown-by answered (receiving seven-bind (message 2 8 9 ∷ []) (message 2 8 9)) being 14 ∷
+    "not (7)" shown-by answered (receiving seven-bind (message 1 7 0 ∷ []) (message 1 7 0)) being 14 ∷
+    "<> matches the empty tuple" shown-by answered (receiving (tuple 0 []) (empty ∷ []) empty) being 0 ∷
+    "{d0:=1,d1:=d0} gives 1" shown-by field (assigning 2 (0 becomes alone (number 1) ++ 1 becomes alone (d 0))) 0 being 1 ∷
+    "and 1" shown-by field (assigning 2 (0 becomes alone (number 1) ++ 1 becomes alone (d 0))) 1 being 1 ∷
+    "{d0:=d5}, d5 undefined: 13" shown-by answered (assigning-d0 (alone (d 5))) being 13 ∷
+    "Two equal messages" shown-by waiting (post (queue (seven-nine ∷ [])) 0 seven-nine .queues) seven-nine being 2 ∷
+    "one consumed" shown-by answered (receiving seven-bind (seven-nine ∷ seven-nine ∷ []) seven-nine) being 0 ∷
+    "one stays" shown-by waiting (receiving seven-bind (seven-nine ∷ seven-nine ∷ []) seven-nine .queues) seven-nine being 1 ∷
+    "na_nc with active 1: phase 1 gives 12" shown-by answered (beginning na-nc) being 12 ∷
+    "na_c is accepted" shown-by answered (beginning na-c) being 0 ∷
+    "xorSplit with one false, one undefined and a default: no branch: not the first" shown-by answered (splitting 0) being 13 ∷
+    "not the second" shown-by answered (splitting 1) being 13 ∷
+    "not the default" shown-by answered (splitting 2) being 13 ∷
+    "miPool limit 2, matching messages queued: the second is made" shown-by answered (making-of 1 1) being 0 ∷
+    "there are two then" shown-by made (making-of 1 1) being 2 ∷
+    "with a token on its exit" shown-by tokensIn (making-of 1 1) 1 1 being 1 ∷
+    "a third gives 16" shown-by answered (making-of 2 2) being 16 ∷
+    -- beside the starred ones
+    "terminate clears all tokens: that on its entry" shown-by tokensIn terminating 0 1 being 0 ∷
+    "the other" shown-by tokensIn terminating 0 2 being 0 ∷
+    "and task counts of its instance: active" shown-by activeIn terminating 0 being 0 ∷
+    "ready" shown-by readyIn terminating 0 being 0 ∷
+    "phase 3 of an na task, its guard false by then, is accepted" shown-by answered completing being 0 ∷ []
+
+-- the claim: every row comes to what is due
+abbrev pub Hold : List Point → Type 0
+Hold [] = Unit {0}
+Hold (p ∷ ps) = (p .comes ≡ p .due) × Hold ps

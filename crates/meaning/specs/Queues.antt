@@ -14,18 +14,18 @@ use Rattle.meaning.specs.Tuples.{valueOf}
 use Rattle.state.specs.Places.{valuesIn, slotsIn, slotWords, queueWords, queuePlace, slotPlace}
 use Rattle.meaning.specs.Messages.{appended, without}
 
--- READING: how many messages queue m holds; message k, oldest first; all of them
-abbrev pub queued : List ℕ → ℕ → ℕ
-queued q m = at q (queuePlace m)
+-- READING: how many messages the queue of a name holds; message k, oldest first; all of them
+abbrev pub messageCount : List ℕ → ℕ → ℕ
+messageCount q name = at q (queuePlace name)
 
 abbrev pub valueAt : List ℕ → ℕ → ℕ → ℕ → ℕ
-valueAt q m k j = at q (slotPlace m k + valuesIn + j)
+valueAt q name k j = at q (slotPlace name k + valuesIn + j)
 
 abbrev pub messageAt : List ℕ → ℕ → ℕ → Tuple
-messageAt q m k = record { length = at q (slotPlace m k); values = valueAt q m k 0 ∷ valueAt q m k 1 ∷ valueAt q m k 2 ∷ valueAt q m k 3 ∷ [] }
+messageAt q name k = record { length = at q (slotPlace name k); values = valueAt q name k 0 ∷ valueAt q name k 1 ∷ valueAt q name k 2 ∷ valueAt q name k 3 ∷ [] }
 
 unfoldable pub messagesOf : List ℕ → ℕ → List Tuple
-messagesOf q m = tab (messageAt q m) (queued q m)
+messagesOf q name = tab (messageAt q name) (messageCount q name)
 
 -- WRITING: word i of a message, of messages one behind the other, of a queue; what is not in use is 0
 unfoldable pub messageWord : Tuple → ℕ → ℕ
@@ -38,21 +38,21 @@ messagesWord (g ∷ gs) i = if ltb i slotWords then messageWord g i else message
 unfoldable pub queueWord : List Tuple → ℕ → ℕ
 queueWord ms i = if eqb i 0 then length ms else messagesWord ms (i - slotsIn)
 
--- the queues with these messages in queue m
+-- the queues with these messages in the queue of a name
 unfoldable pub withMessages : List ℕ → ℕ → List Tuple → List ℕ
-withMessages q m ms = writes (queueWord ms) q (queuePlace m) queueWords
+withMessages q name ms = writes (queueWord ms) q (queuePlace name) queueWords
 
 -- THE TWO OPERATIONS
 abbrev pub sending : List ℕ → ℕ → Tuple → List ℕ
-sending q m g = withMessages q m (appended (messagesOf q m) g)
+sending q name g = withMessages q name (appended (messagesOf q name) g)
 
 abbrev pub consuming : List ℕ → ℕ → Tuple → List ℕ
-consuming q m g = withMessages q m (without g (messagesOf q m))
+consuming q name g = withMessages q name (without g (messagesOf q name))
 
 -- WHAT IS NOT IN USE: a message with 0 behind its length, as it is read back; a queue whose words are those of its messages, at most 64
 unfoldable pub tidied : Tuple → Tuple
 tidied g = record { length = g .length; values = valueOf g 0 ∷ valueOf g 1 ∷ valueOf g 2 ∷ valueOf g 3 ∷ [] }
 
-pub record Tidy (q : List ℕ) (m : ℕ) : Type 0 where
-  pub room : queued q m ≤ messages
-  pub words : (i : ℕ) → i < queueWords → at q (queuePlace m + i) ≡ queueWord (messagesOf q m) i
+pub record Tidy (q : List ℕ) (name : ℕ) : Type 0 where
+  pub room : messageCount q name ≤ messages
+  pub words : (i : ℕ) → i < queueWords → at q (queuePlace name + i) ≡ queueWord (messagesOf q name) i

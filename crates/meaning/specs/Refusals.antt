@@ -10,7 +10,7 @@ pub record Refusal : Type 0 where
   pub holds : Bool
 
 abbrev pub _unless_ : ℕ → Bool → Refusal
-n unless b = record { number = n; holds = b }
+number unless test = record { number = number; holds = test }
 
 -- the number of the first that does not hold; 0 where all hold
 unfoldable pub firstRefusal : List Refusal → ℕ

@@ -14,7 +14,7 @@ use Rattle.meaning.specs.Conditions.{holds}
 
 -- Which edges of a list a cell of the table of moves means: as many as there are, the branch's alone, or none; from which one on.
 unfoldable pub touched : ℕ → ℕ → ℕ
-touched cell n = if eqb cell every then n else if eqb cell branch then 1 else 0
+touched cell count = if eqb cell every then count else if eqb cell branch then 1 else 0
 
 unfoldable pub first : ℕ → ℕ → ℕ
 first cell b = if eqb cell branch then b else 0
@@ -29,14 +29,14 @@ instanceNamed m i made = if eqb (m .also) making then eqb i made else ltb i made
 
 -- 12. Each edge to be taken has a token;
 unfoldable pub hasToken : List ℕ → List ℕ → ℕ → ℕ → Bool
-hasToken el h f j = ltb 0 (tokens h (entryAt el (f + j)))
+hasToken el h from j = ltb 0 (tokens h (entryAt el (from + j)))
 
 unfoldable pub hasTokens : List ℕ → List ℕ → Move → ℕ → Bool
 hasTokens el h m b = all (hasToken el h (first (m .takes) b)) (touched (m .takes) (entryCount el))
 
 -- a count to be lowered is not 0;
 unfoldable pub canLower : ℕ → ℕ → Bool
-canLower cell n = if eqb cell down then ltb 0 n else true
+canLower cell count = if eqb cell down then ltb 0 count else true
 
 -- "na_nc needs both counts 0".
 unfoldable pub isAlone : List ℕ → List ℕ → Move → Bool
@@ -45,8 +45,8 @@ isAlone el h m =
     if eqb (modeIn el) na-nc then eqb (activeCount h (taskIn el)) 0 && eqb (readyCount h (taskIn el)) 0 else true
     else true
 
-unfoldable pub permitted : List ℕ → List ℕ → Move → ℕ → Bool
-permitted el h m b =
+unfoldable pub countsPermit : List ℕ → List ℕ → Move → ℕ → Bool
+countsPermit el h m b =
     hasTokens el h m b
     && canLower (m .active) (activeCount h (taskIn el))
     && canLower (m .ready) (readyCount h (taskIn el))
@@ -62,13 +62,13 @@ belowLimit m made limit = if eqb (m .also) making then ltb made limit else true
 
 -- 18. h is the instance after the taking: no edge to be put and no count to be raised would pass 255.
 unfoldable pub hasRoom : List ℕ → List ℕ → ℕ → ℕ → Bool
-hasRoom el h f j = ltb (tokens h (exitAt el (f + j))) countMost
+hasRoom el h from j = ltb (tokens h (exitAt el (from + j))) countMost
 
 unfoldable pub hasRooms : List ℕ → List ℕ → Move → ℕ → Bool
 hasRooms el h m b = all (hasRoom el h (first (m .puts) b)) (touched (m .puts) (exitCount el))
 
 unfoldable pub canRaise : ℕ → ℕ → Bool
-canRaise cell n = if eqb cell up then ltb n countMost else true
+canRaise cell count = if eqb cell up then ltb count countMost else true
 
 unfoldable pub roomy : List ℕ → List ℕ → Move → ℕ → Bool
 roomy el h m b =

@@ -3,19 +3,18 @@ use Prim.Native.Nat.{ℕ, _+_}
 use mathlib.Core.Bool.{Bool, true, not, _&&_, _||_}
 use mathlib.Core.List.{List, [], _∷_, _++_}
 use lib.Dec.{eqb, ltb}
-use lib.ListN.{length, set, replicate}
+use lib.ListN.{length, replicate}
 use Rattle.words.specs.Each.{tab}
 use Rattle.words.specs.Pick.{if_then_else_}
 use Rattle.words.specs.Words.{at}
-use Rattle.words.specs.Writes.{writes}
 use Rattle.words.specs.Counts.{messages}
 use Rattle.meaning.specs.declared.Tuple.{Tuple}
 use Rattle.meaning.specs.Tuples.{empty, sameTuple}
 use Rattle.kinds.specs.declared.moves.Move.{Move}
 use Rattle.kinds.specs.Moves.{on, making, moveOf}
 use Rattle.model.specs.Table.{poolCount, elementCount, elementAt, poolOf, limitOf, kindIn, modeIn, messageName}
-use Rattle.state.specs.Places.{instanceWords, madePlace, instancePlace}
-use Rattle.state.specs.Instances.{madeCount, instanceAt, instancesOf, queuesOf}
+use Rattle.state.specs.Places.{instanceWords, instancePlace}
+use Rattle.state.specs.Instances.{madeCount, withInstance, withMade}
 use Rattle.meaning.specs.Messages.{has}
 use Rattle.meaning.specs.Queues.{messagesOf, sending, consuming}
 use Rattle.meaning.specs.declared.Evaluated.{Evaluated}
@@ -24,8 +23,8 @@ use Rattle.meaning.specs.declared.Name.{Name}
 use Rattle.meaning.specs.declared.Answer.{Answer}
 use Rattle.meaning.specs.declared.Traffic.{Traffic}
 use Rattle.meaning.specs.declared.Traffic.the-variants.{Nothing, Consumed, Sent}
-use Rattle.meaning.specs.Requirements.{branchCount, instanceNamed, permitted, granted, belowLimit, roomy}
-use Rattle.meaning.specs.Changes.{expected, received, worked, message, taken, more, moved}
+use Rattle.meaning.specs.Requirements.{branchCount, instanceNamed, countsPermit, granted, belowLimit, roomy}
+use Rattle.meaning.specs.Changes.{expected, received, worked, messageSent, taken, more, moved}
 use Rattle.meaning.specs.Refusals.{Refusal, _unless_, firstRefusal}
 
 -- WHERE. What a name finds: the place of its pool, the element's words, the move of the element's kind and mode in this phase, how many
@@ -89,7 +88,7 @@ unfoldable pub work : Site → Assigned
 work x = worked (x .element) (received (x .element) (x .instance) (x .move) (x .branch) (x .given)) (x .move)
 
 unfoldable pub sent : Site → Evaluated
-sent x = message (x .element) (work x .instance) (x .move) (x .branch)
+sent x = messageSent (x .element) (work x .instance) (x .move) (x .branch)
 
 -- the assignments and the message are defined
 unfoldable pub defined : Site → Bool
@@ -104,21 +103,21 @@ unfoldable pub afterTaking : Site → List ℕ
 afterTaking x = taken (x .element) (x .move) (x .branch) (work x .instance)
 
 -- the name of the message received or sent
-abbrev pub nameAt : Site → ℕ
-nameAt x = messageName (x .element) (x .branch)
+abbrev pub messageNamed : Site → ℕ
+messageNamed x = messageName (x .element) (x .branch)
 
 -- THE QUEUES enter here, and only here: the message consumed is there, the queue sent to holds fewer than 64.
 unfoldable pub queued : Site → List ℕ → Bool
-queued x q = if receives x then has (x .given) (messagesOf q (nameAt x)) else true
+queued x q = if receives x then has (x .given) (messagesOf q (messageNamed x)) else true
 
 unfoldable pub space : Site → List ℕ → Bool
-space x q = if sends x then ltb (length (messagesOf q (nameAt x))) messages else true
+space x q = if sends x then ltb (length (messagesOf q (messageNamed x))) messages else true
 
 -- THE REFUSALS, in the order they are looked at. "Checked in the order of the numbers", but "taskRcv looks for undefined assignments only when
 -- the values match: 14 goes before that 13, and that 13 before 15."
 unfoldable pub refusalsAt : Site → List ℕ → List Refusal
 refusalsAt x q =
-    12 unless permitted (x .element) (x .instance) (x .move) (x .branch) ∷  -- tokens or task counts don't permit the step
+    12 unless countsPermit (x .element) (x .instance) (x .move) (x .branch) ∷  -- tokens or task counts don't permit the step
     13 unless granted (x .element) (x .instance) (x .move) (x .branch) ∷  -- condition not true
     13 unless template x .defined ∷  -- an undefined value in the template
     13 unless (receives x || defined x) ∷  -- an undefined value in an assignment or the message
@@ -141,20 +140,19 @@ madeAfter x = if eqb (x .move .also) making then more (x .made) else x .made
 
 unfoldable pub instancesAfter : List ℕ → List ℕ → Name → List ℕ
 instancesAfter t s n =
-    set (writes (at (instanceAfter (siteOf t s n))) s (instancePlace (poolNamed t n) (n .instance)) instanceWords)
-    (madePlace (poolNamed t n)) (madeAfter (siteOf t s n))
+    withMade (withInstance s (poolNamed t n) (n .instance) (instanceAfter (siteOf t s n))) (poolNamed t n) (madeAfter (siteOf t s n))
 
 unfoldable pub queuesAfter : Site → List ℕ → List ℕ
 queuesAfter x q =
-    if receives x then consuming q (nameAt x) (x .given)
-    else if sends x then sending q (nameAt x) (sent x .tuple)
+    if receives x then consuming q (messageNamed x) (x .given)
+    else if sends x then sending q (messageNamed x) (sent x .tuple)
     else q
 
 -- what was consumed or sent
 unfoldable pub traffic : Site → Answer
 traffic x =
-    if receives x then record { number = 0; traffic = Consumed; name = nameAt x; tuple = template x .tuple }
-    else if sends x then record { number = 0; traffic = Sent; name = nameAt x; tuple = sent x .tuple }
+    if receives x then record { number = 0; traffic = Consumed; name = messageNamed x; tuple = template x .tuple }
+    else if sends x then record { number = 0; traffic = Sent; name = messageNamed x; tuple = sent x .tuple }
     else record { number = 0; traffic = Nothing; name = 0; tuple = empty }
 
 pub record Outcome : Type 0 where

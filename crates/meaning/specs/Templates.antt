@@ -31,10 +31,10 @@ itemValue el b h g j =
 
 -- the message or template worked out: whether all of it is defined, and the tuple
 unfoldable pub gathered : ℕ → Value → Value → Value → Value → Evaluated
-gathered n u v w x =
+gathered length u v w x =
     record {
       defined = isDefined u && isDefined v && isDefined w && isDefined x;
-      tuple = record { length = n; values = numberIn u ∷ numberIn v ∷ numberIn w ∷ numberIn x ∷ [] };
+      tuple = record { length = length; values = numberIn u ∷ numberIn v ∷ numberIn w ∷ numberIn x ∷ [] };
     }
 
 unfoldable pub evaluated : List ℕ → ℕ → List ℕ → Tuple → Evaluated

@@ -20,4 +20,4 @@ valueOf g j = if ltb j (g .length) then at (g .values) j else 0
 
 -- equal length, and equal values within it
 unfoldable pub sameTuple : Tuple → Tuple → Bool
-sameTuple g h = eqb (g .length) (h .length) && all (λ j. eqb (at (g .values) j) (at (h .values) j)) (g .length)
+sameTuple x g = eqb (x .length) (g .length) && all (λ j. eqb (at (x .values) j) (at (g .values) j)) (x .length)

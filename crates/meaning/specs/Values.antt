@@ -13,22 +13,22 @@ use Rattle.meaning.specs.declared.Truth.the-variants.{True, False, Neith
 unfoldable pub sumOf : Value → Value → Value
 sumOf (Number x) (Number y) = if leb (x + y) greatest then Number (x + y) else Undefined
 sumOf (Number x) Undefined = Undefined
-sumOf Undefined b = Undefined
+sumOf Undefined y = Undefined
 
 unfoldable pub differenceOf : Value → Value → Value
 differenceOf (Number x) (Number y) = if leb y x then Number (x - y) else Undefined
 differenceOf (Number x) Undefined = Undefined
-differenceOf Undefined b = Undefined
+differenceOf Undefined y = Undefined
 
 unfoldable pub equalOf : Value → Value → Truth
 equalOf (Number x) (Number y) = if eqb x y then True else False
 equalOf (Number x) Undefined = Neither
-equalOf Undefined b = Neither
+equalOf Undefined y = Neither
 
 unfoldable pub lessOf : Value → Value → Truth
 lessOf (Number x) (Number y) = if ltb x y then True else False
 lessOf (Number x) Undefined = Neither
-lessOf Undefined b = Neither
+lessOf Undefined y = Neither
 
 unfoldable pub isTrue : Truth → Bool
 isTrue True = true

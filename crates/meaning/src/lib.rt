@@ -17,6 +17,7 @@ pub enum Truth {
 }
 
 // "A message is a tuple of 0 to 4 defined values": a length, and the values within it.
+#[repr(C)]
 pub struct Tuple {
     pub length: Word,
     pub values: [Word; VALUES as usize],
@@ -29,6 +30,7 @@ pub struct Evaluated {
 }
 
 // "A step names pool number, instance, element place, phase, branch and message values." The values are the message consumed, else empty.
+#[repr(C)]
 pub struct Name {
     pub pool: Word,
     pub instance: Word,

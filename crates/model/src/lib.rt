@@ -6,7 +6,8 @@ ghost use Rattle.words.specs.Seek.{seek};
 ghost use Rattle.model.specs.Places.{edgePlace};
 ghost use Rattle.model.specs.Table.{poolCount, elementCount, elementAt, numbered, poolOf, limitOf, kindIn, taskIn, modeIn, entryCount, exitCount, conditionAt, messageName, messageLength, itemAt, assignmentCount, assignmentAt};
 use kinds::count_by;
-use kinds::kind_of;
+use kinds::entries_of;
+use kinds::exits_of;
 use words::Word;
 use words::tail;
 use words::word;
@@ -117,15 +118,13 @@ pub fn mode_in(el: &[Word]) -> Word
 pub fn entry_count(el: &[Word]) -> Word
     ensures { λ r. ⌜ r ≡ entryCount (now (el .entry)) ⌝ }
 {
-    let kind = kind_of(word(el, KIND));
-    count_by(kind.entries, word(el, ENTRIES))
+    count_by(entries_of(word(el, KIND)), word(el, ENTRIES))
 }
 
 pub fn exit_count(el: &[Word]) -> Word
     ensures { λ r. ⌜ r ≡ exitCount (now (el .entry)) ⌝ }
 {
-    let kind = kind_of(word(el, KIND));
-    count_by(kind.exits, word(el, EXITS))
+    count_by(exits_of(word(el, KIND)), word(el, EXITS))
 }
 
 // Edge j of the list at a place: ENTRIES or EXITS.

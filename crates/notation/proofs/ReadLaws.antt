@@ -15,11 +15,11 @@ use Rattle.reading.specs.declared.Read.the-variants.{At, Refused}
 use Rattle.checks.specs.Checks.{Pool, lowest}
 use Rattle.verdict.specs.Verdict.{modelWords, lowestIn}
 use Rattle.notation.specs.declared.Reading.{Reading}
-use Rattle.notation.specs.Notation.{Got, model, tableOf, Taken, checked, judged, taken}
-use Rattle.notation.specs.Passes.{keptAll, keptPool, Passed}
-use Rattle.notation.proofs.MarkLaws.{judged-by}
-use Rattle.notation.proofs.FillLaws.{table-filled}
-use Rattle.notation.proofs.SizeLaws.{model-fits}
+use Rattle.notation.specs.Notation.{Got, model, tableOf, ReadInto, checked, judged, readInto}
+use Rattle.passes.specs.Passes.{keptAll, keptPool, Passed}
+use Rattle.passes.proofs.MarkLaws.{judged-by}
+use Rattle.passes.proofs.FillLaws.{table-filled}
+use Rattle.passes.proofs.SizeLaws.{model-fits}
 
 pub refusal-is : (r : Read) (n p k q : ℕ) → r ≡ Refused n p → r ≡ Refused k q → _≡_ {A = Reading} (record { number = n; beside = p }) (record { number = k; beside = q })
 refusal-is r n p k q e f = cc
@@ -39,16 +39,16 @@ filled-by text t u v r l e p q h =
     p .left q (p .ended ∙ h) ∙ table-filled (model text .value) u (model-fits text) (e ∙ ap (λ n. replicate n 0) l)
 
 module _ (text t : List ℕ) where
-  pub too-long : textMost < length text → record { number = 1; beside = 0; table = t } ≡ taken text t
-  unfolding taken
+  pub too-long : textMost < length text → record { number = 1; beside = 0; table = t } ≡ readInto text t
+  unfolding readInto
   too-long h = pick-yes _ _ _ _ (lt-ltb textMost (length text) h) refl
 
   module _ (short : length text ≤ textMost) (r : Read) (m : List ℕ) (p : Passed (keptAll (keptPool false) 0) (model text) (replicate modelWords 0) r m) where
-    by-end : (a : Taken) → a ≡ judged r (model text .value) t → a ≡ taken text t
-    unfolding taken
+    by-end : (a : ReadInto) → a ≡ judged r (model text .value) t → a ≡ readInto text t
+    unfolding readInto
     by-end a e = pick-no _ _ _ _ (le-ltb textMost (length text) short) (e ∙ ap (λ (z : Read). judged z (model text .value) t) (p .ended))
 
-    pub text-refused : (a : Reading) (n q : ℕ) → r ≡ Refused n q → a ≡ record { number = n; beside = q } → record { number = a .number; beside = a .beside; table = t } ≡ taken text t
+    pub text-refused : (a : Reading) (n q : ℕ) → r ≡ Refused n q → a ≡ record { number = n; beside = q } → record { number = a .number; beside = a .beside; table = t } ≡ readInto text t
     unfolding judged
     text-refused a n q e f =
         by-end _ (ap (λ (z : Reading). record { number = z .number; beside = z .beside; table = t }) f ∙ sym (ap (λ (z : Read). judged z (model text .value) t) e))
@@ -57,17 +57,17 @@ module _ (text t : List ℕ) where
       lowest-is : k ≡ lowest (model text .value)
       lowest-is = judged-by (model text .value) m k (p .left q e) f
 
-      by-lowest : (a : Taken) → a ≡ checked k (model text .value) t → a ≡ taken text t
+      by-lowest : (a : ReadInto) → a ≡ checked k (model text .value) t → a ≡ readInto text t
       unfolding judged
       by-lowest a h =
           by-end a (h ∙ ap (λ n. checked n (model text .value) t) lowest-is ∙ sym (ap (λ (z : Read). judged z (model text .value) t) e))
 
       module _ (a : Reading) (g : a ≡ record { number = if eqb k 0 then 0 else 4; beside = k }) where
-        pub check-broken : (k ≡ 0 → ⊥) → record { number = a .number; beside = a .beside; table = t } ≡ taken text t
+        pub check-broken : (k ≡ 0 → ⊥) → record { number = a .number; beside = a .beside; table = t } ≡ readInto text t
         unfolding checked if_then_else_
         check-broken n = by-lowest _ (ap (λ (z : Reading). record { number = z .number; beside = z .beside; table = t }) g ∙ rw (ne-eqb k 0 n))
 
-        pub text-read : k ≡ 0 → (v : List ℕ) → ((z : ℕ) → model text .end ≡ At z → v ≡ tableOf (model text .value)) → record { number = a .number; beside = a .beside; table = v } ≡ taken text t
+        pub text-read : k ≡ 0 → (v : List ℕ) → ((z : ℕ) → model text .end ≡ At z → v ≡ tableOf (model text .value)) → record { number = a .number; beside = a .beside; table = v } ≡ readInto text t
         unfolding checked if_then_else_
         text-read z v h =
             by-lowest _

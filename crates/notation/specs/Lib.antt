@@ -1,2 +1,1 @@
 pub mod Notation
-pub mod Passes

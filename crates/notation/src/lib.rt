@@ -4,42 +4,24 @@ ghost use Prim.Native.Nat.{ℕ};
 ghost use lib.Dec.{eqb};
 ghost use Rattle.words.specs.Pick.{if_then_else_};
 ghost use Rattle.reading.specs.declared.Read.the-variants.{At, Refused};
-ghost use Rattle.notation.specs.Notation.{model, tableOf, taken};
-ghost use Rattle.notation.specs.Passes.{keptAll, keptPool, Passed};
-use elements::clear;
+ghost use Rattle.notation.specs.Notation.{model, tableOf, readInto};
 use model::places::TABLE_WORDS;
+use passes::pass;
 use reading::Read;
-use reading::end_at;
 use verdict::MODEL_WORDS;
 use verdict::lowest_in;
 use words::Word;
+use words::clear;
 use words::counts::TEXT_MOST;
-
-mod keep;
-mod pools;
-
-// The numbers given back: accepted, the text too long, a check broken. 2 and 3 come from the reading.
-pub const READ: Word = 0;
-
-pub const TOO_LONG: Word = 1;
-
-pub const CHECK_BROKEN: Word = 4;
+use words::numbers::ACCEPTED;
+use words::numbers::CHECK_BROKEN;
+use words::numbers::TOO_LONG;
 
 // A number given back; beside 2 and 3 the place, beside 4 the lowest check broken.
+#[repr(C)]
 pub struct Reading {
     pub number: Word,
     pub beside: usize,
-}
-
-// The whole text, kept in w.
-fn pass(fills: bool, text: &[u8], w: &mut [Word]) -> Read
-    ensures { λ r. ⌜ Passed (keptAll (keptPool fills) 0) (model (now (text .entry))) (now (w .entry)) r (now (w .exit)) ⌝ }
-{
-    let r = pools::pools_at(fills, text, 0, w);
-    let Read::At(q) = r else {
-        return r;
-    };
-    end_at(text, q)
 }
 
 // The table of a text that is not refused.
@@ -60,7 +42,7 @@ fn refusal(r: Read) -> Reading
             beside: p,
         },
         Read::At(_) => Reading {
-            number: READ,
+            number: ACCEPTED,
             beside: 0,
         },
     }
@@ -72,7 +54,7 @@ fn checked(broken: Word) -> Reading
 {
     if broken == 0 {
         return Reading {
-            number: READ,
+            number: ACCEPTED,
             beside: 0,
         };
     }
@@ -84,7 +66,7 @@ fn checked(broken: Word) -> Reading
 
 // Reads a text into the table: 1 to 4, and the table stays; else 0, and every word of the table is the model's.
 pub fn read_into(text: &[u8], t: &mut [Word; TABLE_WORDS]) -> Reading
-    ensures { λ r. ⌜ record { number = r .number; beside = r .beside; table = now (t .exit) } ≡ taken (now (text .entry)) (now (t .entry)) ⌝ }
+    ensures { λ r. ⌜ record { number = r .number; beside = r .beside; table = now (t .exit) } ≡ readInto (now (text .entry)) (now (t .entry)) ⌝ }
 {
     if text.len() > TEXT_MOST {
         return Reading {

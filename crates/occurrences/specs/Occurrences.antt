@@ -4,7 +4,7 @@ use mathlib.Core.List.{List}
 use Prim.Native.Nat.{ℕ, _+_}
 use lib.Dec.{eqb, leb}
 use Rattle.words.specs.All.{all}
-use Rattle.words.specs.Sum.{sum, hit, one}
+use Rattle.words.specs.Sum.{sum, hit, oneIf}
 use Rattle.words.specs.Words.{at}
 use Rattle.words.specs.Counts.{fields}
 use Rattle.kinds.specs.declared.Kind.{Kind}
@@ -34,18 +34,18 @@ unfoldable pub asEntry : ℕ → List ℕ → ℕ
 asEntry e el = sum (λ j. hit (entryAt el j) e) (entryCount el)
 
 unfoldable pub asFirst : ℕ → List ℕ → ℕ
-asFirst e el = one (eqb (kindIn el) start && eqb (entryAt el 0) e)
+asFirst e el = oneIf (eqb (kindIn el) start && eqb (entryAt el 0) e)
 
 -- the task number n (0 where there is no task)
 unfoldable pub asTask : ℕ → List ℕ → ℕ
 asTask n el = hit (taskIn el) n
 
 -- the message name m, received or sent
-unfoldable pub received : ℕ → List ℕ → ℕ
-received m el = sum (λ j. hit (messageName el j) m) (receivedCount el)
+unfoldable pub asReceived : ℕ → List ℕ → ℕ
+asReceived m el = sum (λ j. hit (messageName el j) m) (receivedCount el)
 
-unfoldable pub sent : ℕ → List ℕ → ℕ
-sent m el = sum (λ j. hit (messageName el j) m) (sentCount el)
+unfoldable pub asSent : ℕ → List ℕ → ℕ
+asSent m el = sum (λ j. hit (messageName el j) m) (sentCount el)
 
 -- a default among the conditions (only an xorSplit has several)
 abbrev pub conditionForm : List ℕ → ℕ → ℕ
@@ -62,7 +62,7 @@ defaultOnce el = leb (defaults el) 1
 
 -- the field d bound by an item x, and in template j
 unfoldable pub bindsField : ℕ → List ℕ → ℕ
-bindsField d x = one (eqb (at x formPlace) binding && eqb (at x (leftPlace + operandNumber)) d)
+bindsField d x = oneIf (eqb (at x formPlace) binding && eqb (at x (leftPlace + operandNumber)) d)
 
 unfoldable pub timesBound : List ℕ → ℕ → ℕ → ℕ
 timesBound el j d = sum (λ i. bindsField d (itemAt el j i)) (messageLength el j)

@@ -1,36 +1,25 @@
 -- A list read item by item: what the rest of it gives, by what the calls gave, for any kind of item. Assumes nothing.
 use Prim.Native.Char.{code}
 use Prim.Native.Nat.{ℕ, suc, _+_, _-_, _<_, _≤_}
-use mathlib.Core.Path.{_≡_, refl, sym, _∙_, ap}
-use mathlib.Core.Bool.{Bool, true, false}
+use mathlib.Core.Path.{_≡_, _∙_, ap}
+use mathlib.Core.Bool.{Bool}
 use mathlib.Core.List.{List}
 use native.Mathlib.Omega.{arith}
-use Rattle.words.specs.Pick.{if_then_else_}
-use Rattle.lexer.specs.declared.Token.{Token}
-use Rattle.lexer.specs.Lexer.{tokenAt}
 use Rattle.reading.specs.declared.Read.{Read}
 use Rattle.reading.specs.declared.Read.the-variants.{At, Refused}
-use Rattle.reading.specs.Reading.{Parsed, Reader, misplaced, excessive, ifAt, onward, signAt, placeOf}
+use Rattle.reading.specs.Reading.{Parsed, Reader, ifAt, onward, signAt, placeOf}
+use Rattle.bounds.specs.Bounds.{oneTooMany}
 use Rattle.parts.specs.Parts.{itemsFrom, counted, tooMany, series}
 use Rattle.parts.specs.declared.Series.{Series}
-use Rattle.parts.specs.Tails.{tooManyAt}
 
--- a list that a call gave; an item too many: 3 where it is one, else 2
+-- a list that a call gave
 pub series-by : (s t : Series) (text : List ℕ) (at : ℕ) (x : List ℕ) (w : Parsed) → s ≡ t → w ≡ series s text at x → w ≡ series t text at x
 series-by s t text at x w e k = rw (← e) k
 
-pub many-yes : (token : Token) (text : List ℕ) (at : ℕ) (b : Bool) → token ≡ tokenAt text at → b ≡ true → Refused excessive (token .at) ≡ tooManyAt b text at
-unfolding if_then_else_
-many-yes token text at b e h = rw (e, h)
-
-pub many-no : (token : Token) (text : List ℕ) (at : ℕ) (b : Bool) → token ≡ tokenAt text at → b ≡ false → Refused misplaced (token .at) ≡ tooManyAt b text at
-unfolding if_then_else_
-many-no token text at b e h = rw (e, h)
-
 -- n more are allowed, from item k on; r and y are what item k gave
 module _ (item : ℕ → Reader) (starting : List ℕ → ℕ → Bool) (least count n k : ℕ) (text : List ℕ) (at : ℕ) (x : List ℕ) where
-  pub rest-full : (b : Bool) (r : Read) → n ≡ 0 → b ≡ starting text at → r ≡ tooManyAt b text at → record { end = r; words = x } ≡ itemsFrom item starting least count n k text at x
-  unfolding itemsFrom tooMany
+  pub rest-full : (b : Bool) (r : Read) → n ≡ 0 → b ≡ starting text at → r ≡ oneTooMany b (placeOf text at) → record { end = r; words = x } ≡ itemsFrom item starting least count n k text at x
+  unfolding itemsFrom tooMany oneTooMany
   rest-full b r z e h = rw (z, h, e)
 
   module _ (r : Read) (y : List ℕ) (m : ℕ) (more : n ≡ suc m) (read : record { end = r; words = y } ≡ item k text at x) where
@@ -59,7 +48,7 @@ items-start item starting least count most text start x₀ =
 
 module _ (item : ℕ → Reader) (starting : List ℕ → ℕ → Bool) (least count most : ℕ) (text : List ℕ) (start : ℕ) (x₀ : List ℕ) (k at : ℕ) (x : List ℕ)
     (inv : Rest item starting least count most text start x₀ k at x) where
-  pub items-full : (b : Bool) (r : Read) → most ≤ k → b ≡ starting text at → r ≡ tooManyAt b text at → record { end = r; words = x } ≡ itemsFrom item starting least count most 0 text start x₀
+  pub items-full : (b : Bool) (r : Read) → most ≤ k → b ≡ starting text at → r ≡ oneTooMany b (placeOf text at) → record { end = r; words = x } ≡ itemsFrom item starting least count most 0 text start x₀
   items-full b r h e g = rest-full item starting least count (most - k) k text at x b r (omega arith) e g ∙ inv
 
   module _ (r : Read) (y : List ℕ) (lt : k < most) (read : record { end = r; words = y } ≡ item k text at x) where

@@ -1,35 +1,20 @@
 -- THE PARTS OF AN ELEMENT'S TEXT, in the words of document 01. x is the words of the element, in which each part is stored at its place.
 use Prim.Native.Char.{code}
 use Prim.Native.Nat.{ℕ, zero, suc, _+_, _-_}
-use mathlib.Core.Bool.{Bool, false, _||_}
+use mathlib.Core.Bool.{Bool, false}
 use mathlib.Core.List.{List}
-use lib.Dec.{eqb, ltb}
-use lib.ListN.{set}
+use lib.Dec.{eqb}
 use Rattle.words.specs.Pick.{if_then_else_}
 use Rattle.words.specs.Counts.{fewest, branches, tasks, names, values, assignments}
 use Rattle.model.specs.Places.{taskPlace, entriesPlace, exitsPlace, edgePlace, conditionPlace, messagePlace, lengthPlace, itemPlace, assignmentsPlace}
-use Rattle.lexer.specs.Lexer.{tokenAt}
-use Rattle.reading.specs.Reading.{Parsed, Reader, misplaced, excessive, passed, refused, ifAt, onward, _then_, placeOf, signAt, sign, number, mode, startsNumber, startsField, startsSign}
+use Rattle.reading.specs.Reading.{Parsed, Reader, ifAt, onward, _then_, nothing, placeOf, signAt, sign, number, mode, startsSign}
 pub use Rattle.terms.specs.Terms.{store, edge}
 unfoldable pub use Rattle.terms.specs.Terms.{joint, expression, bind, templateItem, comparison, condition, assignment, guarded}
+pub use Rattle.bounds.specs.Bounds.{anEdge, aTemplateItem, aMessageItem, anAssignment, aGuardedBranch}
+unfoldable pub use Rattle.bounds.specs.Bounds.{starts, tooMany, counted}
 use Rattle.parts.specs.declared.Series.{Series}
 
--- LISTS. What their items are: edges, items of a template, of a message, assignments, guarded branches, branches that receive.
-abbrev pub anEdge : ℕ
-anEdge = code "E"
-
-abbrev pub aTemplateItem : ℕ
-aTemplateItem = code "T"
-
-abbrev pub aMessageItem : ℕ
-aMessageItem = code "S"
-
-abbrev pub anAssignment : ℕ
-anAssignment = code "A"
-
-abbrev pub aGuardedBranch : ℕ
-aGuardedBranch = code "G"
-
+-- LISTS
 -- "E a list `{e,f,..}`"; "X is `<..>` with 0 to 4 expressions"; "lists and branches 2 to 8"
 abbrev pub edgeList : ℕ → Series
 edgeList list = record { item = anEdge; opener = code "{"; closer = code "}"; least = fewest; most = branches; count = list; branch = 0 }
@@ -51,22 +36,6 @@ itemOf s k =
     else if eqb (s .item) aMessageItem then expression (itemPlace (s .branch) k)
     else if eqb (s .item) anAssignment then assignment k
     else guarded k
-
--- "3: the place of the first item too many", where the token there can start such an item; else it is 2
-unfoldable pub starts : ℕ → List ℕ → ℕ → Bool
-starts item text at =
-    if eqb item anEdge then startsNumber text at
-    else if eqb item aTemplateItem then startsSign (code "?") text at || (startsField text at || startsNumber text at)
-    else if eqb item aMessageItem then startsField text at || startsNumber text at
-    else if eqb item anAssignment then startsField text at
-    else startsSign (code "(") text at
-
-unfoldable pub tooMany : Bool → ℕ → List ℕ → Parsed
-tooMany item p x = refused (if item then excessive else misplaced) p x
-
--- the count stored behind k items; "a list that closes too early is 2 at the closing sign"
-unfoldable pub counted : ℕ → ℕ → ℕ → Reader
-counted least count k text at x = if ltb k least then refused misplaced (placeOf text at) x else passed at (set x count k)
 
 -- items with commas between them, from item k on, where n more are allowed
 unfoldable pub itemsFrom : (ℕ → Reader) → (List ℕ → ℕ → Bool) → ℕ → ℕ → ℕ → ℕ → Reader
@@ -110,7 +79,7 @@ taskPart =
     then condition false (conditionPlace 0) then sign (code ",")
     then series assignmentList
 
--- the part with a code of the table of kinds
+-- the part with a code of the table of kinds; any other code reads nothing
 unfoldable pub partOf : ℕ → Reader
 partOf c =
     if eqb c (code "E") then oneEdge entriesPlace
@@ -121,4 +90,5 @@ partOf c =
     else if eqb c (code "T") then message aTemplateItem 0
     else if eqb c (code "S") then message aMessageItem 0
     else if eqb c (code "G") then series guardedList
-    else receivingBranches
+    else if eqb c (code "B") then receivingBranches
+    else nothing

@@ -6,14 +6,14 @@ use words::Word;
 
 mod lists;
 
-use lists::A_MESSAGE_ITEM;
-use lists::A_TEMPLATE_ITEM;
+use bounds::A_MESSAGE_ITEM;
+use bounds::A_TEMPLATE_ITEM;
+use bounds::counted;
+use bounds::too_many;
 use lists::assignment_list;
-use lists::counted;
 use lists::edge_list;
 use lists::guarded_list;
 use lists::series;
-use lists::too_many;
 use lists::tuple;
 use model::places::ENTRIES;
 use model::places::EXITS;
@@ -175,7 +175,7 @@ fn task_part(text: &[u8], at: usize, x: &mut [Word]) -> Read
     guard_and_assignments(text, b, x)
 }
 
-// The part with a code of the table of kinds.
+// The part with a code of the table of kinds; any other code reads nothing.
 pub fn part_of(text: &[u8], at: usize, x: &mut [Word], c: u8) -> Read
     ensures { λ r. ⌜ record { end = r; words = now (x .exit) } ≡ partOf c (now (text .entry)) at (now (x .entry)) ⌝ }
 {
@@ -203,5 +203,8 @@ pub fn part_of(text: &[u8], at: usize, x: &mut [Word], c: u8) -> Read
     if c == b'G' {
         return series(text, at, x, guarded_list());
     }
-    receiving_branches(text, at, x)
+    if c == b'B' {
+        return receiving_branches(text, at, x);
+    }
+    Read::At(at)
 }

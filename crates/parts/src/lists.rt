@@ -1,25 +1,27 @@
 // Lists in a text, and their items: edges, items of a template or of a message, assignments, guarded branches.
 ghost use mathlib.Core.Path.{_≡_};
 ghost use Prim.Native.Nat.{_≤_};
-ghost use Rattle.parts.specs.Parts.{edgeList, guardedList, assignmentList, tuple, itemOf, starts, counted, items, inside, series};
+ghost use Rattle.parts.specs.Parts.{edgeList, guardedList, assignmentList, tuple, itemOf, items, inside, series};
 ghost use Rattle.terms.specs.Tails.{farthest};
-ghost use Rattle.parts.specs.Tails.{startsOperand, tooManyAt, itemsToClose};
+ghost use Rattle.parts.specs.Tails.{itemsToClose};
 use super::Series;
-use lexer::token_at;
+use bounds::A_GUARDED_BRANCH;
+use bounds::A_MESSAGE_ITEM;
+use bounds::A_TEMPLATE_ITEM;
+use bounds::AN_ASSIGNMENT;
+use bounds::AN_EDGE;
+use bounds::counted;
+use bounds::starts;
+use bounds::too_many;
 use model::places::ASSIGNMENT_COUNT;
 use model::places::EXITS;
 use model::places::FIRST_EDGE;
 use model::places::MESSAGE_LENGTH;
 use model::places::MESSAGE_WORDS;
 use model::places::MESSAGES;
-use reading::EXCESSIVE;
-use reading::MISPLACED;
 use reading::Read;
 use reading::number_in;
 use reading::sign_at;
-use reading::starts_field;
-use reading::starts_number;
-use reading::starts_sign;
 use terms::assignment;
 use terms::guarded;
 use terms::item_of_message;
@@ -31,16 +33,6 @@ use words::counts::EDGES;
 use words::counts::FEWEST;
 use words::counts::VALUES;
 use words::put;
-
-pub const AN_EDGE: u8 = b'E';
-
-pub const A_TEMPLATE_ITEM: u8 = b'T';
-
-pub const A_MESSAGE_ITEM: u8 = b'S';
-
-pub const AN_ASSIGNMENT: u8 = b'A';
-
-pub const A_GUARDED_BRANCH: u8 = b'G';
 
 // A list of edges, its count at the place `list`.
 pub fn edge_list(list: Word) -> Series
@@ -125,56 +117,6 @@ fn item_of(text: &[u8], at: usize, x: &mut [Word], s: Series, k: Word) -> Read
         return assignment(text, at, x, k);
     }
     guarded(text, at, x, k)
-}
-
-// Whether the token at a place can start an expression.
-fn starts_operand(text: &[u8], at: usize) -> bool
-    ensures { λ r. ⌜ r ≡ startsOperand (now (text .entry)) at ⌝ }
-{
-    starts_field(text, at) || starts_number(text, at)
-}
-
-// Whether the token at a place can start an item.
-fn starts(text: &[u8], at: usize, item: u8) -> bool
-    ensures { λ r. ⌜ r ≡ starts item (now (text .entry)) at ⌝ }
-{
-    if item == AN_EDGE {
-        return starts_number(text, at);
-    }
-    if item == A_TEMPLATE_ITEM {
-        return starts_sign(text, at, b'?') || starts_operand(text, at);
-    }
-    if item == A_MESSAGE_ITEM {
-        return starts_operand(text, at);
-    }
-    if item == AN_ASSIGNMENT {
-        return starts_field(text, at);
-    }
-    starts_sign(text, at, b'(')
-}
-
-// The refusal of one item too many: only where the token there can start an item is it one.
-pub fn too_many(text: &[u8], at: usize, item: bool) -> Read
-    ensures { λ r. ⌜ r ≡ tooManyAt item (now (text .entry)) at ⌝ }
-{
-    let token = token_at(text, at);
-    let p = token.at;
-    if item {
-        return Read::Refused(EXCESSIVE, p);
-    }
-    Read::Refused(MISPLACED, p)
-}
-
-// Stores the count of k items that were read.
-pub fn counted(text: &[u8], at: usize, x: &mut [Word], least: Word, count: u32, k: Word) -> Read
-    ensures { λ r. ⌜ record { end = r; words = now (x .exit) } ≡ counted least count k (now (text .entry)) at (now (x .entry)) ⌝ }
-{
-    if k < least {
-        let token = token_at(text, at);
-        return Read::Refused(MISPLACED, token.at);
-    }
-    put(x, count as usize, k);
-    Read::At(at)
 }
 
 // The items of a list, with commas between them, and their count.

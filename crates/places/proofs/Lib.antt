@@ -1,5 +1,9 @@
+pub mod Agreeing
 pub mod Same
-pub mod Local
+pub mod Course
 pub mod Readers
+pub mod Whole
 pub mod PlaceRight
+pub mod Steady
+pub mod TokenPlaces
 pub mod Points

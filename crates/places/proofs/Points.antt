@@ -1,25 +1,19 @@
 -- A point, computed: a text whose refusal has a place, and another that agrees with it there and goes on. Assumes nothing.
-use Prim.Native.Nat.{ℕ}
 use mathlib.Core.Path.{_≡_, refl}
-use mathlib.Core.List.{List}
 use Rattle.words.specs.Pick.{if_then_else_}
 use Rattle.words.specs.Text.{bytes}
 use Rattle.lexer.specs.Lexer.{among, between, isBlank, isWord, isLetter, isDigit, isSign, past, tokenOf, tokenHere, tokenAt, ifWord, ifSign}
 use Rattle.numerals.specs.Numerals.{valueFrom, leadingZero, numberOf, sameBytes}
 use Rattle.reading.specs.declared.Read.the-variants.{Refused}
 use Rattle.reading.specs.Reading.{ifAt, onward, _then_, signAt, keepNumber, number}
-use Rattle.notation.specs.Notation.{barred, poolNamed, opening, inside, poolOf, pool, poolsAt, model}
-use Rattle.places.specs.Places.{Agree}
+use Rattle.notation.specs.Notation.{barred, poolWord, opening, insidePool, poolOfWord, pool, poolsAt, model}
+use Rattle.places.proofs.Agreeing.{longer}
 use Rattle.places.proofs.PlaceRight.{place-right}
 
 -- "3: a number is outside its range", at the number
 short-refused : model (bytes "pool( 0") .end ≡ Refused 3 6
-unfolding model poolsAt barred pool poolNamed poolOf inside opening number keepNumber signAt _then_ onward ifAt ifSign ifWord tokenAt tokenHere tokenOf past isSign isDigit isLetter isWord isBlank between among numberOf leadingZero valueFrom sameBytes if_then_else_
+unfolding model poolsAt barred pool poolWord poolOfWord insidePool opening number keepNumber signAt _then_ onward ifAt ifSign ifWord tokenAt tokenHere tokenOf past isSign isDigit isLetter isWord isBlank between among numberOf leadingZero valueFrom sameBytes if_then_else_
 short-refused = refl
 
-agreeing : Agree (bytes "pool( 0") (bytes "pool( 0,start(1,{}))|") 6
-unfolding tokenAt tokenHere tokenOf past isSign isDigit isLetter isWord isBlank between among if_then_else_
-agreeing = record { token = refl; bytes = refl }
-
 pub long-refused : model (bytes "pool( 0,start(1,{}))|") .end ≡ Refused 3 6
-long-refused = place-right (bytes "pool( 0") (bytes "pool( 0,start(1,{}))|") 3 6 short-refused agreeing
+long-refused = place-right (bytes "pool( 0") (bytes "pool( 0,start(1,{}))|") 3 6 short-refused longer

@@ -36,7 +36,7 @@ cut zero (suc a) [] = simp unary-clauses refl
 cut (suc n) (suc a) [] = simp unary-clauses refl
 cut n (suc a) (x ∷ t) = cut n a t ∙ ap (λ (k : ℕ). drop (suc a) (take k (x ∷ t))) (let e : suc (a + n) ≡ suc a + n = omega arith in e)
 
-part-same : (t u : List ℕ) (a b e : ℕ) → take e t ≡ take e u → a ≤ b → b ≤ e → part t a b ≡ part u a b
+pub part-same : (t u : List ℕ) (a b e : ℕ) → take e t ≡ take e u → a ≤ b → b ≤ e → part t a b ≡ part u a b
 part-same t u a b e h l m =
     let z : a + (b - a) ≡ b = omega arith in
     cut (b - a) a t ∙ ap (drop a) (ap (λ (k : ℕ). take k t) z ∙ same-less t u e h b m ∙ sym (ap (λ (k : ℕ). take k u) z)) ∙ sym (cut (b - a) a u)
@@ -45,7 +45,7 @@ pub same-text : (t u : List ℕ) (p : ℕ) → t ≡ u → Same t u p
 same-text t u p e = subst (λ (v : List ℕ). Same t v p) e (record { token = λ at s. refl; word = λ at s. refl })
 
 -- a token before the text's length is not the end
-not-end : (t : List ℕ) (p : ℕ) → placeOf t p < length t → tokenAt t p .form ≡ End → ⊥
+pub not-end : (t : List ℕ) (p : ℕ) → placeOf t p < length t → tokenAt t p .form ≡ End → ⊥
 not-end t p h e =
     let z : placeOf t p ≡ length t = ap (λ (k : Token). k .at) (token-end t p e (omega (arith, h, token-from t p))) in
     omega (arith, h, z)

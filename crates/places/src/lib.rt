@@ -1,4 +1,4 @@
-// Theorems: the place of a refusal is right; there is no code but this.
+// Theorems: the place of a refusal is that of a token, and right; there is no code but this.
 ghost use mathlib.Core.Path.{_≡_};
 
 pub fn version() -> usize

@@ -1,11 +1,14 @@
 -- What the calls on the copy of an instance come to, over their results. Assumes nothing.
-use Prim.Native.Nat.{ℕ}
+use Prim.Native.Nat.{ℕ, zero, suc}
 use mathlib.Core.Path.{_≡_, refl, sym, ap, _∙_}
 use mathlib.Core.Bool.{Bool, true, false, _&&_}
-use mathlib.Core.List.{List, _∷_, _++_}
+use mathlib.Core.List.{List, [], _∷_, _++_}
 use native.Mathlib.Omega.{arith}
+use lib.Dec.{eqb}
+use borrow.Author.Tests.{eq-eqb, ne-eqb}
 use Rattle.words.specs.Pick.{if_then_else_}
 use Rattle.words.specs.Each.{each}
+use Rattle.words.proofs.PickLaws.{pick-yes, pick-no}
 use Rattle.kinds.specs.declared.moves.Move.{Move}
 use Rattle.model.specs.Table.{messageName}
 use Rattle.meaning.specs.declared.Tuple.{Tuple}
@@ -13,18 +16,18 @@ use Rattle.meaning.specs.declared.Evaluated.{Evaluated}
 use Rattle.meaning.specs.Tuples.{sameTuple}
 use Rattle.meaning.specs.Refusals.{Refusal, _unless_, firstRefusal}
 use Rattle.meaning.specs.Requirements.{belowLimit}
-use Rattle.meaning.specs.Changes.{expected, received, worked, message, taken, moved}
+use Rattle.meaning.specs.Changes.{expected, received, worked, messageSent, taken, moved}
 use Rattle.meaning.specs.Step.{Site, template, work, sent, defined, matches, afterTaking, queued, space, refusalsAt, instanceAfter}
 use Rattle.refusals.specs.Chain.{numberAt, listed, beforeFields, ofFields, queuedFor, spaceFor, ofQueues}
 use Rattle.refusals.proofs.NumberLaws.{stops, passes, numbered}
 use Rattle.plans.specs.declared.Plan.{Plan}
-use Rattle.plans.specs.Plans.{siteAt, ofInstance, Matched, Prepared, Decided}
+use Rattle.plans.specs.Plans.{siteAt, ofInstance, ofGuard, copyAfter, refusedPlan, Matched, Prepared, Decided}
 
 -- binds, assignments, message, taking
 pub worked-out : (el h : List ℕ) (m : Move) (b : ℕ) (g : Tuple) (h₁ h₂ h₃ : List ℕ) (w d : Bool) (s : Evaluated)
     → h₁ ≡ received el h m b g
     → record { defined = w; instance = h₂ } ≡ worked el h₁ m
-    → s ≡ message el h₂ m b
+    → s ≡ messageSent el h₂ m b
     → h₃ ≡ taken el m b h₂
     → d ≡ w && s .defined
     → (_≡_ {A = Evaluated} (record { defined = d; tuple = s .tuple }) (record { defined = defined (siteAt el h m b g 0 0); tuple = sent (siteAt el h m b g 0 0) .tuple }))
@@ -48,6 +51,9 @@ matched x expected w h same n e₁ e₂ e₃ e₄ =
       copy = e₂;
     }
 
+abbrev number : Plan → ℕ
+number r = r .number
+
 -- 12 to 14, in parts
 module _ (x : Site) where
   later : List Refusal
@@ -61,29 +67,46 @@ module _ (x : Site) where
   unfolding numbered each refusalsAt numberAt listed beforeFields
   all-numbered = refl
 
+  guard-parts : ofGuard x ≡ beforeFields (x .element) (x .instance) (x .move) (x .branch) ++ (13 unless (template x .defined) ∷ [])
+  unfolding refusalsAt ofGuard numberAt listed beforeFields
+  guard-parts = refl
+
+  untouched : (h : List ℕ) → (firstRefusal (ofGuard x) ≡ 0 → ⊥) → h ≡ x .instance → h ≡ copyAfter x
+  unfolding copyAfter
+  untouched h k e = pick-no _ _ _ _ (ne-eqb _ 0 k) e
+
+  worked-on : (h : List ℕ) → firstRefusal (ofGuard x) ≡ 0 → h ≡ afterTaking x → h ≡ copyAfter x
+  unfolding copyAfter
+  worked-on h k e = pick-yes _ _ _ _ (eq-eqb _ 0 k) e
+
   module _ (n : ℕ) (e : n ≡ firstRefusal (beforeFields (x .element) (x .instance) (x .move) (x .branch))) where
-    pub prepared-early : (r : Plan) (h : List ℕ) → (n ≡ 0 → ⊥) → r .number ≡ n → Prepared x r h
-    prepared-early r h k q =
+    pub prepared-early : (r : Plan) (h : List ℕ) → (n ≡ 0 → ⊥) → r ≡ refusedPlan n → h ≡ x .instance → Prepared x r h
+    prepared-early r h k q same =
         record {
-          number = q ∙ e ∙ sym (ap firstRefusal in-parts ∙ stops (beforeFields (x .element) (x .instance) (x .move) (x .branch)) later (λ z. k (e ∙ z)));
-          expects = λ z. absurd (k (sym q ∙ z));
-          sends = λ z. absurd (k (sym q ∙ z));
-          copy = λ z. absurd (k (sym q ∙ z));
+          number = ap number q ∙ e ∙ sym (ap firstRefusal in-parts ∙ stops (beforeFields (x .element) (x .instance) (x .move) (x .branch)) later (λ z. k (e ∙ z)));
+          expects = λ z. absurd (k (sym (ap number q) ∙ z));
+          sends = λ z. absurd (k (sym (ap number q) ∙ z));
+          copy = λ z. absurd (k (sym (ap number q) ∙ z));
+          left = untouched h (λ z. k (e ∙ sym (ap firstRefusal guard-parts ∙ stops (beforeFields (x .element) (x .instance) (x .move) (x .branch)) (13 unless (template x .defined) ∷ []) (λ y. k (e ∙ y))) ∙ z)) same;
         }
 
     module _ (k : n ≡ 0) where
       past : firstRefusal (ofInstance x) ≡ firstRefusal later
       past = ap firstRefusal in-parts ∙ passes (beforeFields (x .element) (x .instance) (x .move) (x .branch)) later all-numbered (sym e ∙ k)
 
+      guard-past : firstRefusal (ofGuard x) ≡ firstRefusal (13 unless (template x .defined) ∷ [])
+      guard-past = ap firstRefusal guard-parts ∙ passes (beforeFields (x .element) (x .instance) (x .move) (x .branch)) (13 unless (template x .defined) ∷ []) all-numbered (sym e ∙ k)
+
       module _ (v : Evaluated) (f : v ≡ expected (x .element) (x .instance) (x .move) (x .branch) (x .given)) where
-        pub prepared-undefined : (r : Plan) (h : List ℕ) → v .defined ≡ false → r .number ≡ 13 → Prepared x r h
+        pub prepared-undefined : (r : Plan) (h : List ℕ) → v .defined ≡ false → r ≡ refusedPlan 13 → h ≡ x .instance → Prepared x r h
         unfolding firstRefusal if_then_else_ template later
-        prepared-undefined r h u q =
+        prepared-undefined r h u q same =
             record {
-              number = q ∙ sym (past ∙ rw (← f, u));
-              expects = λ z. absurd (never (sym q ∙ z));
-              sends = λ z. absurd (never (sym q ∙ z));
-              copy = λ z. absurd (never (sym q ∙ z));
+              number = ap number q ∙ sym (past ∙ rw (← f, u));
+              expects = λ z. absurd (never (sym (ap number q) ∙ z));
+              sends = λ z. absurd (never (sym (ap number q) ∙ z));
+              copy = λ z. absurd (never (sym (ap number q) ∙ z));
+              left = untouched h (λ z. never (sym (guard-past ∙ rw (← f, u)) ∙ z)) same;
             }
           where
             never : _≡_ {A = ℕ} 13 0 → ⊥
@@ -97,6 +120,7 @@ module _ (x : Site) where
               expects = λ z. rw (← f) (d .expects);
               sends = λ z. d .sends;
               copy = λ z. d .copy;
+              left = worked-on h (guard-past ∙ rw (← f, u)) (d .copy);
             }
 
 -- 12 to 18, in parts
@@ -119,13 +143,18 @@ module _ (x : Site) (q : List ℕ) (p : Plan) (h : List ℕ) (d : Prepared (bare
   unfolding numbered each refusalsAt ofInstance
   parts-numbered = refl
 
-  pub decided-early : (p .number ≡ 0 → ⊥) → Decided x q p h
-  decided-early k =
+  left-is : h ≡ copyAfter x
+  unfolding copyAfter ofGuard refusalsAt template afterTaking work
+  left-is = d .left
+
+  pub decided-early : (r : Plan) → (p .number ≡ 0 → ⊥) → r ≡ refusedPlan (p .number) → Decided x q r h
+  decided-early r k g =
       record {
-        number = first-is ∙ sym (ap firstRefusal whole-parts ∙ stops (ofInstance x) last (λ z. k (first-is ∙ z)));
-        expects = λ z. absurd (k z);
-        sends = λ z. absurd (k z);
-        copy = λ z. absurd (k z);
+        number = ap number g ∙ first-is ∙ sym (ap firstRefusal whole-parts ∙ stops (ofInstance x) last (λ z. k (first-is ∙ z)));
+        expects = λ z. absurd (k (sym (ap number g) ∙ z));
+        sends = λ z. absurd (k (sym (ap number g) ∙ z));
+        copy = λ z. absurd (k (sym (ap number g) ∙ z));
+        refused = λ z. (g ∙ ap refusedPlan (sym (ap number g)), left-is);
       }
 
   module _ (k : p .number ≡ 0) (n : ℕ)
@@ -138,13 +167,14 @@ module _ (x : Site) (q : List ℕ) (p : Plan) (h : List ℕ) (d : Prepared (bare
     unfolding queued queuedFor space spaceFor last
     last-is = e ∙ rw copy-is (sym (ap firstRefusal whole-parts ∙ passes (ofInstance x) last parts-numbered (sym first-is ∙ k)))
 
-    pub decided-late : (r : Plan) (h₂ : List ℕ) → (n ≡ 0 → ⊥) → r .number ≡ n → Decided x q r h₂
-    decided-late r h₂ f g =
+    pub decided-late : (r : Plan) → (n ≡ 0 → ⊥) → r ≡ refusedPlan n → Decided x q r h
+    decided-late r f g =
         record {
-          number = g ∙ last-is;
-          expects = λ z. absurd (f (sym g ∙ z));
-          sends = λ z. absurd (f (sym g ∙ z));
-          copy = λ z. absurd (f (sym g ∙ z));
+          number = ap number g ∙ last-is;
+          expects = λ z. absurd (f (sym (ap number g) ∙ z));
+          sends = λ z. absurd (f (sym (ap number g) ∙ z));
+          copy = λ z. absurd (f (sym (ap number g) ∙ z));
+          refused = λ z. (g ∙ ap refusedPlan (sym (ap number g)), left-is);
         }
 
     pub decided-whole : (h₂ : List ℕ) → n ≡ 0 → h₂ ≡ moved (x .element) (x .move) (x .branch) h → Decided x q p h₂
@@ -155,4 +185,23 @@ module _ (x : Site) (q : List ℕ) (p : Plan) (h : List ℕ) (d : Prepared (bare
           expects = λ z. d .expects z;
           sends = λ z. d .sends z;
           copy = λ z. g ∙ rw copy-is;
+          refused = λ z. absurd (z k);
         }
+
+-- the promise of a plan allows one plan and one copy
+pub decided-once : (x : Site) (q : List ℕ) (r₁ r₂ : Plan) (h₁ h₂ : List ℕ) → Decided x q r₁ h₁ → Decided x q r₂ h₂ → (r₁ ≡ r₂) × (h₁ ≡ h₂)
+decided-once x q r₁ r₂ h₁ h₂ d₁ d₂ = go (firstRefusal (refusalsAt x q)) (d₁ .number) (d₂ .number)
+  where
+    go : (n : ℕ) → r₁ .number ≡ n → r₂ .number ≡ n → (r₁ ≡ r₂) × (h₁ ≡ h₂)
+    go zero e₁ e₂ =
+        let n : r₁ .number ≡ r₂ .number = e₁ ∙ sym e₂ in
+        let e : r₁ .expected ≡ r₂ .expected = d₁ .expects e₁ ∙ sym (d₂ .expects e₂) in
+        let s : r₁ .sent ≡ r₂ .sent = d₁ .sends e₁ ∙ sym (d₂ .sends e₂) in
+        (λ i. record { number = n i; expected = e i; sent = s i }, d₁ .copy e₁ ∙ sym (d₂ .copy e₂))
+    go (suc n) e₁ e₂ =
+        let f₁ = d₁ .refused (λ z. never n (sym e₁ ∙ z)) in
+        let f₂ = d₂ .refused (λ z. never n (sym e₂ ∙ z)) in
+        (f₁ .0 ∙ ap refusedPlan (e₁ ∙ sym e₂) ∙ sym (f₂ .0), f₁ .1 ∙ sym (f₂ .1))
+      where
+        never : (n : ℕ) → suc n ≡ 0 → ⊥
+        never n z = omega arith

@@ -2,11 +2,7 @@
 ghost use mathlib.Core.Path.{_≡_};
 ghost use Rattle.meaning.specs.Changes.{taken, moved};
 ghost use Rattle.meaning.specs.Step.{defined, sent, afterTaking};
-ghost use Rattle.meaning.specs.Refusals.{firstRefusal};
-ghost use Rattle.meaning.specs.Requirements.{belowLimit};
-ghost use Rattle.model.specs.Table.{messageName};
-ghost use Rattle.refusals.specs.Chain.{queuedFor, spaceFor, ofQueues};
-ghost use Rattle.plans.specs.Plans.{siteAt, Matched, Prepared, Decided};
+ghost use Rattle.plans.specs.Plans.{siteAt, refusedPlan, Matched, Prepared, Decided};
 use fields::expect;
 use fields::message_of;
 use fields::receive;
@@ -15,8 +11,6 @@ use kinds::moves::Move;
 use meaning::Evaluated;
 use meaning::Tuple;
 use meaning::empty_tuple;
-use model::message_name;
-use refusals::NOT_TRUE;
 use refusals::numbers::both;
 use refusals::numbers::number_after;
 use refusals::numbers::number_before;
@@ -26,8 +20,9 @@ use tokens::changes::take;
 use tokens::is_below_limit;
 use values::tuples::same_tuple;
 use words::Word;
+use words::numbers::NOT_TRUE;
 
-// The number that refuses the step; where it is 0, the tuple expected and the tuple sent.
+// The number that refuses the step; where it is 0, the tuple expected and the tuple sent, else empty ones.
 pub struct Plan {
     pub number: Word,
     pub expected: Tuple,
@@ -35,7 +30,7 @@ pub struct Plan {
 }
 
 fn refused_plan(number: Word) -> Plan
-    ensures { λ r. ⌜ r .number ≡ number ⌝ }
+    ensures { λ r. ⌜ r ≡ refusedPlan number ⌝ }
 {
     Plan {
         number: number,
@@ -103,32 +98,7 @@ fn prepare(el: &[Word], h: &mut [Word], m: Move, b: Word, g: Tuple) -> Plan
     match_fields(el, h, m, b, g, expected)
 }
 
-// 15 to 18.
-fn number_last(
-    el: &[Word],
-    h: &[Word],
-    m: Move,
-    b: Word,
-    g: Tuple,
-    made: Word,
-    limit: Word,
-    q: &[Word],
-) -> Word
-    ensures { λ r. ⌜ r ≡ firstRefusal (ofQueues (now (el .entry)) (now (h .entry)) m b (queuedFor m (now (q .entry)) (messageName (now (el .entry)) b) g) (belowLimit m made limit) (spaceFor m (now (q .entry)) (messageName (now (el .entry)) b))) ⌝ }
-{
-    number_after(
-        el,
-        h,
-        m,
-        b,
-        g,
-        message_name(el, b),
-        is_below_limit(m, made, limit),
-        q,
-    )
-}
-
-// 12 to 18, and the copy after all that the step does to it.
+// 12 to 18, and the copy after all that the step does to it, or as far as it was worked on when refused.
 pub fn decide(
     el: &[Word],
     h: &mut [Word],
@@ -144,9 +114,10 @@ pub fn decide(
     let plan = prepare(el, h, m, b, g);
     let early = plan.number;
     if early != 0 {
-        return plan;
+        return refused_plan(early);
     }
-    let last = number_last(el, h, m, b, g, made, limit, q);
+    let below = is_below_limit(m, made, limit);
+    let last = number_after(el, h, m, b, g, below, q);
     if last != 0 {
         return refused_plan(last);
     }

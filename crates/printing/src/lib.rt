@@ -18,8 +18,6 @@ use notation::Reading;
 use state::places::STATE_WORDS;
 use words::GREATEST;
 use words::Word;
-use words::put;
-use words::word;
 
 // Says a text; gives back its length.
 pub fn tell(text: &[u8]) -> usize
@@ -35,7 +33,7 @@ pub fn tell_unread(r: Reading) -> usize
 {
     let mut out = [0u8; UNREAD_LINE];
     let beside = least(r.beside, GREATEST as usize);
-    let n = lines::put_unread(&mut out, r.number, beside as Word);
+    let n = lines::put_unread(&mut out, 0, r.number, beside as Word);
     tell(piece(&out, 0, n));
     n
 }
@@ -43,7 +41,7 @@ pub fn tell_unread(r: Reading) -> usize
 // The line of a step that was taken.
 fn tell_step(n: Name, a: Answer) {
     let mut out = [0u8; STEP_LINE];
-    let k = lines::put_step(&mut out, n, a);
+    let k = lines::put_step(&mut out, 0, n, a);
     tell(piece(&out, 0, k));
     tell(b"\n");
 }
@@ -57,14 +55,6 @@ fn run_once(t: &[Word; TABLE_WORDS], y: &mut [Word; STATE_WORDS]) {
     let name = r.name;
     let a = engine::step(t, y, name);
     tell_step(name, a);
-}
-
-fn copy(z: &[Word; STATE_WORDS], y: &mut [Word; STATE_WORDS]) {
-    let mut i: usize = 0;
-    while i < STATE_WORDS {
-        put(y, i, word(z, i));
-        i += 1;
-    }
 }
 
 // Takes the first listed step of a copy of the state as often as a run would, and says each.
@@ -84,13 +74,15 @@ fn tell_end(steps: Word, left: Word) {
     tell(b"\n");
 }
 
-// A run, and a line for each of its steps, taken again on a copy of the state; last the steps and the flag.
+// A run, and a line for each of its steps, taken again on a copy of the state; last the steps and the flag. A refused run says nothing.
 pub fn tell_run(t: &[Word; TABLE_WORDS], z: &mut [Word; STATE_WORDS], limit: Word) -> Ran
     ensures { λ r. ⌜ record { number = r .number; steps = r .steps; left = r .left; state = now (z .exit) } ≡ ranTo (now (t .entry)) (now (z .entry)) limit ⌝ }
 {
-    let mut y: [Word; STATE_WORDS] = [0; STATE_WORDS];
-    copy(z, &mut y);
+    let mut y: [Word; STATE_WORDS] = *z;
     let r = engine::run(t, z, limit);
+    if r.number != 0 {
+        return r;
+    }
     tell_steps(t, &mut y, r.steps);
     tell_end(r.steps, r.left);
     r

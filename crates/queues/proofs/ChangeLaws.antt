@@ -10,7 +10,7 @@ use lib.ListN.{length, length-append}
 use borrow.Author.Tests.{eq-eqb, lt-ltb}
 use Rattle.words.specs.All.{all}
 use Rattle.words.specs.Pick.{if_then_else_}
-use Rattle.words.specs.Sum.{one}
+use Rattle.words.specs.Sum.{oneIf}
 use Rattle.words.specs.Words.{at}
 use Rattle.words.specs.Counts.{values, messages, names}
 use Rattle.words.proofs.AllLaws.{all-of}
@@ -19,7 +19,7 @@ use Rattle.meaning.specs.declared.Tuple.{Tuple}
 use Rattle.meaning.specs.Tuples.{valueOf, sameTuple}
 use Rattle.state.specs.Places.{queueWords}
 use Rattle.meaning.specs.Messages.{has, without, times}
-use Rattle.meaning.specs.Queues.{queued, messagesOf, withMessages, sending, consuming, tidied, Tidy}
+use Rattle.meaning.specs.Queues.{messageCount, messagesOf, withMessages, sending, consuming, tidied, Tidy}
 use Rattle.queues.proofs.MessageLaws.{times-append, times-without, same-both}
 use Rattle.queues.proofs.SlotLaws.{is-with}
 use Rattle.queues.proofs.QueueLaws.{count-is, fits, slot-is}
@@ -81,7 +81,7 @@ module _ (q : List ℕ) (m : ℕ) (long : length q ≡ queueWords * names) (name
 
   module _ (g : Tuple) where
     -- SENDING
-    module _ (room : queued q m < messages) where
+    module _ (room : messageCount q m < messages) where
       more : length (messagesOf q m ++ (g ∷ [])) ≤ messages
       more = simp length-append (omega (arith, count-is q m))
 
@@ -94,7 +94,7 @@ module _ (q : List ℕ) (m : ℕ) (long : length q ≡ queueWords * names) (name
           ∙ map-append tidied (messagesOf q m) (g ∷ [])
           ∙ ap (λ l. l ++ (tidied g ∷ [])) messages-tidied
 
-      pub times-sending : (v : Tuple) → g .length ≤ values → times v (messagesOf (sending q m g) m) ≡ times v (messagesOf q m) + one (sameTuple g v)
+      pub times-sending : (v : Tuple) → g .length ≤ values → times v (messagesOf (sending q m g) m) ≡ times v (messagesOf q m) + oneIf (sameTuple g v)
       unfolding times
       times-sending v l =
           ap (times v) messages-sending
@@ -111,5 +111,5 @@ module _ (q : List ℕ) (m : ℕ) (long : length q ≡ queueWords * names) (name
     pub messages-consuming : messagesOf (consuming q m g) m ≡ without g (messagesOf q m)
     messages-consuming = messages-with q m (without g (messagesOf q m)) long name fewer ∙ without-tidied g (messagesOf q m) messages-tidied
 
-    pub times-consuming : (v : Tuple) → has g (messagesOf q m) ≡ true → times v (messagesOf (consuming q m g) m) + one (sameTuple g v) ≡ times v (messagesOf q m)
+    pub times-consuming : (v : Tuple) → has g (messagesOf q m) ≡ true → times v (messagesOf (consuming q m g) m) + oneIf (sameTuple g v) ≡ times v (messagesOf q m)
     times-consuming v h = rw messages-consuming (times-without g v (messagesOf q m) h)

@@ -13,7 +13,7 @@ use borrow.Author.Tests.{lt-ltb, le-ltb, ltb-true}
 use Rattle.words.specs.Each.{tab}
 use Rattle.words.specs.Pick.{if_then_else_}
 use Rattle.words.specs.Seek.{seek}
-use Rattle.words.specs.Sum.{one}
+use Rattle.words.specs.Sum.{oneIf}
 use Rattle.meaning.specs.declared.Tuple.{Tuple}
 use Rattle.meaning.specs.Tuples.{sameTuple}
 use Rattle.values.proofs.TupleLaws.{same-sym, same-trans}
@@ -107,11 +107,11 @@ same-both x g v e = go (sameTuple x v) refl (sameTuple g v) refl
     go false p true q = sym p ∙ same-trans x g v e q
     go false p false q = refl
 
-pub times-without : (g v : Tuple) (ms : List Tuple) → has g ms ≡ true → times v (without g ms) + one (sameTuple g v) ≡ times v ms
+pub times-without : (g v : Tuple) (ms : List Tuple) → has g ms ≡ true → times v (without g ms) + oneIf (sameTuple g v) ≡ times v ms
 unfolding times
 times-without g v [] h = absurd (has-none g h)
 times-without g v (x ∷ xs) h = go (sameTuple x g) refl (times-without g v xs)
   where
-    go : (b : Bool) → sameTuple x g ≡ b → (has g xs ≡ true → times v (without g xs) + one (sameTuple g v) ≡ times v xs) → times v (without g (x ∷ xs)) + one (sameTuple g v) ≡ one (sameTuple x v) + times v xs
+    go : (b : Bool) → sameTuple x g ≡ b → (has g xs ≡ true → times v (without g xs) + oneIf (sameTuple g v) ≡ times v xs) → times v (without g (x ∷ xs)) + oneIf (sameTuple g v) ≡ oneIf (sameTuple x v) + times v xs
     go true e ih = rw (without-here g x xs e, same-both x g v e) (omega arith)
     go false e ih = rw (without-later g x xs e) (omega (arith, ih (has-later g x xs e h)))

@@ -17,7 +17,7 @@ use Rattle.meaning.specs.declared.Tuple.{Tuple}
 use Rattle.meaning.specs.Tuples.{empty}
 use Rattle.state.specs.Places.{slotWords, queueWords, queuePlace, slotPlace}
 use Rattle.meaning.specs.Messages.{has, without}
-use Rattle.meaning.specs.Queues.{queued, messageAt, messagesOf, messageWord, sending, consuming, Tidy}
+use Rattle.meaning.specs.Queues.{messageCount, messageAt, messagesOf, messageWord, sending, consuming, Tidy}
 use Rattle.queues.specs.Changes.{messageIs, oldest, stored, oneMore, extended, closedUp, removed}
 use Rattle.words.proofs.ListLaws.{length-tab, getD-tab}
 use Rattle.queues.proofs.MessageLaws.{seek-has, length-without, First, without-below, without-above}
@@ -25,23 +25,23 @@ use Rattle.queues.proofs.SlotLaws.{by-below, by-order, queue-word, is-w
 
 -- OF ANY QUEUE: the count, message k, whether a message equal to g is there, and where the oldest is
 module _ (q : List ℕ) (m : ℕ) where
-  pub count-is : length (messagesOf q m) ≡ queued q m
+  pub count-is : length (messagesOf q m) ≡ messageCount q m
   unfolding messagesOf
-  count-is = length-tab (messageAt q m) (queued q m)
+  count-is = length-tab (messageAt q m) (messageCount q m)
 
-  pub message-is : (k : ℕ) → k < queued q m → getD (messagesOf q m) k empty ≡ messageAt q m k
+  pub message-is : (k : ℕ) → k < messageCount q m → getD (messagesOf q m) k empty ≡ messageAt q m k
   unfolding messagesOf
-  message-is k h = getD-tab (messageAt q m) (queued q m) k empty h
+  message-is k h = getD-tab (messageAt q m) (messageCount q m) k empty h
 
-  pub present-is : (g : Tuple) → ltb (oldest q m g) (queued q m) ≡ has g (messagesOf q m)
+  pub present-is : (g : Tuple) → ltb (oldest q m g) (messageCount q m) ≡ has g (messagesOf q m)
   unfolding oldest messageIs messagesOf
-  present-is g = seek-has g (messageAt q m) (queued q m)
+  present-is g = seek-has g (messageAt q m) (messageCount q m)
 
   pub oldest-first : (g : Tuple) → has g (messagesOf q m) ≡ true → First g empty (messagesOf q m) (oldest q m g)
   unfolding oldest messageIs
   oldest-first g h =
-      let s = sought (messageIs q m g) (queued q m) in
-      let l : oldest q m g < queued q m = ltb-true _ _ (present-is g ∙ h) in
+      let s = sought (messageIs q m g) (messageCount q m) in
+      let l : oldest q m g < messageCount q m = ltb-true _ _ (present-is g ∙ h) in
       (omega (arith, count-is), rw (message-is (oldest q m g) l) (s .1 l), (λ j r. rw (message-is j (omega arith)) (s .2 j r)))
 
 word : (d : ℕ) {x y : Tuple} → x ≡ y → messageWord x d ≡ messageWord y d
@@ -58,7 +58,7 @@ module _ (q : List ℕ) (m : ℕ) (long : length q ≡ queueWords * names) (name
       ap (at q) e ∙ tidy .words (1 + slotWords * k + d) (omega arith) ∙ queue-word (messagesOf q m) k d h
 
   -- appending puts a message behind the others
-  pub extended-is : (g : Tuple) → queued q m < messages → extended q m g ≡ sending q m g
+  pub extended-is : (g : Tuple) → messageCount q m < messages → extended q m g ≡ sending q m g
   unfolding extended oneMore if_then_else_
   extended-is g room =
       is-with q m (ms ++ (g ∷ [])) (extended q m g) fits
@@ -69,7 +69,7 @@ module _ (q : List ℕ) (m : ℕ) (long : length q ≡ queueWords * names) (name
       (λ j l. getD-set-other s (queuePlace m) j (oneMore n) 0 (λ e. omega arith) ∙ stored-behind q m n g j (omega arith))
     where
       n : ℕ
-      n = queued q m
+      n = messageCount q m
 
       ms : List Tuple
       ms = messagesOf q m
@@ -88,27 +88,27 @@ module _ (q : List ℕ) (m : ℕ) (long : length q ≡ queueWords * names) (name
           ∙ word d (List·getD-eq-default ms empty (omega (arith, count-is q m)) ∙ sym (List·getD-eq-default (ms ++ (g ∷ [])) empty (simp length-append (omega (arith, count-is q m))))))
 
   -- the slots behind slot p one up: word d of slot k
-  module _ (p : ℕ) (here : p < queued q m) where
+  module _ (p : ℕ) (here : p < messageCount q m) where
     length-closed : length (closedUp q m p) ≡ length q
     unfolding closedUp
-    length-closed = length-writes (λ i. at q (slotPlace m p + i + slotWords)) q (slotPlace m p) (slotWords * (queued q m - 1 - p))
+    length-closed = length-writes (λ i. at q (slotPlace m p + i + slotWords)) q (slotPlace m p) (slotWords * (messageCount q m - 1 - p))
 
     closed-before : (j : ℕ) → j < slotPlace m p → at (closedUp q m p) j ≡ at q j
     unfolding closedUp
-    closed-before j h = writes-below (λ i. at q (slotPlace m p + i + slotWords)) q (slotPlace m p) (slotWords * (queued q m - 1 - p)) j h
+    closed-before j h = writes-below (λ i. at q (slotPlace m p + i + slotWords)) q (slotPlace m p) (slotWords * (messageCount q m - 1 - p)) j h
 
-    closed-behind : (j : ℕ) → slotPlace m (queued q m - 1) ≤ j → at (closedUp q m p) j ≡ at q j
+    closed-behind : (j : ℕ) → slotPlace m (messageCount q m - 1) ≤ j → at (closedUp q m p) j ≡ at q j
     unfolding closedUp
-    closed-behind j h = writes-above (λ i. at q (slotPlace m p + i + slotWords)) q (slotPlace m p) (slotWords * (queued q m - 1 - p)) j (omega arith)
+    closed-behind j h = writes-above (λ i. at q (slotPlace m p + i + slotWords)) q (slotPlace m p) (slotWords * (messageCount q m - 1 - p)) j (omega arith)
 
-    closed-slot : (k d : ℕ) → p ≤ k → k < queued q m - 1 → d < slotWords → at (closedUp q m p) (slotPlace m k + d) ≡ at q (slotPlace m (suc k) + d)
+    closed-slot : (k d : ℕ) → p ≤ k → k < messageCount q m - 1 → d < slotWords → at (closedUp q m p) (slotPlace m k + d) ≡ at q (slotPlace m (suc k) + d)
     unfolding closedUp
     closed-slot k d l r h =
-        let room : queued q m ≤ messages = tidy .room in
+        let room : messageCount q m ≤ messages = tidy .room in
         let e : slotPlace m k + d ≡ slotPlace m p + (slotWords * (k - p) + d) = omega arith in
         let f : slotPlace m p + (slotWords * (k - p) + d) + slotWords ≡ slotPlace m (suc k) + d = omega arith in
         ap (at (closedUp q m p)) e
-        ∙ writes-in (λ i. at q (slotPlace m p + i + slotWords)) q (slotPlace m p) (slotWords * (queued q m - 1 - p)) (slotWords * (k - p) + d) (omega arith) (omega (arith, fits))
+        ∙ writes-in (λ i. at q (slotPlace m p + i + slotWords)) q (slotPlace m p) (slotWords * (messageCount q m - 1 - p)) (slotWords * (k - p) + d) (omega arith) (omega (arith, fits))
         ∙ ap (at q) f
 
   -- removing takes the oldest equal message out; the others keep their order
@@ -129,13 +129,13 @@ module _ (q : List ℕ) (m : ℕ) (long : length q ≡ queueWords * names) (name
       p = oldest q m g
 
       n : ℕ
-      n = queued q m - 1
+      n = messageCount q m - 1
 
       first : First g empty ms p
       first = oldest-first q m g there
 
-      here : p < queued q m
-      here = ltb-true p (queued q m) (present-is q m g ∙ there)
+      here : p < messageCount q m
+      here = ltb-true p (messageCount q m) (present-is q m g ∙ there)
 
       c : List ℕ
       c = closedUp q m p
@@ -143,7 +143,7 @@ module _ (q : List ℕ) (m : ℕ) (long : length q ≡ queueWords * names) (name
       s : List ℕ
       s = stored c m n empty
 
-      count : length (without g ms) + 1 ≡ queued q m
+      count : length (without g ms) + 1 ≡ messageCount q m
       count = length-without g ms there ∙ count-is q m
 
       slot : (k d : ℕ) → k < messages → d < slotWords → at s (slotPlace m k + d) ≡ messageWord (getD (without g ms) k empty) d

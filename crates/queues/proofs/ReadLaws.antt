@@ -15,7 +15,7 @@ use Rattle.words.specs.Counts.{values, messages, names}
 use Rattle.meaning.specs.declared.Tuple.{Tuple}
 use Rattle.meaning.specs.Tuples.{empty, valueOf}
 use Rattle.state.specs.Places.{slotWords, queueWords, queuePlace, slotPlace}
-use Rattle.meaning.specs.Queues.{queued, messageAt, messagesOf, messageWord, messagesWord, queueWord, withMessages, tidied, Tidy}
+use Rattle.meaning.specs.Queues.{messageCount, messageAt, messagesOf, messageWord, messagesWord, queueWord, withMessages, tidied, Tidy}
 use Rattle.queues.proofs.SlotLaws.{by-order, by-slots, queue-count, queue-word, with-word, with-before, with-behind}
 use Rattle.queues.proofs.QueueLaws.{count-is, message-is}
 
@@ -72,7 +72,7 @@ queue-tidied ms =
 
 -- THE QUEUE THAT IS WRITTEN
 module _ (q : List ℕ) (m : ℕ) (ms : List Tuple) (long : length q ≡ queueWords * names) (name : m < names) (room : length ms ≤ messages) where
-  queued-with : queued (withMessages q m ms) m ≡ length ms
+  queued-with : messageCount (withMessages q m ms) m ≡ length ms
   queued-with = let e : queuePlace m + 0 ≡ queuePlace m = omega arith in rw e at (with-word q m ms (omega arith) 0 (omega arith) ∙ queue-count ms)
 
   pub messages-with : messagesOf (withMessages q m ms) m ≡ map tidied ms
@@ -103,14 +103,14 @@ module _ (q : List ℕ) (m : ℕ) (ms : List Tuple) (n : ℕ) (other : n ≡ m �
       by-order n m (λ l. with-before q m ms (queuePlace n + i) (omega arith)) (λ e. absurd (other (sym e)))
       (λ l. with-behind q m ms (queuePlace n + i) (omega arith))
 
-  queued-other : queued (withMessages q m ms) n ≡ queued q n
+  queued-other : messageCount (withMessages q m ms) n ≡ messageCount q n
   queued-other = let e : queuePlace n + 0 ≡ queuePlace n = omega arith in rw e at (words-other 0 (omega arith))
 
-  pub messages-other : queued q n ≤ messages → messagesOf (withMessages q m ms) n ≡ messagesOf q n
+  pub messages-other : messageCount q n ≤ messages → messagesOf (withMessages q m ms) n ≡ messagesOf q n
   messages-other room =
       ext-getD empty (messagesOf w n) (messagesOf q n) (count-is w n ∙ queued-other ∙ sym (count-is q n))
       (λ k h.
-      let l : k < queued q n = omega (arith, count-is w n, queued-other) in
+      let l : k < messageCount q n = omega (arith, count-is w n, queued-other) in
       message-is w n k (omega (arith, count-is w n)) ∙ message-same k (omega arith) ∙ sym (message-is q n k l))
     where
       w : List ℕ
@@ -136,7 +136,7 @@ pub tidy-blank : (q : List ℕ) (m : ℕ) → ((i : ℕ) → i < queueWords → 
 unfolding messagesOf tab queueWord messagesWord if_then_else_
 tidy-blank q m blank = record { room = omega (arith, count); words = λ i h. rw count (blank i h ∙ zero-word (eqb i 0)) }
   where
-    count : queued q m ≡ 0
+    count : messageCount q m ≡ 0
     count = let e : queuePlace m + 0 ≡ queuePlace m = omega arith in rw e at (blank 0 (omega arith))
 
     zero-word : (b : Bool) → _≡_ {A = ℕ} 0 (if b then 0 else 0)

@@ -6,12 +6,12 @@ use native.Mathlib.Omega.{arith}
 use Rattle.words.specs.Words.{at}
 use Rattle.words.proofs.WritesLaws.{writes-none}
 use Rattle.state.specs.Places.{slotWords, slotPlace}
-use Rattle.meaning.specs.Queues.{queued}
+use Rattle.meaning.specs.Queues.{messageCount}
 use Rattle.queues.specs.Changes.{closedUp}
 
 -- w and n are what the code read as the count, and one less
-pub closed-last : (q : List ℕ) (m k w n : ℕ) → w ≡ queued q m → n ≡ w - 1 → n ≤ k → q ≡ closedUp q m k
+pub closed-last : (q : List ℕ) (m k w n : ℕ) → w ≡ messageCount q m → n ≡ w - 1 → n ≤ k → q ≡ closedUp q m k
 unfolding closedUp
 closed-last q m k w n e f h =
-    let none : slotWords * (queued q m - 1 - k) ≡ 0 = omega arith in
+    let none : slotWords * (messageCount q m - 1 - k) ≡ 0 = omega arith in
     rw none (writes-none (λ i. at q (slotPlace m k + i + slotWords)) q (slotPlace m k))

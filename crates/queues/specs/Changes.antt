@@ -13,14 +13,14 @@ use Rattle.words.specs.Counts.{values, messages}
 use Rattle.meaning.specs.declared.Tuple.{Tuple}
 use Rattle.meaning.specs.Tuples.{empty, valueOf, sameTuple}
 use Rattle.state.specs.Places.{valuesIn, slotWords, queuePlace, slotPlace}
-use Rattle.meaning.specs.Queues.{queued, messageAt}
+use Rattle.meaning.specs.Queues.{messageCount, messageAt}
 
 -- message k is equal to g; the place of the oldest that is, the count where none is
 unfoldable pub messageIs : List ℕ → ℕ → Tuple → ℕ → Bool
 messageIs q m g k = sameTuple (messageAt q m k) g
 
 unfoldable pub oldest : List ℕ → ℕ → Tuple → ℕ
-oldest q m g = seek (messageIs q m g) (queued q m)
+oldest q m g = seek (messageIs q m g) (messageCount q m)
 
 -- g stored as message k
 unfoldable pub stored : List ℕ → ℕ → ℕ → Tuple → List ℕ
@@ -31,11 +31,11 @@ unfoldable pub oneMore : ℕ → ℕ
 oneMore n = if ltb n messages then n + 1 else n
 
 unfoldable pub extended : List ℕ → ℕ → Tuple → List ℕ
-extended q m g = set (stored q m (queued q m) g) (queuePlace m) (oneMore (queued q m))
+extended q m g = set (stored q m (messageCount q m) g) (queuePlace m) (oneMore (messageCount q m))
 
 -- the messages behind message k, one slot up
 unfoldable pub closedUp : List ℕ → ℕ → ℕ → List ℕ
-closedUp q m k = writes (λ i. at q (slotPlace m k + i + slotWords)) q (slotPlace m k) (slotWords * (queued q m - 1 - k))
+closedUp q m k = writes (λ i. at q (slotPlace m k + i + slotWords)) q (slotPlace m k) (slotWords * (messageCount q m - 1 - k))
 
 unfoldable pub removed : List ℕ → ℕ → ℕ → List ℕ
-removed q m k = set (stored (closedUp q m k) m (queued q m - 1) empty) (queuePlace m) (queued q m - 1)
+removed q m k = set (stored (closedUp q m k) m (messageCount q m - 1) empty) (queuePlace m) (messageCount q m - 1)

@@ -7,7 +7,7 @@ ghost use Rattle.meaning.specs.Tuples.{valueOf};
 ghost use Rattle.words.specs.Words.{at};
 ghost use Rattle.words.specs.Counts.{values};
 ghost use Rattle.state.specs.Places.{slotPlace, slotWords, valuesIn};
-ghost use Rattle.meaning.specs.Queues.{queued, messageAt};
+ghost use Rattle.meaning.specs.Queues.{messageCount, messageAt};
 ghost use Rattle.queues.specs.Changes.{messageIs, oldest, stored, oneMore, extended, closedUp, removed};
 use meaning::Tuple;
 use meaning::empty_tuple;
@@ -26,7 +26,7 @@ use words::word;
 
 // How many messages queue m holds.
 pub fn queued_in(q: &[Word], m: Word) -> Word
-    ensures { λ r. ⌜ r ≡ queued (now (q .entry)) m ⌝ }
+    ensures { λ r. ⌜ r ≡ messageCount (now (q .entry)) m ⌝ }
 {
     word(q, QUEUE_WORDS * (m as usize))
 }

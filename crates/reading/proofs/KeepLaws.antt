@@ -15,7 +15,7 @@ use Rattle.numerals.specs.declared.Operand.{Operand}
 use Rattle.numerals.specs.declared.Operand.the-variants.{Number as OfNumber, Field, OutOfRange, NotAnOperand}
 use Rattle.reading.specs.Reading.{passed, refused, misplaced, excessive, keepNumber, keepOperand, keepMode}
 
-stored : (q : ℕ) (y z : List ℕ) → y ≡ z → passed q y ≡ passed q z
+pub stored : (q : ℕ) (y z : List ℕ) → y ≡ z → passed q y ≡ passed q z
 stored q y z e = ap (passed q) e
 
 module _ (n : Number) (least most place p q : ℕ) (x : List ℕ) where

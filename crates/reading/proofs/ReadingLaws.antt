@@ -18,7 +18,7 @@ use Rattle.numerals.specs.declared.Operand.the-variants.{Number as OfNumber, Fi
 use Rattle.numerals.specs.Numerals.{numberOf, operandOf}
 use Rattle.reading.specs.declared.Read.{Read}
 use Rattle.reading.specs.declared.Read.the-variants.{At, Refused}
-use Rattle.reading.specs.Reading.{Parsed, Reader, passed, refused, ifAt, onward, _then_, nothing, placeOf, behind, letters, signAt, assignAt, sign, assign, keepNumber, number, fieldOf, field, keepOperand, operand, modeNamed, keepMode, mode}
+use Rattle.reading.specs.Reading.{Parsed, Reader, passed, refused, ifAt, onward, _then_, placeOf, behind, letters, signAt, assignAt, sign, assign, keepNumber, number, fieldOf, field, keepOperand, operand, modeNamed, keepMode, mode}
 
 -- THE DEFINITIONS, by the answer they start from
 module _ {A : Type 0} (r : Read) (go : ℕ → A) (stay : A) where
@@ -94,28 +94,13 @@ module _ (g : Reader) (text : List ℕ) (at : ℕ) (x : List ℕ) (r : Read) (e 
   pub assign-stopped : (n p : ℕ) → r ≡ Refused n p → record { end = r; words = x } ≡ (assign then g) text at x
   assign-stopped n p h = then-stopped assign g text at x r x (as-reader r (assignAt text at) x e) n p h
 
--- a sign or `:=` last
+-- a sign last
 pub sign-last : (s : ℕ) (text : List ℕ) (at : ℕ) (x : List ℕ) (r : Read) → r ≡ signAt s text at → record { end = r; words = x } ≡ sign s text at x
 sign-last s text at x r e = as-reader r (signAt s text at) x e
-
-pub assign-last : (text : List ℕ) (at : ℕ) (x : List ℕ) (r : Read) → r ≡ assignAt text at → record { end = r; words = x } ≡ assign text at x
-assign-last text at x r e = as-reader r (assignAt text at) x e
-
--- a chain of readers closes by `search (needs, readers)`, its definition unfolded
-pub ruleset readers = (then-passed, then-stopped, sign-passed, sign-stopped, assign-passed, assign-stopped, sign-last, assign-last, if-passed, if-stopped, onward-passed, onward-stopped)
 
 -- THE LENGTH OF THE WORDS
 abbrev pub Keeps : Reader → Type 0
 Keeps f = (text : List ℕ) (at : ℕ) (x : List ℕ) → length (f text at x .words) ≡ length x
-
-pub keeps-sign : (s : ℕ) → Keeps (sign s)
-keeps-sign s text at x = refl
-
-pub keeps-assign : Keeps assign
-keeps-assign text at x = refl
-
-pub keeps-nothing : Keeps nothing
-keeps-nothing text at x = refl
 
 pub onward-length : (f : Parsed) (go : ℕ → List ℕ → Parsed) (n : ℕ) → length (f .words) ≡ n → ((q : ℕ) → length (go q (f .words) .words) ≡ n) → length (onward f go .words) ≡ n
 unfolding onward ifAt

@@ -23,7 +23,7 @@ use Rattle.lexer.proofs.FormLaws.{is-word, is-sign, is-assign, is-end, not-word
 use Rattle.numerals.specs.declared.Number.{Number}
 use Rattle.numerals.specs.declared.Operand.{Operand}
 use Rattle.numerals.specs.declared.Number.the-variants.{NotANumber}
-use Rattle.numerals.specs.Numerals.{numberOf, operandOf, sameBytes}
+use Rattle.numerals.specs.Numerals.{numberOf, operandOf}
 use Rattle.reading.specs.declared.Read.{Read}
 use Rattle.reading.specs.declared.Read.the-variants.{At, Refused}
 use Rattle.reading.specs.Reading.{Parsed, passed, refused, misplaced, placeOf, behind, letters, signAt, assignAt, endAt, keepNumber, number, fieldOf, field, keepOperand, operand, modeNamed, keepMode, mode, isSpelled, startsNumber, startsField, startsSign}
@@ -125,12 +125,6 @@ module _ (text : List ℕ) (at : ℕ) (t : Token) (e : t ≡ tokenAt text at) wh
   pub behind-known : (x : List ℕ) → passed (t .next) x ≡ passed (behind text at) x
   behind-known x = ap (λ (z : Token). passed (z .next) x) e
 
-  pub letters-known : (l : List ℕ) → l ≡ part text (t .at) (t .next) → l ≡ letters text at
-  letters-known l h = h ∙ ap (λ (z : Token). part text (z .at) (z .next)) e
-
-  pub same-known : (l w : List ℕ) (r v : Bool) → l ≡ part text (t .at) (t .next) → r ≡ sameBytes l w → r ≡ v → sameBytes (letters text at) w ≡ v
-  same-known l w r v h k q = ap (λ (z : List ℕ). sameBytes z w) (sym (letters-known l h)) ∙ sym k ∙ q
-
   -- the signs
   module _ (s : ℕ) where
     abbrev given : Token → Read
@@ -185,9 +179,6 @@ module _ (text : List ℕ) (at : ℕ) (t : Token) (e : t ≡ tokenAt text at) wh
 
   pub end-missed : OneOf (0 ∷ 1 ∷ 2 ∷ 4 ∷ []) (tagOf the-type (t .form)) → Refused misplaced (t .at) ≡ endAt text at
   end-missed f = sym (not-end (t .form) (At (t .next)) (Refused misplaced (t .at)) f) ∙ by-end
-
--- a word taken by tests: `search (needs, known)`
-pub ruleset known = (word-known, word-unknown, place-known, behind-known, same-known, pick-yes, pick-no)
 
 -- the number of a field's word
 pub field-number : (w p : List ℕ) (b : ℕ) (n : Number) → b ≡ wordAt w 0 → b ≡ code "d" → p ≡ part w 1 (length w) → n ≡ numberOf p → n ≡ fieldOf w

@@ -18,6 +18,8 @@ use numerals::operand_of;
 use numerals::same;
 use words::Word;
 use words::counts::FIELDS;
+use words::numbers::EXCESSIVE;
+use words::numbers::MISPLACED;
 use words::put;
 
 // The place behind what was read; or the number of a refusal and its place.
@@ -25,11 +27,6 @@ pub enum Read {
     At(usize),
     Refused(Word, usize),
 }
-
-// A token that continues no text of the notation; a number outside its range, or a count above it.
-pub const MISPLACED: Word = 2;
-
-pub const EXCESSIVE: Word = 3;
 
 // A given sign.
 pub fn sign_at(text: &[u8], at: usize, s: u8) -> Read

@@ -12,12 +12,16 @@ use Rattle.words.specs.Each.{each}
 use Rattle.words.specs.Counts.{messages}
 use Rattle.words.proofs.AllLaws.{and-left, and-right}
 use Rattle.words.proofs.ListLaws.{each-at}
+use Rattle.kinds.specs.declared.moves.Move.{Move}
 use Rattle.meaning.specs.declared.Tuple.{Tuple}
 use Rattle.meaning.specs.Messages.{has}
-use Rattle.meaning.specs.Queues.{queued, messagesOf}
+use Rattle.meaning.specs.Queues.{messageCount, messagesOf}
 use Rattle.meaning.specs.Refusals.{Refusal, _unless_, firstRefusal}
+use Rattle.meaning.specs.Requirements.{roomy}
+use Rattle.meaning.specs.Step.{refusalsAt}
 use Rattle.queues.specs.Changes.{oldest}
 use Rattle.queues.proofs.QueueLaws.{count-is, present-is}
+use Rattle.refusals.specs.Chain.{numberAt, listed, ofQueues}
 
 -- a test against a number a that a call's result r is known to equal
 pub lt-with : (p r a : ℕ) → r ≡ a → p < r → ltb p a ≡ true
@@ -33,11 +37,17 @@ pub or-no : (a b : Bool) → a ≡ false → b ≡ a || b
 or-no a b e = rw e
 
 -- 15 and 17, as the code tests them
-pub present-by : (q : List ℕ) (m : ℕ) (g : Tuple) (r n : ℕ) → r ≡ oldest q m g → n ≡ queued q m → ltb r n ≡ has g (messagesOf q m)
+pub present-by : (q : List ℕ) (m : ℕ) (g : Tuple) (r n : ℕ) → r ≡ oldest q m g → n ≡ messageCount q m → ltb r n ≡ has g (messagesOf q m)
 present-by q m g r n e f = rw (e, f) (present-is q m g)
 
-pub place-by : (q : List ℕ) (m r : ℕ) → r ≡ queued q m → ltb r messages ≡ ltb (length (messagesOf q m)) messages
+pub place-by : (q : List ℕ) (m r : ℕ) → r ≡ messageCount q m → ltb r messages ≡ ltb (length (messagesOf q m)) messages
 place-by q m r e = rw (e, count-is q m)
+
+-- 15 to 18, where nothing refuses
+pub none-after : (el h : List ℕ) (m : Move) (b : ℕ) (messageCount below space : Bool) → messageCount ≡ true → below ≡ true → space ≡ true → roomy el h m b ≡ true
+    → 0 ≡ firstRefusal (ofQueues el h m b messageCount below space)
+unfolding firstRefusal if_then_else_ numberAt listed ofQueues refusalsAt
+none-after el h m b messageCount below space e₁ e₂ e₃ e₄ = rw (e₁, e₂, e₃, e₄)
 
 -- Refusals in two parts: the first that does not hold stands in the first part, or all of that hold.
 pub stops : (us vs : List Refusal) → (firstRefusal us ≡ 0 → ⊥) → firstRefusal (us ++ vs) ≡ firstRefusal us

@@ -14,7 +14,7 @@ use Rattle.meaning.specs.Tuples.{empty}
 use Rattle.meaning.specs.Messages.{has}
 use Rattle.meaning.specs.Queues.{messagesOf}
 use Rattle.meaning.specs.Refusals.{Refusal, _unless_}
-use Rattle.meaning.specs.Requirements.{branchCount, instanceNamed, permitted, granted, roomy}
+use Rattle.meaning.specs.Requirements.{branchCount, instanceNamed, countsPermit, granted, roomy}
 use Rattle.meaning.specs.Step.{Site, refusalsAt}
 
 -- 11, of the table and of the move
@@ -37,7 +37,7 @@ listed k (b ∷ bs) = numberAt k unless b ∷ listed (k + 1) bs
 
 -- 12 and the first 13; the other 13 and 14, the template being defined; 15 to 18, h being the instance after the taking
 unfoldable pub beforeFields : List ℕ → List ℕ → Move → ℕ → List Refusal
-beforeFields el h m b = listed 0 (permitted el h m b ∷ granted el h m b ∷ [])
+beforeFields el h m b = listed 0 (countsPermit el h m b ∷ granted el h m b ∷ [])
 
 unfoldable pub ofFields : Move → Bool → Bool → List Refusal
 ofFields m defined matches = listed 3 ((eqb (m .receives) on || defined) ∷ matches ∷ defined ∷ [])

@@ -5,24 +5,18 @@ ghost use lib.Dec.{eqb, ltb, leb};
 ghost use lib.ListN.{length};
 ghost use Rattle.words.specs.Counts.{messages, names, values};
 ghost use Rattle.kinds.specs.Moves.{on};
+ghost use Rattle.model.specs.Table.{messageName};
 ghost use Rattle.meaning.specs.Messages.{has};
 ghost use Rattle.meaning.specs.Queues.{messagesOf};
 ghost use Rattle.meaning.specs.Refusals.{firstRefusal};
 ghost use Rattle.refusals.specs.Chain.{placed, offered, beforeFields, ofFields, queuedFor, spaceFor, ofQueues};
-use super::ACCEPTED;
-use super::LIMIT_REACHED;
-use super::NOT_MATCHING;
-use super::NOT_PERMITTED;
-use super::NOT_QUEUED;
-use super::NOT_TRUE;
-use super::QUEUE_FULL;
-use super::WOULD_PASS;
 use fields::grants;
 use kinds::moves::Move;
 use kinds::moves::ON;
 use meaning::Name;
 use meaning::Tuple;
 use model::element_count;
+use model::message_name;
 use model::pool_count;
 use queues::oldest_of;
 use queues::queued_in;
@@ -34,6 +28,14 @@ use words::Word;
 use words::counts::MESSAGES;
 use words::counts::NAMES;
 use words::counts::VALUES;
+use words::numbers::ACCEPTED;
+use words::numbers::LIMIT_REACHED;
+use words::numbers::NOT_MATCHING;
+use words::numbers::NOT_PERMITTED;
+use words::numbers::NOT_QUEUED;
+use words::numbers::NOT_TRUE;
+use words::numbers::QUEUE_FULL;
+use words::numbers::WOULD_PASS;
 
 // The number of a step that nothing refuses.
 const ALL_HOLD: Word = ACCEPTED;
@@ -157,12 +159,12 @@ pub fn number_after(
     m: Move,
     b: Word,
     g: Tuple,
-    name: Word,
     below: bool,
     q: &[Word],
 ) -> Word
-    ensures { λ r. ⌜ r ≡ firstRefusal (ofQueues (now (el .entry)) (now (h .entry)) m b (queuedFor m (now (q .entry)) name g) below (spaceFor m (now (q .entry)) name)) ⌝ }
+    ensures { λ r. ⌜ r ≡ firstRefusal (ofQueues (now (el .entry)) (now (h .entry)) m b (queuedFor m (now (q .entry)) (messageName (now (el .entry)) b) g) below (spaceFor m (now (q .entry)) (messageName (now (el .entry)) b))) ⌝ }
 {
+    let name = message_name(el, b);
     if !is_queued(m, q, name, g) {
         return NOT_QUEUED;
     }

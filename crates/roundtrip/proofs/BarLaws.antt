@@ -16,7 +16,7 @@ use Rattle.lexer.specs.Lexer.{isSign, among}
 use Rattle.lexer.proofs.TokenLaws.{left-at}
 use Rattle.reading.specs.declared.Read.the-variants.{At, Refused}
 use Rattle.reading.specs.Reading.{ifAt, signAt}
-use Rattle.notation.specs.Notation.{Got, before, barred}
+use Rattle.notation.specs.Notation.{Got, putBefore, barred}
 use Rattle.shown.specs.Shown.{lead, separated}
 use Rattle.trips.proofs.SignReads.{sign-hit}
 
@@ -73,7 +73,7 @@ module _ {A : Type 0} (thing : List ℕ → ℕ → Got A) (starting : List ℕ 
   abbrev gone : List ℕ → ℕ → Got A → Got (List A)
   gone text m g =
       ifAt (g .end)
-      (λ q. ifAt (signAt (code "|") text q) (λ a. before (g .value) (barred thing starting m text a)) (record { end = At q; value = g .value ∷ [] }))
+      (λ q. ifAt (signAt (code "|") text q) (λ a. putBefore (g .value) (barred thing starting m text a)) (record { end = At q; value = g .value ∷ [] }))
       (record { end = g .end; value = [] })
 
   -- the last thing, and one before others
@@ -86,11 +86,11 @@ module _ {A : Type 0} (thing : List ℕ → ℕ → Got A) (starting : List ℕ 
       rest = unfold ifAt in rw s
 
   barred-more : (m : ℕ) (text : List ℕ) (from q a : ℕ) (v : A) → thing text from ≡ record { end = At q; value = v } → signAt (code "|") text q ≡ At a
-      → barred thing starting (suc m) text from ≡ before v (barred thing starting m text a)
+      → barred thing starting (suc m) text from ≡ putBefore v (barred thing starting m text a)
   unfolding barred
   barred-more m text from q a v e s = ap (gone text m) e ∙ rest
     where
-      rest : gone text m (record { end = At q; value = v }) ≡ before v (barred thing starting m text a)
+      rest : gone text m (record { end = At q; value = v }) ≡ putBefore v (barred thing starting m text a)
       rest = unfold ifAt in rw s
 
   -- THE LAW
@@ -103,7 +103,7 @@ module _ {A : Type 0} (thing : List ℕ → ℕ → Got A) (starting : List ℕ 
   barred-trip (suc n) (suc m) h f v c text rest from a b d s =
       barred-more m text from (from + length (f 0)) (from + length (f 0) + 1) (v 0) (c 0 (omega arith) .comes text (code "|" ∷ (others ++ rest)) from d₁)
       (sign-hit text (from + length (f 0)) (code "|") (others ++ rest) d₂ (unfold isSign among in refl))
-      ∙ ap (before (v 0)) (later (barred-trip n m (omega (arith, h)) (λ k. f (suc k)) (λ k. v (suc k)) (λ k l. c (suc k) (omega (arith, l)))))
+      ∙ ap (putBefore (v 0)) (later (barred-trip n m (omega (arith, h)) (λ k. f (suc k)) (λ k. v (suc k)) (λ k l. c (suc k) (omega (arith, l)))))
       ∙ put
     where
       others : List ℕ
@@ -131,8 +131,8 @@ module _ {A : Type 0} (thing : List ℕ → ℕ → Got A) (starting : List ℕ 
           r text rest (from + length (f 0) + 1) a b d₃ (ap (signAt (code "|") text) far ∙ s)
           ∙ ap (λ (q : ℕ). record { end = At q; value = tab (λ k. v (suc k)) (suc n) }) far
 
-      put : before (v 0) (record { end = At (from + length (fronted (code "|") f (suc n))); value = tab (λ k. v (suc k)) (suc n) }) ≡ record { end = At (from + length (fronted (code "|") f (suc n))); value = tab v (suc (suc n)) }
-      put = unfold before in ap (λ (l : List A). record { end = At (from + length (fronted (code "|") f (suc n))); value = l }) (sym (tab-front v (suc n)))
+      put : putBefore (v 0) (record { end = At (from + length (fronted (code "|") f (suc n))); value = tab (λ k. v (suc k)) (suc n) }) ≡ record { end = At (from + length (fronted (code "|") f (suc n))); value = tab v (suc (suc n)) }
+      put = unfold putBefore in ap (λ (l : List A). record { end = At (from + length (fronted (code "|") f (suc n))); value = l }) (sym (tab-front v (suc n)))
 
   -- the same for k things that are written with bars between them
   pub separated-trip : (k m : ℕ) → 0 < k → k ≤ m → (f : ℕ → List ℕ) (v : ℕ → A) → ((j : ℕ) → j < k → Comes thing (f j) (v j))

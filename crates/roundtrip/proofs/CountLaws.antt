@@ -12,7 +12,7 @@ use lib.Seq.{getD-drop}
 use borrow.Author.Tests.{eqb-true, eq-eqb, leb-true}
 use Rattle.words.specs.All.{all}
 use Rattle.words.specs.Counts.{branches, fields, values}
-use Rattle.words.specs.Sum.{sum, hit, one}
+use Rattle.words.specs.Sum.{sum, hit, oneIf}
 use Rattle.words.specs.Words.{at}
 use Rattle.words.proofs.PickLaws.{pick-yes}
 use Rattle.words.proofs.SumLaws.{sum-ext}
@@ -21,7 +21,7 @@ use Rattle.model.specs.Places.{kindPlace, taskPlace, entriesPlace, exitsPlace, 
 use Rattle.model.specs.Table.{kindIn, entryCount, exitCount, entryAt, exitAt, messageName, messageLength, itemAt}
 use Rattle.limits.specs.Limits.{messageFits, elementFits}
 use Rattle.elements.specs.Elements.{kindCount}
-use Rattle.occurrences.specs.Occurrences.{conditionCount, receivedCount, sentCount, ofKind, asExit, asEntry, asFirst, asTask, received, sent, isDefault, defaults, defaultOnce, bindsField, timesBound, templateOnce, boundOnce}
+use Rattle.occurrences.specs.Occurrences.{conditionCount, receivedCount, sentCount, ofKind, asExit, asEntry, asFirst, asTask, asReceived, asSent, isDefault, defaults, defaultOnce, bindsField, timesBound, templateOnce, boundOnce}
 use Rattle.trips.proofs.FitsLaws.{things-right, message-length, entries-fit, exits-fit, messages-fit}
 use Rattle.trips.proofs.TripLaws.{or-either}
 use Rattle.roundtrip.proofs.KindLaws.{kind-bounds, of-kind}
@@ -171,7 +171,7 @@ module _ (x el : List ℕ) (same : (i : ℕ) → i < elementWords → at x i ≡
 
   pub first-same : (e : ℕ) → asFirst e x ≡ asFirst e el
   unfolding asFirst
-  first-same e = ap₂ (λ k v. one (eqb k start && eqb v e)) kind-same (same (edgePlace entriesPlace 0) (omega arith))
+  first-same e = ap₂ (λ k v. oneIf (eqb k start && eqb v e)) kind-same (same (edgePlace entriesPlace 0) (omega arith))
 
   pub task-same : (n : ℕ) → asTask n x ≡ asTask n el
   unfolding asTask
@@ -189,14 +189,14 @@ module _ (x el : List ℕ) (same : (i : ℕ) → i < elementWords → at x i ≡
   unfolding conditionCount
   condition-count = ap₂ (λ k n. used (kindOf k .conditions) n) kind-same exit-count
 
-  pub received-same : (m : ℕ) → received m x ≡ received m el
-  unfolding received
+  pub received-same : (m : ℕ) → asReceived m x ≡ asReceived m el
+  unfolding asReceived
   received-same m =
       ap (sum (λ j. hit (messageName x j) m)) received-count
       ∙ sum-ext (λ j. hit (messageName x j) m) (λ j. hit (messageName el j) m) (receivedCount el) (λ j h. ap (λ (v : ℕ). hit v m) (same (messagePlace j) (omega (arith, h, received-most el fit))))
 
-  pub sent-same : (m : ℕ) → sent m x ≡ sent m el
-  unfolding sent
+  pub sent-same : (m : ℕ) → asSent m x ≡ asSent m el
+  unfolding asSent
   sent-same m =
       ap (sum (λ j. hit (messageName x j) m)) sent-count
       ∙ sum-ext (λ j. hit (messageName x j) m) (λ j. hit (messageName el j) m) (sentCount el) (λ j h. ap (λ (v : ℕ). hit v m) (same (messagePlace j) (omega (arith, h, sent-most el fit))))
@@ -211,7 +211,7 @@ module _ (x el : List ℕ) (same : (i : ℕ) → i < elementWords → at x i ≡
   binds-same : (j i d : ℕ) → j < branches → i < values → bindsField d (itemAt x j i) ≡ bindsField d (itemAt el j i)
   unfolding bindsField
   binds-same j i d h u =
-      ap₂ (λ f v. one (eqb f binding && eqb v d)) (tail-same (itemPlace j i) 0 (omega (arith, h, u))) (tail-same (itemPlace j i) 2 (omega (arith, h, u)))
+      ap₂ (λ f v. oneIf (eqb f binding && eqb v d)) (tail-same (itemPlace j i) 0 (omega (arith, h, u))) (tail-same (itemPlace j i) 2 (omega (arith, h, u)))
 
   times-same : (j d : ℕ) → j < receivedCount el → timesBound x j d ≡ timesBound el j d
   unfolding timesBound

@@ -10,7 +10,7 @@ use lib.Seq.{getD-take}
 use Rattle.words.specs.Counts.{poolNumbers, edges, tasks, names}
 use Rattle.words.specs.Each.{total, each, tab}
 use Rattle.words.specs.Pick.{if_then_else_}
-use Rattle.words.specs.Sum.{hit, one}
+use Rattle.words.specs.Sum.{hit, oneIf}
 use Rattle.words.specs.Words.{at}
 use Rattle.words.proofs.EachLaws.{total-tab, each-append}
 use Rattle.words.proofs.SumLaws.{sum-ext}
@@ -18,8 +18,8 @@ use Rattle.kinds.specs.Kinds.{start, startRcv}
 use Rattle.model.specs.Places.{elementWords}
 use Rattle.model.specs.Table.{poolCount, elementCount, elementAt}
 use Rattle.limits.specs.Limits.{elementFits, poolFits, tableFits}
-use Rattle.occurrences.specs.Occurrences.{ofKind, asExit, asEntry, asFirst, asTask, received, sent, defaultOnce, boundOnce}
-use Rattle.checks.specs.Checks.{Pool, check1, check2, check3, edgeRight, check4, check5, receives, sends, notSentThere, check6, check7, check8, lowest}
+use Rattle.occurrences.specs.Occurrences.{ofKind, asExit, asEntry, asFirst, asTask, asReceived, asSent, defaultOnce, boundOnce}
+use Rattle.checks.specs.Checks.{Pool, check1, check2, check3, edgeRight, check4, check5, poolReceives, poolSends, notSentThere, check6, check7, check8, lowest}
 use Rattle.lowest.specs.Model.{poolAt, modelOf}
 use Rattle.roundtrip.specs.Blocks.{wordsAt, blockAt, blocksOf}
 use Rattle.roundtrip.proofs.TableFits.{pools-fit, elements-fit}
@@ -84,13 +84,13 @@ module _ (t : List ℕ) (p : ℕ) (fit : poolFits t p ≡ true) where
   unfolding check5
   same5 = all-ext _ _ tasks (λ k h. ap (λ (n : ℕ). leb n 1) (totals (asTask (k + 1)) (λ el f. task-same (take elementWords el) el (cut el) f (k + 1))))
 
-  receives-same : (m : ℕ) → receives m (blockAt t p) ≡ receives m (poolAt t p)
-  unfolding receives
-  receives-same m = ap (ltb 0) (totals (received m) (λ el f. received-same (take elementWords el) el (cut el) f m))
+  receives-same : (m : ℕ) → poolReceives m (blockAt t p) ≡ poolReceives m (poolAt t p)
+  unfolding poolReceives
+  receives-same m = ap (ltb 0) (totals (asReceived m) (λ el f. received-same (take elementWords el) el (cut el) f m))
 
-  sends-same : (m : ℕ) → sends m (blockAt t p) ≡ sends m (poolAt t p)
-  unfolding sends
-  sends-same m = ap (ltb 0) (totals (sent m) (λ el f. sent-same (take elementWords el) el (cut el) f m))
+  sends-same : (m : ℕ) → poolSends m (blockAt t p) ≡ poolSends m (poolAt t p)
+  unfolding poolSends
+  sends-same m = ap (ltb 0) (totals (asSent m) (λ el f. sent-same (take elementWords el) el (cut el) f m))
 
   there-same : notSentThere (blockAt t p) ≡ notSentThere (poolAt t p)
   unfolding notSentThere
@@ -122,7 +122,7 @@ module _ (t : List ℕ) (fit : tableFits t ≡ true) where
   unfolding check6
   same6 =
       ap₂ (λ a b. a && b)
-      (all-ext _ _ names (λ m h. ap (λ (n : ℕ). leb n 1) (sum-pools (λ p. one (receives m p)) (λ p f. ap one (receives-same t p f m)))))
+      (all-ext _ _ names (λ m h. ap (λ (n : ℕ). leb n 1) (sum-pools (λ p. oneIf (poolReceives m p)) (λ p f. ap oneIf (receives-same t p f m)))))
       (all-pools notSentThere (there-same t))
 
   -- THE LAW

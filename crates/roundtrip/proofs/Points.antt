@@ -19,9 +19,9 @@ use Rattle.reading.specs.declared.Read.the-variants.{At}
 use Rattle.reading.specs.Reading.{ifAt, onward, signAt, endAt, keepNumber, number, _then_}
 use Rattle.parts.specs.Parts.{oneEdge, partOf}
 use Rattle.elements.specs.Elements.{isKeyword, kindNamed, blank, partsFrom, partsOf, elementOf, element}
-use Rattle.occurrences.specs.Occurrences.{conditionCount, receivedCount, sentCount, ofKind, asExit, asEntry, asFirst, asTask, received, sent, isDefault, defaults, defaultOnce, boundOnce}
-use Rattle.checks.specs.Checks.{check1, check2, check3, edgeRight, check4, check5, receives, sends, notSentThere, check6, check7, check8, lowest}
-use Rattle.notation.specs.Notation.{before, barred, elementAlone, elementsAt, poolNamed, opening, closing, closed, inside, poolOf, pool, poolsAt, model, flat, filled, poolTable, tableOf, taken}
+use Rattle.occurrences.specs.Occurrences.{conditionCount, receivedCount, sentCount, ofKind, asExit, asEntry, asFirst, asTask, asReceived, asSent, isDefault, defaults, defaultOnce, boundOnce}
+use Rattle.checks.specs.Checks.{check1, check2, check3, edgeRight, check4, check5, poolReceives, poolSends, notSentThere, check6, check7, check8, lowest}
+use Rattle.notation.specs.Notation.{putBefore, barred, elementAlone, elementsAt, poolWord, opening, closing, closed, insidePool, poolOfWord, pool, poolsAt, model, flat, filled, poolTable, tableOf, readInto}
 use Rattle.decimals.specs.Decimals.{shownFrom, shown}
 use Rattle.shown.specs.Shown.{lead, separated, shownPart, shownParts, shownElement, shownElements, shownLimit, shownPool, shownPools, shownTable}
 use Rattle.roundtrip.proofs.RoundTrip.{read-again}
@@ -30,20 +30,20 @@ abbrev sample : List ℕ
 sample = bytes "pool(1,start(1,2)|end(2))\n"
 
 sample-read : model sample .end ≡ At 26
-unfolding among between isBlank isWord isLetter isDigit isSign past tokenOf tokenHere tokenAt ifWord ifSign ifEnd valueFrom leadingZero numberOf sameBytes ifAt onward _then_ signAt endAt keepNumber number oneEdge partOf isKeyword kindNamed blank partsFrom partsOf elementOf element before barred elementAlone elementsAt poolNamed opening closing closed inside poolOf pool poolsAt model seek kindOf if_then_else_
+unfolding among between isBlank isWord isLetter isDigit isSign past tokenOf tokenHere tokenAt ifWord ifSign ifEnd valueFrom leadingZero numberOf sameBytes ifAt onward _then_ signAt endAt keepNumber number oneEdge partOf isKeyword kindNamed blank partsFrom partsOf elementOf element putBefore barred elementAlone elementsAt poolWord opening closing closed insidePool poolOfWord pool poolsAt model seek kindOf if_then_else_
 sample-read = refl
 
 sample-sound : lowest (model sample .value) ≡ 0
-unfolding among between isBlank isWord isLetter isDigit isSign past tokenOf tokenHere tokenAt ifWord ifSign ifEnd valueFrom leadingZero numberOf sameBytes ifAt onward _then_ signAt endAt keepNumber number oneEdge partOf isKeyword kindNamed blank partsFrom partsOf elementOf element before barred elementAlone elementsAt poolNamed opening closing closed inside poolOf pool poolsAt model seek kindOf if_then_else_ all total each sum used entryCount exitCount conditionCount receivedCount sentCount ofKind asExit asEntry asFirst asTask received sent isDefault defaults defaultOnce boundOnce check1 check2 check3 edgeRight check4 check5 receives sends notSentThere check6 check7 check8 lowest
+unfolding among between isBlank isWord isLetter isDigit isSign past tokenOf tokenHere tokenAt ifWord ifSign ifEnd valueFrom leadingZero numberOf sameBytes ifAt onward _then_ signAt endAt keepNumber number oneEdge partOf isKeyword kindNamed blank partsFrom partsOf elementOf element putBefore barred elementAlone elementsAt poolWord opening closing closed insidePool poolOfWord pool poolsAt model seek kindOf if_then_else_ all total each sum used entryCount exitCount conditionCount receivedCount sentCount ofKind asExit asEntry asFirst asTask asReceived asSent isDefault defaults defaultOnce boundOnce check1 check2 check3 edgeRight check4 check5 poolReceives poolSends notSentThere check6 check7 check8 lowest
 sample-sound = refl
 
 sample-text : shownTable (tableOf (model sample .value)) ≡ sample
-unfolding among between isBlank isWord isLetter isDigit isSign past tokenOf tokenHere tokenAt ifWord ifSign ifEnd valueFrom leadingZero numberOf sameBytes ifAt onward _then_ signAt endAt keepNumber number oneEdge partOf isKeyword kindNamed blank partsFrom partsOf elementOf element before barred elementAlone elementsAt poolNamed opening closing closed inside poolOf pool poolsAt model seek kindOf if_then_else_ flat filled poolTable tableOf joined shownFrom shown lead separated shownPart shownParts shownElement shownElements shownLimit shownPool shownPools shownTable
+unfolding among between isBlank isWord isLetter isDigit isSign past tokenOf tokenHere tokenAt ifWord ifSign ifEnd valueFrom leadingZero numberOf sameBytes ifAt onward _then_ signAt endAt keepNumber number oneEdge partOf isKeyword kindNamed blank partsFrom partsOf elementOf element putBefore barred elementAlone elementsAt poolWord opening closing closed insidePool poolOfWord pool poolsAt model seek kindOf if_then_else_ flat filled poolTable tableOf joined shownFrom shown lead separated shownPart shownParts shownElement shownElements shownLimit shownPool shownPools shownTable
 sample-text = refl
 
 -- the laws apply to it
-pub sample-again : (t₀ : List ℕ) → taken sample t₀ ≡ record { number = 0; beside = 0; table = tableOf (model sample .value) }
+pub sample-again : (t₀ : List ℕ) → readInto sample t₀ ≡ record { number = 0; beside = 0; table = tableOf (model sample .value) }
 sample-again t₀ =
-    ap (λ (text : List ℕ). taken text t₀) (sym sample-text)
+    ap (λ (text : List ℕ). readInto text t₀) (sym sample-text)
     ∙ read-again sample 26 sample-read t₀ sample-sound
     (subst (λ (text : List ℕ). length text ≤ textMost) (sym sample-text) (leb-true (length sample) textMost refl))

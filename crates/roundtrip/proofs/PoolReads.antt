@@ -26,7 +26,7 @@ use Rattle.reading.specs.Reading.{Parsed, misplaced, passed, ifAt}
 use Rattle.decimals.specs.Decimals.{shown}
 use Rattle.elements.specs.Elements.{startsElement}
 use Rattle.checks.specs.Checks.{Pool}
-use Rattle.notation.specs.Notation.{elementAlone, elementsAt, plain, poolNamed, opening, closing, unread, closed, inside, poolOf, pool}
+use Rattle.notation.specs.Notation.{elementAlone, elementsAt, plain, poolWord, opening, closing, unread, closed, insidePool, poolOfWord, pool}
 use Rattle.shown.specs.Shown.{shownElement, shownElements, shownLimit, shownPool}
 use Rattle.trips.specs.Trip.{stops}
 use Rattle.trips.proofs.SignReads.{opens, sign-miss, sign-stops}
@@ -40,26 +40,26 @@ block n m els = record { number = n; limit = m; elements = els }
 
 -- inside the parentheses: its number, its elements, its end
 inside-at : (k : ℕ) (text : List ℕ) (h : Parsed) (a c : ℕ) (w : List ℕ) (els : List (List ℕ)) (r : Parsed)
-    → h ≡ passed a w → elementsAt text a ≡ record { end = At c; value = els } → closing k text c w ≡ r → inside k text h ≡ closed r els
-unfolding inside ifAt
+    → h ≡ passed a w → elementsAt text a ≡ record { end = At c; value = els } → closing k text c w ≡ r → insidePool k text h ≡ closed r els
+unfolding insidePool ifAt
 inside-at k text h a c w els r e f g = rw (e, f, g)
 
 -- the word of a pool, and what is inside
-pool-at : (text w rest : List ℕ) (from k : ℕ) → drop from text ≡ w ++ rest → Worded w → stops rest ≡ true → poolNamed w ≡ k → (k ≡ 0 → ⊥)
-    → pool text from ≡ inside k text (opening text (from + length w) (0 ∷ 0 ∷ []))
+pool-at : (text w rest : List ℕ) (from k : ℕ) → drop from text ≡ w ++ rest → Worded w → stops rest ≡ true → poolWord w ≡ k → (k ≡ 0 → ⊥)
+    → pool text from ≡ insidePool k text (opening text (from + length w) (0 ∷ 0 ∷ []))
 pool-at text w rest from k d g s e n =
     taken
-    ∙ ap (λ (j : ℕ). poolOf j text from (from + length w)) e
+    ∙ ap (λ (j : ℕ). poolOfWord j text from (from + length w)) e
     ∙ chosen
   where
-    taken : pool text from ≡ poolOf (poolNamed w) text from (from + length w)
+    taken : pool text from ≡ poolOfWord (poolWord w) text from (from + length w)
     taken =
         unfold pool ifWord in
-        ap (λ (z : Token). ifWord (z .form) (poolOf (poolNamed (part text (z .at) (z .next))) text (z .at) (z .next)) (unread (Refused misplaced (z .at)))) (word-token text w rest from d g s)
-        ∙ ap (λ (v : List ℕ). poolOf (poolNamed v) text from (from + length w)) (bytes-at text from w rest d)
+        ap (λ (z : Token). ifWord (z .form) (poolOfWord (poolWord (part text (z .at) (z .next))) text (z .at) (z .next)) (unread (Refused misplaced (z .at)))) (word-token text w rest from d g s)
+        ∙ ap (λ (v : List ℕ). poolOfWord (poolWord v) text from (from + length w)) (bytes-at text from w rest d)
 
-    chosen : poolOf k text from (from + length w) ≡ inside k text (opening text (from + length w) (0 ∷ 0 ∷ []))
-    chosen = unfold poolOf in sym (pick-no (eqb k 0) _ _ _ (ne-eqb k 0 n) refl)
+    chosen : poolOfWord k text from (from + length w) ≡ insidePool k text (opening text (from + length w) (0 ∷ 0 ∷ []))
+    chosen = unfold poolOfWord in sym (pick-no (eqb k 0) _ _ _ (ne-eqb k 0 n) refl)
 
 module _ (text rest : List ℕ) (from n : ℕ) (els : List (List ℕ)) (es : List ℕ) (l : 1 ≤ n) (u : n ≤ poolNumbers) where
   -- what stands inside, and what is read of it
@@ -72,7 +72,7 @@ module _ (text rest : List ℕ) (from n : ℕ) (els : List (List ℕ)) (es : Lis
       → pool text from ≡ record { end = At (from + (4 + (length (shown n) + 2 + (length es + 1)))); value = block n 0 els }
   plain-trip d h =
       pool-at text (bytes "pool") (code "(" ∷ (shown n ++ (code "," ∷ (es ++ (code ")" ∷ rest))))) from 1 d (record { some = omega arith; plain = unfold each isWord isLetter isDigit between in refl })
-      (sign-stops (code "(") _ (unfold isSign among in refl)) (unfold poolNamed sameBytes if_then_else_ in refl) (λ e. omega (arith, e))
+      (sign-stops (code "(") _ (unfold isSign among in refl)) (unfold poolWord sameBytes if_then_else_ in refl) (λ e. omega (arith, e))
       ∙ inside-at 1 text _ a (a + length es) (n ∷ 0 ∷ []) els (passed (a + length es + 1) (n ∷ 0 ∷ []))
       (opening-trip text (es ++ (code ")" ∷ rest)) (from + 4) n l u d₁) (h a d₂) (closing-plain text rest (a + length es) (n ∷ 0 ∷ []) (left-at text a es (code ")" ∷ rest) d₂))
       ∙ done
@@ -95,7 +95,7 @@ module _ (text rest : List ℕ) (from n : ℕ) (els : List (List ℕ)) (es : Lis
       → pool text from ≡ record { end = At (from + (6 + (length (shown n) + 2 + (length es + (length (shown m) + 2))))); value = block n m els }
   multiple-trip m lm um d h =
       pool-at text (bytes "miPool") (code "(" ∷ (shown n ++ (code "," ∷ (es ++ (code "," ∷ (shown m ++ (code ")" ∷ rest))))))) from 2 d (record { some = omega arith; plain = unfold each isWord isLetter isDigit between in refl })
-      (sign-stops (code "(") _ (unfold isSign among in refl)) (unfold poolNamed sameBytes if_then_else_ in refl) (λ e. omega (arith, e))
+      (sign-stops (code "(") _ (unfold isSign among in refl)) (unfold poolWord sameBytes if_then_else_ in refl) (λ e. omega (arith, e))
       ∙ inside-at 2 text _ a (a + length es) (n ∷ 0 ∷ []) els (passed (a + length es + (length (shown m) + 2)) (n ∷ m ∷ []))
       (opening-trip text (es ++ (code "," ∷ (shown m ++ (code ")" ∷ rest)))) (from + 6) n l u d₁) (h a d₂)
       (closing-multiple text rest (a + length es) m n lm um (left-at text a es (code "," ∷ (shown m ++ (code ")" ∷ rest))) d₂))

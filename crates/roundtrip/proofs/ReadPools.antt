@@ -19,7 +19,7 @@ use Rattle.reading.specs.declared.Read.the-variants.{At, Refused}
 use Rattle.reading.specs.Reading.{Parsed, Reader, misplaced, passed, ifAt, onward, _then_, placeOf, behind, letters, signAt, endAt, sign, number}
 use Rattle.elements.specs.Elements.{element, startsElement}
 use Rattle.checks.specs.Checks.{Pool}
-use Rattle.notation.specs.Notation.{Got, oneTooMany, before, barred, elementAlone, elementsAt, plain, poolNamed, opening, closing, unread, closed, inside, poolOf, pool, startsPool, poolsAt, model}
+use Rattle.notation.specs.Notation.{Got, oneTooMany, putBefore, barred, elementAlone, elementsAt, plain, poolWord, opening, closing, unread, closed, insidePool, poolOfWord, pool, startsPool, poolsAt, model}
 use Rattle.roundtrip.proofs.FillLaws.{onward-passed}
 use Rattle.roundtrip.proofs.WordFills.{Kept, number-passed}
 use Rattle.roundtrip.proofs.ReadElements.{Right, element-right}
@@ -43,8 +43,8 @@ module _ {A : Type 0} (thing : List ℕ → ℕ → Got A) (starting : List ℕ 
 
   -- behind a thing: a bar and more things, or their end
   behind-one : (n q a : ℕ) (v : A) (s : Read) (more : ℕ → Got (List A)) → P v → ((b : ℕ) → more b .end ≡ At q → Some n (more b .value))
-      → ifAt s (λ b. before v (more b)) (record { end = At a; value = v ∷ [] }) .end ≡ At q → Some (suc n) (ifAt s (λ b. before v (more b)) (record { end = At a; value = v ∷ [] }) .value)
-  unfolding ifAt before
+      → ifAt s (λ b. putBefore v (more b)) (record { end = At a; value = v ∷ [] }) .end ≡ At q → Some (suc n) (ifAt s (λ b. putBefore v (more b)) (record { end = At a; value = v ∷ [] }) .value)
+  unfolding ifAt putBefore
   behind-one n q a v (At b) more p f e = let m = f b e in record { low = omega arith; high = omega (arith, m .high); every = (p, m .every) }
   behind-one n q a v (Refused c d) more p f e = record { low = omega arith; high = omega arith; every = (p, omega arith) }
 
@@ -63,7 +63,7 @@ module _ {A : Type 0} (thing : List ℕ → ℕ → Got A) (starting : List ℕ 
   barred-some zero text from q e = absurd (too-many (starting text from) (placeOf text from) q e)
   barred-some (suc n) text from q e =
       one-first (suc n) q (thing text from .end)
-      (λ a. ifAt (signAt (code "|") text a) (λ b. before (thing text from .value) (barred thing starting n text b)) (record { end = At a; value = thing text from .value ∷ [] }))
+      (λ a. ifAt (signAt (code "|") text a) (λ b. putBefore (thing text from .value) (barred thing starting n text b)) (record { end = At a; value = thing text from .value ∷ [] }))
       (λ a h k. behind-one n q a (thing text from .value) (signAt (code "|") text a) (barred thing starting n text) (good text from a h) (λ b m. barred-some n text b q m) k) e
 
 -- ELEMENTS
@@ -141,8 +141,8 @@ closing-end : (r : Parsed) (els : List (List ℕ)) (q : ℕ) → closed r els .e
 unfolding closed
 closing-end r els q e = passed-as r q e
 
-inside-fit : (k : ℕ) (text : List ℕ) (from q : ℕ) → inside k text (opening text from (0 ∷ 0 ∷ [])) .end ≡ At q → Fit (inside k text (opening text from (0 ∷ 0 ∷ [])) .value)
-unfolding inside
+inside-fit : (k : ℕ) (text : List ℕ) (from q : ℕ) → insidePool k text (opening text from (0 ∷ 0 ∷ [])) .end ≡ At q → Fit (insidePool k text (opening text from (0 ∷ 0 ∷ [])) .value)
+unfolding insidePool
 inside-fit k text from q e =
     got-passed (opening text from (0 ∷ 0 ∷ []) .end) _ q
     (λ a z.
@@ -158,12 +158,12 @@ inside-fit k text from q e =
         (closing-words k v text c q (closing k text c w .words) (ap (closing k text c) s ∙ closing-end (closing k text c w) (elementsAt text a .value) q h))
         (elements-good text a c y) h
 
-pool-of-fit : (k p : ℕ) (text : List ℕ) (from q : ℕ) → poolOf k text p from .end ≡ At q → Fit (poolOf k text p from .value)
-unfolding poolOf
+pool-of-fit : (k p : ℕ) (text : List ℕ) (from q : ℕ) → poolOfWord k text p from .end ≡ At q → Fit (poolOfWord k text p from .value)
+unfolding poolOfWord
 pool-of-fit k p text from q e = go (eqb k 0) e
   where
-    go : (b : Bool) → (if b then unread (Refused misplaced p) else inside k text (opening text from (0 ∷ 0 ∷ []))) .end ≡ At q
-        → Fit ((if b then unread (Refused misplaced p) else inside k text (opening text from (0 ∷ 0 ∷ []))) .value)
+    go : (b : Bool) → (if b then unread (Refused misplaced p) else insidePool k text (opening text from (0 ∷ 0 ∷ []))) .end ≡ At q
+        → Fit ((if b then unread (Refused misplaced p) else insidePool k text (opening text from (0 ∷ 0 ∷ []))) .value)
     go true e = absurd (not-at misplaced p q (unfold if_then_else_ in e))
     go false e = unfold if_then_else_ in inside-fit k text from q e
 
@@ -178,8 +178,8 @@ word-got Other g n p q f e = absurd (not-at n p q e)
 pool-fit : (text : List ℕ) (from q : ℕ) → pool text from .end ≡ At q → Fit (pool text from .value)
 unfolding pool
 pool-fit text from q e =
-    word-got (tokenAt text from .form) (poolOf (poolNamed (letters text from)) text (placeOf text from) (behind text from)) misplaced (placeOf text from) q
-    (pool-of-fit (poolNamed (letters text from)) (placeOf text from) text (behind text from) q) e
+    word-got (tokenAt text from .form) (poolOfWord (poolWord (letters text from)) text (placeOf text from) (behind text from)) misplaced (placeOf text from) q
+    (pool-of-fit (poolWord (letters text from)) (placeOf text from) text (behind text from) q) e
 
 -- THE MODEL: 1 to 4 pools
 pub record Model (ps : List Pool) : Type 0 where

@@ -14,7 +14,7 @@ use Rattle.limits.specs.Limits.{tableFits}
 use Rattle.reading.specs.declared.Read.the-variants.{At}
 use Rattle.checks.specs.Checks.{Pool, lowest}
 use Rattle.lowest.specs.Model.{modelOf}
-use Rattle.notation.specs.Notation.{Got, Taken, model, tableOf, checked, judged, taken}
+use Rattle.notation.specs.Notation.{Got, ReadInto, model, tableOf, checked, judged, readInto}
 use Rattle.shown.specs.Shown.{shownTable}
 use Rattle.roundtrip.specs.Blocks.{blocksOf}
 use Rattle.roundtrip.proofs.ModelReads.{model-read}
@@ -23,13 +23,13 @@ use Rattle.roundtrip.proofs.LowestLaws.{lowest-same}
 use Rattle.roundtrip.proofs.ReadPools.{model-fit}
 use Rattle.roundtrip.proofs.ReadTables.{table-small, table-fits, table-long, blocks-are}
 
-abbrev accepted : List ℕ → Taken
+abbrev accepted : List ℕ → ReadInto
 accepted t = record { number = 0; beside = 0; table = t }
 
 -- a table of words, within its limits and with no check broken, whose text is not too long
 module _ (t t₀ : List ℕ) (small : (i : ℕ) → at t i ≤ greatest) (fit : tableFits t ≡ true) (sound : lowest (modelOf t) ≡ 0) (long : length t ≡ tableWords) (short : length (shownTable t) ≤ textMost) where
-  pub read-back : taken (shownTable t) t₀ ≡ record { number = 0; beside = 0; table = t }
-  unfolding taken
+  pub read-back : readInto (shownTable t) t₀ ≡ record { number = 0; beside = 0; table = t }
+  unfolding readInto
   read-back =
       sym (pick-no (ltb textMost (length (shownTable t))) _ _ _ (le-ltb textMost (length (shownTable t)) short) refl)
       ∙ ap (λ (g : Got (List Pool)). judged (g .end) (g .value) t₀) (model-read t small fit long)
@@ -39,8 +39,8 @@ module _ (t t₀ : List ℕ) (small : (i : ℕ) → at t i ≤ greatest) (fit : 
       judge : judged (At (length (shownTable t))) (blocksOf t) t₀ ≡ accepted (tableOf (blocksOf t))
       judge = unfold judged checked in sym (pick-yes (eqb (lowest (blocksOf t)) 0) _ _ _ (eq-eqb (lowest (blocksOf t)) 0 (lowest-same t fit ∙ sound)) refl)
 
-  pub write-again : shownTable (taken (shownTable t) t₀ .table) ≡ shownTable t
-  write-again = ap (λ (r : Taken). shownTable (r .table)) read-back
+  pub write-again : shownTable (readInto (shownTable t) t₀ .table) ≡ shownTable t
+  write-again = ap (λ (r : ReadInto). shownTable (r .table)) read-back
 
 -- A TABLE THAT WAS READ: it is a table of words, within its limits and with no check broken, so that its text is read back too
 module _ (text : List ℕ) (q : ℕ) (end : model text .end ≡ At q) where
@@ -58,5 +58,5 @@ module _ (text : List ℕ) (q : ℕ) (end : model text .end ≡ At q) where
   read-lowest = sym (lowest-same (tableOf (model text .value)) read-fits) ∙ ap lowest (blocks-are (model text .value) (model-fit text q end))
 
   pub read-again : (t₀ : List ℕ) → lowest (model text .value) ≡ 0 → length (shownTable (tableOf (model text .value))) ≤ textMost
-      → taken (shownTable (tableOf (model text .value))) t₀ ≡ record { number = 0; beside = 0; table = tableOf (model text .value) }
+      → readInto (shownTable (tableOf (model text .value))) t₀ ≡ record { number = 0; beside = 0; table = tableOf (model text .value) }
   read-again t₀ sound short = read-back (tableOf (model text .value)) t₀ read-small read-fits (read-lowest ∙ sound) read-long short

@@ -45,12 +45,18 @@ back a s z y e =
 pub length-stored : (s : List ℕ) (p i : ℕ) (h : List ℕ) (made : ℕ) → length (storedIn s p i h made) ≡ length s
 length-stored s p i h made = simp length-set (length-writes (at h) s (instancePlace p i) instanceWords)
 
--- the two writes of a step, y after the first and w after the second
+-- the two writes of a step, y after the first and w after the second; over any place a where the parts meet
+both-at : (a : ℕ) (z y w s : List ℕ) (f : List ℕ → List ℕ) → length s ≡ a
+    → y ≡ s ++ drop a z
+    → w ≡ take a y ++ f (drop a y)
+    → w ≡ s ++ f (drop a z)
+both-at a z y w s f l e d = d ∙ rw (e, take-at s (drop a z) a l, drop-at s (drop a z) a l)
+
 pub both-parts : (z y w s : List ℕ) (f : List ℕ → List ℕ) → length s ≡ instancesWords
     → y ≡ s ++ queuesOf z
     → w ≡ instancesOf y ++ f (queuesOf y)
     → w ≡ s ++ f (queuesOf z)
-both-parts z y w s f l e d = d ∙ rw (e, take-at s (queuesOf z) instancesWords l, drop-at s (queuesOf z) instancesWords l)
+both-parts = both-at instancesWords
 
 -- the writes of an accepted step, and its answer
 pub applied : (el h z : List ℕ) (m : Move) (p : ℕ) (n : Name) (made : ℕ) (plan : Plan) (name now : ℕ) (y w : List ℕ) (r : Answer)
@@ -68,15 +74,21 @@ applied el h z m p n made plan name now y w r l e₁ e₂ e₃ e₄ e₅ =
     }
 
 -- a post
+posted-at : (a : ℕ) (z q : List ℕ) (r name : ℕ) (g : Tuple) → a ≤ length z
+    → _≡_ {A = Posted} (record { number = r; queues = q }) (posted (take (length z - a) (drop a z)) name g)
+    → (_≡_ {A = Posted} (record { number = r; queues = drop a (take a z ++ (q ++ drop (length z - a) (drop a z))) }) (posted (drop a z) name g))
+    × (take a (take a z ++ (q ++ drop (length z - a) (drop a z))) ≡ take a z)
+posted-at a z q r name g l e =
+    let k : take a z ++ (q ++ drop (length z - a) (drop a z)) ≡ take a z ++ q = back a z q q refl in
+    let long : length (take a z) ≡ a = length-take-le a z l in
+    let f : _≡_ {A = Posted} (record { number = r; queues = q }) (posted (drop a z) name g) = rw (tail-in z a) at e in
+    (rw (k, drop-at (take a z) q a long) f, rw (k, take-at (take a z) q a long))
+
 pub posted-back : (z q : List ℕ) (r name : ℕ) (g : Tuple) → instancesWords ≤ length z
     → _≡_ {A = Posted} (record { number = r; queues = q }) (posted (take (length z - instancesWords) (drop instancesWords z)) name g)
     → (_≡_ {A = Posted} (record { number = r; queues = queuesOf (take instancesWords z ++ (q ++ drop (length z - instancesWords) (drop instancesWords z))) }) (posted (queuesOf z) name g))
     × (instancesOf (take instancesWords z ++ (q ++ drop (length z - instancesWords) (drop instancesWords z))) ≡ instancesOf z)
-posted-back z q r name g l e =
-    let k : take instancesWords z ++ (q ++ drop (length z - instancesWords) (drop instancesWords z)) ≡ take instancesWords z ++ q = back instancesWords z q q refl in
-    let long : length (take instancesWords z) ≡ instancesWords = length-take-le instancesWords z l in
-    let f : _≡_ {A = Posted} (record { number = r; queues = q }) (posted (queuesOf z) name g) = rw (tail-in z instancesWords) at e in
-    (rw (k, drop-at (take instancesWords z) q instancesWords long) f, rw (k, take-at (take instancesWords z) q instancesWords long))
+posted-back = posted-at instancesWords
 
 -- refusals and outcomes at a place; h is the copy of the instance h₀
 module _ (el h h₀ : List ℕ) (same : h ≡ h₀) (m : Move) (made limit p : ℕ) (n : Name) (z : List ℕ) (plan : Plan) (copy : List ℕ) (r : Answer)

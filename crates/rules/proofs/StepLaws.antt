@@ -17,7 +17,7 @@ use Rattle.meaning.specs.declared.Name.{Name}
 use Rattle.meaning.specs.Messages.{has}
 use Rattle.meaning.specs.Queues.{messagesOf, sending, consuming, Tidy}
 use Rattle.meaning.specs.Refusals.{firstRefusal}
-use Rattle.meaning.specs.Step.{Site, siteOf, receives, sends, nameAt, sent, queued, space, refusalsAt, refusals, instancesAfter, queuesAfter, traffic, Outcome, refused, step}
+use Rattle.meaning.specs.Step.{Site, siteOf, receives, sends, messageNamed, sent, queued, space, refusalsAt, refusals, instancesAfter, queuesAfter, traffic, Outcome, refused, step}
 use Rattle.meaning.specs.Post.{Posted, postRefusals, post}
 use Rattle.queues.specs.Changes.{oldest, extended, removed}
 use Rattle.queues.proofs.QueueLaws.{count-is, extended-is, removed-is}
@@ -30,23 +30,23 @@ module _ (q : List ℕ) (long : length q ≡ queueWords * names) (tidy : (m : �
       let l : length (messagesOf q m) < messages = ltb-true (length (messagesOf q m)) messages e in
       extended-is q m long h (tidy m h) g (omega (arith, count-is q m))
 
-  changed-is : (x : Site) → (receives x ≡ true → nameAt x < names) → (sends x ≡ true → nameAt x < names) → queued x q ≡ true → space x q ≡ true
+  changed-is : (x : Site) → (receives x ≡ true → messageNamed x < names) → (sends x ≡ true → messageNamed x < names) → queued x q ≡ true → space x q ≡ true
       → queuesChanged x q ≡ queuesAfter x q
   unfolding queuesChanged queuesAfter queued space if_then_else_
   changed-is x f h a b = go (receives x) (sends x) f h a b
     where
-      go : (r s : Bool) → (r ≡ true → nameAt x < names) → (s ≡ true → nameAt x < names) → (if r then has (x .given) (messagesOf q (nameAt x)) else true) ≡ true
-          → (if s then ltb (length (messagesOf q (nameAt x))) messages else true) ≡ true
-          → (if r then removed q (nameAt x) (oldest q (nameAt x) (x .given)) else if s then extended q (nameAt x) (sent x .tuple) else q)
-          ≡ (if r then consuming q (nameAt x) (x .given) else if s then sending q (nameAt x) (sent x .tuple) else q)
-      go true s f h a b = removed-is q (nameAt x) long (f refl) (tidy (nameAt x) (f refl)) (x .given) a
-      go false true f h a b = sending-is (nameAt x) (sent x .tuple) (h refl) b
+      go : (r s : Bool) → (r ≡ true → messageNamed x < names) → (s ≡ true → messageNamed x < names) → (if r then has (x .given) (messagesOf q (messageNamed x)) else true) ≡ true
+          → (if s then ltb (length (messagesOf q (messageNamed x))) messages else true) ≡ true
+          → (if r then removed q (messageNamed x) (oldest q (messageNamed x) (x .given)) else if s then extended q (messageNamed x) (sent x .tuple) else q)
+          ≡ (if r then consuming q (messageNamed x) (x .given) else if s then sending q (messageNamed x) (sent x .tuple) else q)
+      go true s f h a b = removed-is q (messageNamed x) long (f refl) (tidy (messageNamed x) (f refl)) (x .given) a
+      go false true f h a b = sending-is (messageNamed x) (sent x .tuple) (h refl) b
       go false false f h a b = refl
 
   -- a step that, where it is accepted, receives and sends under the names that there are
   module _ (t s : List ℕ) (n : Name)
-      (received : firstRefusal (refusals t s q n) ≡ 0 → receives (siteOf t s n) ≡ true → nameAt (siteOf t s n) < names)
-      (delivered : firstRefusal (refusals t s q n) ≡ 0 → sends (siteOf t s n) ≡ true → nameAt (siteOf t s n) < names) where
+      (received : firstRefusal (refusals t s q n) ≡ 0 → receives (siteOf t s n) ≡ true → messageNamed (siteOf t s n) < names)
+      (delivered : firstRefusal (refusals t s q n) ≡ 0 → sends (siteOf t s n) ≡ true → messageNamed (siteOf t s n) < names) where
     all-numbered : numbered (refusals t s q n) ≡ true
     unfolding numbered each refusals refusalsAt
     all-numbered = refl

@@ -9,14 +9,14 @@ use Rattle.meaning.specs.declared.Tuple.{Tuple}
 use Rattle.meaning.specs.declared.Name.{Name}
 use Rattle.meaning.specs.declared.Answer.{Answer}
 use Rattle.meaning.specs.Refusals.{firstRefusal}
-use Rattle.meaning.specs.Step.{Site, siteOf, receives, sends, nameAt, sent, refusals, instancesAfter, traffic, Outcome, refused}
+use Rattle.meaning.specs.Step.{Site, siteOf, receives, sends, messageNamed, sent, refusals, instancesAfter, traffic, Outcome, refused}
 use Rattle.meaning.specs.Post.{Posted, postRefusals}
 use Rattle.queues.specs.Changes.{oldest, extended, removed}
 
 unfoldable pub queuesChanged : Site → List ℕ → List ℕ
 queuesChanged x q =
-    if receives x then removed q (nameAt x) (oldest q (nameAt x) (x .given))
-    else if sends x then extended q (nameAt x) (sent x .tuple)
+    if receives x then removed q (messageNamed x) (oldest q (messageNamed x) (x .given))
+    else if sends x then extended q (messageNamed x) (sent x .tuple)
     else q
 
 unfoldable pub settled : List ℕ → List ℕ → List ℕ → Name → Outcome

@@ -16,9 +16,9 @@ use meaning::Name;
 use model::element_at;
 use model::limit_of;
 use model::pool_of;
-use refusals::NO_SUCH;
 use refusals::numbers::is_there;
 use words::Word;
+use words::numbers::NO_SUCH;
 
 // Of a step of instance n.instance of pool p, which exists.
 fn number_at(el: &[Word], z: &[Word], m: Move, p: Word, made: Word, limit: Word, n: Name) -> Word

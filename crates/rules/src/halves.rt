@@ -23,14 +23,14 @@ use model::message_name;
 use plans::Plan;
 use plans::decide;
 use queues::append;
-use refusals::NOT_POSTABLE;
-use refusals::QUEUE_FULL;
 use refusals::numbers::has_place;
 use refusals::numbers::is_postable;
 use state::made_count;
 use state::places::INSTANCE_WORDS;
 use state::places::INSTANCES_WORDS;
 use words::Word;
+use words::numbers::NOT_POSTABLE;
+use words::numbers::QUEUE_FULL;
 
 // Reading.
 pub fn made_in(z: &[Word], p: Word) -> Word

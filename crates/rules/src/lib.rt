@@ -23,10 +23,10 @@ use model::limit_of;
 use model::mode_in;
 use model::places::TABLE_WORDS;
 use model::pool_of;
-use refusals::NO_SUCH;
 use refusals::numbers::is_there;
 use state::places::STATE_WORDS;
 use words::Word;
+use words::numbers::NO_SUCH;
 
 mod deciding;
 mod halves;

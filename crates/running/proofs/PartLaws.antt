@@ -15,9 +15,9 @@ use Rattle.meaning.specs.declared.Tuple.{Tuple}
 use Rattle.meaning.specs.declared.Name.{Name}
 use Rattle.meaning.specs.declared.Answer.{Answer}
 use Rattle.meaning.specs.Tuples.{empty}
-use Rattle.meaning.specs.Queues.{queued}
+use Rattle.meaning.specs.Queues.{messageCount}
 use Rattle.meaning.specs.Refusals.{firstRefusal}
-use Rattle.meaning.specs.Step.{Site, Outcome, siteOf, poolNamed, receives, sends, nameAt, sent, instanceAfter, refusals, instancesAfter}
+use Rattle.meaning.specs.Step.{Site, Outcome, siteOf, poolNamed, receives, sends, messageNamed, sent, instanceAfter, refusals, instancesAfter}
 use Rattle.queues.specs.Changes.{oldest, extended, closedUp, removed}
 use Rattle.queues.proofs.SlotLaws.{length-stored}
 use Rattle.rules.specs.Settled.{queuesChanged, settled, Done}
@@ -41,14 +41,14 @@ long-instances t s n =
 
 long-extended : (q : List ℕ) (m : ℕ) (g : Tuple) → length (extended q m g) ≡ length q
 unfolding extended
-long-extended q m g = simp length-set (length-stored q m (queued q m) g)
+long-extended q m g = simp length-set (length-stored q m (messageCount q m) g)
 
 long-removed : (q : List ℕ) (m k : ℕ) → length (removed q m k) ≡ length q
 unfolding removed closedUp
 long-removed q m k =
     simp length-set
-    (length-stored (closedUp q m k) m (queued q m - 1) empty
-    ∙ length-writes (λ i. at q (slotPlace m k + i + slotWords)) q (slotPlace m k) (slotWords * (queued q m - 1 - k)))
+    (length-stored (closedUp q m k) m (messageCount q m - 1) empty
+    ∙ length-writes (λ i. at q (slotPlace m k + i + slotWords)) q (slotPlace m k) (slotWords * (messageCount q m - 1 - k)))
 
 long-choice : {A : Type 0} (f : A → ℕ) (b : Bool) (x y : A) (l : ℕ) → f x ≡ l → f y ≡ l → f (if b then x else y) ≡ l
 unfolding if_then_else_
@@ -58,8 +58,8 @@ long-choice f false x y l e d = d
 long-queues : (x : Site) (q : List ℕ) → length (queuesChanged x q) ≡ length q
 unfolding queuesChanged
 long-queues x q =
-    long-choice length (receives x) _ _ (length q) (long-removed q (nameAt x) (oldest q (nameAt x) (x .given)))
-    (long-choice length (sends x) _ _ (length q) (long-extended q (nameAt x) (sent x .tuple)) refl)
+    long-choice length (receives x) _ _ (length q) (long-removed q (messageNamed x) (oldest q (messageNamed x) (x .given)))
+    (long-choice length (sends x) _ _ (length q) (long-extended q (messageNamed x) (sent x .tuple)) refl)
 
 -- THE PARTS of the state w after a step on z
 module _ (t z w : List ℕ) (n : Name) (r : Answer) (d : Done (settled t (instancesOf z) (queuesOf z) n) r w) where

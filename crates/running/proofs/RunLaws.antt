@@ -1,5 +1,5 @@
 -- The run as the code makes it, step after step. Assumes nothing.
-use mathlib.Core.Path.{_≡_, _∙_, refl, sym, ap}
+use mathlib.Core.Path.{_≡_, _∙_, refl, sym, ap, subst}
 use mathlib.Core.List.{List, [], _∷_}
 use Prim.Native.Nat.{ℕ, suc, _+_, _-_, _≤_, _<_}
 use native.Mathlib.Omega.{arith}
@@ -7,29 +7,27 @@ use Rattle.meaning.specs.declared.Name.{Name}
 use Rattle.meaning.specs.Step.{Outcome}
 use Rattle.listing.specs.declared.Listed.{Listed}
 use Rattle.listing.specs.Listing.{chosen}
-use Rattle.running.specs.Run.{Run, whether, oneStep, onFirst, ranBy}
+use Rattle.running.specs.Run.{Run, whether, oneStep, ranBy}
 
 -- THE FIRST OF A LIST, as it is chosen: its number says whether there is one
 module _ (x : Listed) where
-  pub some-first : (ns : List Name) (stopped : Run) (next : Name → Run) → x ≡ chosen ns 0 → x .number ≡ 0 → onFirst ns stopped next ≡ oneStep (next (x .name))
-  unfolding chosen onFirst
-  some-first [] stopped next e h = absurd (omega (arith, sym h ∙ ap (λ (y : Listed). y .number) e))
-  some-first (n ∷ ns) stopped next e h = ap (λ (y : Listed). oneStep (next (y .name))) (sym e)
+  first-is : (ns : List Name) → x ≡ chosen ns 0 → x .number ≡ 0 → (others : List Name) × (ns ≡ x .name ∷ others)
+  unfolding chosen
+  first-is [] e h = absurd (omega (arith, sym h ∙ ap (λ (y : Listed). y .number) e))
+  first-is (n ∷ ns) e h = (ns, ap (λ (y : Listed). y .name ∷ ns) (sym e))
 
-  pub none-first : (ns : List Name) (stopped : Run) (next : Name → Run) → x ≡ chosen ns 0 → (x .number ≡ 0 → ⊥) → onFirst ns stopped next ≡ stopped
-  unfolding chosen onFirst
-  none-first [] stopped next e h = refl
-  none-first (n ∷ ns) stopped next e h = absurd (h (ap (λ (y : Listed). y .number) e))
+  none-is : (ns : List Name) → x ≡ chosen ns 0 → (x .number ≡ 0 → ⊥) → ns ≡ []
+  unfolding chosen
+  none-is [] e h = refl
+  none-is (n ∷ ns) e h = absurd (h (ap (λ (y : Listed). y .number) e))
 
   pub some-left : (ns : List Name) → x ≡ chosen ns 0 → x .number ≡ 0 → 1 ≡ whether ns
-  unfolding chosen whether
-  some-left [] e h = absurd (omega (arith, sym h ∙ ap (λ (y : Listed). y .number) e))
-  some-left (n ∷ ns) e h = refl
+  unfolding whether
+  some-left ns e h = rw (first-is ns e h .1)
 
   pub none-left : (ns : List Name) → x ≡ chosen ns 0 → (x .number ≡ 0 → ⊥) → 0 ≡ whether ns
-  unfolding chosen whether
-  none-left [] e h = refl
-  none-left (n ∷ ns) e h = absurd (h (ap (λ (y : Listed). y .number) e))
+  unfolding whether
+  none-left ns e h = rw (none-is ns e h)
 
 -- d steps before a run
 unfoldable pub later : ℕ → Run → Run
@@ -42,6 +40,26 @@ later-step d r = let e : r .steps + (d + 1) ≡ r .steps + 1 + d = omega arith i
 later-none : (d l : ℕ) (s q : List ℕ) → _≡_ {A = Run} (record { steps = d; left = l; instances = s; queues = q }) (later d (record { steps = 0; left = l; instances = s; queues = q }))
 unfolding later
 later-none d l s q = let e : d ≡ 0 + d = omega arith in λ i. record { steps = e i; left = l; instances = s; queues = q }
+
+module _ (list : List ℕ → List ℕ → List Name) (take : List ℕ → List ℕ → Name → Outcome) (limit : ℕ) where
+  -- BY CASES ON THE LISTING
+  module _ (s q : List ℕ) where
+    pub none-listed : list s q ≡ [] → ranBy list take (suc limit) s q ≡ record { steps = 0; left = 0; instances = s; queues = q }
+    unfolding ranBy
+    none-listed e = rw (e, ranBy)
+
+    pub first-listed : (n : Name) (ns : List Name) → list s q ≡ n ∷ ns → ranBy list take (suc limit) s q ≡ oneStep (ranBy list take limit (take s q n .instances) (take s q n .queues))
+    unfolding ranBy
+    first-listed n ns e = rw (e, ranBy)
+
+    -- what holds of a run that stops, and of one step before what follows, whatever step is taken
+    pub by-listing : (P : Run → Type 0) → (list s q ≡ [] → P (record { steps = 0; left = 0; instances = s; queues = q }))
+        → ((n : Name) → P (oneStep (ranBy list take limit (take s q n .instances) (take s q n .queues)))) → P (ranBy list take (suc limit) s q)
+    by-listing P a b = go (list s q) refl
+      where
+        go : (ns : List Name) → list s q ≡ ns → P (ranBy list take (suc limit) s q)
+        go [] e = subst P (sym (none-listed e)) (a e)
+        go (n ∷ ns) e = subst P (sym (first-listed n ns e)) (b n)
 
 -- THE LOOP: d steps are taken, and what is left of the limit comes to the whole, R
 module _ (list : List ℕ → List ℕ → List Name) (take : List ℕ → List ℕ → Name → Outcome) (limit : ℕ) where
@@ -56,24 +74,19 @@ module _ (list : List ℕ → List ℕ → List Name) (take : List ℕ → List 
 
   module _ (d : ℕ) (s q : List ℕ) (r : Run) (taken : Taken d s q r) where
     module _ (more : d < limit) (x : Listed) (e : x ≡ chosen (list s q) 0) where
-      stopped : Run
-      stopped = record { steps = 0; left = 0; instances = s; queues = q }
-
-      next : Name → Run
-      next n = ranBy list take (limit - (d + 1)) (take s q n .instances) (take s q n .queues)
-
-      one-more : ranBy list take (limit - d) s q ≡ onFirst (list s q) stopped next
-      unfolding ranBy stopped next
-      one-more = let l : limit - d ≡ suc (limit - (d + 1)) = omega (arith, more) in rw l
+      one-more : later d (ranBy list take (suc (limit - (d + 1))) s q) ≡ r
+      unfolding Taken
+      one-more = let l : limit - d ≡ suc (limit - (d + 1)) = omega (arith, more) in rw l at taken
 
       pub taken-more : (s₁ q₁ : List ℕ) → x .number ≡ 0 → s₁ ≡ take s q (x .name) .instances → q₁ ≡ take s q (x .name) .queues → Taken (d + 1) s₁ q₁ r
-      unfolding Taken next
+      unfolding Taken
       taken-more s₁ q₁ h a b =
-          rw (a, b) (later-step d (next (x .name)) ∙ ap (later d) (sym (one-more ∙ some-first x (list s q) stopped next e h)) ∙ taken)
+          let ns = first-is x (list s q) e h in
+          let next : Run = ranBy list take (limit - (d + 1)) (take s q (x .name) .instances) (take s q (x .name) .queues) in
+          rw (a, b) (later-step d next ∙ ap (later d) (sym (first-listed list take (limit - (d + 1)) s q (x .name) (ns .0) (ns .1))) ∙ one-more)
 
       pub taken-stop : (x .number ≡ 0 → ⊥) → record { steps = d; left = 0; instances = s; queues = q } ≡ r
-      unfolding Taken stopped
-      taken-stop h = later-none d 0 s q ∙ ap (later d) (sym (one-more ∙ none-first x (list s q) stopped next e h)) ∙ taken
+      taken-stop h = later-none d 0 s q ∙ ap (later d) (sym (none-listed list take (limit - (d + 1)) s q (none-is x (list s q) e h))) ∙ one-more
 
     pub taken-end : (l : ℕ) → limit ≤ d → l ≡ whether (list s q) → record { steps = d; left = l; instances = s; queues = q } ≡ r
     unfolding Taken ranBy

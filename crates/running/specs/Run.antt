@@ -21,17 +21,14 @@ whether (n ∷ ns) = 1
 unfoldable pub oneStep : Run → Run
 oneStep r = record { steps = r .steps + 1; left = r .left; instances = r .instances; queues = r .queues }
 
--- what follows on a list of names: nothing more, or its first one and the rest of the run
-unfoldable pub onFirst : List Name → Run → (Name → Run) → Run
-onFirst [] stopped next = stopped
-onFirst (n ∷ ns) stopped next = oneStep (next n)
-
--- by a way to list the steps of a state and a way to take one
+-- by a way to list the steps of a state and a way to take one; by cases on the listing: nothing is listed, or the first one is taken before the rest
 unfoldable pub ranBy : (List ℕ → List ℕ → List Name) → (List ℕ → List ℕ → Name → Outcome) → ℕ → List ℕ → List ℕ → Run
 ranBy list take zero s q = record { steps = 0; left = whether (list s q); instances = s; queues = q }
 ranBy list take (suc limit) s q =
-    onFirst (list s q) (record { steps = 0; left = 0; instances = s; queues = q })
-    (λ n. ranBy list take limit (take s q n .instances) (take s q n .queues))
+    elim (list s q) [
+      | [] ↦ record { steps = 0; left = 0; instances = s; queues = q }
+      | n ∷ ns ↦ oneStep (ranBy list take limit (take s q n .instances) (take s q n .queues))
+    ]
 
 unfoldable pub ran : List ℕ → ℕ → List ℕ → List ℕ → Run
 ran t limit s q = ranBy (listed t) (step t) limit s q

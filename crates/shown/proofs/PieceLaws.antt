@@ -1,39 +1,29 @@
--- Laws of phrases: three pieces, and a list in a loop. Assumes nothing.
-use mathlib.Core.Path.{_≡_}
-use mathlib.Core.List.{List, _++_, append-assoc}
-use Prim.Native.Nat.{ℕ, _+_, _-_, _≤_}
-use lib.ListN.{length, take, drop}
-use borrow.Rule.Slice.PartMut.{putMid}
-use Rattle.words.proofs.JoinLaws.{joined-more}
-use Rattle.buffers.specs.Buffers.{over, lesser}
-use Rattle.buffers.proofs.OverLaws.{Wrote, after, promise, pieces-none, pieces-done}
+-- Laws of a list written in a loop. Assumes nothing.
+use mathlib.Core.Path.{_≡_, sym, ap, _∙_}
+use mathlib.Core.List.{List, _++_}
+use Prim.Native.Nat.{ℕ, suc, _+_, _*_, _≤_}
+use native.Mathlib.Nat.{suc-mul, mul-le-mul-right}
+use native.Mathlib.Numerals.{add-one}
+use native.Mathlib.Omega.{arith}
+use Rattle.words.specs.Words.{greatest}
+use Rattle.buffers.specs.Buffers.{Put}
+use Rattle.buffers.proofs.OverLaws.{after, put-as, put-within, pieces-none, pieces-more, pieces-done}
 use Rattle.shown.specs.Shown.{lead, separated}
 
--- a function's promise and its bound, from what its writers wrote
-pub promised : {w out now : List ℕ} {r most : ℕ} → (v : List ℕ) → w ≡ v → Wrote w out r now → r ≤ most → (r ≡ length v) × (now ≡ over v out) × (r ≤ most)
-promised v e h l = let p = promise v e h in (p .0, p .1, l)
+-- one more piece of at most k bytes
+longer : (j k : ℕ) → j * k + k ≤ (j + 1) * k
+longer j k = omega (arith, suc-mul j k, ap (λ n. n * k) (add-one j))
 
--- the rest of a buffer o from place f on, as it is lent, and the buffer with m in its place
-abbrev rest : List ℕ → ℕ → List ℕ
-rest o f = take (length o - f) (drop f o)
-
-abbrev back : List ℕ → ℕ → List ℕ → List ℕ
-back o f m = putMid f (length o - f) o m
-
--- three pieces
-pub three : {a out o m m′ : List ℕ} {k f n f′ n′ : ℕ} (w b : List ℕ) → Wrote a out k o → f ≡ lesser k (length o) → n ≡ length w → m ≡ over w (rest o f) → f′ ≡ lesser (k + n) (length (back o f m)) → n′ ≡ length b → m′ ≡ over b (rest (back o f m) f′) → Wrote (a ++ (w ++ b)) out (k + n + n′) (back (back o f m) f′ m′)
-three {a} w b h e l p e′ l′ p′ = rw (← append-assoc a w b) (after b (after w h e l p) e′ l′ p′)
-
--- A list in a loop: before the first piece, behind one more, w, and at the end.
+-- Before the first piece, behind one more, w, and at the end.
 module _ (s : ℕ) (f : ℕ → List ℕ) where
-  pub list-none : (out : List ℕ) → Wrote (separated s f 0) out 0 out
+  pub list-none : (k from : ℕ) (out : List ℕ) → Put (separated s f 0) (0 * k) from out from out
   unfolding separated
-  list-none out = pieces-none (λ k. lead s k ++ f k) out
+  list-none k from out = put-within (pieces-none (λ i. lead s i ++ f i) from out) (omega arith)
 
-  pub list-more : {out o m m′ : List ℕ} {at from n from′ n′ : ℕ} (j : ℕ) (w : List ℕ) → w ≡ f j → Wrote (separated s f j) out at o → from ≡ lesser at (length o) → n ≡ length (lead s j) → m ≡ over (lead s j) (rest o from) → from′ ≡ lesser (at + n) (length (back o from m)) → n′ ≡ length w → m′ ≡ over w (rest (back o from m) from′) → Wrote (separated s f (j + 1)) out (at + n + n′) (back (back o from m) from′ m′)
+  pub list-more : {out o o′ now : List ℕ} {most from k k′ r : ℕ} (j : ℕ) (w : List ℕ) → w ≡ f j → Put (separated s f j) (j * (1 + most)) from out k o → Put (lead s j) 1 k o k′ o′ → Put w most k′ o′ r now → Put (separated s f (j + 1)) ((j + 1) * (1 + most)) from out r now
   unfolding separated
-  list-more j w q h e l p e′ l′ p′ = rw (joined-more (λ k. lead s k ++ f k) j, ← q) (three (lead s j) w h e l p e′ l′ p′)
+  list-more {most = most} j w q h l p = put-within (pieces-more (λ i. lead s i ++ f i) j h (after l (put-as (f j) q p))) (longer j (1 + most))
 
-  pub list-done : {out now : List ℕ} {r : ℕ} (n j : ℕ) → n ≤ j → j ≤ n → Wrote (separated s f j) out r now → Wrote (separated s f n) out r now
+  pub list-done : {out now : List ℕ} {from r : ℕ} (k n j : ℕ) → n ≤ j → j ≤ n → j ≤ greatest → Put (separated s f j) (j * k) from out r now → Put (separated s f n) (greatest * k) from out r now
   unfolding separated
-  list-done n j h l w = pieces-done (λ k. lead s k ++ f k) n j h l w
+  list-done k n j h l g w = put-within (pieces-done (λ i. lead s i ++ f i) n j h l w) (mul-le-mul-right k g)

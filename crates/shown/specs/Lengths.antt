@@ -33,17 +33,15 @@ choiceMost = digits + 1 + pairMost
 abbrev pub guardedMost : ℕ
 guardedMost = choiceMost + 2
 
-abbrev pub choicesMost : ℕ
-choicesMost = listMost guardedMost
-
 abbrev pub eventMost : ℕ
 eventMost = messageMost + 1 + digits
 
 abbrev pub receivingMost : ℕ
 receivingMost = eventMost + 2
 
-abbrev pub receivingListMost : ℕ
-receivingListMost = listMost receivingMost
+-- of a list of branches: those that receive are the longer ones
+abbrev pub branchesMost : ℕ
+branchesMost = listMost receivingMost
 
 -- `na_nc`
 abbrev pub modeMost : ℕ
@@ -58,15 +56,12 @@ assignedMost = listMost assignmentMost
 abbrev pub workMost : ℕ
 workMost = pairMost + 1 + assignedMost + 2
 
-abbrev pub modedMost : ℕ
-modedMost = modeMost + 1 + workMost
-
 abbrev pub taskMost : ℕ
-taskMost = digits + 1 + modedMost
+taskMost = digits + 1 + modeMost + 1 + workMost
 
--- the longest part is a list of branches with a message each
+-- the longest part is a list of branches between its signs
 abbrev pub partMost : ℕ
-partMost = receivingListMost
+partMost = branchesMost + 2
 
 -- of at most four parts, each behind its sign
 abbrev pub partsMost : ℕ

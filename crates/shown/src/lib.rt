@@ -1,13 +1,8 @@
 // The shortest phrases of an element's text: operands, expressions, items, conditions, modes, assignments, and the sign between the pieces of a list.
-// Each writer writes at the start of a lent buffer, as far as the buffer goes, and returns the length of the whole text; it goes on behind what it
-// wrote by lending the rest from the place reached.
-ghost use mathlib.Core.Path.{_≡_};
-ghost use Prim.Native.Nat.{_+_, _≤_};
-ghost use lib.ListN.{length};
-ghost use Rattle.buffers.specs.Buffers.{over};
+// Each writer writes from a place on, as far as the lent buffer goes, and returns the place behind its text.
+ghost use Rattle.buffers.specs.Buffers.{Put};
 ghost use Rattle.shown.specs.Shown.{lead, shownField, shownOperand, shownPair, shownExpression, shownItem, shownCondition, shownMode, shownAssignment};
 ghost use Rattle.shown.specs.Lengths.{operandMost, pairMost, modeMost, assignmentMost};
-use buffers::least;
 use buffers::put_byte;
 use buffers::put_bytes;
 use decimals::put_number;
@@ -30,103 +25,97 @@ use words::tail;
 use words::word;
 
 // The sign before piece k of a list: none before the first.
-pub fn put_lead(out: &mut [u8], sign: u8, k: Word) -> usize
-    ensures { λ r. ⌜ (r ≡ length (lead sign k)) × (now (out .exit) ≡ over (lead sign k) (now (out .entry))) × (r ≤ 1) ⌝ }
+pub fn put_lead(out: &mut [u8], from: usize, sign: u8, k: Word) -> usize
+    ensures { λ r. ⌜ Put (lead sign k) 1 from (now (out .entry)) r (now (out .exit)) ⌝ }
 {
     if k == 0 {
-        return 0;
+        return from;
     }
-    put_byte(out, sign)
+    put_byte(out, from, sign)
 }
 
-fn put_field(out: &mut [u8], d: Word) -> usize
-    ensures { λ r. ⌜ (r ≡ length (shownField d)) × (now (out .exit) ≡ over (shownField d) (now (out .entry))) × (r ≤ operandMost) ⌝ }
+fn put_field(out: &mut [u8], from: usize, d: Word) -> usize
+    ensures { λ r. ⌜ Put (shownField d) operandMost from (now (out .entry)) r (now (out .exit)) ⌝ }
 {
-    let letter = put_byte(out, b'd');
-    let from = least(letter, out.len());
-    letter + put_number(&mut out[from..], d)
+    let letter = put_byte(out, from, b'd');
+    put_number(out, letter, d)
 }
 
-fn put_operand(out: &mut [u8], x: &[Word]) -> usize
-    ensures { λ r. ⌜ (r ≡ length (shownOperand (now (x .entry)))) × (now (out .exit) ≡ over (shownOperand (now (x .entry))) (now (out .entry))) × (r ≤ operandMost) ⌝ }
+fn put_operand(out: &mut [u8], from: usize, x: &[Word]) -> usize
+    ensures { λ r. ⌜ Put (shownOperand (now (x .entry))) operandMost from (now (out .entry)) r (now (out .exit)) ⌝ }
 {
     let number = word(x, OPERAND_NUMBER);
     if word(x, 0) == A_FIELD {
-        return put_field(out, number);
+        return put_field(out, from, number);
     }
-    put_number(out, number)
+    put_number(out, from, number)
 }
 
 // Two operands with a sign between them.
-fn put_pair(out: &mut [u8], sign: u8, x: &[Word]) -> usize
-    ensures { λ r. ⌜ (r ≡ length (shownPair sign (now (x .entry)))) × (now (out .exit) ≡ over (shownPair sign (now (x .entry))) (now (out .entry))) × (r ≤ pairMost) ⌝ }
+fn put_pair(out: &mut [u8], from: usize, sign: u8, x: &[Word]) -> usize
+    ensures { λ r. ⌜ Put (shownPair sign (now (x .entry))) pairMost from (now (out .entry)) r (now (out .exit)) ⌝ }
 {
-    let left = put_operand(out, tail(x, LEFT));
-    let from = least(left, out.len());
-    let middle = left + put_byte(&mut out[from..], sign);
-    let rest = least(middle, out.len());
-    middle + put_operand(&mut out[rest..], tail(x, RIGHT))
+    let left = put_operand(out, from, tail(x, LEFT));
+    let middle = put_byte(out, left, sign);
+    put_operand(out, middle, tail(x, RIGHT))
 }
 
-fn put_expression(out: &mut [u8], x: &[Word]) -> usize
-    ensures { λ r. ⌜ (r ≡ length (shownExpression (now (x .entry)))) × (now (out .exit) ≡ over (shownExpression (now (x .entry))) (now (out .entry))) × (r ≤ pairMost) ⌝ }
+fn put_expression(out: &mut [u8], from: usize, x: &[Word]) -> usize
+    ensures { λ r. ⌜ Put (shownExpression (now (x .entry))) pairMost from (now (out .entry)) r (now (out .exit)) ⌝ }
 {
     let form = word(x, FORM);
     if form == PLUS {
-        return put_pair(out, b'+', x);
+        return put_pair(out, from, b'+', x);
     }
     if form == MINUS {
-        return put_pair(out, b'-', x);
+        return put_pair(out, from, b'-', x);
     }
-    put_operand(out, tail(x, LEFT))
+    put_operand(out, from, tail(x, LEFT))
 }
 
 // An item of a message or a template.
-pub fn put_item(out: &mut [u8], x: &[Word]) -> usize
-    ensures { λ r. ⌜ (r ≡ length (shownItem (now (x .entry)))) × (now (out .exit) ≡ over (shownItem (now (x .entry))) (now (out .entry))) × (r ≤ pairMost) ⌝ }
+pub fn put_item(out: &mut [u8], from: usize, x: &[Word]) -> usize
+    ensures { λ r. ⌜ Put (shownItem (now (x .entry))) pairMost from (now (out .entry)) r (now (out .exit)) ⌝ }
 {
     if word(x, FORM) == BINDING {
-        let mark = put_byte(out, b'?');
-        let from = least(mark, out.len());
-        return mark + put_field(&mut out[from..], word(x, LEFT + OPERAND_NUMBER));
+        let mark = put_byte(out, from, b'?');
+        return put_field(out, mark, word(x, LEFT + OPERAND_NUMBER));
     }
-    put_expression(out, x)
+    put_expression(out, from, x)
 }
 
-pub fn put_condition(out: &mut [u8], x: &[Word]) -> usize
-    ensures { λ r. ⌜ (r ≡ length (shownCondition (now (x .entry)))) × (now (out .exit) ≡ over (shownCondition (now (x .entry))) (now (out .entry))) × (r ≤ pairMost) ⌝ }
+pub fn put_condition(out: &mut [u8], from: usize, x: &[Word]) -> usize
+    ensures { λ r. ⌜ Put (shownCondition (now (x .entry))) pairMost from (now (out .entry)) r (now (out .exit)) ⌝ }
 {
     let form = word(x, FORM);
     if form == ALWAYS {
-        return put_bytes(out, b"true");
+        return put_bytes(out, from, b"true");
     }
     if form == DEFAULT {
-        return put_bytes(out, b"default");
+        return put_bytes(out, from, b"default");
     }
     if form == EQUALS {
-        return put_pair(out, b'=', x);
+        return put_pair(out, from, b'=', x);
     }
-    put_pair(out, b'<', x)
+    put_pair(out, from, b'<', x)
 }
 
-pub fn put_mode(out: &mut [u8], m: Word) -> usize
-    ensures { λ r. ⌜ (r ≡ length (shownMode m)) × (now (out .exit) ≡ over (shownMode m) (now (out .entry))) × (r ≤ modeMost) ⌝ }
+pub fn put_mode(out: &mut [u8], from: usize, m: Word) -> usize
+    ensures { λ r. ⌜ Put (shownMode m) modeMost from (now (out .entry)) r (now (out .exit)) ⌝ }
 {
     if m == A {
-        return put_bytes(out, b"a");
+        return put_bytes(out, from, b"a");
     }
     if m == NA_C {
-        return put_bytes(out, b"na_c");
+        return put_bytes(out, from, b"na_c");
     }
-    put_bytes(out, b"na_nc")
+    put_bytes(out, from, b"na_nc")
 }
 
-pub fn put_assignment(out: &mut [u8], x: &[Word]) -> usize
-    ensures { λ r. ⌜ (r ≡ length (shownAssignment (now (x .entry)))) × (now (out .exit) ≡ over (shownAssignment (now (x .entry))) (now (out .entry))) × (r ≤ assignmentMost) ⌝ }
+pub fn put_assignment(out: &mut [u8], from: usize, x: &[Word]) -> usize
+    ensures { λ r. ⌜ Put (shownAssignment (now (x .entry))) assignmentMost from (now (out .entry)) r (now (out .exit)) ⌝ }
 {
-    let field = put_field(out, word(x, 0));
-    let from = least(field, out.len());
-    let sign = field + put_bytes(&mut out[from..], b":=");
-    let rest = least(sign, out.len());
-    sign + put_expression(&mut out[rest..], tail(x, ASSIGNED))
+    let field = put_field(out, from, word(x, 0));
+    let sign = put_bytes(out, field, b":=");
+    put_expression(out, sign, tail(x, ASSIGNED))
 }

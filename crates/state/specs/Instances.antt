@@ -4,7 +4,8 @@ use Prim.Native.Nat.{ℕ}
 use mathlib.Core.List.{List}
 use lib.ListN.{set, take, drop}
 use Rattle.words.specs.Words.{at}
-use Rattle.state.specs.Places.{tokenPlace, activePlace, readyPlace, definedPlace, valuePlace, madePlace, instancePlace, instancesWords}
+use Rattle.words.specs.Writes.{writes}
+use Rattle.state.specs.Places.{tokenPlace, activePlace, readyPlace, definedPlace, valuePlace, madePlace, instancePlace, instanceWords, instancesWords}
 
 -- the two parts of a state
 abbrev pub instancesOf : List ℕ → List ℕ
@@ -24,20 +25,27 @@ abbrev pub tokens : List ℕ → ℕ → ℕ
 tokens h e = at h (tokenPlace e)
 
 abbrev pub activeCount : List ℕ → ℕ → ℕ
-activeCount h n = at h (activePlace n)
+activeCount h task = at h (activePlace task)
 
 abbrev pub readyCount : List ℕ → ℕ → ℕ
-readyCount h n = at h (readyPlace n)
+readyCount h task = at h (readyPlace task)
 
 -- the instance with another number of tokens, another count, a field defined
 abbrev pub withTokens : List ℕ → ℕ → ℕ → List ℕ
-withTokens h e n = set h (tokenPlace e) n
+withTokens h e count = set h (tokenPlace e) count
 
 abbrev pub withActive : List ℕ → ℕ → ℕ → List ℕ
-withActive h t n = set h (activePlace t) n
+withActive h task count = set h (activePlace task) count
 
 abbrev pub withReady : List ℕ → ℕ → ℕ → List ℕ
-withReady h t n = set h (readyPlace t) n
+withReady h task count = set h (readyPlace task) count
 
 abbrev pub withField : List ℕ → ℕ → ℕ → List ℕ
 withField h d v = set (set h (definedPlace d) 1) (valuePlace d) v
+
+-- the instances with the words h stored as instance i of pool p, with another number of instances made
+abbrev pub withInstance : List ℕ → ℕ → ℕ → List ℕ → List ℕ
+withInstance s p i h = writes (at h) s (instancePlace p i) instanceWords
+
+abbrev pub withMade : List ℕ → ℕ → ℕ → List ℕ
+withMade s p count = set s (madePlace p) count

@@ -7,10 +7,10 @@ abbrev pub tokenPlace : ℕ → ℕ
 tokenPlace e = e - 1
 
 abbrev pub activePlace : ℕ → ℕ
-activePlace n = edges + (n - 1)
+activePlace task = edges + (task - 1)
 
 abbrev pub readyPlace : ℕ → ℕ
-readyPlace n = edges + tasks + (n - 1)
+readyPlace task = edges + tasks + (task - 1)
 
 abbrev pub definedPlace : ℕ → ℕ
 definedPlace d = edges + tasks + tasks + d
@@ -45,10 +45,10 @@ abbrev pub queueWords : ℕ
 queueWords = slotsIn + slotWords * messages
 
 abbrev pub queuePlace : ℕ → ℕ
-queuePlace m = queueWords * m
+queuePlace name = queueWords * name
 
 abbrev pub slotPlace : ℕ → ℕ → ℕ
-slotPlace m k = queuePlace m + slotsIn + slotWords * k
+slotPlace name k = queuePlace name + slotsIn + slotWords * k
 
 abbrev pub stateWords : ℕ
 stateWords = instancesWords + queuePlace names

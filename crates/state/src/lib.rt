@@ -41,34 +41,34 @@ pub fn tokens_on(h: &[Word], e: Word) -> Word
     word(h, wide(less_one(e)))
 }
 
-pub fn active_count(h: &[Word], n: Word) -> Word
-    ensures { λ r. ⌜ r ≡ activeCount (now (h .entry)) n ⌝ }
+pub fn active_count(h: &[Word], task: Word) -> Word
+    ensures { λ r. ⌜ r ≡ activeCount (now (h .entry)) task ⌝ }
 {
-    word(h, ACTIVE + wide(less_one(n)))
+    word(h, ACTIVE + wide(less_one(task)))
 }
 
-pub fn ready_count(h: &[Word], n: Word) -> Word
-    ensures { λ r. ⌜ r ≡ readyCount (now (h .entry)) n ⌝ }
+pub fn ready_count(h: &[Word], task: Word) -> Word
+    ensures { λ r. ⌜ r ≡ readyCount (now (h .entry)) task ⌝ }
 {
-    word(h, READY + wide(less_one(n)))
+    word(h, READY + wide(less_one(task)))
 }
 
-pub fn put_tokens(h: &mut [Word], e: Word, n: Word)
-    ensures { λ _. ⌜ now (h .exit) ≡ withTokens (now (h .entry)) e n ⌝ }
+pub fn put_tokens(h: &mut [Word], e: Word, count: Word)
+    ensures { λ _. ⌜ now (h .exit) ≡ withTokens (now (h .entry)) e count ⌝ }
 {
-    put(h, wide(less_one(e)), n);
+    put(h, wide(less_one(e)), count);
 }
 
-pub fn put_active(h: &mut [Word], t: Word, n: Word)
-    ensures { λ _. ⌜ now (h .exit) ≡ withActive (now (h .entry)) t n ⌝ }
+pub fn put_active(h: &mut [Word], task: Word, count: Word)
+    ensures { λ _. ⌜ now (h .exit) ≡ withActive (now (h .entry)) task count ⌝ }
 {
-    put(h, ACTIVE + wide(less_one(t)), n);
+    put(h, ACTIVE + wide(less_one(task)), count);
 }
 
-pub fn put_ready(h: &mut [Word], t: Word, n: Word)
-    ensures { λ _. ⌜ now (h .exit) ≡ withReady (now (h .entry)) t n ⌝ }
+pub fn put_ready(h: &mut [Word], task: Word, count: Word)
+    ensures { λ _. ⌜ now (h .exit) ≡ withReady (now (h .entry)) task count ⌝ }
 {
-    put(h, READY + wide(less_one(t)), n);
+    put(h, READY + wide(less_one(task)), count);
 }
 
 // Field d, defined.

@@ -6,7 +6,7 @@ use mathlib.Core.List.{List, [], _∷_}
 use native.Mathlib.Omega.{arith}
 use Rattle.words.specs.Pick.{if_then_else_}
 use Rattle.meaning.specs.declared.Name.{Name}
-use Rattle.meaning.specs.Requirements.{permitted, granted, belowLimit, roomy}
+use Rattle.meaning.specs.Requirements.{countsPermit, granted, belowLimit, roomy}
 use Rattle.meaning.specs.Refusals.{Refusal, _unless_, firstRefusal}
 use Rattle.meaning.specs.Step.{Site, siteOf, exists, receives, template, defined, matches, afterTaking, queued, space, refusalsAt, refusals}
 
@@ -26,7 +26,7 @@ first-none = refl
 
 -- the conditions at a site x, q the queues
 pub record Accepted (x : Site) (q : List ℕ) : Type 0 where
-  pub permits : permitted (x .element) (x .instance) (x .move) (x .branch) ≡ true
+  pub permits : countsPermit (x .element) (x .instance) (x .move) (x .branch) ≡ true
   pub grants : granted (x .element) (x .instance) (x .move) (x .branch) ≡ true
   pub templated : template x .defined ≡ true
   pub outright : receives x || defined x ≡ true
@@ -40,7 +40,7 @@ pub record Accepted (x : Site) (q : List ℕ) : Type 0 where
 pub accepted-site : (x : Site) (q : List ℕ) → firstRefusal (refusalsAt x q) ≡ 0 → Accepted x q
 unfolding refusalsAt
 accepted-site x q e =
-    let a = first-holds 12 (permitted (x .element) (x .instance) (x .move) (x .branch)) _ (λ z. omega arith) e in
+    let a = first-holds 12 (countsPermit (x .element) (x .instance) (x .move) (x .branch)) _ (λ z. omega arith) e in
     let b = first-holds 13 (granted (x .element) (x .instance) (x .move) (x .branch)) _ (λ z. omega arith) (a .1) in
     let c = first-holds 13 (template x .defined) _ (λ z. omega arith) (b .1) in
     let d = first-holds 13 (receives x || defined x) _ (λ z. omega arith) (c .1) in

@@ -26,7 +26,7 @@ use Rattle.meaning.specs.Expressions.{expressionOf}
 use Rattle.meaning.specs.Templates.{binds, bindOne, bound}
 use Rattle.meaning.specs.Assignments.{Assigned, assignedValue, assignOne, assigned}
 use Rattle.meaning.specs.Requirements.{touched, first}
-use Rattle.meaning.specs.Changes.{takeOne, taken, more, counted, activeChanged, readyChanged, putOne, puts}
+use Rattle.meaning.specs.Changes.{takeOne, taken, more, countChanged, activeChanged, readyChanged, putOne, puts}
 use Rattle.steps.proofs.Choices.{by-test, by-choice}
 use Rattle.steps.proofs.InstanceFits.{Fit, count-most, fit-set, fit-field}
 
@@ -45,14 +45,14 @@ pub more-most : (n : ℕ) → n ≤ countMost → more n ≤ countMost
 unfolding more
 more-most n h = by-choice (λ k. k ≤ countMost) (ltb n countMost) (n + 1) n (λ e. let l = ltb-true n countMost e in omega arith) (λ e. h)
 
-counted-most : (cell n : ℕ) → n ≤ countMost → counted cell n ≤ countMost
-unfolding counted
+counted-most : (cell n : ℕ) → n ≤ countMost → countChanged cell n ≤ countMost
+unfolding countChanged
 counted-most cell n h =
     by-choice (λ k. k ≤ countMost) (eqb cell up) (more n) _ (λ e. more-most n h)
     (λ e. by-choice (λ k. k ≤ countMost) (eqb cell down) (n - 1) n (λ f. omega arith) (λ f. h))
 
-counted-none : (n : ℕ) → counted 0 n ≡ n
-unfolding counted if_then_else_
+counted-none : (n : ℕ) → countChanged 0 n ≡ n
+unfolding countChanged if_then_else_
 counted-none n = refl
 
 module _ (u el : List ℕ) where
@@ -120,12 +120,12 @@ module _ (u el : List ℕ) where
         f
 
     -- COUNTS: a cell that holds nothing leaves the word as it is
-    fit-count : (cell k : ℕ) (h : List ℕ) → k < definedPlace 0 → ((cell ≡ 0 → ⊥) → at u k ≡ 1) → Fit u h → Fit u (set h k (counted cell (at h k)))
+    fit-count : (cell k : ℕ) (h : List ℕ) → k < definedPlace 0 → ((cell ≡ 0 → ⊥) → at u k ≡ 1) → Fit u h → Fit u (set h k (countChanged cell (at h k)))
     fit-count cell k h l right f =
         by-test (eqb cell 0)
-        (λ e. let z : counted cell (at h k) ≡ at h k = ap (λ c. counted c (at h k)) (eqb-true cell 0 e) ∙ counted-none (at h k) in
+        (λ e. let z : countChanged cell (at h k) ≡ at h k = ap (λ c. countChanged c (at h k)) (eqb-true cell 0 e) ∙ counted-none (at h k) in
         subst (Fit u) (sym (ap (set h k) z ∙ set-getD h k 0)) f)
-        (λ e. fit-set u h k (counted cell (at h k)) l (right (eqb-false cell 0 e)) (counted-most cell (at h k) (count-most u h k (f .counts k l))) f)
+        (λ e. fit-set u h k (countChanged cell (at h k)) l (right (eqb-false cell 0 e)) (counted-most cell (at h k) (count-most u h k (f .counts k l))) f)
 
     pub fit-active : activePlace (taskIn el) < definedPlace 0 → ((m .active ≡ 0 → ⊥) → at u (activePlace (taskIn el)) ≡ 1) → (h : List ℕ) → Fit u h → Fit u (activeChanged el m h)
     unfolding activeChanged

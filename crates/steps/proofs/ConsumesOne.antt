@@ -6,7 +6,7 @@ use mathlib.Core.Bool.{true}
 use mathlib.Core.List.{List}
 use native.Mathlib.Omega.{arith}
 use lib.ListN.{length}
-use Rattle.words.specs.Sum.{one}
+use Rattle.words.specs.Sum.{oneIf}
 use Rattle.words.specs.Counts.{names}
 use Rattle.state.specs.Places.{queueWords}
 use Rattle.limits.specs.Limits.{tableFits}
@@ -16,7 +16,7 @@ use Rattle.meaning.specs.Tuples.{sameTuple}
 use Rattle.meaning.specs.Messages.{times}
 use Rattle.meaning.specs.Queues.{messagesOf}
 use Rattle.meaning.specs.Refusals.{firstRefusal}
-use Rattle.meaning.specs.Step.{Site, siteOf, receives, sends, nameAt, sent, refusals, queuesAfter}
+use Rattle.meaning.specs.Step.{Site, siteOf, receives, sends, messageNamed, sent, refusals, queuesAfter}
 use Rattle.queues.proofs.QueueLaws.{count-is}
 use Rattle.queues.proofs.ChangeLaws.{times-consuming, times-sending}
 use Rattle.fits.specs.Fits.{stateFits}
@@ -28,16 +28,16 @@ module _ (t s q : List ℕ) (n : Name) (fits : tableFits t ≡ true) (long : len
   abbrev x : Site
   x = siteOf t s n
 
-  pub consumes-one : receives x ≡ true → (v : Tuple) → times v (messagesOf (queuesAfter x q) (nameAt x)) + one (sameTuple (x .given) v) ≡ times v (messagesOf q (nameAt x))
+  pub consumes-one : receives x ≡ true → (v : Tuple) → times v (messagesOf (queuesAfter x q) (messageNamed x)) + oneIf (sameTuple (x .given) v) ≡ times v (messagesOf q (messageNamed x))
   consumes-one e v =
-      let l : nameAt x < names = received-name t s q n fits accepted e in
+      let l : messageNamed x < names = received-name t s q n fits accepted e in
       rw (after-receiving x q e)
-      (times-consuming q (nameAt x) long l (fits-tidy q (nameAt x) (state-queues t s q state (nameAt x) l)) (x .given) v (received-there t s q n fits accepted e))
+      (times-consuming q (messageNamed x) long l (fits-tidy q (messageNamed x) (state-queues t s q state (messageNamed x) l)) (x .given) v (received-there t s q n fits accepted e))
 
-  pub sends-one : sends x ≡ true → (v : Tuple) → times v (messagesOf (queuesAfter x q) (nameAt x)) ≡ times v (messagesOf q (nameAt x)) + one (sameTuple (sent x .tuple) v)
+  pub sends-one : sends x ≡ true → (v : Tuple) → times v (messagesOf (queuesAfter x q) (messageNamed x)) ≡ times v (messagesOf q (messageNamed x)) + oneIf (sameTuple (sent x .tuple) v)
   sends-one e v =
-      let l : nameAt x < names = sent-name t s q n fits accepted e in
+      let l : messageNamed x < names = sent-name t s q n fits accepted e in
       let r = sent-space t s q n fits accepted e in
       rw (after-sending x q (sent-alone t s q n fits accepted e) e)
-      (times-sending q (nameAt x) long l (fits-tidy q (nameAt x) (state-queues t s q state (nameAt x) l)) (sent x .tuple) (omega (arith, r, count-is q (nameAt x))) v
+      (times-sending q (messageNamed x) long l (fits-tidy q (messageNamed x) (state-queues t s q state (messageNamed x) l)) (sent x .tuple) (omega (arith, r, count-is q (messageNamed x))) v
       (sent-short t s q n fits accepted e))

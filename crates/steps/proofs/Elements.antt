@@ -32,14 +32,18 @@ things-at x w n k right h j l = all-at (λ i. right (drop (w * i) x)) k (and-lef
 things-from : (x : List ℕ) (a w n k : ℕ) (right : List ℕ → Bool) → things (drop a x) w n k right ≡ true → (j : ℕ) → j < k → right (drop (a + w * j) x) ≡ true
 things-from x a w n k right h j l = subst (λ y. right y ≡ true) (drop-drop (w * j) a x) (things-at (drop a x) w n k right h j l)
 
+-- a count that fits its column is what is in use
+pub count-used : (column n : ℕ) → countFits column n ≡ true → used column n ≡ n
+unfolding countFits used
+count-used column n h =
+    by-choice (λ (m : ℕ). m ≡ n) (eqb column many) n column (λ e. refl)
+    (λ e. sym (eqb-true n column (passed-true (eqb column many) (within fewest branches n) (eqb n column) h e)))
+
 -- A LIST OF EDGES
 module _ (column : ℕ) (x : List ℕ) (fits : edgesFit column x ≡ true) where
   edges-used : used column (at x 0) ≡ at x 0
-  unfolding used edgesFit countFits
-  edges-used =
-      let c : countFits column (at x 0) ≡ true = and-left (countFits column (at x 0)) _ fits in
-      by-choice (λ n. n ≡ at x 0) (eqb column many) (at x 0) column (λ e. refl)
-      (λ e. sym (eqb-true (at x 0) column (passed-true (eqb column many) (within fewest branches (at x 0)) (eqb (at x 0) column) c e)))
+  unfolding edgesFit
+  edges-used = count-used column (at x 0) (and-left (countFits column (at x 0)) _ fits)
 
   edges-within : (j : ℕ) → j < at x 0 → (1 ≤ at x (firstEdge + j)) × (at x (firstEdge + j) ≤ edges)
   unfolding edgesFit edgeFits
@@ -50,42 +54,50 @@ module _ (column : ℕ) (x : List ℕ) (fits : edgesFit column x ≡ true) where
       let d : at (drop (firstEdge + 1 * j) x) 0 ≡ at x (firstEdge + j) = getD-drop (firstEdge + 1 * j) x 0 0 ∙ ap (at x) e in
       (omega (arith, b .0, d), omega (arith, b .1, d))
 
--- AN ELEMENT by its row
+-- AN ELEMENT by its row: each part fits
+abbrev pub rowOf : List ℕ → Kind
+rowOf el = kindOf (kindIn el)
+
+pub record FittingParts (el : List ℕ) : Type 0 where
+  pub task : taskFits (rowOf el .task) el ≡ true
+  pub entries : edgesFit (rowOf el .entries) (drop entriesPlace el) ≡ true
+  pub exits : edgesFit (rowOf el .exits) (drop exitsPlace el) ≡ true
+  pub messages : messagesFit (rowOf el .receives) (rowOf el .sends) el ≡ true
+  pub assignments : assignmentsFit el ≡ true
+
+pub fitting-parts : (el : List ℕ) → elementFits el ≡ true → FittingParts el
+unfolding elementFits partsFit
+fitting-parts el fits =
+    let row : Kind = rowOf el in
+    let task : Bool = taskFits (row .task) el in
+    let entries : Bool = edgesFit (row .entries) (drop entriesPlace el) in
+    let exits : Bool = edgesFit (row .exits) (drop exitsPlace el) in
+    let conditions : Bool = conditionsFit (row .conditions) el in
+    let messages : Bool = messagesFit (row .receives) (row .sends) el in
+    let all-six : task && entries && exits && conditions && messages && assignmentsFit el ≡ true = and-right (not (eqb (row .letters) 0)) _ fits in
+    let five : task && entries && exits && conditions && messages ≡ true = and-left _ _ all-six in
+    let three : task && entries && exits ≡ true = and-left (task && entries && exits) conditions (and-left (task && entries && exits && conditions) messages five) in
+    let two : task && entries ≡ true = and-left (task && entries) exits three in
+    record {
+      task = and-left task entries two;
+      entries = and-right task entries two;
+      exits = and-right (task && entries) exits three;
+      messages = and-right (task && entries && exits && conditions) messages five;
+      assignments = and-right (task && entries && exits && conditions && messages) (assignmentsFit el) all-six;
+    }
+
 module _ (el : List ℕ) (fits : elementFits el ≡ true) where
   abbrev row : Kind
-  row = kindOf (kindIn el)
+  row = rowOf el
 
-  parts : partsFit row el ≡ true
-  unfolding elementFits
-  parts = and-right (not (eqb (row .letters) 0)) (partsFit row el) fits
-
-  abbrev taskPart : Bool
-  taskPart = taskFits (row .task) el
-
-  abbrev entryPart : Bool
-  entryPart = edgesFit (row .entries) (drop entriesPlace el)
-
-  abbrev exitPart : Bool
-  exitPart = edgesFit (row .exits) (drop exitsPlace el)
-
-  abbrev conditionPart : Bool
-  conditionPart = conditionsFit (row .conditions) el
-
-  abbrev messagePart : Bool
-  messagePart = messagesFit (row .receives) (row .sends) el
-
-  up-to-messages : taskPart && entryPart && exitPart && conditionPart && messagePart ≡ true
-  unfolding partsFit
-  up-to-messages = and-left (taskPart && entryPart && exitPart && conditionPart && messagePart) (assignmentsFit el) parts
-
-  up-to-exits : taskPart && entryPart && exitPart ≡ true
-  up-to-exits = and-left (taskPart && entryPart && exitPart) conditionPart (and-left (taskPart && entryPart && exitPart && conditionPart) messagePart up-to-messages)
+  parts : FittingParts el
+  parts = fitting-parts el fits
 
   -- its task number
   pub task-few : taskIn el ≤ tasks
   unfolding taskFits
   task-few =
-      let h : taskPart ≡ true = and-left taskPart entryPart (and-left (taskPart && entryPart) exitPart up-to-exits) in
+      let h = parts .task in
       by-test (eqb (row .task) one)
       (λ e. within-is 1 tasks (taskIn el)
       (and-left (within 1 tasks (taskIn el)) (within a na-nc (modeIn el)) (and-left (within 1 tasks (taskIn el) && within a na-nc (modeIn el)) _ (chosen-true _ _ _ h e)))
@@ -98,7 +110,7 @@ module _ (el : List ℕ) (fits : elementFits el ≡ true) where
   pub entry-within : (j : ℕ) → j < entryCount el → (1 ≤ entryAt el j) × (entryAt el j ≤ edges)
   unfolding entryCount
   entry-within j l =
-      let h : entryPart ≡ true = and-right taskPart entryPart (and-left (taskPart && entryPart) exitPart up-to-exits) in
+      let h = parts .entries in
       let c : at (drop entriesPlace el) 0 ≡ at el entriesPlace = getD-drop entriesPlace el 0 0 in
       let u = edges-used (row .entries) (drop entriesPlace el) h in
       let v : entryCount el ≡ at (drop entriesPlace el) 0 = ap (used (row .entries)) (sym c) ∙ u in
@@ -110,7 +122,7 @@ module _ (el : List ℕ) (fits : elementFits el ≡ true) where
   pub exit-within : (j : ℕ) → j < exitCount el → (1 ≤ exitAt el j) × (exitAt el j ≤ edges)
   unfolding exitCount
   exit-within j l =
-      let h : exitPart ≡ true = and-right (taskPart && entryPart) exitPart up-to-exits in
+      let h = parts .exits in
       let c : at (drop exitsPlace el) 0 ≡ at el exitsPlace = getD-drop exitsPlace el 0 0 in
       let u = edges-used (row .exits) (drop exitsPlace el) h in
       let v : exitCount el ≡ at (drop exitsPlace el) 0 = ap (used (row .exits)) (sym c) ∙ u in
@@ -121,9 +133,9 @@ module _ (el : List ℕ) (fits : elementFits el ≡ true) where
 
   -- the field of an assignment
   pub assigned-field : (j : ℕ) → j < assignmentCount el → at (assignmentAt el j) 0 < fields
-  unfolding partsFit assignmentsFit assignmentFits
+  unfolding assignmentsFit assignmentFits
   assigned-field j l =
-      let h = and-right (taskPart && entryPart && exitPart && conditionPart && messagePart) (assignmentsFit el) parts in
+      let h = parts .assignments in
       let b = things-from el (assignmentPlace 0) assignmentWords assignments (assignmentCount el) assignmentFits h j l in
       let e : assignmentPlace 0 + assignmentWords * j ≡ assignmentPlace j = omega arith in
       subst (λ k. at (drop k el) 0 < fields) e
@@ -135,7 +147,7 @@ module _ (el : List ℕ) (fits : elementFits el ≡ true) where
     message-fits : messageFits (row .receives) (drop (messagePlace b) el) ≡ true
     unfolding messagesFit
     message-fits =
-        let h = and-right (taskPart && entryPart && exitPart && conditionPart) messagePart up-to-messages in
+        let h = parts .messages in
         let e : messagePlace 0 + messageWords * b ≡ messagePlace b = omega arith in
         subst (λ k. messageFits (row .receives) (drop k el) ≡ true) e
         (things-from el (messagePlace 0) messageWords branches (used (row .receives + row .sends) (at el exitsPlace)) (messageFits (row .receives)) h b l)
@@ -225,6 +237,12 @@ module _ (t : List ℕ) (fits : tableFits t ≡ true) where
         let h = leb-true (at t (limitPlace p)) instances
         (and-right numberPart limitPart (and-left (numberPart && limitPart) elementPart (and-left (numberPart && limitPart && elementPart) filledPart pool-fits))) in
         by-choice (λ n. n ≤ instances) (eqb (at t (limitPlace p)) 0) 1 (at t (limitPlace p)) (λ e. omega arith) (λ e. h)
+
+    pub elements-few : elementCount t p ≤ elements
+    unfolding poolFits
+    elements-few =
+        within-is 1 elements (elementCount t p)
+        (and-right (numberPart && limitPart) elementPart (and-left (numberPart && limitPart && elementPart) filledPart pool-fits)) .1
 
     pub element-fits : (e : ℕ) → e < elementCount t p → elementFits (elementAt t p e) ≡ true
     unfolding poolFits

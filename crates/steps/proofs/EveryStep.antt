@@ -18,7 +18,7 @@ use Rattle.meaning.specs.Messages.{appended, without}
 use Rattle.meaning.specs.Queues.{messagesOf, sending}
 use Rattle.meaning.specs.Refusals.{firstRefusal}
 use Rattle.meaning.specs.Post.{Posted, postRefusals, post}
-use Rattle.meaning.specs.Step.{Outcome, Site, siteOf, nameAt, sent, refusals, refused, traffic, instancesAfter, queuesAfter, step}
+use Rattle.meaning.specs.Step.{Outcome, Site, siteOf, messageNamed, sent, refusals, refused, traffic, instancesAfter, queuesAfter, step}
 use Rattle.queues.proofs.SlotLaws.{length-with}
 use Rattle.fits.specs.Fits.{instancesFit, queueFits, stateFits}
 use Rattle.steps.proofs.Choices.{by-choice}
@@ -36,8 +36,8 @@ pub record Fitting (t s q : List ℕ) : Type 0 where
 length-queues : (x : Site) (q : List ℕ) → length (queuesAfter x q) ≡ length q
 length-queues x q =
     by-queues x q (λ r. length r ≡ length q)
-    (λ e. length-with q (nameAt x) (without (x .given) (messagesOf q (nameAt x))))
-    (λ e. length-with q (nameAt x) (appended (messagesOf q (nameAt x)) (sent x .tuple)))
+    (λ e. length-with q (messageNamed x) (without (x .given) (messagesOf q (messageNamed x))))
+    (λ e. length-with q (messageNamed x) (appended (messagesOf q (messageNamed x)) (sent x .tuple)))
     refl
 
 module _ (t s q : List ℕ) (fits : tableFits t ≡ true) (f : Fitting t s q) where

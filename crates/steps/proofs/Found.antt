@@ -15,7 +15,7 @@ use Rattle.state.specs.Instances.{madeCount}
 use Rattle.limits.specs.Limits.{elementFits, tableFits}
 use Rattle.meaning.specs.declared.Name.{Name}
 use Rattle.meaning.specs.Requirements.{branchCount, instanceNamed}
-use Rattle.meaning.specs.Step.{siteOf, poolNamed, elementNamed, moveNamed, exists, receives, sends, nameAt}
+use Rattle.meaning.specs.Step.{siteOf, poolNamed, elementNamed, moveNamed, exists, receives, sends, messageNamed}
 use Rattle.steps.proofs.Elements.{element-fits, message-name, message-length}
 use Rattle.steps.proofs.Messages.{branch-message}
 
@@ -64,7 +64,7 @@ module _ (t s : List ℕ) (n : Name) where
       unfolding siteOf moveNamed
       message-there = branch-message (elementNamed t n) (n .phase) (f .move) talks (n .branch) (f .branch)
 
-      pub name-few : nameAt (siteOf t s n) < names
+      pub name-few : messageNamed (siteOf t s n) < names
       unfolding siteOf
       name-few = message-name (elementNamed t n) element-named (n .branch) message-there
 

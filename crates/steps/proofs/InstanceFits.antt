@@ -21,30 +21,30 @@ use Rattle.words.proofs.WritesLaws.{length-writes, writes-in, writes-above}
 use Rattle.state.specs.Places.{definedPlace, valuePlace, instanceWords}
 use Rattle.state.specs.Instances.{withField}
 use Rattle.meaning.specs.Changes.{cleared}
-use Rattle.fits.specs.Fits.{countFits, fieldFits, instanceFits}
+use Rattle.fits.specs.Fits.{placeFits, fieldFits, instanceFits}
 use Rattle.queues.proofs.SlotLaws.{by-order}
 use Rattle.steps.proofs.Choices.{by-test, chosen, passed, passed-true}
 
 -- ONE WORD
 module _ (u h : List ℕ) (k : ℕ) where
-  count-zero : at h k ≡ 0 → countFits u h k ≡ true
-  unfolding countFits
+  count-zero : at h k ≡ 0 → placeFits u h k ≡ true
+  unfolding placeFits
   count-zero e = chosen (eqb (at h k) 0) true _ (eq-eqb (at h k) 0 e)
 
-  count-in : at u k ≡ 1 → at h k ≤ countMost → countFits u h k ≡ true
-  unfolding countFits
+  count-in : at u k ≡ 1 → at h k ≤ countMost → placeFits u h k ≡ true
+  unfolding placeFits
   count-in e l =
       by-test (eqb (at h k) 0) (λ z. chosen (eqb (at h k) 0) true _ z)
       (λ z. passed (eqb (at h k) 0) true _ z ∙ and-true (eqb (at u k) 1) (leb (at h k) countMost) (eq-eqb (at u k) 1 e) (le-leb (at h k) countMost l))
 
-  pub count-most : countFits u h k ≡ true → at h k ≤ countMost
-  unfolding countFits
+  pub count-most : placeFits u h k ≡ true → at h k ≤ countMost
+  unfolding placeFits
   count-most f =
       by-test (eqb (at h k) 0) (λ z. let e = eqb-true (at h k) 0 z in omega arith)
       (λ z. leb-true (at h k) countMost (and-right (eqb (at u k) 1) (leb (at h k) countMost) (passed-true (eqb (at h k) 0) true _ f z)))
 
-  count-same : (g : List ℕ) → at g k ≡ at h k → countFits u h k ≡ true → countFits u g k ≡ true
-  unfolding countFits
+  count-same : (g : List ℕ) → at g k ≡ at h k → placeFits u h k ≡ true → placeFits u g k ≡ true
+  unfolding placeFits
   count-same g e f = rw e f
 
 module _ (h : List ℕ) (d : ℕ) where
@@ -63,7 +63,7 @@ module _ (h : List ℕ) (d : ℕ) where
 -- AN INSTANCE
 pub record Fit (u h : List ℕ) : Type 0 where
   pub long : length h ≡ instanceWords
-  pub counts : (k : ℕ) → k < definedPlace 0 → countFits u h k ≡ true
+  pub counts : (k : ℕ) → k < definedPlace 0 → placeFits u h k ≡ true
   pub filled : (d : ℕ) → d < fields → fieldFits h d ≡ true
 
 module _ (u h : List ℕ) where
@@ -72,17 +72,17 @@ module _ (u h : List ℕ) where
   unfolding instanceFits
   fit-read g l same f = record {
     long = l;
-    counts = λ k r. count-same u h k g (same k (omega arith)) (all-at (countFits u h) (definedPlace 0) (and-left (all (countFits u h) (definedPlace 0)) (all (fieldFits h) fields) f) k r);
+    counts = λ k r. count-same u h k g (same k (omega arith)) (all-at (placeFits u h) (definedPlace 0) (and-left (all (placeFits u h) (definedPlace 0)) (all (fieldFits h) fields) f) k r);
     filled = λ d r.
         field-same h d g (same (definedPlace d) (omega arith)) (same (valuePlace d) (omega arith))
-        (all-at (fieldFits h) fields (and-right (all (countFits u h) (definedPlace 0)) (all (fieldFits h) fields) f) d r);
+        (all-at (fieldFits h) fields (and-right (all (placeFits u h) (definedPlace 0)) (all (fieldFits h) fields) f) d r);
   }
 
   pub fit-back : (g : List ℕ) → ((k : ℕ) → k < instanceWords → at g k ≡ at h k) → Fit u h → instanceFits u g ≡ true
   unfolding instanceFits
   fit-back g same f =
-      and-true (all (countFits u g) (definedPlace 0)) (all (fieldFits g) fields)
-      (all-of (countFits u g) (definedPlace 0) (λ k r. count-same u h k g (same k (omega arith)) (f .counts k r)))
+      and-true (all (placeFits u g) (definedPlace 0)) (all (fieldFits g) fields)
+      (all-of (placeFits u g) (definedPlace 0) (λ k r. count-same u h k g (same k (omega arith)) (f .counts k r)))
       (all-of (fieldFits g) fields (λ d r. field-same h d g (same (definedPlace d) (omega arith)) (same (valuePlace d) (omega arith)) (f .filled d r)))
 
   -- a count
@@ -92,7 +92,7 @@ module _ (u h : List ℕ) where
     counts = λ j s.
         by-order j k (λ o. count-same u h j (set h k v) (getD-set-other h k j v 0 (λ z. omega arith)) (f .counts j s))
         (λ o. let i : k < length h = omega (arith, f .long) in
-        subst (λ y. countFits u (set h k v) y ≡ true) o
+        subst (λ y. placeFits u (set h k v) y ≡ true) o
         (count-in u (set h k v) k e (let w : at (set h k v) k ≡ v = getD-set-same h k v 0 i in omega (arith, w))))
         (λ o. count-same u h j (set h k v) (getD-set-other h k j v 0 (λ z. omega arith)) (f .counts j s));
     filled = λ d s.

@@ -21,7 +21,7 @@ use Rattle.meaning.specs.declared.Tuple.{Tuple}
 use Rattle.meaning.specs.Queues.{messagesOf, sending}
 use Rattle.meaning.specs.Refusals.{_unless_, firstRefusal}
 use Rattle.meaning.specs.Post.{postRefusals}
-use Rattle.meaning.specs.Step.{Site, siteOf, poolNamed, moveNamed, nameAt, sent, instanceAfter, madeAfter, instancesAfter, queuesAfter, refusals}
+use Rattle.meaning.specs.Step.{Site, siteOf, poolNamed, moveNamed, messageNamed, sent, instanceAfter, madeAfter, instancesAfter, queuesAfter, refusals}
 use Rattle.fits.specs.Fits.{instancesFit, queueFits, stateFits}
 use Rattle.queues.proofs.SlotLaws.{by-order}
 use Rattle.steps.proofs.AcceptedParts.{first-holds}
@@ -99,8 +99,8 @@ module _ (t s q : List ℕ) (n : Name) (fits : tableFits t ≡ true) (once : Sta
   pub keeps-queues : length q ≡ queueWords * names → (m : ℕ) → m < names → queueFits (queuesAfter x q) m ≡ true
   keeps-queues wide =
       by-queues x q (λ (z : List ℕ). (m : ℕ) → m < names → queueFits z m ≡ true)
-      (λ e. consuming-fits q (nameAt x) wide (received-name t s q n fits accepted e) (state-queues t s q state) (x .given))
-      (λ e. sending-fits q (nameAt x) wide (sent-name t s q n fits accepted e) (state-queues t s q state) (sent x .tuple) (sent-space t s q n fits accepted e) (sent-short t s q n fits accepted e))
+      (λ e. consuming-fits q (messageNamed x) wide (received-name t s q n fits accepted e) (state-queues t s q state) (x .given))
+      (λ e. sending-fits q (messageNamed x) wide (sent-name t s q n fits accepted e) (state-queues t s q state) (sent x .tuple) (sent-space t s q n fits accepted e) (sent-short t s q n fits accepted e))
       (state-queues t s q state)
 
   -- THE STATE

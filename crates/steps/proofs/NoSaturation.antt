@@ -21,7 +21,7 @@ use Rattle.state.specs.Instances.{tokens, activeCount, readyCount}
 use Rattle.limits.specs.Limits.{elementFits, tableFits}
 use Rattle.meaning.specs.declared.Name.{Name}
 use Rattle.meaning.specs.Requirements.{touched, first, hasRoom, hasRooms, canRaise, roomy}
-use Rattle.meaning.specs.Changes.{more, counted, activeChanged, readyChanged, putOne, puts, cleared, moved}
+use Rattle.meaning.specs.Changes.{more, countChanged, activeChanged, readyChanged, putOne, puts, cleared, moved}
 use Rattle.meaning.specs.Refusals.{firstRefusal}
 use Rattle.meaning.specs.Step.{Site, siteOf, elementNamed, moveNamed, afterTaking, instanceAfter, refusals}
 use Rattle.fits.specs.Fits.{stateFits}
@@ -73,33 +73,33 @@ module _ (el : List ℕ) (m : Move) (b : ℕ) (h : List ℕ) (fits : elementFits
   length-counted : length g ≡ instanceWords
   unfolding readyChanged activeChanged
   length-counted =
-      length-set (activeChanged el m h) (readyPlace (taskIn el)) (counted (m .ready) (readyCount (activeChanged el m h) (taskIn el)))
-      ∙ length-set h (activePlace (taskIn el)) (counted (m .active) (activeCount h (taskIn el)))
+      length-set (activeChanged el m h) (readyPlace (taskIn el)) (countChanged (m .ready) (readyCount (activeChanged el m h) (taskIn el)))
+      ∙ length-set h (activePlace (taskIn el)) (countChanged (m .active) (activeCount h (taskIn el)))
       ∙ long
 
   same-tokens : (k : ℕ) → k < edges → at g k ≡ at h k
   unfolding readyChanged activeChanged
   same-tokens k l =
-      getD-set-other (activeChanged el m h) (readyPlace (taskIn el)) k (counted (m .ready) (readyCount (activeChanged el m h) (taskIn el))) 0 (λ e. omega arith)
-      ∙ getD-set-other h (activePlace (taskIn el)) k (counted (m .active) (activeCount h (taskIn el))) 0 (λ e. omega arith)
+      getD-set-other (activeChanged el m h) (readyPlace (taskIn el)) k (countChanged (m .ready) (readyCount (activeChanged el m h) (taskIn el))) 0 (λ e. omega arith)
+      ∙ getD-set-other h (activePlace (taskIn el)) k (countChanged (m .active) (activeCount h (taskIn el))) 0 (λ e. omega arith)
 
-  counted-active : activeCount g (taskIn el) ≡ counted (m .active) (activeCount h (taskIn el))
+  counted-active : activeCount g (taskIn el) ≡ countChanged (m .active) (activeCount h (taskIn el))
   unfolding readyChanged activeChanged
   counted-active =
       let w : taskIn el ≤ tasks = task-few el fits in
-      getD-set-other (activeChanged el m h) (readyPlace (taskIn el)) (activePlace (taskIn el)) (counted (m .ready) (readyCount (activeChanged el m h) (taskIn el))) 0 (λ e. omega arith)
-      ∙ getD-set-same h (activePlace (taskIn el)) (counted (m .active) (activeCount h (taskIn el))) 0 (omega arith)
+      getD-set-other (activeChanged el m h) (readyPlace (taskIn el)) (activePlace (taskIn el)) (countChanged (m .ready) (readyCount (activeChanged el m h) (taskIn el))) 0 (λ e. omega arith)
+      ∙ getD-set-same h (activePlace (taskIn el)) (countChanged (m .active) (activeCount h (taskIn el))) 0 (omega arith)
 
-  counted-ready : readyCount g (taskIn el) ≡ counted (m .ready) (readyCount h (taskIn el))
+  counted-ready : readyCount g (taskIn el) ≡ countChanged (m .ready) (readyCount h (taskIn el))
   unfolding readyChanged activeChanged
   counted-ready =
       let w : taskIn el ≤ tasks = task-few el fits in
-      getD-set-same (activeChanged el m h) (readyPlace (taskIn el)) (counted (m .ready) (readyCount (activeChanged el m h) (taskIn el))) 0
-      (omega (arith, length-set h (activePlace (taskIn el)) (counted (m .active) (activeCount h (taskIn el)))))
-      ∙ ap (counted (m .ready)) (getD-set-other h (activePlace (taskIn el)) (readyPlace (taskIn el)) (counted (m .active) (activeCount h (taskIn el))) 0 (λ e. omega arith))
+      getD-set-same (activeChanged el m h) (readyPlace (taskIn el)) (countChanged (m .ready) (readyCount (activeChanged el m h) (taskIn el))) 0
+      (omega (arith, length-set h (activePlace (taskIn el)) (countChanged (m .active) (activeCount h (taskIn el)))))
+      ∙ ap (countChanged (m .ready)) (getD-set-other h (activePlace (taskIn el)) (readyPlace (taskIn el)) (countChanged (m .active) (activeCount h (taskIn el))) 0 (λ e. omega arith))
 
-  counted-up : (cell n : ℕ) → cell ≡ up → canRaise cell n ≡ true → counted cell n ≡ n + 1
-  unfolding counted canRaise
+  counted-up : (cell n : ℕ) → cell ≡ up → canRaise cell n ≡ true → countChanged cell n ≡ n + 1
+  unfolding countChanged canRaise
   counted-up cell n e r =
       chosen (eqb cell up) (more n) _ (eq-eqb cell up e)
       ∙ more-one n (ltb-true n countMost (chosen-true (eqb cell up) (ltb n countMost) true r (eq-eqb cell up e)))

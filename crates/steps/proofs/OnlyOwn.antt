@@ -15,8 +15,8 @@ use Rattle.state.specs.Places.{instanceWords, madePlace, instancePlace, queueWo
 use Rattle.state.specs.Instances.{madeCount}
 use Rattle.meaning.specs.declared.Name.{Name}
 use Rattle.meaning.specs.Messages.{appended, without}
-use Rattle.meaning.specs.Queues.{queued, messagesOf}
-use Rattle.meaning.specs.Step.{Site, siteOf, poolNamed, nameAt, sent, instanceAfter, madeAfter, instancesAfter, queuesAfter}
+use Rattle.meaning.specs.Queues.{messageCount, messagesOf}
+use Rattle.meaning.specs.Step.{Site, siteOf, poolNamed, messageNamed, sent, instanceAfter, madeAfter, instancesAfter, queuesAfter}
 use Rattle.queues.proofs.ReadLaws.{words-other, messages-other}
 use Rattle.steps.proofs.QueuesAfter.{by-queues}
 
@@ -59,18 +59,18 @@ module _ (t s : List ℕ) (n : Name) where
   unfolding instancesAfter
   own-made = stored-made (at (instanceAfter (siteOf t s n))) s ownPlace instanceWords (poolNamed t n) (madeAfter (siteOf t s n))
 
-module _ (x : Site) (q : List ℕ) (m : ℕ) (other : m ≡ nameAt x → ⊥) where
+module _ (x : Site) (q : List ℕ) (m : ℕ) (other : m ≡ messageNamed x → ⊥) where
   -- another queue: its words, and its messages
   pub only-queue : (i : ℕ) → i < queueWords → at (queuesAfter x q) (queuePlace m + i) ≡ at q (queuePlace m + i)
   only-queue i h =
       by-queues x q (λ r. at r (queuePlace m + i) ≡ at q (queuePlace m + i))
-      (λ e. words-other q (nameAt x) (without (x .given) (messagesOf q (nameAt x))) m other i h)
-      (λ e. words-other q (nameAt x) (appended (messagesOf q (nameAt x)) (sent x .tuple)) m other i h)
+      (λ e. words-other q (messageNamed x) (without (x .given) (messagesOf q (messageNamed x))) m other i h)
+      (λ e. words-other q (messageNamed x) (appended (messagesOf q (messageNamed x)) (sent x .tuple)) m other i h)
       refl
 
-  pub only-messages : queued q m ≤ messages → messagesOf (queuesAfter x q) m ≡ messagesOf q m
+  pub only-messages : messageCount q m ≤ messages → messagesOf (queuesAfter x q) m ≡ messagesOf q m
   only-messages room =
       by-queues x q (λ r. messagesOf r m ≡ messagesOf q m)
-      (λ e. messages-other q (nameAt x) (without (x .given) (messagesOf q (nameAt x))) m other room)
-      (λ e. messages-other q (nameAt x) (appended (messagesOf q (nameAt x)) (sent x .tuple)) m other room)
+      (λ e. messages-other q (messageNamed x) (without (x .given) (messagesOf q (messageNamed x))) m other room)
+      (λ e. messages-other q (messageNamed x) (appended (messagesOf q (messageNamed x)) (sent x .tuple)) m other room)
       refl

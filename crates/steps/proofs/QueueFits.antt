@@ -21,11 +21,11 @@ use Rattle.state.specs.Places.{slotWords, queuePlace, slotPlace}
 use Rattle.meaning.specs.declared.Tuple.{Tuple}
 use Rattle.meaning.specs.Tuples.{empty, valueOf, sameTuple}
 use Rattle.meaning.specs.Messages.{without}
-use Rattle.meaning.specs.Queues.{queued, valueAt, messageAt, messagesOf, messageWord, messagesWord, queueWord, Tidy}
+use Rattle.meaning.specs.Queues.{messageCount, valueAt, messageAt, messagesOf, messageWord, messagesWord, queueWord, Tidy}
 use Rattle.limits.specs.Limits.{zeros}
 use Rattle.queues.proofs.SlotLaws.{by-below, by-slots, queue-count, queue-word}
 use Rattle.queues.proofs.QueueLaws.{count-is, message-is}
-use Rattle.fits.specs.Fits.{messageFits, queueFits}
+use Rattle.fits.specs.Fits.{slotFits, queueFits}
 use Rattle.steps.proofs.Choices.{by-choice}
 
 -- SHORT MESSAGES: each has at most 4 values
@@ -77,37 +77,37 @@ word-next g j = let e : suc j - 1 ≡ j = omega arith in rw (ne-eqb (suc j) 0 (�
 
 module _ (q : List ℕ) (m : ℕ) where
   abbrev roomPart : Bool
-  roomPart = leb (queued q m) messages
+  roomPart = leb (messageCount q m) messages
 
   abbrev messagePart : Bool
-  messagePart = all (messageFits q m) (queued q m)
+  messagePart = all (slotFits q m) (messageCount q m)
 
   abbrev restPart : Bool
-  restPart = zeros (drop (slotPlace m (queued q m)) q) (slotWords * (messages - queued q m))
+  restPart = zeros (drop (slotPlace m (messageCount q m)) q) (slotWords * (messages - messageCount q m))
 
   -- FROM A QUEUE THAT FITS
   module _ (fits : queueFits q m ≡ true) where
-    fits-room : queued q m ≤ messages
+    fits-room : messageCount q m ≤ messages
     unfolding queueFits
-    fits-room = leb-true (queued q m) messages (and-left roomPart messagePart (and-left (roomPart && messagePart) restPart fits))
+    fits-room = leb-true (messageCount q m) messages (and-left roomPart messagePart (and-left (roomPart && messagePart) restPart fits))
 
-    fits-message : (k : ℕ) → k < queued q m → messageFits q m k ≡ true
+    fits-message : (k : ℕ) → k < messageCount q m → slotFits q m k ≡ true
     unfolding queueFits
-    fits-message = all-at (messageFits q m) (queued q m) (and-right roomPart messagePart (and-left (roomPart && messagePart) restPart fits))
+    fits-message = all-at (slotFits q m) (messageCount q m) (and-right roomPart messagePart (and-left (roomPart && messagePart) restPart fits))
 
-    fits-value : (k : ℕ) → k < queued q m → (j : ℕ) → j < values → valueAt q m k j ≡ valueOf (messageAt q m k) j
-    unfolding messageFits
+    fits-value : (k : ℕ) → k < messageCount q m → (j : ℕ) → j < values → valueAt q m k j ≡ valueOf (messageAt q m k) j
+    unfolding slotFits
     fits-value k l j h =
         eqb-true (valueAt q m k j) (valueOf (messageAt q m k) j)
         (all-at (λ j. eqb (valueAt q m k j) (valueOf (messageAt q m k) j)) values (and-right (leb (messageAt q m k .length) values) _ (fits-message k l)) j h)
 
-    fits-rest : (i : ℕ) → i < slotWords * (messages - queued q m) → at q (slotPlace m (queued q m) + i) ≡ 0
+    fits-rest : (i : ℕ) → i < slotWords * (messages - messageCount q m) → at q (slotPlace m (messageCount q m) + i) ≡ 0
     unfolding queueFits zeros
     fits-rest i l =
-        sym (getD-drop (slotPlace m (queued q m)) q i 0)
-        ∙ eqb-true _ 0 (all-at (λ k. eqb (at (drop (slotPlace m (queued q m)) q) k) 0) (slotWords * (messages - queued q m)) (and-right (roomPart && messagePart) restPart fits) i l)
+        sym (getD-drop (slotPlace m (messageCount q m)) q i 0)
+        ∙ eqb-true _ 0 (all-at (λ k. eqb (at (drop (slotPlace m (messageCount q m)) q) k) 0) (slotWords * (messages - messageCount q m)) (and-right (roomPart && messagePart) restPart fits) i l)
 
-    fits-slot : (k d : ℕ) → k < queued q m → d < slotWords → at q (slotPlace m k + d) ≡ messageWord (messageAt q m k) d
+    fits-slot : (k d : ℕ) → k < messageCount q m → d < slotWords → at q (slotPlace m k + d) ≡ messageWord (messageAt q m k) d
     fits-slot k zero l h = let e : slotPlace m k + 0 ≡ slotPlace m k = omega arith in ap (at q) e ∙ sym (word-first (messageAt q m k))
     fits-slot k (suc j) l h =
         let e : slotPlace m k + suc j ≡ slotPlace m k + 1 + j = omega arith in
@@ -121,30 +121,30 @@ module _ (q : List ℕ) (m : ℕ) where
           (λ k d l h.
           let e : queuePlace m + (1 + slotWords * k + d) ≡ slotPlace m k + d = omega arith in
           ap (at q) e
-          ∙ by-below k (queued q m)
+          ∙ by-below k (messageCount q m)
           (λ r. fits-slot k d r h ∙ ap (λ g. messageWord g d) (sym (message-is q m k r)) ∙ sym (queue-word (messagesOf q m) k d h))
           (λ r.
-          let f : slotPlace m k + d ≡ slotPlace m (queued q m) + (slotWords * (k - queued q m) + d) = omega arith in
+          let f : slotPlace m k + d ≡ slotPlace m (messageCount q m) + (slotWords * (k - messageCount q m) + d) = omega arith in
           let g : 1 + slotWords * k + d ≡ 1 + (slotWords * k + d) = omega arith in
           ap (at q) f
-          ∙ fits-rest (slotWords * (k - queued q m) + d) (omega arith)
+          ∙ fits-rest (slotWords * (k - messageCount q m) + d) (omega arith)
           ∙ sym (ap (queueWord (messagesOf q m)) g ∙ queue-behind (messagesOf q m) (slotWords * k + d) (omega (arith, count-is q m)))));
     }
 
     pub fits-short : Short (messagesOf q m)
-    unfolding messagesOf messageFits
-    fits-short = each-tab isShort (messageAt q m) (queued q m) (λ k l. and-left (leb (messageAt q m k .length) values) _ (fits-message k l))
+    unfolding messagesOf slotFits
+    fits-short = each-tab isShort (messageAt q m) (messageCount q m) (λ k l. and-left (leb (messageAt q m k .length) values) _ (fits-message k l))
 
   -- AND BACK
   module _ (tidy : Tidy q m) (short : Short (messagesOf q m)) where
-    tidy-slot : (k d : ℕ) → k < queued q m → d < slotWords → at q (slotPlace m k + d) ≡ messageWord (messageAt q m k) d
+    tidy-slot : (k d : ℕ) → k < messageCount q m → d < slotWords → at q (slotPlace m k + d) ≡ messageWord (messageAt q m k) d
     tidy-slot k d l h =
-        let r : queued q m ≤ messages = tidy .room in
+        let r : messageCount q m ≤ messages = tidy .room in
         let e : slotPlace m k + d ≡ queuePlace m + (1 + slotWords * k + d) = omega arith in
         ap (at q) e ∙ tidy .words (1 + slotWords * k + d) (omega arith) ∙ queue-word (messagesOf q m) k d h ∙ ap (λ g. messageWord g d) (message-is q m k l)
 
-    tidy-message : (k : ℕ) → k < queued q m → messageFits q m k ≡ true
-    unfolding messageFits
+    tidy-message : (k : ℕ) → k < messageCount q m → slotFits q m k ≡ true
+    unfolding slotFits
     tidy-message k l =
         and-true (leb (messageAt q m k .length) values) (all (λ j. eqb (valueAt q m k j) (valueOf (messageAt q m k) j)) values)
         (subst (λ g. isShort g ≡ true) (message-is q m k l) (each-at isShort (messagesOf q m) empty short (le-leb 0 values (omega arith)) k))
@@ -153,18 +153,18 @@ module _ (q : List ℕ) (m : ℕ) where
         let e : slotPlace m k + 1 + j ≡ slotPlace m k + suc j = omega arith in
         eq-eqb (valueAt q m k j) (valueOf (messageAt q m k) j) (ap (at q) e ∙ tidy-slot k (suc j) l (omega arith) ∙ word-next (messageAt q m k) j)))
 
-    tidy-rest : (i : ℕ) → i < slotWords * (messages - queued q m) → at (drop (slotPlace m (queued q m)) q) i ≡ 0
+    tidy-rest : (i : ℕ) → i < slotWords * (messages - messageCount q m) → at (drop (slotPlace m (messageCount q m)) q) i ≡ 0
     tidy-rest i l =
-        let r : queued q m ≤ messages = tidy .room in
-        let e : slotPlace m (queued q m) + i ≡ queuePlace m + (1 + (slotWords * queued q m + i)) = omega arith in
-        getD-drop (slotPlace m (queued q m)) q i 0
+        let r : messageCount q m ≤ messages = tidy .room in
+        let e : slotPlace m (messageCount q m) + i ≡ queuePlace m + (1 + (slotWords * messageCount q m + i)) = omega arith in
+        getD-drop (slotPlace m (messageCount q m)) q i 0
         ∙ ap (at q) e
-        ∙ tidy .words (1 + (slotWords * queued q m + i)) (omega arith)
-        ∙ queue-behind (messagesOf q m) (slotWords * queued q m + i) (omega (arith, count-is q m))
+        ∙ tidy .words (1 + (slotWords * messageCount q m + i)) (omega arith)
+        ∙ queue-behind (messagesOf q m) (slotWords * messageCount q m + i) (omega (arith, count-is q m))
 
     pub tidy-fits : queueFits q m ≡ true
     unfolding queueFits zeros
     tidy-fits =
         and-true (roomPart && messagePart) restPart
-        (and-true roomPart messagePart (le-leb (queued q m) messages (tidy .room)) (all-of (messageFits q m) (queued q m) tidy-message))
-        (all-of (λ k. eqb (at (drop (slotPlace m (queued q m)) q) k) 0) (slotWords * (messages - queued q m)) (λ i l. eq-eqb _ 0 (tidy-rest i l)))
+        (and-true roomPart messagePart (le-leb (messageCount q m) messages (tidy .room)) (all-of (slotFits q m) (messageCount q m) tidy-message))
+        (all-of (λ k. eqb (at (drop (slotPlace m (messageCount q m)) q) k) 0) (slotWords * (messages - messageCount q m)) (λ i l. eq-eqb _ 0 (tidy-rest i l)))

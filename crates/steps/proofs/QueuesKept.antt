@@ -9,7 +9,7 @@ use Rattle.words.specs.Counts.{names, values, messages}
 use Rattle.state.specs.Places.{queueWords}
 use Rattle.meaning.specs.declared.Tuple.{Tuple}
 use Rattle.meaning.specs.Messages.{appended, without}
-use Rattle.meaning.specs.Queues.{queued, messagesOf, withMessages, sending, consuming, tidied, Tidy}
+use Rattle.meaning.specs.Queues.{messageCount, messagesOf, withMessages, sending, consuming, tidied, Tidy}
 use Rattle.queues.proofs.SlotLaws.{by-order}
 use Rattle.queues.proofs.QueueLaws.{count-is}
 use Rattle.queues.proofs.ReadLaws.{messages-other, tidy-other}
@@ -41,7 +41,7 @@ module _ (q : List ℕ) (m : ℕ) (long : length q ≡ queueWords * names) (name
   unfolding tidied
   sending-fits room few =
       let y : Tidy q m = fits-tidy q m (fits m name) in
-      let r : queued q m < messages = omega (arith, count-is q m) in
+      let r : messageCount q m < messages = omega (arith, count-is q m) in
       every-queue q m (appended (messagesOf q m) g) fits
       (tidy-fits (sending q m g) m (tidy-sending q m long name y g r)
       (subst Short (sym (messages-sending q m long name y g r)) (short-append (messagesOf q m) (tidied g) (fits-short q m (fits m name)) few)))

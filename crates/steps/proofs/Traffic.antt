@@ -18,9 +18,9 @@ use Rattle.meaning.specs.declared.Name.{Name}
 use Rattle.meaning.specs.Messages.{has}
 use Rattle.meaning.specs.Queues.{messagesOf}
 use Rattle.meaning.specs.Templates.{gathered, evaluated}
-use Rattle.meaning.specs.Changes.{message}
+use Rattle.meaning.specs.Changes.{messageSent}
 use Rattle.meaning.specs.Refusals.{firstRefusal}
-use Rattle.meaning.specs.Step.{Site, siteOf, elementNamed, moveNamed, receives, sends, nameAt, sent, queued, space, refusals}
+use Rattle.meaning.specs.Step.{Site, siteOf, elementNamed, moveNamed, receives, sends, messageNamed, sent, queued, space, refusals}
 use Rattle.fits.specs.Fits.{instancesFit, queueFits, stateFits}
 use Rattle.steps.proofs.AcceptedParts.{Accepted, accepted-parts}
 use Rattle.steps.proofs.Choices.{chosen-true}
@@ -54,12 +54,12 @@ module _ (t s q : List ℕ) (n : Name) (fits : tableFits t ≡ true) (accepted :
   site = accepted-parts t s q n accepted .1
 
   -- it receives
-  pub received-name : receives x ≡ true → nameAt x < names
+  pub received-name : receives x ≡ true → messageNamed x < names
   received-name e = name-few t s n fits here (or-left (receives x) (sends x) e)
 
-  pub received-there : receives x ≡ true → has (x .given) (messagesOf q (nameAt x)) ≡ true
+  pub received-there : receives x ≡ true → has (x .given) (messagesOf q (messageNamed x)) ≡ true
   unfolding queued
-  received-there e = chosen-true (receives x) (has (x .given) (messagesOf q (nameAt x))) true (site .waiting) e
+  received-there e = chosen-true (receives x) (has (x .given) (messagesOf q (messageNamed x))) true (site .waiting) e
 
   -- it sends
   module _ (e : sends x ≡ true) where
@@ -67,13 +67,13 @@ module _ (t s q : List ℕ) (n : Name) (fits : tableFits t ≡ true) (accepted :
     unfolding siteOf moveNamed
     sent-alone = ne-eqb (x .move .receives) on (λ f. row-one-way (kindIn (elementNamed t n)) (modeIn (elementNamed t n)) (n .phase) f (eqb-true (x .move .sends) on e))
 
-    pub sent-name : nameAt x < names
+    pub sent-name : messageNamed x < names
     sent-name = name-few t s n fits here (or-right (receives x) (sends x) e)
 
-    pub sent-space : length (messagesOf q (nameAt x)) < messages
+    pub sent-space : length (messagesOf q (messageNamed x)) < messages
     unfolding space
-    sent-space = ltb-true (length (messagesOf q (nameAt x))) messages (chosen-true (sends x) (ltb (length (messagesOf q (nameAt x))) messages) true (site .spacious) e)
+    sent-space = ltb-true (length (messagesOf q (messageNamed x))) messages (chosen-true (sends x) (ltb (length (messagesOf q (messageNamed x))) messages) true (site .spacious) e)
 
     pub sent-short : sent x .tuple .length ≤ values
-    unfolding sent message evaluated gathered siteOf if_then_else_
+    unfolding sent messageSent evaluated gathered siteOf if_then_else_
     sent-short = rw e (length-few t s n fits here (or-right (receives x) (sends x) e))

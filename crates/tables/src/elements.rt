@@ -7,6 +7,9 @@ ghost use Rattle.words.specs.Counts.{branches, assignments};
 ghost use Rattle.kinds.specs.Kinds.{used};
 ghost use Rattle.model.specs.Places.{entriesPlace, exitsPlace, expressionWords, messageWords, assignmentWords};
 ghost use Rattle.limits.specs.Limits.{things, conditionFits, messageFits, assignmentFits, countFits, edgeFits, edgesFit, taskFits, conditionsFit, messagesFit, assignmentsFit, partsFit, elementFits};
+use super::parts::assignment_fits;
+use super::parts::condition_fits;
+use super::parts::message_fits;
 use kinds::Kind;
 use kinds::MANY;
 use kinds::ONE;
@@ -14,12 +17,8 @@ use kinds::count_by;
 use kinds::kind_of;
 use kinds::moves::A;
 use kinds::moves::NA_NC;
-use limits::parts::assignment_fits;
-use limits::parts::condition_fits;
-use limits::parts::message_fits;
 use limits::zeros::is_within;
-use limits::zeros::less;
-use limits::zeros::zero_words;
+use limits::zeros::zeros_behind;
 use model::assignment_at;
 use model::assignment_count;
 use model::condition_at;
@@ -73,11 +72,7 @@ fn edge_things(x: &[Word], k: Word) -> bool
         }
         j += 1;
     }
-    let rest = less(BRANCHES, k as usize);
-    zero_words(
-        tail(x, EDGE_WORDS * (k as usize)),
-        EDGE_WORDS * (rest as usize),
-    )
+    zeros_behind(x, EDGE_WORDS as Word, BRANCHES, k as u32)
 }
 
 // The edges of a list.
@@ -140,11 +135,7 @@ fn condition_things(conditions: Word, x: &[Word], k: Word) -> bool
         }
         j += 1;
     }
-    let rest = less(BRANCHES, k as usize);
-    zero_words(
-        tail(x, EXPRESSION_WORDS * (k as usize)),
-        EXPRESSION_WORDS * (rest as usize),
-    )
+    zeros_behind(x, EXPRESSION_WORDS as Word, BRANCHES, k as u32)
 }
 
 fn conditions_fit(conditions: Word, el: &[Word]) -> bool
@@ -178,11 +169,7 @@ fn message_things(receives: Word, x: &[Word], k: u32) -> bool
         }
         j += 1;
     }
-    let rest = less(BRANCHES, k as usize);
-    zero_words(
-        tail(x, MESSAGE_WORDS * (k as usize)),
-        MESSAGE_WORDS * (rest as usize),
-    )
+    zeros_behind(x, MESSAGE_WORDS as Word, BRANCHES, k)
 }
 
 fn messages_fit(receives: Word, sends: Word, el: &[Word]) -> bool
@@ -205,11 +192,7 @@ fn assignment_things(x: &[Word], k: Word) -> bool
         }
         j += 1;
     }
-    let rest = less(ASSIGNMENTS, k as usize);
-    zero_words(
-        tail(x, ASSIGNMENT_WORDS * (k as usize)),
-        ASSIGNMENT_WORDS * (rest as usize),
-    )
+    zeros_behind(x, ASSIGNMENT_WORDS as Word, ASSIGNMENTS, k as u32)
 }
 
 fn assignments_fit(el: &[Word]) -> bool

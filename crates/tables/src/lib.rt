@@ -10,6 +10,7 @@ ghost use Rattle.limits.specs.Limits.{zeros, things, elementFits, poolFits, tab
 use limits::zeros::is_within;
 use limits::zeros::less;
 use limits::zeros::zero_words;
+use limits::zeros::zeros_behind;
 use model::element_at;
 use model::element_count;
 use model::places::ELEMENT_COUNT;
@@ -28,6 +29,7 @@ use words::tail;
 use words::word;
 
 pub mod elements;
+pub mod parts;
 
 use elements::element_fits;
 
@@ -41,11 +43,7 @@ fn element_things(x: &[Word], k: Word) -> bool
         }
         j += 1;
     }
-    let rest = less(ELEMENTS, k as usize);
-    zero_words(
-        tail(x, ELEMENT_WORDS * (k as usize)),
-        ELEMENT_WORDS * (rest as usize),
-    )
+    zeros_behind(x, ELEMENT_WORDS as Word, ELEMENTS, k as u32)
 }
 
 // The elements of a pool.

@@ -12,7 +12,7 @@ use borrow.Author.Tests.{le-leb, lt-leb, leb-true, leb-false, eq-eqb, ne-eqb}
 use Rattle.words.specs.All.{all}
 use Rattle.words.specs.Each.{total, each}
 use Rattle.words.specs.Pick.{if_then_else_}
-use Rattle.words.specs.Sum.{sum, hit, one}
+use Rattle.words.specs.Sum.{sum, hit, oneIf}
 use Rattle.words.specs.Words.{at}
 use Rattle.words.proofs.AllLaws.{and-left, and-right}
 use Rattle.words.proofs.EachLaws.{total-append, total-tab, total-ext}
@@ -131,9 +131,9 @@ sum-one v e = zero-add (hit v e)
 
 -- a region in which a thing marks the numbers that pass a test, each once
 module _ (f : ℕ → Bool) (m : ℕ) where
-  here : (t : Bool) → hit (if t then m + 1 else 0) (m + 1) ≡ one t
+  here : (t : Bool) → hit (if t then m + 1 else 0) (m + 1) ≡ oneIf t
   unfolding if_then_else_
-  here true = ap one (eq-eqb (m + 1) (m + 1) refl)
+  here true = ap oneIf (eq-eqb (m + 1) (m + 1) refl)
   here false = hit-no 0 (m + 1) (λ q. omega arith)
 
   elsewhere : (t : Bool) (j : ℕ) → (j ≡ m → ⊥) → hit (if t then j + 1 else 0) (m + 1) ≡ 0
@@ -141,13 +141,13 @@ module _ (f : ℕ → Bool) (m : ℕ) where
   elsewhere true j w = hit-no (j + 1) (m + 1) (λ q. w (omega arith))
   elsewhere false j w = hit-no 0 (m + 1) (λ q. omega arith)
 
-  pub once : (n : ℕ) → m < n → sum (λ j. hit (if f j then j + 1 else 0) (m + 1)) n ≡ one (f m)
+  pub once : (n : ℕ) → m < n → sum (λ j. hit (if f j then j + 1 else 0) (m + 1)) n ≡ oneIf (f m)
   unfolding sum
   once zero h = absurd (not-suc-le-zero h)
   once (suc n) h =
       ⊎-elim
-      (λ q. ap₂ _+_ (sum-zero (λ j. hit (if f j then j + 1 else 0) (m + 1)) n (λ k l. elsewhere (f k) k (λ w. omega arith))) (ap (λ k. hit (if f k then k + 1 else 0) (m + 1)) (sym q) ∙ here (f m)) ∙ zero-add (one (f m)))
-      (λ l. ap₂ _+_ (once n l) (elsewhere (f n) n (λ w. omega arith)) ∙ add-zero (one (f m)))
+      (λ q. ap₂ _+_ (sum-zero (λ j. hit (if f j then j + 1 else 0) (m + 1)) n (λ k l. elsewhere (f k) k (λ w. omega arith))) (ap (λ k. hit (if f k then k + 1 else 0) (m + 1)) (sym q) ∙ here (f m)) ∙ zero-add (oneIf (f m)))
+      (λ l. ap₂ _+_ (once n l) (elsewhere (f n) n (λ w. omega arith)) ∙ add-zero (oneIf (f m)))
       (eq-or-lt-of-le (le-of-suc-le-suc h))
 
 -- a test of every number below n
@@ -162,11 +162,11 @@ unfolding onceIn
 once-in s from most g h = all-ext _ _ most (λ k l. ap (λ n. leb n 1) (h k l) ∙ leb-capped (g k))
 
 -- a test that every thing of a list passes, by the count of those that don't
-pub each-none : {A : Type 0} (f : A → Bool) (g : A → ℕ) (xs : List A) → ((x : A) → g x ≡ one (not (f x))) → eqb (total g xs) 0 ≡ each f xs
+pub each-none : {A : Type 0} (f : A → Bool) (g : A → ℕ) (xs : List A) → ((x : A) → g x ≡ oneIf (not (f x))) → eqb (total g xs) 0 ≡ each f xs
 unfolding total each
 each-none f g [] h = refl
 each-none f g (x ∷ xs) h = go (f x) (h x) (each-none f g xs h)
   where
-    go : (t : Bool) → g x ≡ one (not t) → eqb (total g xs) 0 ≡ each f xs → eqb (g x + total g xs) 0 ≡ t && each f xs
+    go : (t : Bool) → g x ≡ oneIf (not t) → eqb (total g xs) 0 ≡ each f xs → eqb (g x + total g xs) 0 ≡ t && each f xs
     go true e ih = ap (λ n. eqb n 0) (ap (λ n. n + total g xs) e ∙ zero-add (total g xs)) ∙ ih
     go false e ih = ne-eqb (g x + total g xs) 0 (λ q. omega arith)

@@ -12,7 +12,7 @@ use lib.Seq.{getD-set-same, getD-set-other}
 use borrow.Author.Tests.{eq-eqb, ne-eqb, eqb-true, eqb-false, lt-ltb, lt-leb}
 use Rattle.words.specs.Each.{total, tab}
 use Rattle.words.specs.Pick.{if_then_else_}
-use Rattle.words.specs.Sum.{hit, one}
+use Rattle.words.specs.Sum.{hit, oneIf}
 use Rattle.words.proofs.EachLaws.{tab-more}
 use Rattle.tally.specs.Tally.{more, marked, tally, Region, oneRegion, regionMarks, place, marksOf, allMarks, tallied, count, capped}
 
@@ -111,7 +111,7 @@ marked-at : (s : List ℕ) (k x n : ℕ) → k < length s → getD s k 0 ≡ cap
 unfolding marked
 marked-at s k x n h e = go (eqb x k) refl
   where
-    go : (b : Bool) → eqb x k ≡ b → getD (set s x (more (getD s x 0))) k 0 ≡ capped (n + one b)
+    go : (b : Bool) → eqb x k ≡ b → getD (set s x (more (getD s x 0))) k 0 ≡ capped (n + oneIf b)
     go true q =
         let w : x ≡ k = eqb-true x k q in
         subst (λ (y : ℕ). getD (set s y (more (getD s y 0))) k 0 ≡ capped (n + 1)) (sym w)
@@ -147,10 +147,10 @@ eqb-iff a b c d f g = go (eqb a b) refl
     go false e = e ∙ sym (ne-eqb c d (λ h. eqb-false a b e (g h)))
 
 pub hit-iff : (a b c d : ℕ) → (a ≡ b → c ≡ d) → (c ≡ d → a ≡ b) → hit a b ≡ hit c d
-hit-iff a b c d f g = ap one (eqb-iff a b c d f g)
+hit-iff a b c d f g = ap oneIf (eqb-iff a b c d f g)
 
 pub hit-no : (a b : ℕ) → (a ≡ b → ⊥) → hit a b ≡ 0
-hit-no a b h = ap one (ne-eqb a b h)
+hit-no a b h = ap oneIf (ne-eqb a b h)
 
 pub eqb-capped : (x c : ℕ) → c ≤ 1 → eqb (capped x) c ≡ eqb x c
 eqb-capped x c h = eqb-iff (capped x) c x c (capped-to x c h) (capped-from x c h)

@@ -15,15 +15,15 @@ abbrev pub farthest : ℕ
 farthest = 16777216
 
 -- a form and the second operand; two operands compared
-abbrev pub joined : ℕ → ℕ → Reader
-joined form place = store (place + formPlace) form then operand (place + rightPlace)
+abbrev pub joinedBy : ℕ → ℕ → Reader
+joinedBy form place = store (place + formPlace) form then operand (place + rightPlace)
 
 abbrev pub compared : ℕ → Reader
 compared place = operand (place + leftPlace) then comparison place
 
 -- a condition that starts with a word
-abbrev pub isDefault : Bool → List ℕ → ℕ → Bool
-isDefault defaults text at = defaults && sameBytes (letters text at) (bytes "default")
+abbrev pub isDefaultWord : Bool → List ℕ → ℕ → Bool
+isDefaultWord defaults text at = defaults && sameBytes (letters text at) (bytes "default")
 
 abbrev pub keepForm : ℕ → ℕ → Reader
 keepForm form place text at x = store (place + formPlace) form text (behind text at) x
@@ -31,7 +31,7 @@ keepForm form place text at x = store (place + formPlace) form text (behind text
 abbrev pub conditionWord : Bool → ℕ → Reader
 conditionWord defaults place text at x =
     if sameBytes (letters text at) (bytes "true") then keepForm always place text at x
-    else if isDefault defaults text at then keepForm default place text at x
+    else if isDefaultWord defaults text at then keepForm default place text at x
     else compared place text at x
 
 -- behind the edge of a guarded branch

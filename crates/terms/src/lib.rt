@@ -3,7 +3,7 @@ ghost use mathlib.Core.Path.{_≡_};
 ghost use Prim.Native.Nat.{_≤_};
 ghost use Rattle.model.specs.Places.{itemPlace, conditionPlace};
 ghost use Rattle.terms.specs.Terms.{joint, expression, bind, templateItem, comparison, condition, assignment, guarded};
-ghost use Rattle.terms.specs.Tails.{farthest, joined, compared, isDefault, keepForm, conditionWord, guard};
+ghost use Rattle.terms.specs.Tails.{farthest, joinedBy, compared, isDefaultWord, keepForm, conditionWord, guard};
 ghost use Rattle.reading.specs.Reading.{letters};
 ghost use Rattle.numerals.specs.Numerals.{sameBytes};
 use lexer::Form;
@@ -33,7 +33,6 @@ use model::places::PLUS;
 use model::places::RIGHT;
 use model::places::SINGLE;
 use numerals::same;
-use reading::MISPLACED;
 use reading::Read;
 use reading::assign_at;
 use reading::field_in;
@@ -42,12 +41,13 @@ use reading::operand_in;
 use reading::sign_at;
 use words::Word;
 use words::counts::EDGES;
+use words::numbers::MISPLACED;
 use words::put;
 
 // A form, and the second operand.
 fn joined(text: &[u8], at: usize, x: &mut [Word], place: u32, form: Word) -> Read
     requires { ⌜ place ≤ farthest ⌝ }
-    ensures { λ r. ⌜ record { end = r; words = now (x .exit) } ≡ joined form place (now (text .entry)) at (now (x .entry)) ⌝ }
+    ensures { λ r. ⌜ record { end = r; words = now (x .exit) } ≡ joinedBy form place (now (text .entry)) at (now (x .entry)) ⌝ }
 {
     put(x, place as usize + FORM, form);
     operand_in(text, at, x, place + RIGHT as u32)
@@ -164,7 +164,7 @@ fn is_spelled(text: &[u8], at: usize, word: &[u8]) -> bool
 }
 
 fn is_default(text: &[u8], at: usize, defaults: bool) -> bool
-    ensures { λ r. ⌜ r ≡ isDefault defaults (now (text .entry)) at ⌝ }
+    ensures { λ r. ⌜ r ≡ isDefaultWord defaults (now (text .entry)) at ⌝ }
 {
     if defaults {
         return is_spelled(text, at, b"default");

@@ -1,6 +1,9 @@
 // What a move does to the tokens and counts of an instance, in place.
 ghost use mathlib.Core.Path.{_≡_};
-ghost use Rattle.meaning.specs.Changes.{takeOne, taken, more, counted, activeChanged, readyChanged, putOne, puts, cleared, moved};
+ghost use Rattle.words.specs.Iter.{iter};
+ghost use Rattle.meaning.specs.Requirements.{first, touched};
+ghost use Rattle.meaning.specs.Changes.{taken, more, countChanged, activeChanged, readyChanged, puts, cleared, moved};
+ghost use Rattle.tokens.specs.Edges.{changeOne};
 use super::edge_from;
 use super::first_edge;
 use super::touched_count;
@@ -25,28 +28,6 @@ use words::counts::COUNT_MOST;
 use words::less_one;
 use words::put;
 
-fn take_one(el: &[Word], f: Word, j: Word, h: &mut [Word])
-    ensures { λ _. ⌜ now (h .exit) ≡ takeOne (now (el .entry)) f j (now (h .entry)) ⌝ }
-{
-    let e = edge_from(el, ENTRIES as Word, f, j);
-    let n = tokens_on(h, e);
-    let left = less_one(n);
-    put_tokens(h, e, left);
-}
-
-// Takes the tokens of the entries.
-pub fn take(el: &[Word], m: Move, b: Word, h: &mut [Word])
-    ensures { λ _. ⌜ now (h .exit) ≡ taken (now (el .entry)) m b (now (h .entry)) ⌝ }
-{
-    let f = first_edge(m.takes, b);
-    let n = touched_count(m.takes, entry_count(el));
-    let mut j: Word = 0;
-    while j < n {
-        take_one(el, f, j, h);
-        j += 1;
-    }
-}
-
 // One more, and the most stays.
 fn one_more(n: Word) -> Word
     ensures { λ r. ⌜ r ≡ more n ⌝ }
@@ -58,7 +39,7 @@ fn one_more(n: Word) -> Word
 }
 
 fn count_after(cell: Word, n: Word) -> Word
-    ensures { λ r. ⌜ r ≡ counted cell n ⌝ }
+    ensures { λ r. ⌜ r ≡ countChanged cell n ⌝ }
 {
     if cell == UP {
         return one_more(n);
@@ -67,6 +48,35 @@ fn count_after(cell: Word, n: Word) -> Word
         return less_one(n);
     }
     n
+}
+
+// A token goes the way given, on edge j of those from edge f on, of a list.
+fn change_edge(el: &[Word], list: Word, way: Word, f: Word, j: Word, h: &mut [Word])
+    ensures { λ _. ⌜ now (h .exit) ≡ changeOne (now (el .entry)) list way f j (now (h .entry)) ⌝ }
+{
+    let e = edge_from(el, list, f, j);
+    let n = count_after(way, tokens_on(h, e));
+    put_tokens(h, e, n);
+}
+
+// On each edge that a cell of the table of moves means, of a list of n.
+fn change_edges(el: &[Word], list: Word, way: Word, cell: Word, b: Word, n: Word, h: &mut [Word])
+    ensures { λ _. ⌜ now (h .exit) ≡ iter (changeOne (now (el .entry)) list way (first cell b)) (now (h .entry)) (touched cell n) ⌝ }
+{
+    let f = first_edge(cell, b);
+    let count = touched_count(cell, n);
+    let mut j: Word = 0;
+    while j < count {
+        change_edge(el, list, way, f, j, h);
+        j += 1;
+    }
+}
+
+// Takes the tokens of the entries.
+pub fn take(el: &[Word], m: Move, b: Word, h: &mut [Word])
+    ensures { λ _. ⌜ now (h .exit) ≡ taken (now (el .entry)) m b (now (h .entry)) ⌝ }
+{
+    change_edges(el, ENTRIES as Word, DOWN, m.takes, b, entry_count(el), h);
 }
 
 fn change_active(el: &[Word], m: Move, h: &mut [Word])
@@ -85,24 +95,10 @@ fn change_ready(el: &[Word], m: Move, h: &mut [Word])
     put_ready(h, task, n);
 }
 
-fn put_one(el: &[Word], f: Word, j: Word, h: &mut [Word])
-    ensures { λ _. ⌜ now (h .exit) ≡ putOne (now (el .entry)) f j (now (h .entry)) ⌝ }
-{
-    let e = edge_from(el, EXITS as Word, f, j);
-    let n = one_more(tokens_on(h, e));
-    put_tokens(h, e, n);
-}
-
 fn put_all(el: &[Word], m: Move, b: Word, h: &mut [Word])
     ensures { λ _. ⌜ now (h .exit) ≡ puts (now (el .entry)) m b (now (h .entry)) ⌝ }
 {
-    let f = first_edge(m.puts, b);
-    let n = touched_count(m.puts, exit_count(el));
-    let mut j: Word = 0;
-    while j < n {
-        put_one(el, f, j, h);
-        j += 1;
-    }
+    change_edges(el, EXITS as Word, UP, m.puts, b, exit_count(el), h);
 }
 
 fn clear(h: &mut [Word])

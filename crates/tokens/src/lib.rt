@@ -1,9 +1,7 @@
 // What a move asks of the tokens and counts of an instance, and what it does to them.
 ghost use mathlib.Core.Path.{_≡_};
-ghost use Prim.Native.Nat.{_+_};
-ghost use Rattle.words.specs.Words.{at};
-ghost use Rattle.model.specs.Places.{edgePlace};
 ghost use Rattle.meaning.specs.Requirements.{touched, first, branchCount, instanceNamed, belowLimit};
+ghost use Rattle.tokens.specs.Edges.{edgeFrom};
 use kinds::moves::BRANCH;
 use kinds::moves::EVERY;
 use kinds::moves::MAKES;
@@ -42,7 +40,7 @@ pub fn first_edge(cell: Word, b: Word) -> Word
 
 // Edge j of those from edge f on, of the list at a place: ENTRIES or EXITS.
 pub fn edge_from(el: &[Word], list: Word, f: Word, j: Word) -> Word
-    ensures { λ r. ⌜ r ≡ at (now (el .entry)) (edgePlace list (f + j)) ⌝ }
+    ensures { λ r. ⌜ r ≡ edgeFrom (now (el .entry)) list f j ⌝ }
 {
     word(
         el,

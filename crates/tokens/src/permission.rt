@@ -1,6 +1,8 @@
 // Whether tokens and counts permit a move (12), and whether there is room for what it puts and raises (18).
 ghost use mathlib.Core.Path.{_≡_};
-ghost use Rattle.meaning.specs.Requirements.{hasToken, hasTokens, canLower, isAlone, permitted, hasRoom, hasRooms, canRaise, roomy};
+ghost use Rattle.words.specs.All.{all};
+ghost use Rattle.meaning.specs.Requirements.{first, touched, hasTokens, canLower, isAlone, countsPermit, hasRooms, canRaise, roomy};
+ghost use Rattle.tokens.specs.Edges.{allows};
 use super::edge_from;
 use super::first_edge;
 use super::touched_count;
@@ -21,26 +23,38 @@ use state::tokens_on;
 use words::Word;
 use words::counts::COUNT_MOST;
 
-// 12.
-fn has_token(el: &[Word], h: &[Word], f: Word, j: Word) -> bool
-    ensures { λ r. ⌜ r ≡ hasToken (now (el .entry)) (now (h .entry)) f j ⌝ }
+// Edge j of those from edge f on, of a list: a token that goes DOWN is there (12), one that goes UP finds room (18).
+fn edge_allows(el: &[Word], h: &[Word], list: Word, way: Word, f: Word, j: Word) -> bool
+    ensures { λ r. ⌜ r ≡ allows (now (el .entry)) (now (h .entry)) list way f j ⌝ }
 {
-    0 < tokens_on(h, edge_from(el, ENTRIES as Word, f, j))
+    let n = tokens_on(h, edge_from(el, list, f, j));
+    if way == DOWN {
+        return 0 < n;
+    }
+    n < COUNT_MOST
 }
 
-fn has_tokens(el: &[Word], h: &[Word], m: Move, b: Word) -> bool
-    ensures { λ r. ⌜ r ≡ hasTokens (now (el .entry)) (now (h .entry)) m b ⌝ }
+// Each edge that a cell of the table of moves means, of a list of n.
+fn edges_allow(el: &[Word], h: &[Word], list: Word, way: Word, cell: Word, b: Word, n: Word) -> bool
+    ensures { λ r. ⌜ r ≡ all (allows (now (el .entry)) (now (h .entry)) list way (first cell b)) (touched cell n) ⌝ }
 {
-    let f = first_edge(m.takes, b);
-    let n = touched_count(m.takes, entry_count(el));
+    let f = first_edge(cell, b);
+    let count = touched_count(cell, n);
     let mut j: Word = 0;
-    while j < n {
-        if !has_token(el, h, f, j) {
+    while j < count {
+        if !edge_allows(el, h, list, way, f, j) {
             return false;
         }
         j += 1;
     }
     true
+}
+
+// 12.
+fn has_tokens(el: &[Word], h: &[Word], m: Move, b: Word) -> bool
+    ensures { λ r. ⌜ r ≡ hasTokens (now (el .entry)) (now (h .entry)) m b ⌝ }
+{
+    edges_allow(el, h, ENTRIES as Word, DOWN, m.takes, b, entry_count(el))
 }
 
 fn can_lower(cell: Word, n: Word) -> bool
@@ -71,7 +85,7 @@ fn is_alone(el: &[Word], h: &[Word], m: Move) -> bool
 }
 
 pub fn permits(el: &[Word], h: &[Word], m: Move, b: Word) -> bool
-    ensures { λ r. ⌜ r ≡ permitted (now (el .entry)) (now (h .entry)) m b ⌝ }
+    ensures { λ r. ⌜ r ≡ countsPermit (now (el .entry)) (now (h .entry)) m b ⌝ }
 {
     let task = task_in(el);
     if !has_tokens(el, h, m, b) {
@@ -87,25 +101,10 @@ pub fn permits(el: &[Word], h: &[Word], m: Move, b: Word) -> bool
 }
 
 // 18, of the instance after the taking.
-fn has_room(el: &[Word], h: &[Word], f: Word, j: Word) -> bool
-    ensures { λ r. ⌜ r ≡ hasRoom (now (el .entry)) (now (h .entry)) f j ⌝ }
-{
-    tokens_on(h, edge_from(el, EXITS as Word, f, j)) < COUNT_MOST
-}
-
 fn has_rooms(el: &[Word], h: &[Word], m: Move, b: Word) -> bool
     ensures { λ r. ⌜ r ≡ hasRooms (now (el .entry)) (now (h .entry)) m b ⌝ }
 {
-    let f = first_edge(m.puts, b);
-    let n = touched_count(m.puts, exit_count(el));
-    let mut j: Word = 0;
-    while j < n {
-        if !has_room(el, h, f, j) {
-            return false;
-        }
-        j += 1;
-    }
-    true
+    edges_allow(el, h, EXITS as Word, UP, m.puts, b, exit_count(el))
 }
 
 fn can_raise(cell: Word, n: Word) -> bool

@@ -40,20 +40,15 @@ module _ (el : List ℕ) (small : (i : ℕ) → at el i ≤ greatest) (place : �
   form : at (drop place el) 0 ≡ at el (place + 0)
   form = getD-drop place el 0 0
 
-  left : drop 1 (drop place el) ≡ drop (place + 1) el
-  left = drop-drop 1 place el
+  -- the words from one of its places on, and an operand there
+  part : (k : ℕ) → drop k (drop place el) ≡ drop (place + k) el
+  part k = drop-drop k place el
 
-  right : drop 3 (drop place el) ≡ drop (place + 3) el
-  right = drop-drop 3 place el
+  reads-side : (k : ℕ) → k ≤ rightPlace → operandFits (drop k (drop place el)) ≡ true → Reads el (operand (place + k)) (shownOperand (drop k (drop place el))) stops (Span (place + k) 2)
+  reads-side k l fit = reads-text (ap shownOperand (sym (part k))) (reads-operand (place + k) (omega (arith, h, l)) (ap operandFits (sym (part k)) ∙ fit) (small (place + k + 1)))
 
   left-small : at (drop 1 (drop place el)) 1 ≤ greatest
-  left-small = rw (left, getD-drop) (small (place + 1 + 1))
-
-  reads-left : operandFits (drop 1 (drop place el)) ≡ true → Reads el (operand (place + leftPlace)) (shownOperand (drop 1 (drop place el))) stops (Span (place + 1) 2)
-  reads-left fit = reads-text (ap shownOperand (sym left)) (reads-operand (place + 1) (omega (arith, h)) (ap operandFits (sym left) ∙ fit) (small (place + 1 + 1)))
-
-  reads-right : operandFits (drop 3 (drop place el)) ≡ true → Reads el (operand (place + rightPlace)) (shownOperand (drop 3 (drop place el))) stops (Span (place + 3) 2)
-  reads-right fit = reads-text (ap shownOperand (sym right)) (reads-operand (place + 3) (omega (arith, h)) (ap operandFits (sym right) ∙ fit) (small (place + 3 + 1)))
+  left-small = rw (part 1, getD-drop) (small (place + 1 + 1))
 
   reads-form : (v : ℕ) → at (drop place el) 0 ≡ v → Reads el (store (place + formPlace) v) [] anything (λ i. i ≡ place + 0)
   reads-form v e = reads-store (place + 0) v (omega (arith, h)) (sym e ∙ form)
@@ -61,14 +56,14 @@ module _ (el : List ℕ) (small : (i : ℕ) → at el i ≤ greatest) (place : �
   -- behind a sign: the form stored, and the operand on the right
   reads-other : (v : ℕ) → at (drop place el) 0 ≡ v → operandFits (drop 3 (drop place el)) ≡ true
       → Reads el (store (place + formPlace) v then operand (place + rightPlace)) (shownOperand (drop 3 (drop place el))) stops (Both (λ i. i ≡ place + 0) (Span (place + 3) 2))
-  reads-other v e fit = reads-then (reads-form v e) (reads-right fit) (λ rest k. refl)
+  reads-other v e fit = reads-then (reads-form v e) (reads-side rightPlace (omega arith) fit) (λ rest k. refl)
 
   -- two operands joined by a sign
   reads-pair : (s : ℕ) {J : Reader} → isSign s ≡ true → operandFits (drop 1 (drop place el)) ≡ true
       → Reads el J (s ∷ shownOperand (drop 3 (drop place el))) stops (Both (λ i. i ≡ place + 0) (Span (place + 3) 2))
       → Reads el (operand (place + leftPlace) then J) (shownOperand (drop 1 (drop place el)) ++ (s ∷ shownOperand (drop 3 (drop place el)))) stops (Span place 5)
   reads-pair s i fit j =
-      reads-wider (λ i k. inl (five place i k)) (reads-then (reads-left fit) j (λ rest k. sign-stops s (shownOperand (drop 3 (drop place el)) ++ rest) i))
+      reads-wider (λ i k. inl (five place i k)) (reads-then (reads-side leftPlace (omega arith) fit) j (λ rest k. sign-stops s (shownOperand (drop 3 (drop place el)) ++ rest) i))
 
   -- EXPRESSIONS
   reads-plus : at (drop place el) 0 ≡ 2 → operandFits (drop 3 (drop place el)) ≡ true
@@ -89,14 +84,14 @@ module _ (el : List ℕ) (small : (i : ℕ) → at el i ≤ greatest) (place : �
 
   -- the words on the right, where they are not in use
   no-right : zeros (drop 3 (drop place el)) 2 ≡ true → (i : ℕ) → Span (place + 3) 2 i → at el i ≡ 0
-  no-right z i s = zeros-at el (place + 3) 2 (ap (λ (x : List ℕ). zeros x 2) (sym right) ∙ z) i s
+  no-right z i s = zeros-at el (place + 3) 2 (ap (λ (x : List ℕ). zeros x 2) (sym (part rightPlace)) ∙ z) i s
 
   reads-single : at (drop place el) 0 ≡ 1 → operandFits (drop 1 (drop place el)) ≡ true → zeros (drop 3 (drop place el)) 2 ≡ true
       → Reads el (operand (place + leftPlace) then joint place) (shownOperand (drop 1 (drop place el)) ++ []) closes (Span place 5)
   reads-single e fit z =
       reads-wider
       (λ i s. ⊎-elim (λ a. inl (inl a)) (⊎-elim (λ a. inl (inr a)) (λ a. inr (no-right z i a))) (five place i s))
-      (reads-then (reads-left fit) (reads-none e) (λ rest k. closes-stops rest k))
+      (reads-then (reads-side leftPlace (omega arith) fit) (reads-none e) (λ rest k. closes-stops rest k))
 
   pub reads-expression : expressionFits (drop place el) ≡ true → Reads el (expression place) (shownExpression (drop place el)) closes (Span place 5)
   unfolding expression
@@ -182,7 +177,7 @@ module _ (el : List ℕ) (small : (i : ℕ) → at el i ≤ greatest) (place : �
     condition-named : (w : List ℕ) (v : ℕ) → Worded w → ((text x : List ℕ) (from q : ℕ) → chosen text from w q x ≡ passed q (set x (place + formPlace) v)) → at (drop place el) 0 ≡ v → zeros (drop 1 (drop place el)) 4 ≡ true
         → Reads el (condition defaults place) w stops (Span place 5)
     condition-named w v g c e z =
-        reads-wider (λ i s. ⊎-elim (λ a. inl (span-one place i a)) (λ a. inr (zeros-at el (place + 1) 4 (ap (λ (x : List ℕ). zeros x 4) (sym left) ∙ z) i a)) (span-split place 1 4 i s))
+        reads-wider (λ i s. ⊎-elim (λ a. inl (span-one place i a)) (λ a. inr (zeros-at el (place + 1) 4 (ap (λ (x : List ℕ). zeros x 4) (sym (part leftPlace)) ∙ z) i a)) (span-split place 1 4 i s))
         (record {
           reads = λ text rest x from d k l b.
               (set x (place + 0) v, condition-taken text rest x w from d g k ∙ c text x from (from + length w), onto-wider (onto-set x (place + 0) v b (omega (arith, h, l)) (sym e ∙ form)) (λ i s. inl (s ∙ (let q : place ≡ place + 0 = omega arith in q))));

@@ -9,13 +9,14 @@ use lib.ListN.{drop}
 use lib.Seq.{getD-drop, drop-drop}
 use borrow.Author.Tests.{eq-eqb, ne-eqb, eqb-true, ltb-true, leb-true}
 use Rattle.words.specs.All.{all}
-use Rattle.words.specs.Counts.{branches, edges, names, values, fields, assignments, tasks}
+use Rattle.words.specs.Counts.{fewest, branches, edges, names, values, fields, assignments, tasks}
 use Rattle.words.specs.Words.{at}
 use Rattle.words.proofs.AllLaws.{all-at, and-left, and-right}
 use Rattle.words.proofs.PickLaws.{pick-yes, pick-no}
 use Rattle.kinds.specs.declared.Kind.{Kind}
-use Rattle.kinds.specs.Kinds.{used}
-use Rattle.model.specs.Places.{expressionWords, messageWords, assignmentWords, entriesPlace, exitsPlace, edgePlace, conditionPlace, messagePlace, assignmentsPlace, assignmentPlace, taskPlace, modePlace}
+use Rattle.kinds.specs.Kinds.{one, many, used}
+use Rattle.kinds.specs.Moves.{na-nc}
+use Rattle.model.specs.Places.{firstEdge, expressionWords, lengthIn, itemsIn, messageWords, assignmentWords, entriesPlace, exitsPlace, edgePlace, conditionPlace, messagePlace, assignmentsPlace, assignmentPlace, taskPlace, modePlace}
 use Rattle.limits.specs.Limits.{zeros, things, expressionFits, itemFits, conditionFits, messageFits, assignmentFits, countFits, edgeFits, edgesFit, taskFits, conditionsFit, messagesFit, assignmentsFit, partsFit}
 use Rattle.trips.proofs.NumberReads.{Span, then-of, else-of}
 use Rattle.trips.proofs.ExpressionLaws.{zeros-at}
@@ -44,33 +45,33 @@ module _ (el : List ℕ) (column list : ℕ) (e : edgesFit column (drop list el)
   list-count = getD-drop list el 0 0 ∙ ap (at el) (let z : list + 0 ≡ list = omega arith in z)
 
   pub edges-count : countFits column (at el list) ≡ true
-  edges-count = ap (countFits column) (sym list-count) ∙ and-left (countFits column (at (drop list el) 0)) (things (drop 1 (drop list el)) 1 8 (at (drop list el) 0) edgeFits) (unfold edgesFit in e)
+  edges-count = ap (countFits column) (sym list-count) ∙ and-left (countFits column (at (drop list el) 0)) (things (drop firstEdge (drop list el)) 1 branches (at (drop list el) 0) edgeFits) (unfold edgesFit in e)
 
-  edges-things : things (drop (list + 1) el) 1 8 (at el list) edgeFits ≡ true
+  edges-things : things (drop (list + 1) el) 1 branches (at el list) edgeFits ≡ true
   edges-things =
-      ap (λ (x : List ℕ). things x 1 8 (at el list) edgeFits) (sym (drop-drop 1 list el))
-      ∙ ap (λ (k : ℕ). things (drop 1 (drop list el)) 1 8 k edgeFits) (sym list-count)
-      ∙ and-right (countFits column (at (drop list el) 0)) (things (drop 1 (drop list el)) 1 8 (at (drop list el) 0) edgeFits) (unfold edgesFit in e)
+      ap (λ (x : List ℕ). things x 1 branches (at el list) edgeFits) (sym (drop-drop firstEdge list el))
+      ∙ ap (λ (k : ℕ). things (drop firstEdge (drop list el)) 1 branches k edgeFits) (sym list-count)
+      ∙ and-right (countFits column (at (drop list el) 0)) (things (drop firstEdge (drop list el)) 1 branches (at (drop list el) 0) edgeFits) (unfold edgesFit in e)
 
   pub edge-range : (j : ℕ) → j < at el list → (1 ≤ at el (edgePlace list j)) × (at el (edgePlace list j) ≤ edges)
   edge-range j l =
       let z : at (drop (list + 1 + 1 * j) el) 0 ≡ at el (edgePlace list j) = getD-drop (list + 1 + 1 * j) el 0 0 ∙ ap (at el) (let q : list + 1 + 1 * j + 0 ≡ list + 1 + j = omega arith in q) in
-      let f : leb 1 (at (drop (list + 1 + 1 * j) el) 0) && leb (at (drop (list + 1 + 1 * j) el) 0) 48 ≡ true = (unfold edgeFits in things-right el (list + 1) 1 8 (at el list) edgeFits edges-things j l) in
-      (omega (arith, z, within-low 1 48 (at (drop (list + 1 + 1 * j) el) 0) f), omega (arith, z, within-high 1 48 (at (drop (list + 1 + 1 * j) el) 0) f))
+      let f : leb 1 (at (drop (list + 1 + 1 * j) el) 0) && leb (at (drop (list + 1 + 1 * j) el) 0) edges ≡ true = (unfold edgeFits in things-right el (list + 1) 1 branches (at el list) edgeFits edges-things j l) in
+      (omega (arith, z, within-low 1 edges (at (drop (list + 1 + 1 * j) el) 0) f), omega (arith, z, within-high 1 edges (at (drop (list + 1 + 1 * j) el) 0) f))
 
   pub edges-none : (i : ℕ) → list + 1 + at el list ≤ i → i < list + 9 → at el i ≡ 0
-  edges-none i a b = things-none el (list + 1) 1 8 (at el list) edgeFits edges-things i (omega (arith, a), omega (arith, a, b))
+  edges-none i a b = things-none el (list + 1) 1 branches (at el list) edgeFits edges-things i (omega (arith, a), omega (arith, a, b))
 
 -- a list of many, and a list of one
-pub count-many : (n : ℕ) → countFits 2 n ≡ true → (2 ≤ n) × (n ≤ 8)
+pub count-many : (n : ℕ) → countFits many n ≡ true → (fewest ≤ n) × (n ≤ branches)
 unfolding countFits
 count-many n e =
-    let h = then-of _ _ _ _ e (eq-eqb 2 2 refl) in
-    (within-low 2 8 n h, within-high 2 8 n h)
+    let h = then-of _ _ _ _ e (eq-eqb many many refl) in
+    (within-low fewest branches n h, within-high fewest branches n h)
 
-pub count-one : (n : ℕ) → countFits 1 n ≡ true → n ≡ 1
+pub count-one : (n : ℕ) → countFits one n ≡ true → n ≡ 1
 unfolding countFits
-count-one n e = eqb-true n 1 (else-of _ _ _ _ e (ne-eqb 1 2 (λ z. omega (arith, z))))
+count-one n e = eqb-true n one (else-of _ _ _ _ e (ne-eqb one many (λ z. omega (arith, z))))
 
 -- A MESSAGE at the place p
 module _ (el : List ℕ) (receives p : ℕ) (e : messageFits receives (drop p el) ≡ true) where
@@ -78,31 +79,31 @@ module _ (el : List ℕ) (receives p : ℕ) (e : messageFits receives (drop p el
   message-zero = getD-drop p el 0 0 ∙ ap (at el) (let z : p + 0 ≡ p = omega arith in z)
 
   abbrev Three : Bool
-  Three = ltb (at (drop p el) 0) 16 && leb (at (drop p el) 1) 4 && things (drop 2 (drop p el)) 5 4 (at (drop p el) 1) (itemFits receives)
+  Three = ltb (at (drop p el) 0) names && leb (at (drop p el) lengthIn) values && things (drop itemsIn (drop p el)) expressionWords values (at (drop p el) lengthIn) (itemFits receives)
 
   message-three : Three ≡ true
   message-three = unfold messageFits in e
 
-  message-two : ltb (at (drop p el) 0) 16 && leb (at (drop p el) 1) 4 ≡ true
-  message-two = and-left (ltb (at (drop p el) 0) 16 && leb (at (drop p el) 1) 4) (things (drop 2 (drop p el)) 5 4 (at (drop p el) 1) (itemFits receives)) message-three
+  message-two : ltb (at (drop p el) 0) names && leb (at (drop p el) lengthIn) values ≡ true
+  message-two = and-left (ltb (at (drop p el) 0) names && leb (at (drop p el) lengthIn) values) (things (drop itemsIn (drop p el)) expressionWords values (at (drop p el) lengthIn) (itemFits receives)) message-three
 
   pub message-name : at el p < names
-  message-name = subst (λ (k : ℕ). k < 16) message-zero (ltb-true (at (drop p el) 0) 16 (and-left (ltb (at (drop p el) 0) 16) (leb (at (drop p el) 1) 4) message-two))
+  message-name = subst (λ (k : ℕ). k < names) message-zero (ltb-true (at (drop p el) 0) names (and-left (ltb (at (drop p el) 0) names) (leb (at (drop p el) lengthIn) values) message-two))
 
-  pub message-length : at el (p + 1) ≤ values
-  message-length = subst (λ (k : ℕ). k ≤ 4) (getD-drop p el 1 0) (leb-true (at (drop p el) 1) 4 (and-right (ltb (at (drop p el) 0) 16) (leb (at (drop p el) 1) 4) message-two))
+  pub message-length : at el (p + lengthIn) ≤ values
+  message-length = subst (λ (k : ℕ). k ≤ values) (getD-drop p el lengthIn 0) (leb-true (at (drop p el) lengthIn) values (and-right (ltb (at (drop p el) 0) names) (leb (at (drop p el) lengthIn) values) message-two))
 
-  message-things : things (drop (p + 2) el) 5 4 (at el (p + 1)) (itemFits receives) ≡ true
+  message-things : things (drop (p + itemsIn) el) expressionWords values (at el (p + lengthIn)) (itemFits receives) ≡ true
   message-things =
-      ap (λ (x : List ℕ). things x 5 4 (at el (p + 1)) (itemFits receives)) (sym (drop-drop 2 p el))
-      ∙ ap (λ (k : ℕ). things (drop 2 (drop p el)) 5 4 k (itemFits receives)) (sym (getD-drop p el 1 0))
-      ∙ and-right (ltb (at (drop p el) 0) 16 && leb (at (drop p el) 1) 4) (things (drop 2 (drop p el)) 5 4 (at (drop p el) 1) (itemFits receives)) message-three
+      ap (λ (x : List ℕ). things x expressionWords values (at el (p + lengthIn)) (itemFits receives)) (sym (drop-drop itemsIn p el))
+      ∙ ap (λ (k : ℕ). things (drop itemsIn (drop p el)) expressionWords values k (itemFits receives)) (sym (getD-drop p el lengthIn 0))
+      ∙ and-right (ltb (at (drop p el) 0) names && leb (at (drop p el) lengthIn) values) (things (drop itemsIn (drop p el)) expressionWords values (at (drop p el) lengthIn) (itemFits receives)) message-three
 
-  pub message-item : (j : ℕ) → j < at el (p + 1) → itemFits receives (drop (p + 2 + 5 * j) el) ≡ true
-  message-item j l = things-right el (p + 2) 5 4 (at el (p + 1)) (itemFits receives) message-things j l
+  pub message-item : (j : ℕ) → j < at el (p + lengthIn) → itemFits receives (drop (p + itemsIn + expressionWords * j) el) ≡ true
+  message-item j l = things-right el (p + itemsIn) expressionWords values (at el (p + lengthIn)) (itemFits receives) message-things j l
 
-  pub message-none : (i : ℕ) → p + 2 + 5 * at el (p + 1) ≤ i → i < p + 22 → at el i ≡ 0
-  message-none i a b = things-none el (p + 2) 5 4 (at el (p + 1)) (itemFits receives) message-things i (a, omega (arith, a, b))
+  pub message-none : (i : ℕ) → p + itemsIn + expressionWords * at el (p + lengthIn) ≤ i → i < p + messageWords → at el i ≡ 0
+  message-none i a b = things-none el (p + itemsIn) expressionWords values (at el (p + lengthIn)) (itemFits receives) message-things i (a, omega (arith, a, b))
 
 -- AN ELEMENT, part by part
 module _ (k : Kind) (el : List ℕ) (e : partsFit k el ≡ true) where
@@ -164,24 +165,24 @@ unfolding used
 used-one n = sym (pick-no (eqb 1 2) 1 n 1 refl refl)
 
 -- a task: its number, its mode, the count of its assignments
-pub task-ranges : (el : List ℕ) → taskFits 1 el ≡ true → (1 ≤ at el taskPlace) × (at el taskPlace ≤ tasks) × (1 ≤ at el modePlace) × (at el modePlace ≤ 3) × (at el assignmentsPlace ≤ assignments)
+pub task-ranges : (el : List ℕ) → taskFits 1 el ≡ true → (1 ≤ at el taskPlace) × (at el taskPlace ≤ tasks) × (1 ≤ at el modePlace) × (at el modePlace ≤ na-nc) × (at el assignmentsPlace ≤ assignments)
 unfolding taskFits
 task-ranges el e =
     let h = then-of _ _ _ _ e (eq-eqb 1 1 refl) in
-    let a = and-left (leb 1 (at el taskPlace) && leb (at el taskPlace) 16 && (leb 1 (at el modePlace) && leb (at el modePlace) 3)) (leb (at el assignmentsPlace) 4) h in
-    let t = and-left (leb 1 (at el taskPlace) && leb (at el taskPlace) 16) (leb 1 (at el modePlace) && leb (at el modePlace) 3) a in
-    let m = and-right (leb 1 (at el taskPlace) && leb (at el taskPlace) 16) (leb 1 (at el modePlace) && leb (at el modePlace) 3) a in (
-      within-low 1 16 (at el taskPlace) t,
-      within-high 1 16 (at el taskPlace) t,
-      within-low 1 3 (at el modePlace) m,
-      within-high 1 3 (at el modePlace) m,
-      leb-true (at el assignmentsPlace) 4 (and-right (leb 1 (at el taskPlace) && leb (at el taskPlace) 16 && (leb 1 (at el modePlace) && leb (at el modePlace) 3)) (leb (at el assignmentsPlace) 4) h),
+    let a = and-left (leb 1 (at el taskPlace) && leb (at el taskPlace) tasks && (leb 1 (at el modePlace) && leb (at el modePlace) na-nc)) (leb (at el assignmentsPlace) assignments) h in
+    let t = and-left (leb 1 (at el taskPlace) && leb (at el taskPlace) tasks) (leb 1 (at el modePlace) && leb (at el modePlace) na-nc) a in
+    let m = and-right (leb 1 (at el taskPlace) && leb (at el taskPlace) tasks) (leb 1 (at el modePlace) && leb (at el modePlace) na-nc) a in (
+      within-low 1 tasks (at el taskPlace) t,
+      within-high 1 tasks (at el taskPlace) t,
+      within-low 1 na-nc (at el modePlace) m,
+      within-high 1 na-nc (at el modePlace) m,
+      leb-true (at el assignmentsPlace) assignments (and-right (leb 1 (at el taskPlace) && leb (at el taskPlace) tasks && (leb 1 (at el modePlace) && leb (at el modePlace) na-nc)) (leb (at el assignmentsPlace) assignments) h),
     )
 
 -- an assignment at the place p
 pub assignment-ranges : (el : List ℕ) (p : ℕ) → assignmentFits (drop p el) ≡ true → (at el p < fields) × (expressionFits (drop (p + 1) el) ≡ true)
 unfolding assignmentFits
 assignment-ranges el p e = (
-  subst (λ (k : ℕ). k < 16) (getD-drop p el 0 0 ∙ ap (at el) (let z : p + 0 ≡ p = omega arith in z)) (ltb-true (at (drop p el) 0) 16 (and-left (ltb (at (drop p el) 0) 16) (expressionFits (drop 1 (drop p el))) e)),
-  ap expressionFits (sym (drop-drop 1 p el)) ∙ and-right (ltb (at (drop p el) 0) 16) (expressionFits (drop 1 (drop p el))) e,
+  subst (λ (k : ℕ). k < fields) (getD-drop p el 0 0 ∙ ap (at el) (let z : p + 0 ≡ p = omega arith in z)) (ltb-true (at (drop p el) 0) fields (and-left (ltb (at (drop p el) 0) fields) (expressionFits (drop 1 (drop p el))) e)),
+  ap expressionFits (sym (drop-drop 1 p el)) ∙ and-right (ltb (at (drop p el) 0) fields) (expressionFits (drop 1 (drop p el))) e,
 )

@@ -8,16 +8,16 @@ use lib.Dec.{eqb}
 use lib.ListN.{getD}
 use Rattle.words.specs.Each.{total, each}
 use Rattle.words.specs.Pick.{if_then_else_}
-use Rattle.words.specs.Sum.{sum, hit, one}
+use Rattle.words.specs.Sum.{sum, hit, oneIf}
 use Rattle.words.specs.Words.{at}
 use Rattle.words.specs.Counts.{poolNumbers, names}
 use Rattle.tally.specs.Tally.{Region, noRegion, oneRegion, apart, capped, tally}
 use Rattle.tally.proofs.TallyLaws.{eqb-capped}
 use Rattle.tally.proofs.RegionLaws.{sum-one, tallied-at, once, once-in, each-none}
 use Rattle.marks.specs.Summary.{summary}
-use Rattle.checks.specs.Checks.{Pool, check1, check2, check3, check4, check5, receives, notSentThere, check6, check7, check8, oneStart, startReceives, edgesMeet, tasksDiffer, namesApart, oneDefault, bindsDiffer, checks, lowest}
-use Rattle.checks.specs.Answers.{receivesBy, keptBy}
-use Rattle.checks.proofs.AnswerLaws.{by-2, by-3, by-4, by-5, receives-by, by-6, by-7, by-8}
+use Rattle.checks.specs.Checks.{Pool, check1, check2, check3, check4, check5, poolReceives, notSentThere, check6, check7, check8, oneStart, startReceives, edgesMeet, tasksDiffer, namesApart, oneDefault, bindsDiffer, checks, lowest}
+use Rattle.answers.specs.Answers.{receivesBy, keptBy}
+use Rattle.answers.proofs.AnswerLaws.{by-2, by-3, by-4, by-5, receives-by, by-6, by-7, by-8}
 use Rattle.verdict.specs.Verdict.{numbersFrom, namesFrom, brokenFrom, modelWords, nameIf, namesRegion, brokenIf, brokenRegion, summaryRegions, poolRegions, modelTally, numbersDifferIn, keptIn, namesApartIn, lowestIn}
 
 regions-apart : (p : Pool) → apart 0 (poolRegions p) ≡ true
@@ -39,17 +39,17 @@ numbers-at k h =
     model-at 0 numbersFrom poolNumbers (k + 1) (λ p. hit (p .number) (k + 1)) (λ p. refl) (λ p. refl) (omega arith) (omega arith) (omega arith)
     (λ p. sum-one (p .number) (k + 1))
 
-names-at : (m : ℕ) → m < names → (ps : List Pool) → at (modelTally ps) (namesFrom + (m + 1)) ≡ capped (total (λ p. one (receives m p)) ps)
+names-at : (m : ℕ) → m < names → (ps : List Pool) → at (modelTally ps) (namesFrom + (m + 1)) ≡ capped (total (λ p. oneIf (poolReceives m p)) ps)
 unfolding poolRegions summaryRegions namesRegion nameIf
 names-at m h =
-    model-at 1 namesFrom names (m + 1) (λ p. one (receives m p)) (λ p. refl) (λ p. refl) (omega arith) (omega arith) (omega arith)
-    (λ p. once (receivesBy (summary (p .elements))) m names h ∙ ap one (receives-by p m h))
+    model-at 1 namesFrom names (m + 1) (λ p. oneIf (poolReceives m p)) (λ p. refl) (λ p. refl) (omega arith) (omega arith) (omega arith)
+    (λ p. once (receivesBy (summary (p .elements))) m names h ∙ ap oneIf (receives-by p m h))
 
 broken-at : (k : ℕ) → k < checks → (ps : List Pool) →
-    at (modelTally ps) (brokenFrom + (k + 1)) ≡ capped (total (λ p. one (not (keptBy (p .limit) (summary (p .elements)) (k + 1)))) ps)
+    at (modelTally ps) (brokenFrom + (k + 1)) ≡ capped (total (λ p. oneIf (not (keptBy (p .limit) (summary (p .elements)) (k + 1)))) ps)
 unfolding poolRegions summaryRegions brokenRegion brokenIf
 broken-at k h =
-    model-at 2 brokenFrom checks (k + 1) (λ p. one (not (keptBy (p .limit) (summary (p .elements)) (k + 1)))) (λ p. refl) (λ p. refl) (omega arith) (omega arith) (omega arith)
+    model-at 2 brokenFrom checks (k + 1) (λ p. oneIf (not (keptBy (p .limit) (summary (p .elements)) (k + 1)))) (λ p. refl) (λ p. refl) (omega arith) (omega arith) (omega arith)
     (λ p. once (λ j. not (keptBy (p .limit) (summary (p .elements)) (j + 1))) k checks h)
 
 -- a check that each pool keeps by itself
@@ -58,8 +58,8 @@ kept-by : (k : ℕ) → k < checks → (f : Pool → Bool) → ((p : Pool) → k
 unfolding keptIn
 kept-by k h f same ps =
     ap (λ n. eqb n 0) (broken-at k h ps)
-    ∙ eqb-capped (total (λ p. one (not (keptBy (p .limit) (summary (p .elements)) (k + 1)))) ps) 0 (omega arith)
-    ∙ each-none f (λ p. one (not (keptBy (p .limit) (summary (p .elements)) (k + 1)))) ps (λ p. ap (λ b. one (not b)) (same p))
+    ∙ eqb-capped (total (λ p. oneIf (not (keptBy (p .limit) (summary (p .elements)) (k + 1)))) ps) 0 (omega arith)
+    ∙ each-none f (λ p. oneIf (not (keptBy (p .limit) (summary (p .elements)) (k + 1)))) ps (λ p. ap (λ b. oneIf (not b)) (same p))
 
 module _ (ps : List Pool) where
   abbrev t : List ℕ
@@ -91,7 +91,7 @@ module _ (ps : List Pool) where
 
   is-6 : namesApartIn t ≡ check6 ps
   unfolding namesApartIn check6
-  is-6 = ap₂ _&&_ (once-in t namesFrom names (λ m. total (λ p. one (receives m p)) ps) (λ m h. names-at m h ps)) own-6
+  is-6 = ap₂ _&&_ (once-in t namesFrom names (λ m. total (λ p. oneIf (poolReceives m p)) ps) (λ m h. names-at m h ps)) own-6
 
   is-7 : keptIn t oneDefault ≡ each check7 ps
   unfolding keptBy if_then_else_

@@ -9,7 +9,7 @@ use Rattle.words.specs.Counts.{poolNumbers, names}
 use Rattle.tally.specs.Tally.{Region, oneRegion, onceIn, tallied}
 use Rattle.marks.specs.Summary.{summary}
 use Rattle.checks.specs.Checks.{Pool, numbersDiffer, oneStart, startReceives, edgesMeet, tasksDiffer, namesApart, oneDefault, bindsDiffer, checks}
-use Rattle.checks.specs.Answers.{receivesBy, keptBy}
+use Rattle.answers.specs.Answers.{receivesBy, keptBy}
 
 -- Where its regions start: pool numbers; names that a pool receives, one above the name; the checks that a pool breaks by itself.
 abbrev pub numbersFrom : ℕ

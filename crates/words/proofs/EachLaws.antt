@@ -7,7 +7,7 @@ use native.Mathlib.Numerals.{add-one}
 use native.Mathlib.Nat.{le-antisymm}
 use native.Mathlib.Omega.{arith}
 use Rattle.words.specs.Each.{total, each, tab}
-use Rattle.words.specs.Sum.{sum, hit, one}
+use Rattle.words.specs.Sum.{sum, hit, oneIf}
 use borrow.Author.Tests.{eq-eqb, ne-eqb}
 
 pub total-append : {A : Type 0} (f : A → ℕ) (xs ys : List A) → total f (xs ++ ys) ≡ total f xs + total f ys
@@ -49,9 +49,9 @@ module _ {A : Type 0} (f : ℕ → A) where
 
 -- a count of one, by a call's result
 pub hit-is : (r a b : ℕ) → r ≡ a → r ≡ b → 1 ≡ hit a b
-hit-is r a b e h = sym (ap one (eq-eqb a b (sym e ∙ h)))
+hit-is r a b e h = sym (ap oneIf (eq-eqb a b (sym e ∙ h)))
 
 pub hit-not : (r a b : ℕ) → r ≡ a → (r ≡ b → ⊥) → 0 ≡ hit a b
-hit-not r a b e h = sym (ap one (ne-eqb a b (λ q. h (e ∙ q))))
+hit-not r a b e h = sym (ap oneIf (ne-eqb a b (λ q. h (e ∙ q))))
 
 pub ruleset hits = (hit-is, hit-not)

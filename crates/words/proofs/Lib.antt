@@ -8,3 +8,4 @@ pub mod PickLaws
 pub mod BlockLaws
 pub mod JoinLaws
 pub mod ListLaws
+pub mod ClearLaws

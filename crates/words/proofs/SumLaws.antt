@@ -8,7 +8,7 @@ use native.Mathlib.Numerals.{add-one}
 use native.Mathlib.Omega.{arith}
 use borrow.Author.Tests.{eq-eqb, ne-eqb, lt-ltb}
 use lib.Dec.{eqb, ltb, eqb·suc-suc}
-use Rattle.words.specs.Sum.{sum, one, hit}
+use Rattle.words.specs.Sum.{sum, oneIf, hit}
 
 module _ (f : ℕ → ℕ) where
   pub sum-none : 0 ≡ sum f 0
@@ -63,17 +63,17 @@ unfolding sum
 sum-point x zero h = absurd (not-suc-le-zero h)
 sum-point x (suc n) h =
     ⊎-elim
-    (λ q. ap₂ _+_ (sum-zero (hit x) n (λ k l. ap one (ne-eqb x k (λ e. omega arith)))) (ap one (eq-eqb x n q)))
-    (λ l. ap₂ _+_ (sum-point x n l) (ap one (ne-eqb x n (λ e. omega arith))))
+    (λ q. ap₂ _+_ (sum-zero (hit x) n (λ k l. ap oneIf (ne-eqb x k (λ e. omega arith)))) (ap oneIf (eq-eqb x n q)))
+    (λ l. ap₂ _+_ (sum-point x n l) (ap oneIf (ne-eqb x n (λ e. omega arith))))
     (eq-or-lt-of-le (le-of-suc-le-suc h))
 
 -- a number of 1 to b is met once among 1 to b, and 0 is not
-pub sum-met : (x b : ℕ) → x ≤ b → sum (λ e. hit x (e + 1)) b ≡ one (ltb 0 x)
-sum-met zero b h = sum-zero (λ e. hit 0 (e + 1)) b (λ k l. ap one (ne-eqb 0 (k + 1) (λ e. omega arith)))
+pub sum-met : (x b : ℕ) → x ≤ b → sum (λ e. hit x (e + 1)) b ≡ oneIf (ltb 0 x)
+sum-met zero b h = sum-zero (λ e. hit 0 (e + 1)) b (λ k l. ap oneIf (ne-eqb 0 (k + 1) (λ e. omega arith)))
 sum-met (suc y) b h =
-    sum-ext (λ e. hit (suc y) (e + 1)) (hit y) b (λ k l. ap one (ap (eqb (suc y)) (add-one k) ∙ eqb·suc-suc y k))
+    sum-ext (λ e. hit (suc y) (e + 1)) (hit y) b (λ k l. ap oneIf (ap (eqb (suc y)) (add-one k) ∙ eqb·suc-suc y k))
     ∙ sum-point y b h
-    ∙ sym (ap one (lt-ltb 0 (suc y) (omega arith)))
+    ∙ sym (ap oneIf (lt-ltb 0 (suc y) (omega arith)))
 
 -- The pigeonhole. Things i, j of m rows and n columns are met at the numbers below b, h i j e times at e. Where each number is met at most once, all are met at most b times.
 pub pigeonhole : (h : ℕ → ℕ → ℕ → ℕ) (m n b : ℕ) → ((e : ℕ) → e < b → sum (λ i. sum (λ j. h i j e) n) m ≤ 1) → sum (λ i. sum (λ j. sum (h i j) b) n) m ≤ b

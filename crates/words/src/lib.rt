@@ -1,10 +1,11 @@
 // Words, and total access to them: outside a block a read is 0 and a write is none.
 ghost use mathlib.Core.Path.{_≡_};
 ghost use Prim.Native.Nat.{_-_};
-ghost use lib.ListN.{set, drop};
+ghost use lib.ListN.{length, set, drop, replicate};
 ghost use Rattle.words.specs.Words.{at};
 
 pub mod counts;
+pub mod numbers;
 
 // What tables and states are made of; a value is a word.
 pub type Word = u16;
@@ -23,6 +24,18 @@ pub fn put(s: &mut [Word], i: usize, v: Word)
 {
     if i < s.len() {
         s[i] = v;
+    }
+}
+
+// Every word 0.
+pub fn clear(s: &mut [Word])
+    ensures { λ _. ⌜ now (s .exit) ≡ replicate (length (now (s .entry))) 0 ⌝ }
+{
+    let n = s.len();
+    let mut i = 0;
+    while i < n {
+        put(s, i, 0);
+        i += 1;
     }
 }
 

@@ -1,6 +1,6 @@
 -- Laws of an element's parts: what every row of the table of kinds has, and the loop over a row's codes. Assumes nothing.
 use Prim.Native.Char.{code}
-use Prim.Native.Nat.{ℕ, _+_, _-_, _≤_, _<_}
+use Prim.Native.Nat.{ℕ, _+_, _*_, _≤_, _<_}
 use mathlib.Core.Path.{_≡_, refl, sym, ap, _∙_}
 use mathlib.Core.Bool.{Bool, true, false}
 use mathlib.Core.List.{List, [], _++_, append-assoc, append-nil}
@@ -10,17 +10,19 @@ use lib.Dec.{leb, ltb, eqb}
 use lib.ListN.{length, take, drop, getD, drop-of-length-le}
 use lib.Seq.{drop-cons}
 use borrow.Author.Tests.{leb-true, eqb-true, eq-eqb, ne-eqb, lt-ltb, le-ltb}
-use borrow.Rule.Slice.PartMut.{putMid}
 use Rattle.words.specs.Each.{each}
+use Rattle.words.specs.Pick.{if_then_else_}
 use Rattle.words.proofs.ListLaws.{each-at}
 use Rattle.words.proofs.PickLaws.{pick-yes, pick-no}
 use Rattle.kinds.specs.declared.Kind.{Kind}
 use Rattle.kinds.specs.Kinds.{kinds, kindOf, keywordOf, noKind}
+use Rattle.model.specs.Places.{entriesPlace, exitsPlace}
 use Rattle.model.specs.Table.{kindIn}
-use Rattle.buffers.specs.Buffers.{over, lesser}
-use Rattle.buffers.proofs.OverLaws.{Wrote, after, wrote-nothing}
+use Rattle.buffers.specs.Buffers.{Put}
+use Rattle.buffers.proofs.OverLaws.{after, put-as, put-within, put-nothing}
 use Rattle.shown.specs.Lengths.{keywordMost}
-use Rattle.shown.specs.Shown.{shownParts}
+use Rattle.shown.specs.Shown.{shownEntries, shownExits, shownReceivingList, shownParts}
+use Rattle.phrases.specs.Pieces.{edgeList, branch, branches}
 use Rattle.writer.specs.Pieces.{signed, parts}
 
 -- every row
@@ -44,24 +46,37 @@ codes-four r k e = rw e (eqb-true _ _ (row (λ x. eqb (length (x .parts)) 4) ref
 pub parts-by : (el : List ℕ) (r : Kind) (k : ℕ) → r ≡ kindOf k → k ≡ kindIn el → shownParts (code "(") (r .parts) el ≡ parts el
 parts-by el r k e h = rw (e, h)
 
+-- the parts that are lists, as they are written
+pub entries-is : (el : List ℕ) → edgeList el entriesPlace ≡ shownEntries el
+unfolding shownEntries
+entries-is el = refl
+
+pub exits-is : (el : List ℕ) → edgeList el exitsPlace ≡ shownExits el
+unfolding shownExits
+exits-is el = refl
+
+pub receiving-is : (el : List ℕ) → branches true el ≡ shownReceivingList el
+unfolding shownReceivingList branch if_then_else_
+receiving-is el = refl
+
 -- What is known in a loop that writes a text piece by piece: of the whole text, so much was written, and a rest is to come.
-pub record Going (whole rest out : List ℕ) (r : ℕ) (now : List ℕ) : Type 0 where
+pub record Going (whole rest : List ℕ) (most from : ℕ) (out : List ℕ) (r : ℕ) (now : List ℕ) : Type 0 where
   pub text : List ℕ
-  pub written : Wrote text out r now
+  pub written : Put text most from out r now
   pub is : text ++ rest ≡ whole
 
-pub going-none : (w out : List ℕ) → Going w w out 0 out
-going-none w out = record { text = []; written = wrote-nothing out; is = refl }
+pub going-none : (w : List ℕ) (k from : ℕ) (out : List ℕ) → Going w w (0 * k) from out from out
+going-none w k from out = record { text = []; written = put-within (put-nothing from out) (omega arith); is = refl }
 
-pub going-more : {whole rest out o m : List ℕ} {k f n : ℕ} (w next : List ℕ) → rest ≡ w ++ next → Going whole rest out k o → f ≡ lesser k (length o) → n ≡ length w → m ≡ over w (take (length o - f) (drop f o)) → Going whole next out (k + n) (putMid f (length o - f) o m)
-going-more w next q g e l p = record {
+pub going-more : {whole rest out o now : List ℕ} {m most m′ from k r : ℕ} (w next : List ℕ) → rest ≡ w ++ next → Going whole rest m from out k o → Put w most k o r now → m + most ≤ m′ → Going whole next m′ from out r now
+going-more w next q g p l = record {
   text = g .text ++ w;
-  written = after w (g .written) e l p;
+  written = put-within (after (g .written) p) l;
   is = append-assoc (g .text) w next ∙ ap (λ x. g .text ++ x) (sym q) ∙ g .is;
 }
 
-pub going-done : {whole rest out now : List ℕ} {r : ℕ} → rest ≡ [] → Going whole rest out r now → Wrote whole out r now
-going-done {whole} {rest} {out} {now} {r} q g = let e : g .text ≡ whole = sym (append-nil (g .text)) ∙ ap (λ x. g .text ++ x) (sym q) ∙ g .is in rw (← e) (g .written)
+pub going-done : {whole rest out now : List ℕ} {m from r : ℕ} → rest ≡ [] → Going whole rest m from out r now → Put whole m from out r now
+going-done {whole} q g = put-as whole (sym (append-nil (g .text)) ∙ ap (λ x. g .text ++ x) (sym q) ∙ g .is) (g .written)
 
 -- the rest of a row's four codes from place i on
 module _ (s : ℕ) (codes el : List ℕ) (i : ℕ) (four : length codes ≡ 4) where

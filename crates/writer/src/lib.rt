@@ -1,15 +1,16 @@
-// The text of a table: its pools and their elements, as the table of kinds has their parts. Each writer writes at the start of a lent buffer, as far
-// as the buffer goes, and returns the length of the whole text; each element's writer is lent the part of the buffer from the place reached.
+// The text of a table: its pools and their elements, as the table of kinds has their parts. Each writer writes from a place on, as far
+// as the lent buffer goes, and returns the place behind its text; each element's writer is lent the part of the buffer from the place reached.
 ghost use mathlib.Core.Path.{_≡_};
 ghost use Prim.Native.Nat.{_+_, _≤_};
 ghost use lib.ListN.{length};
 ghost use Rattle.words.specs.Words.{at};
 ghost use Rattle.kinds.specs.Kinds.{keywordOf};
 ghost use Rattle.model.specs.Places.{limitPlace};
-ghost use Rattle.buffers.specs.Buffers.{over};
+ghost use Rattle.buffers.specs.Buffers.{over, Put};
 ghost use Rattle.shown.specs.Shown.{shownPart, shownElement, shownElements, shownLimit, shownPool, shownPools, shownTable};
 ghost use Rattle.shown.specs.Lengths.{partMost, partsMost, keywordMost, elementMost, elementsMost, limitMost, contentsMost, numberedMost, enclosedMost, poolWordMost, poolMost, poolsMost, tableMost};
 ghost use Rattle.writer.specs.Pieces.{signed, parts, contents, numbered, enclosed, poolWord, nextPool};
+use buffers::further;
 use buffers::least;
 use buffers::put_byte;
 use buffers::put_bytes;
@@ -26,11 +27,10 @@ use model::places::FIRST_POOL;
 use model::places::LIMIT;
 use model::places::POOL_WORDS;
 use model::pool_count;
-use phrases::put_entries;
-use phrases::put_exits;
+use phrases::put_branches;
+use phrases::put_edge_list;
 use phrases::put_guarded_list;
 use phrases::put_message;
-use phrases::put_receiving_list;
 use phrases::put_task;
 use shown::put_lead;
 use words::Word;
@@ -38,61 +38,59 @@ use words::counts::POOLS;
 use words::word;
 
 // The part with a code of the table of kinds.
-fn put_part(out: &mut [u8], c: u8, el: &[Word]) -> usize
-    ensures { λ r. ⌜ (r ≡ length (shownPart c (now (el .entry)))) × (now (out .exit) ≡ over (shownPart c (now (el .entry))) (now (out .entry))) × (r ≤ partMost) ⌝ }
+fn put_part(out: &mut [u8], from: usize, c: u8, el: &[Word]) -> usize
+    ensures { λ r. ⌜ Put (shownPart c (now (el .entry))) partMost from (now (out .entry)) r (now (out .exit)) ⌝ }
 {
     if c == b'E' {
-        return put_number(out, edge_at(el, ENTRIES as Word, 0));
+        return put_number(out, from, edge_at(el, ENTRIES as Word, 0));
     }
     if c == b'X' {
-        return put_number(out, edge_at(el, EXITS as Word, 0));
+        return put_number(out, from, edge_at(el, EXITS as Word, 0));
     }
     if c == b'F' {
-        return put_entries(out, el);
+        return put_edge_list(out, from, el, ENTRIES as Word);
     }
     if c == b'Y' {
-        return put_exits(out, el);
+        return put_edge_list(out, from, el, EXITS as Word);
     }
     if c == b'N' {
-        return put_task(out, el);
+        return put_task(out, from, el);
     }
     if c == b'T' {
-        return put_message(out, el, 0);
+        return put_message(out, from, el, 0);
     }
     if c == b'S' {
-        return put_message(out, el, 0);
+        return put_message(out, from, el, 0);
     }
     if c == b'G' {
-        return put_guarded_list(out, el);
+        return put_guarded_list(out, from, el);
     }
-    put_receiving_list(out, el)
+    put_branches(out, from, el, true)
 }
 
 // A part behind its sign.
-fn put_signed(out: &mut [u8], sign: u8, c: u8, el: &[Word]) -> usize
-    ensures { λ r. ⌜ (r ≡ length (signed sign c (now (el .entry)))) × (now (out .exit) ≡ over (signed sign c (now (el .entry))) (now (out .entry))) × (r ≤ 1 + partMost) ⌝ }
+fn put_signed(out: &mut [u8], from: usize, sign: u8, c: u8, el: &[Word]) -> usize
+    ensures { λ r. ⌜ Put (signed sign c (now (el .entry))) (1 + partMost) from (now (out .entry)) r (now (out .exit)) ⌝ }
 {
-    let first = put_byte(out, sign);
-    let from = least(first, out.len());
-    first + put_part(&mut out[from..], c, el)
+    let first = put_byte(out, from, sign);
+    put_part(out, first, c, el)
 }
 
 // The parts of an element, in the order of the table of kinds.
-fn put_parts(out: &mut [u8], el: &[Word]) -> usize
-    ensures { λ r. ⌜ (r ≡ length (parts (now (el .entry)))) × (now (out .exit) ≡ over (parts (now (el .entry))) (now (out .entry))) × (r ≤ partsMost) ⌝ }
+fn put_parts(out: &mut [u8], from: usize, el: &[Word]) -> usize
+    ensures { λ r. ⌜ Put (parts (now (el .entry))) partsMost from (now (out .entry)) r (now (out .exit)) ⌝ }
 {
     let kind = kind_of(kind_in(el));
     let codes = kind.parts;
     let mut sign = b'(';
-    let mut end: usize = 0;
+    let mut end = from;
     let mut i: usize = 0;
     while i < PARTS {
         let c = codes[i];
         if c == b' ' {
             return end;
         }
-        let from = least(end, out.len());
-        end = end + put_signed(&mut out[from..], sign, c, el);
+        end = put_signed(out, end, sign, c, el);
         sign = b',';
         i += 1;
     }
@@ -100,51 +98,49 @@ fn put_parts(out: &mut [u8], el: &[Word]) -> usize
 }
 
 // The keyword of a kind.
-fn put_keyword(out: &mut [u8], k: Word) -> usize
-    ensures { λ r. ⌜ (r ≡ length (keywordOf k)) × (now (out .exit) ≡ over (keywordOf k) (now (out .entry))) × (r ≤ keywordMost) ⌝ }
+fn put_keyword(out: &mut [u8], from: usize, k: Word) -> usize
+    ensures { λ r. ⌜ Put (keywordOf k) keywordMost from (now (out .entry)) r (now (out .exit)) ⌝ }
 {
     let kind = kind_of(k);
     let letters = kind.letters as usize;
     let keyword = kind.keyword;
-    put_bytes(out, &keyword[..letters])
+    put_bytes(out, from, &keyword[..letters])
 }
 
+// An element, from the start of the part of the buffer that is lent.
 fn put_element(out: &mut [u8], el: &[Word]) -> usize
-    ensures { λ r. ⌜ (r ≡ length (shownElement (now (el .entry)))) × (now (out .exit) ≡ over (shownElement (now (el .entry))) (now (out .entry))) × (r ≤ elementMost) ⌝ }
+    ensures { λ r. ⌜ Put (shownElement (now (el .entry))) elementMost 0 (now (out .entry)) r (now (out .exit)) ⌝ }
 {
-    let keyword = put_keyword(out, kind_in(el));
-    let from = least(keyword, out.len());
-    let end = keyword + put_parts(&mut out[from..], el);
-    let rest = least(end, out.len());
-    end + put_byte(&mut out[rest..], b')')
+    let keyword = put_keyword(out, 0, kind_in(el));
+    let end = put_parts(out, keyword, el);
+    put_byte(out, end, b')')
 }
 
-fn put_elements(out: &mut [u8], t: &[Word], p: Word) -> usize
-    ensures { λ r. ⌜ (r ≡ length (shownElements (now (t .entry)) p)) × (now (out .exit) ≡ over (shownElements (now (t .entry)) p) (now (out .entry))) × (r ≤ elementsMost) ⌝ }
+fn put_elements(out: &mut [u8], from: usize, t: &[Word], p: Word) -> usize
+    ensures { λ r. ⌜ Put (shownElements (now (t .entry)) p) elementsMost from (now (out .entry)) r (now (out .exit)) ⌝ }
 {
     let n = element_count(t, p);
-    let mut end: usize = 0;
+    let mut end = from;
     let mut e: Word = 0;
     while e < n {
-        let from = least(end, out.len());
-        let bar = end + put_lead(&mut out[from..], b'|', e);
+        let bar = put_lead(out, end, b'|', e);
         let rest = least(bar, out.len());
-        end = bar + put_element(&mut out[rest..], element_at(t, p, e));
+        let length = put_element(&mut out[rest..], element_at(t, p, e));
+        end = further(bar, length);
         e += 1;
     }
     end
 }
 
 // The limit of a miPool, behind its comma.
-fn put_limit(out: &mut [u8], n: Word) -> usize
-    ensures { λ r. ⌜ (r ≡ length (shownLimit n)) × (now (out .exit) ≡ over (shownLimit n) (now (out .entry))) × (r ≤ limitMost) ⌝ }
+fn put_limit(out: &mut [u8], from: usize, n: Word) -> usize
+    ensures { λ r. ⌜ Put (shownLimit n) limitMost from (now (out .entry)) r (now (out .exit)) ⌝ }
 {
     if n == 0 {
-        return 0;
+        return from;
     }
-    let comma = put_byte(out, b',');
-    let from = least(comma, out.len());
-    comma + put_number(&mut out[from..], n)
+    let comma = put_byte(out, from, b',');
+    put_number(out, comma, n)
 }
 
 fn limit_at(t: &[Word], p: Word) -> Word
@@ -154,74 +150,66 @@ fn limit_at(t: &[Word], p: Word) -> Word
 }
 
 // What a pool has behind its number: the elements, and the limit of a miPool.
-fn put_contents(out: &mut [u8], t: &[Word], p: Word) -> usize
-    ensures { λ r. ⌜ (r ≡ length (contents (now (t .entry)) p)) × (now (out .exit) ≡ over (contents (now (t .entry)) p) (now (out .entry))) × (r ≤ contentsMost) ⌝ }
+fn put_contents(out: &mut [u8], from: usize, t: &[Word], p: Word) -> usize
+    ensures { λ r. ⌜ Put (contents (now (t .entry)) p) contentsMost from (now (out .entry)) r (now (out .exit)) ⌝ }
 {
-    let elements = put_elements(out, t, p);
-    let from = least(elements, out.len());
-    elements + put_limit(&mut out[from..], limit_at(t, p))
+    let elements = put_elements(out, from, t, p);
+    put_limit(out, elements, limit_at(t, p))
 }
 
 // What stands between them.
-fn put_numbered(out: &mut [u8], t: &[Word], p: Word) -> usize
-    ensures { λ r. ⌜ (r ≡ length (numbered (now (t .entry)) p)) × (now (out .exit) ≡ over (numbered (now (t .entry)) p) (now (out .entry))) × (r ≤ numberedMost) ⌝ }
+fn put_numbered(out: &mut [u8], from: usize, t: &[Word], p: Word) -> usize
+    ensures { λ r. ⌜ Put (numbered (now (t .entry)) p) numberedMost from (now (out .entry)) r (now (out .exit)) ⌝ }
 {
-    let number = put_number(out, word(t, FIRST_POOL + POOL_WORDS * (p as usize)));
-    let from = least(number, out.len());
-    let comma = number + put_byte(&mut out[from..], b',');
-    let rest = least(comma, out.len());
-    comma + put_contents(&mut out[rest..], t, p)
+    let number = put_number(out, from, word(t, FIRST_POOL + POOL_WORDS * (p as usize)));
+    let comma = put_byte(out, number, b',');
+    put_contents(out, comma, t, p)
 }
 
 // A pool from its opening sign to its closing one.
-fn put_enclosed(out: &mut [u8], t: &[Word], p: Word) -> usize
-    ensures { λ r. ⌜ (r ≡ length (enclosed (now (t .entry)) p)) × (now (out .exit) ≡ over (enclosed (now (t .entry)) p) (now (out .entry))) × (r ≤ enclosedMost) ⌝ }
+fn put_enclosed(out: &mut [u8], from: usize, t: &[Word], p: Word) -> usize
+    ensures { λ r. ⌜ Put (enclosed (now (t .entry)) p) enclosedMost from (now (out .entry)) r (now (out .exit)) ⌝ }
 {
-    let opener = put_byte(out, b'(');
-    let from = least(opener, out.len());
-    let end = opener + put_numbered(&mut out[from..], t, p);
-    let rest = least(end, out.len());
-    end + put_byte(&mut out[rest..], b')')
+    let opener = put_byte(out, from, b'(');
+    let end = put_numbered(out, opener, t, p);
+    put_byte(out, end, b')')
 }
 
 // The keyword of a pool by its limit, n.
-fn put_pool_word(out: &mut [u8], n: Word) -> usize
-    ensures { λ r. ⌜ (r ≡ length (poolWord n)) × (now (out .exit) ≡ over (poolWord n) (now (out .entry))) × (r ≤ poolWordMost) ⌝ }
+fn put_pool_word(out: &mut [u8], from: usize, n: Word) -> usize
+    ensures { λ r. ⌜ Put (poolWord n) poolWordMost from (now (out .entry)) r (now (out .exit)) ⌝ }
 {
     if n == 0 {
-        return put_bytes(out, b"pool");
+        return put_bytes(out, from, b"pool");
     }
-    put_bytes(out, b"miPool")
+    put_bytes(out, from, b"miPool")
 }
 
-fn put_pool(out: &mut [u8], t: &[Word], p: Word) -> usize
-    ensures { λ r. ⌜ (r ≡ length (shownPool (now (t .entry)) p)) × (now (out .exit) ≡ over (shownPool (now (t .entry)) p) (now (out .entry))) × (r ≤ poolMost) ⌝ }
+fn put_pool(out: &mut [u8], from: usize, t: &[Word], p: Word) -> usize
+    ensures { λ r. ⌜ Put (shownPool (now (t .entry)) p) poolMost from (now (out .entry)) r (now (out .exit)) ⌝ }
 {
-    let keyword = put_pool_word(out, limit_at(t, p));
-    let from = least(keyword, out.len());
-    keyword + put_enclosed(&mut out[from..], t, p)
+    let keyword = put_pool_word(out, from, limit_at(t, p));
+    put_enclosed(out, keyword, t, p)
 }
 
 // The pool at a place, behind its bar; nothing where there is none.
-fn put_next_pool(out: &mut [u8], t: &[Word], p: Word) -> usize
-    ensures { λ r. ⌜ (r ≡ length (nextPool (now (t .entry)) p)) × (now (out .exit) ≡ over (nextPool (now (t .entry)) p) (now (out .entry))) × (r ≤ 1 + poolMost) ⌝ }
+fn put_next_pool(out: &mut [u8], from: usize, t: &[Word], p: Word) -> usize
+    ensures { λ r. ⌜ Put (nextPool (now (t .entry)) p) (1 + poolMost) from (now (out .entry)) r (now (out .exit)) ⌝ }
 {
     if p < pool_count(t) {
-        let bar = put_lead(out, b'|', p);
-        let from = least(bar, out.len());
-        return bar + put_pool(&mut out[from..], t, p);
+        let bar = put_lead(out, from, b'|', p);
+        return put_pool(out, bar, t, p);
     }
-    0
+    from
 }
 
-fn put_pools(out: &mut [u8], t: &[Word]) -> usize
-    ensures { λ r. ⌜ (r ≡ length (shownPools (now (t .entry)))) × (now (out .exit) ≡ over (shownPools (now (t .entry))) (now (out .entry))) × (r ≤ poolsMost) ⌝ }
+fn put_pools(out: &mut [u8], from: usize, t: &[Word]) -> usize
+    ensures { λ r. ⌜ Put (shownPools (now (t .entry))) poolsMost from (now (out .entry)) r (now (out .exit)) ⌝ }
 {
-    let mut end: usize = 0;
+    let mut end = from;
     let mut p: Word = 0;
     while p < POOLS {
-        let from = least(end, out.len());
-        end = end + put_next_pool(&mut out[from..], t, p);
+        end = put_next_pool(out, end, t, p);
         p += 1;
     }
     end
@@ -231,7 +219,6 @@ fn put_pools(out: &mut [u8], t: &[Word]) -> usize
 pub fn put_table(t: &[Word], out: &mut [u8]) -> usize
     ensures { λ r. ⌜ (r ≡ length (shownTable (now (t .entry)))) × (now (out .exit) ≡ over (shownTable (now (t .entry))) (now (out .entry))) × (r ≤ tableMost) ⌝ }
 {
-    let end = put_pools(out, t);
-    let from = least(end, out.len());
-    end + put_byte(&mut out[from..], b'\n')
+    let end = put_pools(out, 0, t);
+    put_byte(out, end, b'\n')
 }

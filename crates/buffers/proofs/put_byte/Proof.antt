@@ -1,14 +1,18 @@
-use mathlib.Core.Path.{refl}
-use Rattle.buffers.proofs.OverLaws.{over-byte, over-full}
+use mathlib.Core.Path.{refl, sym}
+use native.Mathlib.Omega.{arith}
+use lib.Seq.{set-out}
+use Rattle.buffers.specs.Buffers.{behind, overFrom, Put}
 use borrow.Author.Needs.{needs}
 use Rattle.buffers.proofs.put_byte.Statement.{statement}
 use Rattle.buffers.proofs.put_byte.Tie as tie
 
 pub put-byte-spec : {M : Type 1} → statement M
+unfolding behind overFrom
 put-byte-spec =
     tie.close
     (tie.spec
+    (λ c κs. search needs)
     (λ c. search needs)
     (λ c. search needs)
-    (λ c. (refl, over-byte _ _))
-    (λ c. (refl, over-full _ _ (c .if1 .left))))
+    (λ c. record { short = omega arith; place = search needs; text = refl })
+    (λ c. record { short = omega arith; place = search needs; text = sym (set-out _ _ _ (c .if1 .left)) }))

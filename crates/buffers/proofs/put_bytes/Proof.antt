@@ -1,31 +1,29 @@
-use mathlib.Core.Path.{_≡_, refl, sym}
 use Prim.Native.Nat.{_-_, _≤_}
 use native.Mathlib.Omega.{arith}
-use lib.ListN.{length, take, length-set}
-use Rattle.buffers.specs.Buffers.{over}
-use Rattle.buffers.proofs.OverLaws.{over-nothing, over-next, over-end}
+use lib.ListN.{length, take}
+use Rattle.buffers.specs.Buffers.{Put}
+use Rattle.buffers.proofs.OverLaws.{put-long, put-nothing, bytes-more, bytes-done}
 use borrow.Author.Needs.{needs}
 use Rattle.buffers.proofs.put_bytes.Statement.{statement}
 use Rattle.buffers.proofs.put_bytes.Tie as tie
 
 abbrev Inv-loop : tie.InvT-loop
-Inv-loop out₀ s end i₀ out i = (i ≤ end) × (length out ≡ length out₀) × (out ≡ over (take i s) out₀)
+Inv-loop out₀ from s to₀ i₀ out to i = (i ≤ length s) × Put (take i s) i from out₀ to out
 
 abbrev μ-loop : tie.MeasureT-loop
-μ-loop out₀ s end i₀ out i = end - i
+μ-loop out₀ from s to₀ i₀ out to i = length s - i
 
 loop-holds : tie.Need-loop-holds Inv-loop μ-loop
-loop-holds c = (search needs, refl, sym (over-nothing _))
+loop-holds c = (omega arith, put-nothing _ _)
 
 loop-again : tie.Need-loop-again Inv-loop μ-loop
-loop-again c = (
-  omega arith,
-  search (needs, length-set),
-  over-next (c .before .before .before .before .before .before .args .s .now) _ _ _ (search needs) (c .before .before .loop .inv .2),
-)
+loop-again c = (omega arith, bytes-more _ _ (c .before .before .before .before .before .loop-test .taken) (c .before .before .before .before .before .before .loop .inv .1) (c .before .before .put-byte .ensures))
+
+same-length : tie.Need-same-length Inv-loop μ-loop
+same-length c = put-long (c .before .loop .inv .1)
 
 returns : tie.Need-returns Inv-loop μ-loop
-returns c = (refl, over-end _ _ (c .before .before .least .ensures .0) (c .loop-test .left) (c .before .loop .inv .2))
+returns c = bytes-done _ _ (c .loop-test .left) (c .before .loop .inv .0) (c .before .loop .inv .1)
 
 pub put-bytes-spec : {M : Type 1} → statement M
 put-bytes-spec =
@@ -33,12 +31,11 @@ put-bytes-spec =
     (tie.spec
     Inv-loop
     μ-loop
-    (λ c κs. search needs)
     loop-holds
     (λ c. search needs)
-    (λ c. search needs)
+    (λ c κs. search needs)
     (λ c. search needs)
     (λ c. search needs)
     loop-again
-    (λ c. search needs)
+    same-length
     returns)

@@ -1,25 +1,21 @@
 use mathlib.Core.Path.{refl}
-use native.Mathlib.Omega.{arith}
-use Rattle.buffers.proofs.OverLaws.{wrote, promise}
+use Rattle.buffers.proofs.OverLaws.{put-exact}
 use Rattle.decimals.proofs.DecimalLaws.{Backwards, backwards-start, backwards-on, backwards-turn, backwards-lent, backwards-full, shown-short}
 use borrow.Author.Needs.{needs}
 use Rattle.decimals.proofs.put_number.Statement.{statement}
 use Rattle.decimals.proofs.put_number.Tie as tie
 
 abbrev Inv-loop : tie.InvT-loop
-Inv-loop out n scratch₀ from₀ left₀ scratch from left = Backwards n scratch from left
+Inv-loop out from n scratch₀ first₀ left₀ scratch first left = Backwards n scratch first left
 
 abbrev μ-loop : tie.MeasureT-loop
-μ-loop out n scratch₀ from₀ left₀ scratch from left = left
+μ-loop out from n scratch₀ first₀ left₀ scratch first left = left
 
 loop-holds : tie.Need-loop-holds Inv-loop μ-loop
 loop-holds c = backwards-start _ (search needs) _ refl
 
 returns : tie.Need-returns Inv-loop μ-loop
-returns c =
-    let text = backwards-lent (c .before .before .before .before .before .before .before .loop .inv) (c .before .before .before .before .before .before .loop-test .left) in
-    let done = promise _ text (wrote _ _ (c .before .before .put-bytes .ensures .0) (c .before .before .put-bytes .ensures .1)) in
-    (done .0, done .1, omega (arith, done .0, shown-short (c .before .before .before .before .before .before .before .before .before .args .n)))
+returns c = put-exact _ (backwards-lent (c .before .before .before .before .before .before .before .loop .inv) (c .before .before .before .before .before .before .loop-test .left)) (shown-short _) (c .before .before .put-bytes .ensures)
 
 pub put-number-spec : {M : Type 1} → statement M
 put-number-spec =

@@ -1,3 +1,4 @@
+use mathlib.Core.Path.{refl}
 use Rattle.words.proofs.PickLaws.{pick-yes, pick-no}
 use borrow.Author.Tests.{ne-eqb, eq-eqb}
 use Rattle.effects.specs.Effects.{answerBy}
@@ -12,7 +13,7 @@ unfolding answerBy
 answer-of-spec =
     tie.close
     (tie.spec
-    (λ c. pick-yes _ _ _ _ (eq-eqb _ _ (c .if1 .taken)) (cc))  -- returns
-    (λ c. pick-no _ _ _ _ (ne-eqb _ _ (c .before .before .if1 .left)) (pick-yes _ _ _ _ (eq-eqb _ _ (c .if2 .taken)) (cc)))  -- returns-2
+    (λ c. pick-yes _ _ _ _ (eq-eqb _ _ (c .if1 .taken)) refl)  -- returns
+    (λ c. pick-no _ _ _ _ (ne-eqb _ _ (c .before .before .if1 .left)) (pick-yes _ _ _ _ (eq-eqb _ _ (c .if2 .taken)) refl))  -- returns-2
     (λ c κs. search L)
-    (λ c. pick-no _ _ _ _ (ne-eqb _ _ (c .before .before .before .if1 .left)) (pick-no _ _ _ _ (ne-eqb _ _ (c .before .if2 .left)) (cc))))  -- returns-3
+    (λ c. pick-no _ _ _ _ (ne-eqb _ _ (c .before .before .before .if1 .left)) (pick-no _ _ _ _ (ne-eqb _ _ (c .before .if2 .left)) (c .refuse .ensures))))  -- returns-3

@@ -13,4 +13,4 @@ blank-spec =
     (λ c κs. search L)
     (λ c κs. search L)
     (λ c. search L)
-    (λ c. cc))  -- returns
+    (λ c. rw (c .before .before .before .before .before .before .clear .ensures) at (c .before .before .put .ensures)))

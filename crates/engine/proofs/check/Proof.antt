@@ -20,7 +20,7 @@ returns-3 : tie.Need-returns-3
 unfolding verdictOf
 returns-3 c =
     pick-yes _ _ _ _ (flag-yes _ _ (c .before .before .before .before .table-fits .ensures) (c .before .before .before .if1 .left))
-    (pick-no _ _ _ _ (ne-eqb-by _ _ _ (c .before .lowest-broken .ensures) (c .if2 .left)) cc)
+    (pick-no _ _ _ _ (ne-eqb-by _ _ _ (c .before .lowest-broken .ensures) (c .if2 .left)) (rw (c .before .lowest-broken .ensures)))
 
 pub check-spec : {M : Type 1} → statement M
 check-spec = tie.close (tie.spec (λ c κs. search needs) returns (λ c κs. search needs) returns-2 returns-3)

@@ -11,7 +11,7 @@ returns c = pick-no _ _ _ _ (flag-no _ _ (c .before .is-valid .ensures) (c .if1 
 
 returns-2 : tie.Need-returns-2
 unfolding freshened
-returns-2 c = pick-yes _ _ _ _ (flag-yes _ _ (c .before .before .before .before .is-valid .ensures) (c .before .before .before .if1 .left)) cc
+returns-2 c = pick-yes _ _ _ _ (flag-yes _ _ (c .before .before .before .before .is-valid .ensures) (c .before .before .before .if1 .left)) (rw (c .begin .ensures))
 
 pub fresh-spec : {M : Type 1} → statement M
 fresh-spec = tie.close (tie.spec (λ c κs. search needs) returns (λ c κs. search needs) returns-2)

@@ -18,9 +18,9 @@ expression-spec =
     (λ c. search L)
     (λ c κs. search L)
     (λ c κs. search L)
-    (λ c. pick-yes _ _ _ _ (eq-eqb-by _ _ _ (c .before .before .before .before .word .ensures) (c .before .before .if1 .taken)) (cc))  -- returns
+    (λ c. pick-yes _ _ _ _ (eq-eqb-by _ _ _ (c .before .before .before .before .word .ensures) (c .before .before .if1 .taken)) (rw (c .before .before .before .operand .ensures, c .before .operand2 .ensures) at (c .sum .ensures)))  -- returns
     (λ c. search L)
     (λ c κs. search L)
     (λ c κs. search L)
-    (λ c. pick-no _ _ _ _ (ne-eqb-by _ _ _ (c .before .before .before .before .before .word .ensures) (c .before .before .before .if1 .left)) (pick-yes _ _ _ _ (eq-eqb-by _ _ _ (c .before .before .before .before .before .word .ensures) (c .before .before .if2 .taken)) (cc)))  -- returns-2
-    (λ c. pick-no _ _ _ _ (ne-eqb-by _ _ _ (c .before .before .before .word .ensures) (c .before .if1 .left)) (pick-no _ _ _ _ (ne-eqb-by _ _ _ (c .before .before .before .word .ensures) (c .if2 .left)) (cc))))  -- returns-3
+    (λ c. pick-no _ _ _ _ (ne-eqb-by _ _ _ (c .before .before .before .before .before .word .ensures) (c .before .before .before .if1 .left)) (pick-yes _ _ _ _ (eq-eqb-by _ _ _ (c .before .before .before .before .before .word .ensures) (c .before .before .if2 .taken)) (rw (c .before .before .before .before .operand .ensures, c .before .operand3 .ensures) at (c .difference .ensures))))  -- returns-2
+    (λ c. pick-no _ _ _ _ (ne-eqb-by _ _ _ (c .before .before .before .word .ensures) (c .before .if1 .left)) (pick-no _ _ _ _ (ne-eqb-by _ _ _ (c .before .before .before .word .ensures) (c .if2 .left)) (c .before .before .operand .ensures))))  -- returns-3

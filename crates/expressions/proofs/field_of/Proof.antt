@@ -1,3 +1,4 @@
+use mathlib.Core.Path.{refl}
 use Rattle.words.proofs.AllLaws.{tests-by, eq-eqb-by, ne-eqb-by}
 use Rattle.words.proofs.PickLaws.{chains, pick-yes, pick-no}
 use Rattle.meaning.specs.Expressions.{fieldOf}
@@ -14,7 +15,7 @@ field-of-spec =
     (tie.spec
     (λ c. search L)
     (λ c κs. search L)
-    (λ c. pick-yes _ _ _ _ (eq-eqb-by _ _ _ (c .before .word .ensures) (c .if1 .taken)) (cc))
+    (λ c. pick-yes _ _ _ _ (eq-eqb-by _ _ _ (c .before .word .ensures) (c .if1 .taken)) refl)
     (λ c. search L)
     (λ c κs. search L)
-    (λ c. pick-no _ _ _ _ (ne-eqb-by _ _ _ (c .before .before .word .ensures) (c .before .if1 .left)) (cc)))
+    (λ c. pick-no _ _ _ _ (ne-eqb-by _ _ _ (c .before .before .word .ensures) (c .before .if1 .left)) (rw (c .word2 .ensures))))

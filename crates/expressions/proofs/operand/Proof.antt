@@ -15,6 +15,6 @@ operand-spec =
     (λ c. search L)
     (λ c κs. search L)
     (λ c κs. search L)
-    (λ c. pick-yes _ _ _ _ (eq-eqb-by _ _ _ (c .before .word2 .ensures) (c .if1 .taken)) (cc))  -- returns
+    (λ c. pick-yes _ _ _ _ (eq-eqb-by _ _ _ (c .before .word2 .ensures) (c .if1 .taken)) (rw (c .before .before .word .ensures)))  -- returns
     (λ c κs. search L)
-    (λ c. pick-no _ _ _ _ (ne-eqb-by _ _ _ (c .before .before .word2 .ensures) (c .before .if1 .left)) (cc)))  -- returns-2
+    (λ c. pick-no _ _ _ _ (ne-eqb-by _ _ _ (c .before .before .word2 .ensures) (c .before .if1 .left)) (rw (c .before .before .before .word .ensures) at (c .field-of .ensures))))  -- returns-2

@@ -13,6 +13,6 @@ expect-spec =
     tie.close
     (tie.spec
     (λ c κs. search L)
-    (λ c. pick-yes _ _ _ _ (eq-eqb _ _ (c .before .if1 .taken)) (cc))  -- returns
+    (λ c. pick-yes _ _ _ _ (eq-eqb _ _ (c .before .if1 .taken)) (c .evaluate .ensures))  -- returns
     (λ c κs. search L)
-    (λ c. pick-no _ _ _ _ (ne-eqb _ _ (c .before .if1 .left)) (cc)))  -- returns-2
+    (λ c. pick-no _ _ _ _ (ne-eqb _ _ (c .before .if1 .left)) (c .no-values .ensures)))  -- returns-2

@@ -1,3 +1,4 @@
+use mathlib.Core.Path.{refl}
 use Rattle.words.proofs.PickLaws.{pick-no, pick-yes}
 use borrow.Author.Tests.{eq-eqb, ne-eqb}
 use Rattle.meaning.specs.Requirements.{granted}
@@ -13,5 +14,5 @@ grants-spec =
     tie.close
     (tie.spec
     (λ c κs. search L)
-    (λ c. pick-yes _ _ _ _ (eq-eqb _ _ (c .before .if1 .taken)) (cc))  -- returns
-    (λ c. pick-no _ _ _ _ (ne-eqb _ _ (c .if1 .left)) (cc)))  -- returns-2
+    (λ c. pick-yes _ _ _ _ (eq-eqb _ _ (c .before .if1 .taken)) (c .does-hold .ensures))  -- returns
+    (λ c. pick-no _ _ _ _ (ne-eqb _ _ (c .if1 .left)) refl))  -- returns-2

@@ -1,17 +1,16 @@
-use Rattle.buffers.proofs.OverLaws.{wrote, after, promise}
+use Rattle.buffers.proofs.OverLaws.{after, put-as, put-within}
 use Rattle.lines.proofs.LineLaws.{marked-one, marked-more}
+use borrow.Author.Tests.{leb-true}
+use mathlib.Core.Path.{refl}
 use borrow.Author.Needs.{needs}
 use Rattle.lines.proofs.put_marked.Statement.{statement}
 use Rattle.lines.proofs.put_marked.Tie as tie
 
 returns : tie.Need-returns
-returns c = promise _ (marked-one _ _ _ (c .before .before .before .before .if1 .taken)) (wrote _ _ (c .before .before .put-number .ensures .0) (c .before .before .put-number .ensures .1))
+returns c = put-within (put-as _ (marked-one _ _ _ (c .before .before .before .before .if1 .taken)) (c .before .before .put-number .ensures)) (leb-true _ _ refl)
 
 returns-2 : tie.Need-returns-2
-returns-2 c =
-    let first = c .before .before .before .before .before .before .before .put-byte .ensures in
-    let then = c .before .before .put-number2 .ensures in
-    promise _ (marked-more _ _ _ (c .before .before .before .before .before .before .before .before .before .if1 .left)) (after _ (wrote _ _ (first .0) (first .1)) (c .before .before .before .before .least .ensures .0) (then .0) (then .1))
+returns-2 c = put-as _ (marked-more _ _ _ (c .before .before .before .before .before .before .before .before .if1 .left)) (after (c .before .before .before .before .before .before .put-byte .ensures) (c .before .before .put-number2 .ensures))
 
 pub put-marked-spec : {M : Type 1} → statement M
 put-marked-spec =
@@ -22,10 +21,5 @@ put-marked-spec =
     returns
     (λ c κs. search needs)
     (λ c κs. search needs)
-    (λ c. search needs)
-    (λ c. search needs)
-    (λ c. search needs)
-    (λ c κs. search needs)
-    (λ c. search needs)
     (λ c. search needs)
     returns-2)

@@ -1,5 +1,5 @@
 use Rattle.lines.proofs.LineLaws.{place-short}
-use Rattle.buffers.proofs.OverLaws.{wrote, promise-within}
+use Rattle.buffers.proofs.OverLaws.{put-as, put-short}
 use Rattle.lines.specs.Lines.{placeLine}
 use mathlib.Core.Path.{refl}
 use borrow.Author.Needs.{needs}
@@ -8,7 +8,7 @@ use Rattle.lines.proofs.put_place.Tie as tie
 
 returns : tie.Need-returns
 unfolding placeLine
-returns c = promise-within _ refl (place-short (c .before .before .before .before .before .before .args .n)) (wrote _ _ (c .before .before .put-row .ensures .0) (c .before .before .put-row .ensures .1))
+returns c = put-short (put-as _ refl (c .before .before .put-row .ensures)) (place-short (c .before .before .before .before .before .before .args .n))
 
 pub put-place-spec : {M : Type 1} → statement M
 put-place-spec =

@@ -1,47 +1,31 @@
-use mathlib.Core.Path.{refl}
-use mathlib.Core.List.{[], _∷_}
 use Prim.Native.Nat.{_-_, _≤_}
+use Rattle.buffers.proofs.OverLaws.{put-long}
+use Rattle.buffers.specs.Buffers.{Put}
+use Rattle.lines.proofs.LineLaws.{row-start, row-more, row-done}
+use Rattle.lines.specs.Lines.{row, rowMost}
+use mathlib.Core.List.{[], _∷_}
 use native.Mathlib.Omega.{arith}
-use Rattle.buffers.proofs.OverLaws.{Wrote, wrote-long, promise}
-use Rattle.lines.specs.Lines.{row}
-use Rattle.lines.proofs.LineLaws.{marked-short, row-start, row-more, row-done, row-short}
 use borrow.Author.Needs.{needs}
 use Rattle.lines.proofs.put_row.Statement.{statement}
 use Rattle.lines.proofs.put_row.Tie as tie
 
 abbrev Inv-loop : tie.InvT-loop
-Inv-loop out₀ mark s n end₀ j₀ out end j = (j ≤ n) × Wrote (row (mark ∷ []) s j) out₀ end out
+Inv-loop out₀ from mark s n end₀ j₀ out end j = (j ≤ n) × Put (row (mark ∷ []) s j) (rowMost j) from out₀ end out
 
 abbrev μ-loop : tie.MeasureT-loop
-μ-loop out₀ mark s n end₀ j₀ out end j = n - j
+μ-loop out₀ from mark s n end₀ j₀ out end j = n - j
 
 loop-holds : tie.Need-loop-holds Inv-loop μ-loop
-loop-holds c = (search needs, row-start _ _ _)
-
-add-end : tie.Need-add-end Inv-loop μ-loop
-add-end c =
-    let mark = c .before .before .before .before .before .before .before .before .before .before .args .mark in
-    let s = c .before .before .before .before .before .before .before .before .before .before .args .s .now in
-    let j = c .before .before .before .before .before .before .before .loop .j in
-    omega (
-      arith,
-      c .before .before .before .before .before .before .before .loop .inv .1 .long,
-      row-short mark s j,
-      c .before .before .put-marked .ensures .0,
-      marked-short mark j (c .before .before .before .before .before .word .result),
-    )
+loop-holds c = (omega arith, row-start _ _ _ _)
 
 loop-again : tie.Need-loop-again Inv-loop μ-loop
-loop-again c = (
-  search needs,
-  row-more _ _ _ _ (c .before .before .before .before .before .word .ensures) (c .before .before .before .before .before .before .before .loop .inv .1) (c .before .before .before .before .least .ensures .0) (c .before .before .put-marked .ensures .0) (c .before .before .put-marked .ensures .1),
-)
+loop-again c = (omega arith, row-more _ _ _ _ (c .before .before .before .before .word .ensures) (c .before .before .before .before .before .before .loop .inv .1) (c .before .before .put-marked .ensures))
 
 same-length : tie.Need-same-length Inv-loop μ-loop
-same-length c = wrote-long (c .before .loop .inv .1)
+same-length c = put-long (c .before .loop .inv .1)
 
 returns : tie.Need-returns Inv-loop μ-loop
-returns c = promise _ refl (row-done _ _ _ _ (c .loop-test .left) (c .before .loop .inv .0) (c .before .loop .inv .1))
+returns c = row-done _ _ _ _ (c .loop-test .left) (c .before .loop .inv .0) (c .before .loop .inv .1)
 
 pub put-row-spec : {M : Type 1} → statement M
 put-row-spec =
@@ -53,11 +37,6 @@ put-row-spec =
     (λ c. search needs)
     (λ c κs. search needs)
     (λ c κs. search needs)
-    (λ c. search needs)
-    (λ c. search needs)
-    (λ c. search needs)
-    (λ c κs. search needs)
-    add-end
     (λ c. search needs)
     (λ c. search needs)
     loop-again

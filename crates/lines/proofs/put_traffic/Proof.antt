@@ -1,5 +1,5 @@
 use Rattle.lines.proofs.LineLaws.{traffic-is, traffic-short}
-use Rattle.buffers.proofs.OverLaws.{wrote, promise-within}
+use Rattle.buffers.proofs.OverLaws.{put-as, put-short}
 use Rattle.lines.specs.Lines.{signed}
 use borrow.Author.Needs.{needs}
 use Rattle.lines.proofs.put_traffic.Statement.{statement}
@@ -7,15 +7,15 @@ use Rattle.lines.proofs.put_traffic.Tie as tie
 
 returns : tie.Need-returns
 unfolding signed
-returns c = promise-within _ (traffic-is (c .before .before .before .before .before .before .before .args .a) _ (c .before .before .before .before .enum-told .given .1)) (traffic-short (c .before .before .before .before .before .before .before .args .a)) (wrote _ _ (c .before .before .put-byte .ensures .0) (c .before .before .put-byte .ensures .1))
+returns c = put-short (put-as _ (traffic-is (c .before .before .before .before .before .before .before .args .a) _ (c .before .before .before .before .enum-told .given .1)) (c .before .before .put-byte .ensures)) (traffic-short (c .before .before .before .before .before .before .before .args .a))
 
 returns-2 : tie.Need-returns-2
 unfolding signed
-returns-2 c = promise-within _ (traffic-is (c .before .before .before .before .before .before .before .args .a) _ (c .before .before .before .before .enum-told2 .given .1)) (traffic-short (c .before .before .before .before .before .before .before .args .a)) (wrote _ _ (c .before .before .put-signed .ensures .0) (c .before .before .put-signed .ensures .1))
+returns-2 c = put-short (put-as _ (traffic-is (c .before .before .before .before .before .before .before .args .a) _ (c .before .before .before .before .enum-told2 .given .1)) (c .before .before .put-signed .ensures)) (traffic-short (c .before .before .before .before .before .before .before .args .a))
 
 returns-3 : tie.Need-returns-3
 unfolding signed
-returns-3 c = promise-within _ (traffic-is (c .before .before .before .before .before .before .before .args .a) _ (c .before .before .before .before .enum-told3 .given .1)) (traffic-short (c .before .before .before .before .before .before .before .args .a)) (wrote _ _ (c .before .before .put-signed2 .ensures .0) (c .before .before .put-signed2 .ensures .1))
+returns-3 c = put-short (put-as _ (traffic-is (c .before .before .before .before .before .before .before .args .a) _ (c .before .before .before .before .enum-told3 .given .1)) (c .before .before .put-signed2 .ensures)) (traffic-short (c .before .before .before .before .before .before .before .args .a))
 
 pub put-traffic-spec : {M : Type 1} → statement M
 put-traffic-spec =

@@ -1,14 +1,14 @@
 use Rattle.lines.proofs.LineLaws.{tuple-none, tuple-some, tuple-short}
-use Rattle.buffers.proofs.OverLaws.{wrote, promise-within}
+use Rattle.buffers.proofs.OverLaws.{put-as, put-short}
 use borrow.Author.Needs.{needs}
 use Rattle.lines.proofs.put_tuple.Statement.{statement}
 use Rattle.lines.proofs.put_tuple.Tie as tie
 
 returns : tie.Need-returns
-returns c = promise-within _ (tuple-none _ (c .before .before .before .before .if1 .taken)) (tuple-short (c .before .before .before .before .before .before .before .args .g)) (wrote _ _ (c .before .before .put-byte .ensures .0) (c .before .before .put-byte .ensures .1))
+returns c = put-short (put-as _ (tuple-none _ (c .before .before .before .before .if1 .taken)) (c .before .before .put-byte .ensures)) (tuple-short (c .before .before .before .before .before .before .before .args .g))
 
 returns-2 : tie.Need-returns-2
-returns-2 c = promise-within _ (tuple-some _ (c .before .before .before .before .if1 .left)) (tuple-short (c .before .before .before .before .before .before .before .args .g)) (wrote _ _ (c .before .before .put-values .ensures .0) (c .before .before .put-values .ensures .1))
+returns-2 c = put-short (put-as _ (tuple-some _ (c .before .before .before .before .if1 .left)) (c .before .before .put-values .ensures)) (tuple-short (c .before .before .before .before .before .before .before .args .g))
 
 pub put-tuple-spec : {M : Type 1} → statement M
 put-tuple-spec =

@@ -1,5 +1,5 @@
 use Rattle.lines.proofs.LineLaws.{values-short}
-use Rattle.buffers.proofs.OverLaws.{wrote, promise-within}
+use Rattle.buffers.proofs.OverLaws.{put-as, put-short}
 use Rattle.lines.specs.Lines.{row, valuesLine}
 use mathlib.Core.Path.{ap}
 use borrow.Author.Needs.{needs}
@@ -8,7 +8,7 @@ use Rattle.lines.proofs.put_values.Tie as tie
 
 returns : tie.Need-returns
 unfolding valuesLine
-returns c = promise-within _ (ap (row _ _) (c .before .before .before .before .before .least .ensures .0)) (values-short _) (wrote _ _ (c .before .before .put-row .ensures .0) (c .before .before .put-row .ensures .1))
+returns c = put-short (put-as _ (ap (row _ _) (c .before .before .before .before .before .least .ensures .0)) (c .before .before .put-row .ensures)) (values-short _)
 
 pub put-values-spec : {M : Type 1} → statement M
 put-values-spec =

@@ -11,4 +11,4 @@ mark-at-spec =
     (λ c κs. search L)
     (λ c κs. search L)
     (λ c. search L)
-    (λ c. cc))
+    (λ c. rw (c .before .before .before .element-at .ensures) at (c .before .before .mark-element .ensures)))

@@ -12,4 +12,4 @@ mark-edge-spec =
     (λ c κs. search L)
     (λ c κs. search L)
     (λ c. search L)
-    (λ c. cc))
+    (λ c. rw (c .before .before .before .wide .ensures, c .before .before .before .before .edge-at .ensures) at (c .before .before .mark .ensures)))

@@ -13,4 +13,4 @@ mark-name-spec =
     (λ c. search L)
     (λ c κs. search L)
     (λ c. search L)
-    (λ c. cc))
+    (λ c. rw (c .before .before .before .wide .ensures, c .before .before .before .before .message-name .ensures) at (c .before .before .mark .ensures)))

@@ -5,7 +5,7 @@ use Rattle.model.proofs.entry_count.Tie as tie
 
 returns : tie.Need-returns
 unfolding entryCount
-returns c = cc
+returns c = rw (c .before .before .entries-of .ensures, c .before .before .before .word .ensures, c .before .word2 .ensures) at (c .count-by .ensures)
 
 pub entry-count-spec : {M : Type 1} → statement M
 entry-count-spec =

@@ -5,7 +5,7 @@ use Rattle.model.proofs.exit_count.Tie as tie
 
 returns : tie.Need-returns
 unfolding exitCount
-returns c = cc
+returns c = rw (c .before .before .exits-of .ensures, c .before .before .before .word .ensures, c .before .word2 .ensures) at (c .count-by .ensures)
 
 pub exit-count-spec : {M : Type 1} → statement M
 exit-count-spec =

@@ -1,4 +1,5 @@
 use Rattle.model.specs.Table.{numbered}
+use Rattle.words.proofs.PickLaws.{eqb-same}
 use borrow.Author.Needs.{needs}
 use Rattle.model.proofs.is_numbered.Statement.{statement}
 use Rattle.model.proofs.is_numbered.Tie as tie
@@ -13,4 +14,4 @@ is-numbered-spec =
     (λ c. search L)
     (λ c. search L)
     (λ c κs. search L)
-    (λ c. cc))  -- returns
+    (λ c. eqb-same _ _ _ (c .word .ensures)))  -- returns

@@ -1,7 +1,6 @@
-use Rattle.words.proofs.PickLaws.{pick-yes}
-use Rattle.words.proofs.PickLaws.{pick-no}
-use Rattle.words.proofs.AllLaws.{ne-eqb-by}
-use Rattle.words.proofs.AllLaws.{eq-eqb-by}
+use mathlib.Core.Path.{refl}
+use Rattle.words.proofs.PickLaws.{pick-yes, pick-no}
+use Rattle.words.proofs.AllLaws.{eq-eqb-by, ne-eqb-by}
 use Rattle.model.specs.Table.{limitOf}
 use borrow.Author.Needs.{needs}
 use Rattle.model.proofs.limit_of.Statement.{statement}
@@ -18,5 +17,5 @@ limit-of-spec =
     (λ c. search L)
     (λ c. search L)
     (λ c κs. search L)
-    (λ c. pick-yes _ _ _ _ (eq-eqb-by _ _ _ (c .before .word .ensures) (c .if1 .taken)) (cc))  -- returns
-    (λ c. pick-no _ _ _ _ (ne-eqb-by _ _ _ (c .before .word .ensures) (c .if1 .left)) (cc)))  -- returns-2
+    (λ c. pick-yes _ _ _ _ (eq-eqb-by _ _ _ (c .before .word .ensures) (c .if1 .taken)) refl)  -- returns
+    (λ c. pick-no _ _ _ _ (ne-eqb-by _ _ _ (c .before .word .ensures) (c .if1 .left)) (c .before .word .ensures)))  -- returns-2

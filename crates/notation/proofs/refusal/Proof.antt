@@ -1,5 +1,5 @@
 use Rattle.notation.proofs.ReadLaws.{refusal-is}
-use Rattle.notation.proofs.BarLaws.{no-place}
+use Rattle.passes.proofs.BarLaws.{no-place}
 use borrow.Author.Needs.{needs}
 use Rattle.notation.proofs.refusal.Statement.{statement}
 use Rattle.notation.proofs.refusal.Tie as tie

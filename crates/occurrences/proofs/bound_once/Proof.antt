@@ -12,4 +12,4 @@ bound-once-spec =
     (tie.spec
     (λ c κs. search L)
     (λ c κs. search L)
-    (λ c. cc))
+    (λ c. rw (c .before .received-count .ensures) at (c .templates-once .ensures)))

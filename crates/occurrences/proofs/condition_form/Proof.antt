@@ -10,4 +10,4 @@ condition-form-spec =
     (tie.spec
     (λ c κs. search L)
     (λ c κs. search L)
-    (λ c. cc))
+    (λ c. rw (c .before .condition-at .ensures) at (c .word .ensures)))

@@ -12,4 +12,4 @@ default-once-spec =
     (tie.spec
     (λ c κs. search L)
     (λ c κs. search L)
-    (λ c. cc))
+    (λ c. rw (c .defaults-below .ensures, c .before .condition-count .ensures)))

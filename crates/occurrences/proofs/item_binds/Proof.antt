@@ -10,4 +10,4 @@ item-binds-spec =
     (tie.spec
     (λ c κs. search L)
     (λ c κs. search L)
-    (λ c. ((cc), search needs)))
+    (λ c. ((rw (c .before .item-at .ensures) at (c .binds-field .ensures .0)), search needs)))

@@ -12,4 +12,4 @@ times-bound-spec =
     (tie.spec
     (λ c κs. search L)
     (λ c κs. search L)
-    (λ c. cc))
+    (λ c. rw (c .before .message-length .ensures) at (c .bound-below .ensures)))

@@ -1,4 +1,4 @@
-use Rattle.terms.proofs.ReaderLaws.{sign-stops, stops, sign-goes, goes}
+use Rattle.reading.proofs.ReadingLaws.{sign-stopped, then-stopped, sign-passed, then-passed}
 use Rattle.parts.proofs.ListLaws.{series-by}
 use borrow.Author.Needs.{needs}
 use Rattle.parts.proofs.guard_and_assignments.Statement.{statement}
@@ -11,18 +11,18 @@ guard-and-assignments-spec =
     (λ c κs. search needs)
     (λ c. search needs)
     (λ c. search needs)
-    (λ c. sign-stops _ _ _ _ _ _ _ _ (c .before .before .sign-at .ensures) (c .enum-told .given .1))
+    (λ c. sign-stopped _ _ _ _ _ _ (c .before .before .sign-at .ensures) _ _ (c .enum-told .given .1))
     (λ c κs. search needs)
     (λ c. search needs)
     (λ c. search needs)
     (λ c. search needs)
-    (λ c. sign-goes _ _ _ _ _ _ _ _ (c .before .before .before .before .before .before .before .before .before .sign-at .ensures) (c .before .before .before .before .before .before .before .r .given .1) (stops _ _ _ _ _ _ _ _ _ (c .before .before .before .before .condition-of .ensures) (c .enum-told2 .given .1)))
+    (λ c. sign-passed _ _ _ _ _ _ (c .before .before .before .before .before .before .before .before .before .sign-at .ensures) _ _ (c .before .before .before .before .before .before .before .r .given .1) (then-stopped _ _ _ _ _ _ _ (c .before .before .before .before .condition-of .ensures) _ _ (c .enum-told2 .given .1)))
     (λ c κs. search needs)
     (λ c. search needs)
     (λ c. search needs)
     (λ c. search needs)
-    (λ c. sign-goes _ _ _ _ _ _ _ _ (c .before .before .before .before .before .before .before .before .before .before .before .before .before .sign-at .ensures) (c .before .before .before .before .before .before .before .before .before .before .before .r .given .1) (goes _ _ _ _ _ _ _ _ _ (c .before .before .before .before .before .before .before .before .condition-of .ensures) (c .before .before .before .before .s .given .1) (sign-stops _ _ _ _ _ _ _ _ (c .before .before .sign-at2 .ensures) (c .enum-told3 .given .1))))
+    (λ c. sign-passed _ _ _ _ _ _ (c .before .before .before .before .before .before .before .before .before .before .before .before .before .sign-at .ensures) _ _ (c .before .before .before .before .before .before .before .before .before .before .before .r .given .1) (then-passed _ _ _ _ _ _ _ (c .before .before .before .before .before .before .before .before .condition-of .ensures) _ _ (c .before .before .before .before .s .given .1) (sign-stopped _ _ _ _ _ _ (c .before .before .sign-at2 .ensures) _ _ (c .enum-told3 .given .1))))
     (λ c κs. search needs)
     (λ c κs. search needs)
     (λ c. search needs)
-    (λ c. sign-goes _ _ _ _ _ _ _ _ (c .before .before .before .before .before .before .before .before .before .before .before .before .before .before .before .before .before .before .before .sign-at .ensures) (c .before .before .before .before .before .before .before .before .before .before .before .before .before .before .before .before .before .r .given .1) (goes _ _ _ _ _ _ _ _ _ (c .before .before .before .before .before .before .before .before .before .before .before .before .before .before .condition-of .ensures) (c .before .before .before .before .before .before .before .before .before .before .s .given .1) (sign-goes _ _ _ _ _ _ _ _ (c .before .before .before .before .before .before .before .before .sign-at2 .ensures) (c .before .before .before .before .before .before .t .given .1) (series-by _ _ _ _ _ _ (c .before .before .before .assignment-list .ensures .0) (c .before .before .series .ensures))))))
+    (λ c. sign-passed _ _ _ _ _ _ (c .before .before .before .before .before .before .before .before .before .before .before .before .before .before .before .before .before .before .before .sign-at .ensures) _ _ (c .before .before .before .before .before .before .before .before .before .before .before .before .before .before .before .before .before .r .given .1) (then-passed _ _ _ _ _ _ _ (c .before .before .before .before .before .before .before .before .before .before .before .before .before .before .condition-of .ensures) _ _ (c .before .before .before .before .before .before .before .before .before .before .s .given .1) (sign-passed _ _ _ _ _ _ (c .before .before .before .before .before .before .before .before .sign-at2 .ensures) _ _ (c .before .before .before .before .before .before .t .given .1) (series-by _ _ _ _ _ _ (c .before .before .before .assignment-list .ensures .0) (c .before .before .series .ensures))))))

@@ -1,5 +1,5 @@
 use Rattle.parts.specs.Parts.{message}
-use Rattle.terms.proofs.ReaderLaws.{stops, goes, sign-stops, sign-goes}
+use Rattle.reading.proofs.ReadingLaws.{then-stopped, then-passed, sign-stopped, sign-passed}
 use Rattle.parts.proofs.ListLaws.{series-by}
 use borrow.Author.Needs.{needs}
 use Rattle.parts.proofs.message.Statement.{statement}
@@ -19,13 +19,13 @@ message-spec =
     (λ c. search needs)
     (λ c. search needs)
     (λ c. search needs)
-    (λ c. stops _ _ _ _ _ _ _ _ _ (c .before .before .before .before .number-in .ensures) (c .enum-told .given .1))
+    (λ c. then-stopped _ _ _ _ _ _ _ (c .before .before .before .before .number-in .ensures) _ _ (c .enum-told .given .1))
     (λ c κs. search needs)
     (λ c. search needs)
     (λ c. search needs)
     (λ c. search needs)
-    (λ c. goes _ _ _ _ _ _ _ _ _ (c .before .before .before .before .before .before .before .before .number-in .ensures) (c .before .before .before .before .r .given .1) (sign-stops _ _ _ _ _ _ _ _ (c .before .before .sign-at .ensures) (c .enum-told2 .given .1)))
+    (λ c. then-passed _ _ _ _ _ _ _ (c .before .before .before .before .before .before .before .before .number-in .ensures) _ _ (c .before .before .before .before .r .given .1) (sign-stopped _ _ _ _ _ _ (c .before .before .sign-at .ensures) _ _ (c .enum-told2 .given .1)))
     (λ c κs. search needs)
     (λ c κs. search needs)
     (λ c. search needs)
-    (λ c. goes _ _ _ _ _ _ _ _ _ (c .before .before .before .before .before .before .before .before .before .before .before .before .before .before .number-in .ensures) (c .before .before .before .before .before .before .before .before .before .before .r .given .1) (sign-goes _ _ _ _ _ _ _ _ (c .before .before .before .before .before .before .before .before .sign-at .ensures) (c .before .before .before .before .before .before .s .given .1) (series-by _ _ _ _ _ _ (c .before .before .before .tuple .ensures .0) (c .before .before .series .ensures)))))
+    (λ c. then-passed _ _ _ _ _ _ _ (c .before .before .before .before .before .before .before .before .before .before .before .before .before .before .number-in .ensures) _ _ (c .before .before .before .before .before .before .before .before .before .before .r .given .1) (sign-passed _ _ _ _ _ _ (c .before .before .before .before .before .before .before .before .sign-at .ensures) _ _ (c .before .before .before .before .before .before .s .given .1) (series-by _ _ _ _ _ _ (c .before .before .before .tuple .ensures .0) (c .before .before .series .ensures)))))

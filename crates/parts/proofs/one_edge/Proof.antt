@@ -1,5 +1,6 @@
 use Rattle.parts.specs.Parts.{oneEdge}
-use Rattle.terms.proofs.ReaderLaws.{stops, goes, stored}
+use Rattle.reading.proofs.ReadingLaws.{then-stopped, then-passed}
+use Rattle.reading.proofs.KeepLaws.{stored}
 use borrow.Author.Needs.{needs}
 use Rattle.parts.proofs.one_edge.Statement.{statement}
 use Rattle.parts.proofs.one_edge.Tie as tie
@@ -16,7 +17,7 @@ one-edge-spec =
     (λ c. search needs)
     (λ c. search needs)
     (λ c. search needs)
-    (λ c. stops _ _ _ _ _ _ _ _ _ (c .before .before .before .before .number-in .ensures) (c .enum-told .given .1))
+    (λ c. then-stopped _ _ _ _ _ _ _ (c .before .before .before .before .number-in .ensures) _ _ (c .enum-told .given .1))
     (λ c κs. search needs)
     (λ c. search needs)
-    (λ c. goes _ _ _ _ _ _ _ _ _ (c .before .before .before .before .before .before .before .before .before .number-in .ensures) (c .before .before .before .before .before .r .given .1) (stored _ _ _ (c .before .before .put .ensures))))
+    (λ c. then-passed _ _ _ _ _ _ _ (c .before .before .before .before .before .before .before .before .before .number-in .ensures) _ _ (c .before .before .before .before .before .r .given .1) (stored _ _ _ (c .before .before .put .ensures))))

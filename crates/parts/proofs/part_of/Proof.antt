@@ -1,3 +1,4 @@
+use mathlib.Core.Path.{refl}
 use Rattle.parts.specs.Parts.{partOf}
 use Rattle.terms.proofs.ReaderLaws.{reads-yes, reads-no}
 use borrow.Author.Tests.{eq-eqb, ne-eqb}
@@ -44,4 +45,5 @@ part-of-spec =
     (λ c. reads-no _ _ _ _ _ _ _ (ne-eqb _ _ (c .before .before .before .before .before .before .before .before .before .before .before .before .if1 .left)) (reads-no _ _ _ _ _ _ _ (ne-eqb _ _ (c .before .before .before .before .before .before .before .before .before .before .before .if2 .left)) (reads-no _ _ _ _ _ _ _ (ne-eqb _ _ (c .before .before .before .before .before .before .before .before .before .before .if3 .left)) (reads-no _ _ _ _ _ _ _ (ne-eqb _ _ (c .before .before .before .before .before .before .before .before .before .if4 .left)) (reads-no _ _ _ _ _ _ _ (ne-eqb _ _ (c .before .before .before .before .before .before .before .before .if5 .left)) (reads-no _ _ _ _ _ _ _ (ne-eqb _ _ (c .before .before .before .before .before .before .before .if6 .left)) (reads-no _ _ _ _ _ _ _ (ne-eqb _ _ (c .before .before .before .before .before .before .if7 .left)) (reads-yes _ _ _ _ _ _ _ (eq-eqb _ _ (c .before .before .before .before .before .if8 .taken)) (series-by _ _ _ _ _ _ (c .before .before .before .guarded-list .ensures .0) (c .before .before .series3 .ensures))))))))))
     (λ c κs. search needs)
     (λ c. search needs)
-    (λ c. reads-no _ _ _ _ _ _ _ (ne-eqb _ _ (c .before .before .before .before .before .before .before .before .before .before .before .if1 .left)) (reads-no _ _ _ _ _ _ _ (ne-eqb _ _ (c .before .before .before .before .before .before .before .before .before .before .if2 .left)) (reads-no _ _ _ _ _ _ _ (ne-eqb _ _ (c .before .before .before .before .before .before .before .before .before .if3 .left)) (reads-no _ _ _ _ _ _ _ (ne-eqb _ _ (c .before .before .before .before .before .before .before .before .if4 .left)) (reads-no _ _ _ _ _ _ _ (ne-eqb _ _ (c .before .before .before .before .before .before .before .if5 .left)) (reads-no _ _ _ _ _ _ _ (ne-eqb _ _ (c .before .before .before .before .before .before .if6 .left)) (reads-no _ _ _ _ _ _ _ (ne-eqb _ _ (c .before .before .before .before .before .if7 .left)) (reads-no _ _ _ _ _ _ _ (ne-eqb _ _ (c .before .before .before .before .if8 .left)) (c .before .before .receiving-branches .ensures))))))))))
+    (λ c. reads-no _ _ _ _ _ _ _ (ne-eqb _ _ (c .before .before .before .before .before .before .before .before .before .before .before .before .if1 .left)) (reads-no _ _ _ _ _ _ _ (ne-eqb _ _ (c .before .before .before .before .before .before .before .before .before .before .before .if2 .left)) (reads-no _ _ _ _ _ _ _ (ne-eqb _ _ (c .before .before .before .before .before .before .before .before .before .before .if3 .left)) (reads-no _ _ _ _ _ _ _ (ne-eqb _ _ (c .before .before .before .before .before .before .before .before .before .if4 .left)) (reads-no _ _ _ _ _ _ _ (ne-eqb _ _ (c .before .before .before .before .before .before .before .before .if5 .left)) (reads-no _ _ _ _ _ _ _ (ne-eqb _ _ (c .before .before .before .before .before .before .before .if6 .left)) (reads-no _ _ _ _ _ _ _ (ne-eqb _ _ (c .before .before .before .before .before .before .if7 .left)) (reads-no _ _ _ _ _ _ _ (ne-eqb _ _ (c .before .before .before .before .before .if8 .left)) (reads-yes _ _ _ _ _ _ _ (eq-eqb _ _ (c .before .before .before .before .if9 .taken)) (c .before .before .receiving-branches .ensures))))))))))
+    (λ c. reads-no _ _ _ _ _ _ _ (ne-eqb _ _ (c .before .before .before .before .before .before .before .before .if1 .left)) (reads-no _ _ _ _ _ _ _ (ne-eqb _ _ (c .before .before .before .before .before .before .before .if2 .left)) (reads-no _ _ _ _ _ _ _ (ne-eqb _ _ (c .before .before .before .before .before .before .if3 .left)) (reads-no _ _ _ _ _ _ _ (ne-eqb _ _ (c .before .before .before .before .before .if4 .left)) (reads-no _ _ _ _ _ _ _ (ne-eqb _ _ (c .before .before .before .before .if5 .left)) (reads-no _ _ _ _ _ _ _ (ne-eqb _ _ (c .before .before .before .if6 .left)) (reads-no _ _ _ _ _ _ _ (ne-eqb _ _ (c .before .before .if7 .left)) (reads-no _ _ _ _ _ _ _ (ne-eqb _ _ (c .before .if8 .left)) (reads-no _ _ _ _ _ _ _ (ne-eqb _ _ (c .if9 .left)) (refl)))))))))))

@@ -1,5 +1,5 @@
 use Rattle.parts.specs.Parts.{receiving}
-use Rattle.terms.proofs.ReaderLaws.{sign-stops, stops, sign-goes, goes}
+use Rattle.reading.proofs.ReadingLaws.{sign-stopped, then-stopped, sign-passed, then-passed}
 use borrow.Author.Needs.{needs}
 use Rattle.parts.proofs.receiving.Statement.{statement}
 use Rattle.parts.proofs.receiving.Tie as tie
@@ -12,12 +12,12 @@ receiving-spec =
     (λ c κs. search needs)
     (λ c. search needs)
     (λ c. search needs)
-    (λ c. sign-stops _ _ _ _ _ _ _ _ (c .before .before .sign-at .ensures) (c .enum-told .given .1))
+    (λ c. sign-stopped _ _ _ _ _ _ (c .before .before .sign-at .ensures) _ _ (c .enum-told .given .1))
     (λ c κs. search needs)
     (λ c. search needs)
     (λ c. search needs)
     (λ c. search needs)
-    (λ c. sign-goes _ _ _ _ _ _ _ _ (c .before .before .before .before .before .before .before .before .before .sign-at .ensures) (c .before .before .before .before .before .before .before .r .given .1) (stops _ _ _ _ _ _ _ _ _ (c .before .before .before .before .message .ensures) (c .enum-told2 .given .1)))
+    (λ c. sign-passed _ _ _ _ _ _ (c .before .before .before .before .before .before .before .before .before .sign-at .ensures) _ _ (c .before .before .before .before .before .before .before .r .given .1) (then-stopped _ _ _ _ _ _ _ (c .before .before .before .before .message .ensures) _ _ (c .enum-told2 .given .1)))
     (λ c κs. search needs)
     (λ c. search needs)
-    (λ c. sign-goes _ _ _ _ _ _ _ _ (c .before .before .before .before .before .before .before .before .before .before .before .before .before .before .sign-at .ensures) (c .before .before .before .before .before .before .before .before .before .before .before .before .r .given .1) (goes _ _ _ _ _ _ _ _ _ (c .before .before .before .before .before .before .before .before .before .message .ensures) (c .before .before .before .before .before .s .given .1) (c .before .before .receiving-exit .ensures))))
+    (λ c. sign-passed _ _ _ _ _ _ (c .before .before .before .before .before .before .before .before .before .before .before .before .before .before .sign-at .ensures) _ _ (c .before .before .before .before .before .before .before .before .before .before .before .before .r .given .1) (then-passed _ _ _ _ _ _ _ (c .before .before .before .before .before .before .before .before .before .message .ensures) _ _ (c .before .before .before .before .before .s .given .1) (c .before .before .receiving-exit .ensures))))

@@ -1,4 +1,4 @@
-use Rattle.terms.proofs.ReaderLaws.{sign-stops, stops, sign-goes, goes, sign-last}
+use Rattle.reading.proofs.ReadingLaws.{sign-stopped, then-stopped, sign-passed, then-passed, sign-last}
 use borrow.Author.Needs.{needs}
 use Rattle.parts.proofs.receiving_exit.Statement.{statement}
 use Rattle.parts.proofs.receiving_exit.Tie as tie
@@ -10,7 +10,7 @@ receiving-exit-spec =
     (λ c κs. search needs)
     (λ c. search needs)
     (λ c. search needs)
-    (λ c. sign-stops _ _ _ _ _ _ _ _ (c .before .before .sign-at .ensures) (c .enum-told .given .1))
+    (λ c. sign-stopped _ _ _ _ _ _ (c .before .before .sign-at .ensures) _ _ (c .enum-told .given .1))
     (λ c. search needs)
     (λ c. search needs)
     (λ c. search needs)
@@ -19,7 +19,7 @@ receiving-exit-spec =
     (λ c. search needs)
     (λ c. search needs)
     (λ c. search needs)
-    (λ c. sign-goes _ _ _ _ _ _ _ _ (c .before .before .before .before .before .before .before .before .before .sign-at .ensures) (c .before .before .before .before .before .before .before .r .given .1) (stops _ _ _ _ _ _ _ _ _ (c .before .before .before .before .number-in .ensures) (c .enum-told2 .given .1)))
+    (λ c. sign-passed _ _ _ _ _ _ (c .before .before .before .before .before .before .before .before .before .sign-at .ensures) _ _ (c .before .before .before .before .before .before .before .r .given .1) (then-stopped _ _ _ _ _ _ _ (c .before .before .before .before .number-in .ensures) _ _ (c .enum-told2 .given .1)))
     (λ c κs. search needs)
     (λ c. search needs)
-    (λ c. sign-goes _ _ _ _ _ _ _ _ (c .before .before .before .before .before .before .before .before .before .before .before .sign-at .ensures) (c .before .before .before .before .before .before .before .before .before .r .given .1) (goes _ _ _ _ _ _ _ _ _ (c .before .before .before .before .before .before .number-in .ensures) (c .before .before .s .given .1) (sign-last _ _ _ _ _ (c .sign-at2 .ensures)))))
+    (λ c. sign-passed _ _ _ _ _ _ (c .before .before .before .before .before .before .before .before .before .before .before .sign-at .ensures) _ _ (c .before .before .before .before .before .before .before .before .before .r .given .1) (then-passed _ _ _ _ _ _ _ (c .before .before .before .before .before .before .number-in .ensures) _ _ (c .before .before .s .given .1) (sign-last _ _ _ _ _ (c .sign-at2 .ensures)))))

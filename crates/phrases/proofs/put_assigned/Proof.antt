@@ -1,36 +1,33 @@
-use Prim.Native.Nat.{_+_, _-_, _*_, _≤_}
+use Prim.Native.Nat.{_-_, _≤_, _*_, _+_}
+use Rattle.buffers.proofs.OverLaws.{put-as, put-long}
+use Rattle.buffers.specs.Buffers.{Put}
+use Rattle.model.specs.Table.{assignmentAt}
+use Rattle.shown.proofs.PieceLaws.{list-none, list-more, list-done}
+use Rattle.shown.specs.Lengths.{assignmentMost}
+use Rattle.shown.specs.Shown.{commas, separated, shownAssignment}
 use mathlib.Core.Path.{ap}
 use native.Mathlib.Omega.{arith}
-use Rattle.buffers.proofs.OverLaws.{Wrote, wrote-long}
-use Rattle.model.specs.Table.{assignmentAt}
-use Rattle.shown.specs.Lengths.{assignmentMost}
-use Rattle.shown.specs.Shown.{shownAssignment, commas, separated}
-use Rattle.shown.proofs.PieceLaws.{promised, list-none, list-more, list-done}
 use borrow.Author.Needs.{needs}
 use Rattle.phrases.proofs.put_assigned.Statement.{statement}
 use Rattle.phrases.proofs.put_assigned.Tie as tie
 
 abbrev Inv-loop : tie.InvT-loop
-Inv-loop out₀ el n end₀ j₀ out end j = (j ≤ n) × (end ≤ j * (1 + assignmentMost)) × Wrote (commas (λ i. shownAssignment (assignmentAt el i)) j) out₀ end out
+Inv-loop out₀ from el n end₀ j₀ out end j = (j ≤ n) × Put (commas (λ i. shownAssignment (assignmentAt el i)) j) (j * (1 + assignmentMost)) from out₀ end out
 
 abbrev μ-loop : tie.MeasureT-loop
-μ-loop out₀ el n end₀ j₀ out end j = n - j
+μ-loop out₀ from el n end₀ j₀ out end j = n - j
 
--- src/lib.rt:310:5
 loop-holds : tie.Need-loop-holds Inv-loop μ-loop
-loop-holds c = (omega arith, omega arith, list-none _ _ _)
+loop-holds c = (omega arith, list-none _ _ (1 + assignmentMost) _ _)
 
--- src/lib.rt:310:5
 loop-again : tie.Need-loop-again Inv-loop μ-loop
-loop-again c = (omega arith, omega arith, list-more _ _ _ _ (ap shownAssignment (c .before .before .before .assignment-at .ensures)) (c .before .before .before .before .before .before .before .before .before .before .before .before .loop .inv .2) (c .before .before .before .before .before .before .before .before .before .before .least .ensures .0) (c .before .before .before .before .before .before .before .before .put-lead .ensures .0) (c .before .before .before .before .before .before .before .before .put-lead .ensures .1) (c .before .before .before .before .before .least2 .ensures .0) (c .before .before .put-assignment .ensures .0) (c .before .before .put-assignment .ensures .1))
+loop-again c = (omega arith, list-more _ _ _ _ (ap shownAssignment (c .before .before .before .assignment-at .ensures)) (c .before .before .before .before .before .before .before .before .before .before .loop .inv .1) (c .before .before .before .before .before .before .before .put-lead .ensures) (c .before .before .put-assignment .ensures))
 
--- src/lib.rt:304:1
 same-length : tie.Need-same-length Inv-loop μ-loop
-same-length c = wrote-long (c .before .loop .inv .2)
+same-length c = put-long (c .before .loop .inv .1)
 
--- src/lib.rt:304:1
 returns : tie.Need-returns Inv-loop μ-loop
-returns c = promised _ (ap (separated _ _) (c .before .before .assignment-count .ensures)) (list-done _ _ _ _ (c .loop-test .left) (c .before .loop .inv .0) (c .before .loop .inv .2)) (omega arith)
+returns c = put-as _ (ap (separated _ _) (c .before .before .assignment-count .ensures)) (list-done _ _ (1 + assignmentMost) _ _ (c .loop-test .left) (c .before .loop .inv .0) (omega arith) (c .before .loop .inv .1))
 
 pub put-assigned-spec : {M : Type 1} → statement M
 put-assigned-spec =
@@ -41,18 +38,8 @@ put-assigned-spec =
     (λ c κs. search needs)
     loop-holds
     (λ c κs. search needs)
-    (λ c. search needs)
-    (λ c. search needs)
-    (λ c. search needs)
-    (λ c κs. search needs)
-    (λ c. search needs)
-    (λ c κs. search needs)
-    (λ c. search needs)
-    (λ c. search needs)
-    (λ c. search needs)
     (λ c κs. search needs)
     (λ c κs. search needs)
-    (λ c. search needs)
     (λ c. search needs)
     (λ c. search needs)
     loop-again

@@ -1,37 +1,34 @@
-use Prim.Native.Nat.{_+_, _-_, _*_, _≤_}
+use Prim.Native.Nat.{_-_, _≤_, _*_, _+_}
+use Rattle.buffers.proofs.OverLaws.{put-as, put-long}
+use Rattle.buffers.specs.Buffers.{Put}
+use Rattle.decimals.specs.Decimals.{shown, digits}
+use Rattle.model.specs.Places.{edgePlace}
+use Rattle.shown.proofs.PieceLaws.{list-none, list-more, list-done}
+use Rattle.shown.specs.Shown.{commas, separated}
+use Rattle.words.specs.Words.{at}
 use mathlib.Core.Path.{ap}
 use native.Mathlib.Omega.{arith}
-use Rattle.buffers.proofs.OverLaws.{Wrote, wrote-long}
-use Rattle.decimals.specs.Decimals.{digits, shown}
-use Rattle.words.specs.Words.{at}
-use Rattle.model.specs.Places.{edgePlace}
-use Rattle.shown.specs.Shown.{commas, separated}
-use Rattle.shown.proofs.PieceLaws.{promised, list-none, list-more, list-done}
 use borrow.Author.Needs.{needs}
 use Rattle.phrases.proofs.put_edges.Statement.{statement}
 use Rattle.phrases.proofs.put_edges.Tie as tie
 
 abbrev Inv-loop : tie.InvT-loop
-Inv-loop out₀ el list n end₀ j₀ out end j = (j ≤ n) × (end ≤ j * (1 + digits)) × Wrote (commas (λ i. shown (at el (edgePlace list i))) j) out₀ end out
+Inv-loop out₀ from el list n end₀ j₀ out end j = (j ≤ n) × Put (commas (λ i. shown (at el (edgePlace list i))) j) (j * (1 + digits)) from out₀ end out
 
 abbrev μ-loop : tie.MeasureT-loop
-μ-loop out₀ el list n end₀ j₀ out end j = n - j
+μ-loop out₀ from el list n end₀ j₀ out end j = n - j
 
--- src/lib.rt:190:5
 loop-holds : tie.Need-loop-holds Inv-loop μ-loop
-loop-holds c = (omega arith, omega arith, list-none _ _ _)
+loop-holds c = (omega arith, list-none _ _ (1 + digits) _ _)
 
--- src/lib.rt:190:5
 loop-again : tie.Need-loop-again Inv-loop μ-loop
-loop-again c = (omega arith, omega arith, list-more _ _ _ _ (ap shown (c .before .before .before .edge-at .ensures)) (c .before .before .before .before .before .before .before .before .before .before .before .before .loop .inv .2) (c .before .before .before .before .before .before .before .before .before .before .least .ensures .0) (c .before .before .before .before .before .before .before .before .put-lead .ensures .0) (c .before .before .before .before .before .before .before .before .put-lead .ensures .1) (c .before .before .before .before .before .least2 .ensures .0) (c .before .before .put-number .ensures .0) (c .before .before .put-number .ensures .1))
+loop-again c = (omega arith, list-more _ _ _ _ (ap shown (c .before .before .before .edge-at .ensures)) (c .before .before .before .before .before .before .before .before .before .before .loop .inv .1) (c .before .before .before .before .before .before .before .put-lead .ensures) (c .before .before .put-number .ensures))
 
--- src/lib.rt:184:1
 same-length : tie.Need-same-length Inv-loop μ-loop
-same-length c = wrote-long (c .before .loop .inv .2)
+same-length c = put-long (c .before .loop .inv .1)
 
--- src/lib.rt:184:1
 returns : tie.Need-returns Inv-loop μ-loop
-returns c = promised _ (ap (separated _ _) (c .before .before .word .ensures)) (list-done _ _ _ _ (c .loop-test .left) (c .before .loop .inv .0) (c .before .loop .inv .2)) (omega arith)
+returns c = put-as _ (ap (separated _ _) (c .before .before .word .ensures)) (list-done _ _ (1 + digits) _ _ (c .loop-test .left) (c .before .loop .inv .0) (omega arith) (c .before .loop .inv .1))
 
 pub put-edges-spec : {M : Type 1} → statement M
 put-edges-spec =
@@ -42,18 +39,8 @@ put-edges-spec =
     (λ c κs. search needs)
     loop-holds
     (λ c κs. search needs)
-    (λ c. search needs)
-    (λ c. search needs)
-    (λ c. search needs)
-    (λ c κs. search needs)
-    (λ c. search needs)
-    (λ c κs. search needs)
-    (λ c. search needs)
-    (λ c. search needs)
-    (λ c. search needs)
     (λ c κs. search needs)
     (λ c κs. search needs)
-    (λ c. search needs)
     (λ c. search needs)
     (λ c. search needs)
     loop-again

@@ -1,16 +1,14 @@
-use mathlib.Core.Path.{refl}
-use native.Mathlib.Omega.{arith}
-use Rattle.buffers.proofs.OverLaws.{wrote}
+use Rattle.buffers.proofs.OverLaws.{after}
+use Rattle.phrases.specs.Pieces.{branch}
 use Rattle.shown.specs.Shown.{shownGuardedList}
-use Rattle.shown.proofs.PieceLaws.{promised, three}
+use Rattle.words.specs.Pick.{if_then_else_}
 use borrow.Author.Needs.{needs}
 use Rattle.phrases.proofs.put_guarded_list.Statement.{statement}
 use Rattle.phrases.proofs.put_guarded_list.Tie as tie
 
--- src/lib.rt:257:1
 returns : tie.Need-returns
-unfolding shownGuardedList
-returns c = promised _ refl (three _ _ (wrote _ _ (c .before .before .before .before .before .before .before .before .before .before .before .before .put-byte .ensures .0) (c .before .before .before .before .before .before .before .before .before .before .before .before .put-byte .ensures .1)) (c .before .before .before .before .before .before .before .before .before .least .ensures .0) (c .before .before .before .before .before .before .before .put-choices .ensures .0) (c .before .before .before .before .before .before .before .put-choices .ensures .1) (c .before .before .before .before .least2 .ensures .0) (c .before .before .put-byte2 .ensures .0) (c .before .before .put-byte2 .ensures .1)) (omega arith)
+unfolding shownGuardedList branch if_then_else_
+returns c = after (c .before .before .before .before .before .before .before .before .before .before .put-byte .ensures) (after (c .before .before .before .before .before .before .put-branches .ensures) (c .before .before .put-byte2 .ensures))
 
 pub put-guarded-list-spec : {M : Type 1} → statement M
 put-guarded-list-spec =
@@ -18,16 +16,6 @@ put-guarded-list-spec =
     (tie.spec
     (λ c κs. search needs)
     (λ c κs. search needs)
-    (λ c. search needs)
-    (λ c. search needs)
-    (λ c. search needs)
     (λ c κs. search needs)
-    (λ c. search needs)
-    (λ c κs. search needs)
-    (λ c. search needs)
-    (λ c. search needs)
-    (λ c. search needs)
-    (λ c κs. search needs)
-    (λ c. search needs)
     (λ c. search needs)
     returns)

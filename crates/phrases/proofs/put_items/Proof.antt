@@ -1,36 +1,33 @@
-use Prim.Native.Nat.{_+_, _-_, _*_, _≤_}
+use Prim.Native.Nat.{_-_, _≤_, _*_, _+_}
+use Rattle.buffers.proofs.OverLaws.{put-as, put-long}
+use Rattle.buffers.specs.Buffers.{Put}
+use Rattle.model.specs.Table.{itemAt}
+use Rattle.shown.proofs.PieceLaws.{list-none, list-more, list-done}
+use Rattle.shown.specs.Lengths.{pairMost}
+use Rattle.shown.specs.Shown.{commas, separated, shownItem}
 use mathlib.Core.Path.{ap}
 use native.Mathlib.Omega.{arith}
-use Rattle.buffers.proofs.OverLaws.{Wrote, wrote-long}
-use Rattle.model.specs.Table.{itemAt}
-use Rattle.shown.specs.Lengths.{pairMost}
-use Rattle.shown.specs.Shown.{shownItem, commas, separated}
-use Rattle.shown.proofs.PieceLaws.{promised, list-none, list-more, list-done}
 use borrow.Author.Needs.{needs}
 use Rattle.phrases.proofs.put_items.Statement.{statement}
 use Rattle.phrases.proofs.put_items.Tie as tie
 
 abbrev Inv-loop : tie.InvT-loop
-Inv-loop out₀ el b n end₀ j₀ out end j = (j ≤ n) × (end ≤ j * (1 + pairMost)) × Wrote (commas (λ i. shownItem (itemAt el b i)) j) out₀ end out
+Inv-loop out₀ from el b n end₀ j₀ out end j = (j ≤ n) × Put (commas (λ i. shownItem (itemAt el b i)) j) (j * (1 + pairMost)) from out₀ end out
 
 abbrev μ-loop : tie.MeasureT-loop
-μ-loop out₀ el b n end₀ j₀ out end j = n - j
+μ-loop out₀ from el b n end₀ j₀ out end j = n - j
 
--- src/lib.rt:152:5
 loop-holds : tie.Need-loop-holds Inv-loop μ-loop
-loop-holds c = (omega arith, omega arith, list-none _ _ _)
+loop-holds c = (omega arith, list-none _ _ (1 + pairMost) _ _)
 
--- src/lib.rt:152:5
 loop-again : tie.Need-loop-again Inv-loop μ-loop
-loop-again c = (omega arith, omega arith, list-more _ _ _ _ (ap shownItem (c .before .before .before .item-at .ensures)) (c .before .before .before .before .before .before .before .before .before .before .before .before .loop .inv .2) (c .before .before .before .before .before .before .before .before .before .before .least .ensures .0) (c .before .before .before .before .before .before .before .before .put-lead .ensures .0) (c .before .before .before .before .before .before .before .before .put-lead .ensures .1) (c .before .before .before .before .before .least2 .ensures .0) (c .before .before .put-item .ensures .0) (c .before .before .put-item .ensures .1))
+loop-again c = (omega arith, list-more _ _ _ _ (ap shownItem (c .before .before .before .item-at .ensures)) (c .before .before .before .before .before .before .before .before .before .before .loop .inv .1) (c .before .before .before .before .before .before .before .put-lead .ensures) (c .before .before .put-item .ensures))
 
--- src/lib.rt:146:1
 same-length : tie.Need-same-length Inv-loop μ-loop
-same-length c = wrote-long (c .before .loop .inv .2)
+same-length c = put-long (c .before .loop .inv .1)
 
--- src/lib.rt:146:1
 returns : tie.Need-returns Inv-loop μ-loop
-returns c = promised _ (ap (separated _ _) (c .before .before .message-length .ensures)) (list-done _ _ _ _ (c .loop-test .left) (c .before .loop .inv .0) (c .before .loop .inv .2)) (omega arith)
+returns c = put-as _ (ap (separated _ _) (c .before .before .message-length .ensures)) (list-done _ _ (1 + pairMost) _ _ (c .loop-test .left) (c .before .loop .inv .0) (omega arith) (c .before .loop .inv .1))
 
 pub put-items-spec : {M : Type 1} → statement M
 put-items-spec =
@@ -41,18 +38,8 @@ put-items-spec =
     (λ c κs. search needs)
     loop-holds
     (λ c κs. search needs)
-    (λ c. search needs)
-    (λ c. search needs)
-    (λ c. search needs)
-    (λ c κs. search needs)
-    (λ c. search needs)
-    (λ c κs. search needs)
-    (λ c. search needs)
-    (λ c. search needs)
-    (λ c. search needs)
     (λ c κs. search needs)
     (λ c κs. search needs)
-    (λ c. search needs)
     (λ c. search needs)
     (λ c. search needs)
     loop-again

@@ -1,5 +1,7 @@
-use mathlib.Core.Path.{_∙_, ap}
+use mathlib.Core.Path.{refl, _∙_, ap}
 use lib.ListN.{length}
+use borrow.Author.Tests.{leb-true}
+use Rattle.buffers.proofs.OverLaws.{put-length}
 use Rattle.lines.specs.Lines.{unreadLine}
 use borrow.Author.Needs.{needs}
 use Rattle.printing.proofs.tell_unread.Statement.{statement}
@@ -17,4 +19,4 @@ tell-unread-spec =
     (λ c. search needs)
     (λ c κs. search needs)
     (λ c κs. search needs)
-    (λ c. (c .before .before .before .before .put-unread .ensures .0) ∙ ap (λ k. length (unreadLine (c .before .before .before .before .before .before .before .args .r .number) k)) (c .before .before .before .before .before .before .least .ensures .0)))  -- returns
+    (λ c. put-length (c .before .before .before .before .put-unread .ensures) (leb-true _ _ refl) ∙ ap (λ k. length (unreadLine (c .before .before .before .before .before .before .before .args .r .number) k)) (c .before .before .before .before .before .before .least .ensures .0)))  -- returns

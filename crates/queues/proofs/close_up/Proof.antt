@@ -14,6 +14,6 @@ close-up-spec =
     (λ c. search needs)
     (λ c κs. search needs)
     (λ c. search needs)
-    (λ c. cc)
+    (λ c. rw (c .before .before .before .before .before .less-one .ensures, c .before .before .before .before .before .before .queued-in .ensures) at (c .before .before .shift .ensures))
     (λ c. search needs)
     (λ c. closed-last _ _ _ _ _ (c .before .before .queued-in .ensures) (c .before .less-one .ensures) (c .if1 .left)))

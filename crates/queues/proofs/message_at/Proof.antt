@@ -20,4 +20,4 @@ message-at-spec =
     (λ c. search needs)
     (λ c. search needs)
     (λ c κs. search needs)
-    (λ c. cc))
+    (λ c. rw (c .word5 .ensures, c .before .word4 .ensures, c .before .before .word3 .ensures, c .before .before .before .word2 .ensures, c .before .before .before .before .word .ensures, c .before .before .before .before .before .slot-place .ensures)))

@@ -10,4 +10,4 @@ message-is-spec =
     (tie.spec
     (λ c κs. search needs)
     (λ c κs. search needs)
-    (λ c. cc))
+    (λ c. rw (c .before .message-at .ensures) at (c .same-tuple .ensures)))

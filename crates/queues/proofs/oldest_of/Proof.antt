@@ -10,4 +10,4 @@ oldest-of-spec =
     (tie.spec
     (λ c κs. search needs)
     (λ c κs. search needs)
-    (λ c. cc))
+    (λ c. rw (c .before .queued-in .ensures) at (c .oldest-below .ensures)))

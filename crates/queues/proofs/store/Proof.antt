@@ -12,4 +12,4 @@ store-spec =
     (λ c κs. search needs)
     (λ c κs. search needs)
     (λ c. search needs)
-    (λ c. cc))
+    (λ c. rw (c .before .before .put-values .ensures, c .before .before .before .before .before .before .put .ensures, c .before .before .before .before .before .before .before .slot-place .ensures)))

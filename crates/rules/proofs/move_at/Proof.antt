@@ -11,4 +11,4 @@ move-at-spec =
     (λ c κs. search L)
     (λ c κs. search L)
     (λ c κs. search L)
-    (λ c. cc))  -- returns
+    (λ c. rw (c .before .mode-in .ensures, c .before .before .kind-in .ensures) at (c .move-of .ensures)))  -- returns

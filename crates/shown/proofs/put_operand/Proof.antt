@@ -1,24 +1,21 @@
-use Rattle.shown.proofs.PieceLaws.{promised}
-use mathlib.Core.Path.{ap}
-use native.Mathlib.Omega.{arith}
-use Rattle.words.proofs.AllLaws.{eq-eqb-by, ne-eqb-by}
-use Rattle.words.proofs.PickLaws.{pick-yes, pick-no}
-use Rattle.buffers.proofs.OverLaws.{wrote}
+use Rattle.buffers.proofs.OverLaws.{put-as, put-within}
 use Rattle.decimals.specs.Decimals.{shown}
 use Rattle.shown.specs.Shown.{shownField, shownOperand}
+use Rattle.words.proofs.AllLaws.{eq-eqb-by, ne-eqb-by}
+use Rattle.words.proofs.PickLaws.{pick-yes, pick-no}
+use borrow.Author.Tests.{leb-true}
+use mathlib.Core.Path.{refl, ap}
 use borrow.Author.Needs.{needs}
 use Rattle.shown.proofs.put_operand.Statement.{statement}
 use Rattle.shown.proofs.put_operand.Tie as tie
 
--- src/lib.rt:54:9
 returns : tie.Need-returns
 unfolding shownOperand
-returns c = promised _ (pick-yes _ _ _ _ (eq-eqb-by _ _ _ (c .before .before .before .before .before .word2 .ensures) (c .before .before .before .before .if1 .taken)) (ap shownField (c .before .before .before .before .before .before .word .ensures))) (wrote _ _ (c .before .before .put-field .ensures .0) (c .before .before .put-field .ensures .1)) (omega arith)
+returns c = put-as _ (pick-yes _ _ _ _ (eq-eqb-by _ _ _ (c .before .before .before .before .before .word2 .ensures) (c .before .before .before .before .if1 .taken)) (ap shownField (c .before .before .before .before .before .before .word .ensures))) (c .before .before .put-field .ensures)
 
--- src/lib.rt:49:1
 returns-2 : tie.Need-returns-2
 unfolding shownOperand
-returns-2 c = promised _ (pick-no _ _ _ _ (ne-eqb-by _ _ _ (c .before .before .before .before .before .word2 .ensures) (c .before .before .before .before .if1 .left)) (ap shown (c .before .before .before .before .before .before .word .ensures))) (wrote _ _ (c .before .before .put-number .ensures .0) (c .before .before .put-number .ensures .1)) (omega arith)
+returns-2 c = put-within (put-as _ (pick-no _ _ _ _ (ne-eqb-by _ _ _ (c .before .before .before .before .before .word2 .ensures) (c .before .before .before .before .if1 .left)) (ap shown (c .before .before .before .before .before .before .word .ensures))) (c .before .before .put-number .ensures)) (leb-true _ _ refl)
 
 pub put-operand-spec : {M : Type 1} → statement M
 put-operand-spec =

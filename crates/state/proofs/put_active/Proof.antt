@@ -3,7 +3,7 @@ use Rattle.state.proofs.put_active.Statement.{statement}
 use Rattle.state.proofs.put_active.Tie as tie
 
 returns : tie.Need-returns
-returns c = cc
+returns c = rw (c .before .before .before .wide .ensures, c .before .before .before .before .less-one .ensures) at (c .before .before .put .ensures)
 
 pub put-active-spec : {M : Type 1} → statement M
 put-active-spec =

@@ -3,7 +3,7 @@ use Rattle.state.proofs.put_field.Statement.{statement}
 use Rattle.state.proofs.put_field.Tie as tie
 
 returns : tie.Need-returns
-returns c = cc
+returns c = rw (c .before .before .before .before .before .before .put .ensures) at (c .before .before .put2 .ensures)
 
 pub put-field-spec : {M : Type 1} → statement M
 put-field-spec =

@@ -3,7 +3,7 @@ use Rattle.state.proofs.put_ready.Statement.{statement}
 use Rattle.state.proofs.put_ready.Tie as tie
 
 returns : tie.Need-returns
-returns c = cc
+returns c = rw (c .before .before .before .wide .ensures, c .before .before .before .before .less-one .ensures) at (c .before .before .put .ensures)
 
 pub put-ready-spec : {M : Type 1} → statement M
 put-ready-spec =

@@ -11,4 +11,4 @@ elements-fit-spec =
     (λ c κs. search L)
     (λ c κs. search L)
     (λ c κs. search L)
-    (λ c. cc))
+    (λ c. rw (c .before .before .element-at .ensures, c .before .element-count .ensures) at (c .element-things .ensures)))

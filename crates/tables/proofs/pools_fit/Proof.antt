@@ -10,4 +10,4 @@ pools-fit-spec =
     (tie.spec
     (λ c κs. search L)
     (λ c κs. search L)
-    (λ c. cc))
+    (λ c. rw (c .before .pool-count .ensures) at (c .pools-below .ensures)))

@@ -18,4 +18,4 @@ rest-zero-spec =
     (λ c. search L)
     (λ c. search L)
     (λ c κs. search L)
-    (λ c. cc))
+    (λ c. rw (c .before .tail .ensures, c .before .before .less .ensures, c .before .before .before .pool-count .ensures) at (c .zero-words .ensures)))

@@ -11,4 +11,4 @@ mark-spec =
     (λ c κs. search L)
     (λ c κs. search L)
     (λ c. search L)
-    (λ c. cc))
+    (λ c. rw (c .before .before .before .place .ensures) at (c .before .before .mark-place .ensures)))

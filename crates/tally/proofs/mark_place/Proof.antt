@@ -14,4 +14,4 @@ mark-place-spec =
     (λ c κs. search L)
     (λ c κs. search L)
     (λ c. search L)
-    (λ c. cc))
+    (λ c. rw (c .before .before .before .before .more .ensures, c .before .before .before .before .before .word .ensures) at (c .before .before .put .ensures)))

@@ -1,5 +1,5 @@
 use Rattle.terms.specs.Terms.{assignment}
-use Rattle.terms.proofs.ReaderLaws.{stops, goes, assign-stops, assign-goes}
+use Rattle.reading.proofs.ReadingLaws.{then-stopped, then-passed, assign-stopped, assign-passed}
 use borrow.Author.Needs.{needs}
 use Rattle.terms.proofs.assignment.Statement.{statement}
 use Rattle.terms.proofs.assignment.Tie as tie
@@ -17,14 +17,14 @@ assignment-spec =
     (λ c. search needs)
     (λ c. search needs)
     (λ c. search needs)
-    (λ c. stops _ _ _ _ _ _ _ _ _ (c .before .before .before .before .field-in .ensures) (c .enum-told .given .1))
+    (λ c. then-stopped _ _ _ _ _ _ _ (c .before .before .before .before .field-in .ensures) _ _ (c .enum-told .given .1))
     (λ c κs. search needs)
     (λ c. search needs)
     (λ c. search needs)
     (λ c. search needs)
-    (λ c. goes _ _ _ _ _ _ _ _ _ (c .before .before .before .before .before .before .before .before .field-in .ensures) (c .before .before .before .before .r .given .1) (assign-stops _ _ _ _ _ _ _ (c .before .before .assign-at .ensures) (c .enum-told2 .given .1)))
+    (λ c. then-passed _ _ _ _ _ _ _ (c .before .before .before .before .before .before .before .before .field-in .ensures) _ _ (c .before .before .before .before .r .given .1) (assign-stopped _ _ _ _ _ (c .before .before .assign-at .ensures) _ _ (c .enum-told2 .given .1)))
     (λ c. search needs)
     (λ c. search needs)
     (λ c κs. search needs)
     (λ c. search needs)
-    (λ c. goes _ _ _ _ _ _ _ _ _ (c .before .before .before .before .before .before .before .before .before .before .before .before .before .field-in .ensures) (c .before .before .before .before .before .before .before .before .before .r .given .1) (assign-goes _ _ _ _ _ _ _ (c .before .before .before .before .before .before .before .assign-at .ensures) (c .before .before .before .before .before .s .given .1) (c .before .before .expression .ensures))))
+    (λ c. then-passed _ _ _ _ _ _ _ (c .before .before .before .before .before .before .before .before .before .before .before .before .before .field-in .ensures) _ _ (c .before .before .before .before .before .before .before .before .before .r .given .1) (assign-passed _ _ _ _ _ (c .before .before .before .before .before .before .before .assign-at .ensures) _ _ (c .before .before .before .before .before .s .given .1) (c .before .before .expression .ensures))))

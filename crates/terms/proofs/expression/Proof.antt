@@ -1,5 +1,5 @@
 use Rattle.terms.specs.Terms.{expression}
-use Rattle.terms.proofs.ReaderLaws.{stops, goes}
+use Rattle.reading.proofs.ReadingLaws.{then-stopped, then-passed}
 use borrow.Author.Needs.{needs}
 use Rattle.terms.proofs.expression.Statement.{statement}
 use Rattle.terms.proofs.expression.Tie as tie
@@ -15,7 +15,7 @@ expression-spec =
     (λ c. search needs)
     (λ c. search needs)
     (λ c. search needs)
-    (λ c. stops _ _ _ _ _ _ _ _ _ (c .before .before .before .before .operand-in .ensures) (c .enum-told .given .1))
+    (λ c. then-stopped _ _ _ _ _ _ _ (c .before .before .before .before .operand-in .ensures) _ _ (c .enum-told .given .1))
     (λ c κs. search needs)
     (λ c. search needs)
-    (λ c. goes _ _ _ _ _ _ _ _ _ (c .before .before .before .before .before .before .before .before .before .operand-in .ensures) (c .before .before .before .before .before .r .given .1) (c .before .before .joint .ensures)))
+    (λ c. then-passed _ _ _ _ _ _ _ (c .before .before .before .before .before .before .before .before .before .operand-in .ensures) _ _ (c .before .before .before .before .before .r .given .1) (c .before .before .joint .ensures)))

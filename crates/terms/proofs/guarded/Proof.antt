@@ -1,5 +1,5 @@
 use Rattle.terms.specs.Terms.{guarded}
-use Rattle.terms.proofs.ReaderLaws.{sign-stops, stops, sign-goes, goes}
+use Rattle.reading.proofs.ReadingLaws.{sign-stopped, then-stopped, sign-passed, then-passed}
 use borrow.Author.Needs.{needs}
 use Rattle.terms.proofs.guarded.Statement.{statement}
 use Rattle.terms.proofs.guarded.Tie as tie
@@ -12,7 +12,7 @@ guarded-spec =
     (λ c κs. search needs)
     (λ c. search needs)
     (λ c. search needs)
-    (λ c. sign-stops _ _ _ _ _ _ _ _ (c .before .before .sign-at .ensures) (c .enum-told .given .1))
+    (λ c. sign-stopped _ _ _ _ _ _ (c .before .before .sign-at .ensures) _ _ (c .enum-told .given .1))
     (λ c. search needs)
     (λ c. search needs)
     (λ c. search needs)
@@ -21,7 +21,7 @@ guarded-spec =
     (λ c. search needs)
     (λ c. search needs)
     (λ c. search needs)
-    (λ c. sign-goes _ _ _ _ _ _ _ _ (c .before .before .before .before .before .before .before .before .before .sign-at .ensures) (c .before .before .before .before .before .before .before .r .given .1) (stops _ _ _ _ _ _ _ _ _ (c .before .before .before .before .number-in .ensures) (c .enum-told2 .given .1)))
+    (λ c. sign-passed _ _ _ _ _ _ (c .before .before .before .before .before .before .before .before .before .sign-at .ensures) _ _ (c .before .before .before .before .before .before .before .r .given .1) (then-stopped _ _ _ _ _ _ _ (c .before .before .before .before .number-in .ensures) _ _ (c .enum-told2 .given .1)))
     (λ c κs. search needs)
     (λ c. search needs)
-    (λ c. sign-goes _ _ _ _ _ _ _ _ (c .before .before .before .before .before .before .before .before .before .before .before .before .before .before .sign-at .ensures) (c .before .before .before .before .before .before .before .before .before .before .before .before .r .given .1) (goes _ _ _ _ _ _ _ _ _ (c .before .before .before .before .before .before .before .before .before .number-in .ensures) (c .before .before .before .before .before .s .given .1) (c .before .before .guard .ensures))))
+    (λ c. sign-passed _ _ _ _ _ _ (c .before .before .before .before .before .before .before .before .before .before .before .before .before .before .sign-at .ensures) _ _ (c .before .before .before .before .before .before .before .before .before .before .before .before .r .given .1) (then-passed _ _ _ _ _ _ _ (c .before .before .before .before .before .before .before .before .before .number-in .ensures) _ _ (c .before .before .before .before .before .s .given .1) (c .before .before .guard .ensures))))

@@ -9,4 +9,4 @@ is-spelled-spec =
     (λ c κs. search needs)
     (λ c κs. search needs)
     (λ c κs. search needs)
-    (λ c. cc))
+    (λ c. rw (c .before .piece .ensures, c .before .before .token-at .ensures) at (c .same .ensures)))

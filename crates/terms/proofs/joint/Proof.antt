@@ -1,5 +1,6 @@
 use Rattle.terms.specs.Terms.{joint}
-use Rattle.terms.proofs.ReaderLaws.{at-no, stored, at-yes}
+use Rattle.reading.proofs.ReadingLaws.{if-stopped, if-passed}
+use Rattle.reading.proofs.KeepLaws.{stored}
 use borrow.Author.Needs.{needs}
 use Rattle.terms.proofs.joint.Statement.{statement}
 use Rattle.terms.proofs.joint.Tie as tie
@@ -18,10 +19,10 @@ joint-spec =
     (λ c. search needs)
     (λ c κs. search needs)
     (λ c. search needs)
-    (λ c. at-no _ _ _ _ _ _ _ (c .before .before .before .before .before .before .before .before .before .sign-at .ensures) (c .before .before .before .before .before .before .before .enum-told .given .1) (at-no _ _ _ _ _ _ _ (c .before .before .before .before .before .before .sign-at2 .ensures) (c .before .before .before .before .enum-told2 .given .1) (stored _ _ _ (c .before .before .put .ensures))))
+    (λ c. if-stopped _ _ (c .before .before .before .before .before .before .before .before .before .sign-at .ensures) _ _ _ _ _ (c .before .before .before .before .before .before .before .enum-told .given .1) (if-stopped _ _ (c .before .before .before .before .before .before .sign-at2 .ensures) _ _ _ _ _ (c .before .before .before .before .enum-told2 .given .1) (stored _ _ _ (c .before .before .put .ensures))))
     (λ c κs. search needs)
     (λ c. search needs)
-    (λ c. at-no _ _ _ _ _ _ _ (c .before .before .before .before .before .before .before .before .before .before .sign-at .ensures) (c .before .before .before .before .before .before .before .before .enum-told .given .1) (at-yes _ _ _ _ _ _ (c .before .before .before .before .before .before .before .sign-at2 .ensures) (c .before .before .before .before .before .difference .given .1) (c .before .before .joined .ensures)))
+    (λ c. if-stopped _ _ (c .before .before .before .before .before .before .before .before .before .before .sign-at .ensures) _ _ _ _ _ (c .before .before .before .before .before .before .before .before .enum-told .given .1) (if-passed _ _ (c .before .before .before .before .before .before .before .sign-at2 .ensures) _ _ _ _ (c .before .before .before .before .before .difference .given .1) (c .before .before .joined .ensures)))
     (λ c κs. search needs)
     (λ c. search needs)
-    (λ c. at-yes _ _ _ _ _ _ (c .before .before .before .before .before .before .before .sign-at .ensures) (c .before .before .before .before .before .sum .given .1) (c .before .before .joined2 .ensures)))
+    (λ c. if-passed _ _ (c .before .before .before .before .before .before .before .sign-at .ensures) _ _ _ _ (c .before .before .before .before .before .sum .given .1) (c .before .before .joined2 .ensures)))

@@ -1,4 +1,6 @@
-use Rattle.terms.proofs.ReaderLaws.{stored-behind}
+use mathlib.Core.Path.{_∙_}
+use Rattle.reading.proofs.WordLaws.{behind-known}
+use Rattle.reading.proofs.KeepLaws.{stored}
 use borrow.Author.Needs.{needs}
 use Rattle.terms.proofs.keep_form.Statement.{statement}
 use Rattle.terms.proofs.keep_form.Tie as tie
@@ -11,4 +13,4 @@ keep-form-spec =
     (λ c. search needs)
     (λ c κs. search needs)
     (λ c. search needs)
-    (λ c. stored-behind _ _ _ (c .before .before .before .before .token-at .ensures) _ _ (c .before .before .put .ensures)))
+    (λ c. stored _ _ _ (c .before .before .put .ensures) ∙ behind-known _ _ _ (c .before .before .before .before .token-at .ensures) _))

@@ -1,5 +1,5 @@
 use Rattle.terms.specs.Terms.{templateItem}
-use Rattle.terms.proofs.ReaderLaws.{at-no, at-yes}
+use Rattle.reading.proofs.ReadingLaws.{if-stopped, if-passed}
 use borrow.Author.Needs.{needs}
 use Rattle.terms.proofs.template_item.Statement.{statement}
 use Rattle.terms.proofs.template_item.Tie as tie
@@ -14,7 +14,7 @@ template-item-spec =
     (λ c. search needs)
     (λ c κs. search needs)
     (λ c. search needs)
-    (λ c. at-no _ _ _ _ _ _ _ (c .before .before .before .before .before .before .sign-at .ensures) (c .before .before .before .before .enum-told .given .1) (c .before .before .expression .ensures))
+    (λ c. if-stopped _ _ (c .before .before .before .before .before .before .sign-at .ensures) _ _ _ _ _ (c .before .before .before .before .enum-told .given .1) (c .before .before .expression .ensures))
     (λ c κs. search needs)
     (λ c. search needs)
-    (λ c. at-yes _ _ _ _ _ _ (c .before .before .before .before .before .before .before .sign-at .ensures) (c .before .before .before .before .before .binds .given .1) (c .before .before .bind .ensures)))
+    (λ c. if-passed _ _ (c .before .before .before .before .before .before .before .sign-at .ensures) _ _ _ _ (c .before .before .before .before .before .binds .given .1) (c .before .before .bind .ensures)))

@@ -1,3 +1,4 @@
+use mathlib.Core.Path.{refl}
 use Rattle.verdict.proofs.Ways.{not-is}
 use Rattle.words.proofs.PickLaws.{pick-no, pick-yes}
 use Rattle.verdict.specs.Verdict.{brokenIf}
@@ -13,5 +14,5 @@ broken-if-spec =
     tie.close
     (tie.spec
     (λ c κs. search L)
-    (λ c. pick-yes _ _ _ _ (not-is _ _ _ (c .before .keeps .ensures) (c .if1 .taken)) (cc))  -- returns
-    (λ c. pick-no _ _ _ _ (not-is _ _ _ (c .before .keeps .ensures) (c .if1 .left)) (cc)))  -- returns-2
+    (λ c. pick-yes _ _ _ _ (not-is _ _ _ (c .before .keeps .ensures) (c .if1 .taken)) refl)  -- returns
+    (λ c. pick-no _ _ _ _ (not-is _ _ _ (c .before .keeps .ensures) (c .if1 .left)) refl))  -- returns-2

@@ -13,4 +13,4 @@ kept-spec =
     (λ c. search L)
     (λ c. search L)
     (λ c κs. search L)
-    (λ c. cc))
+    (λ c. rw (c .word .ensures)))

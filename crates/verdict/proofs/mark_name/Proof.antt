@@ -11,4 +11,4 @@ mark-name-spec =
     (λ c κs. search L)
     (λ c κs. search L)
     (λ c. search L)
-    (λ c. cc))
+    (λ c. rw (c .before .before .before .name-if .ensures) at (c .before .before .mark .ensures)))

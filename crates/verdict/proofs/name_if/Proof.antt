@@ -1,3 +1,4 @@
+use mathlib.Core.Path.{refl}
 use Rattle.words.proofs.PickLaws.{flag-is, pick-no, pick-yes}
 use Rattle.verdict.specs.Verdict.{nameIf}
 use borrow.Author.Needs.{needs}
@@ -13,5 +14,5 @@ name-if-spec =
     (tie.spec
     (λ c κs. search L)
     (λ c. search L)
-    (λ c. pick-yes _ _ _ _ (flag-is _ _ _ (c .before .receives .ensures) (c .if1 .taken)) (cc))  -- returns
-    (λ c. pick-no _ _ _ _ (flag-is _ _ _ (c .before .receives .ensures) (c .if1 .left)) (cc)))  -- returns-2
+    (λ c. pick-yes _ _ _ _ (flag-is _ _ _ (c .before .receives .ensures) (c .if1 .taken)) refl)  -- returns
+    (λ c. pick-no _ _ _ _ (flag-is _ _ _ (c .before .receives .ensures) (c .if1 .left)) refl))  -- returns-2

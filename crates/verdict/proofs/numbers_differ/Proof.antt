@@ -11,4 +11,4 @@ numbers-differ-spec =
     tie.close
     (tie.spec
     (λ c κs. search L)
-    (λ c. cc))
+    (λ c. c .once-in .ensures))

@@ -1,38 +1,37 @@
 use Prim.Native.Char.{code}
-use mathlib.Core.Path.{ap}
-use Prim.Native.Nat.{_+_, _-_, _*_, _≤_}
-use native.Mathlib.Omega.{arith}
-use Rattle.buffers.proofs.OverLaws.{Wrote, wrote-long}
+use Prim.Native.Nat.{_-_, _≤_, _*_, _+_}
+use Rattle.buffers.proofs.OverLaws.{put-as, put-long, lent}
+use Rattle.buffers.specs.Buffers.{Put, lastPlace}
 use Rattle.model.specs.Table.{elementAt}
+use Rattle.shown.proofs.PieceLaws.{list-none, list-more, list-done}
 use Rattle.shown.specs.Lengths.{elementMost}
-use Rattle.shown.specs.Shown.{separated, shownElement, shownElements}
-use Rattle.shown.proofs.PieceLaws.{promised, list-none, list-more, list-done}
+use Rattle.shown.specs.Shown.{shownElement, shownElements, separated}
+use borrow.Author.Tests.{leb-true}
+use lib.ListN.{length}
+use mathlib.Core.Path.{refl, ap}
+use native.Mathlib.Omega.{arith}
 use borrow.Author.Needs.{needs}
 use Rattle.writer.proofs.put_elements.Statement.{statement}
 use Rattle.writer.proofs.put_elements.Tie as tie
 
 abbrev Inv-loop : tie.InvT-loop
-Inv-loop out₀ t p n end₀ e₀ out end e = (e ≤ n) × (end ≤ e * (1 + elementMost)) × Wrote (separated (code "|") (λ i. shownElement (elementAt t p i)) e) out₀ end out
+Inv-loop out₀ from t p n end₀ e₀ out end e = (e ≤ n) × Put (separated (code "|") (λ i. shownElement (elementAt t p i)) e) (e * (1 + elementMost)) from out₀ end out × (length out₀ ≤ lastPlace)
 
 abbrev μ-loop : tie.MeasureT-loop
-μ-loop out₀ t p n end₀ e₀ out end e = n - e
+μ-loop out₀ from t p n end₀ e₀ out end e = n - e
 
--- src/lib.rt:127:5
 loop-holds : tie.Need-loop-holds Inv-loop μ-loop
-loop-holds c = (omega arith, omega arith, list-none _ _ _)
+loop-holds c = (omega arith, list-none _ _ (1 + elementMost) _ _, omega arith)
 
--- src/lib.rt:127:5
 loop-again : tie.Need-loop-again Inv-loop μ-loop
-loop-again c = (omega arith, omega arith, list-more _ _ _ _ (ap shownElement (c .before .before .before .element-at .ensures)) (c .before .before .before .before .before .before .before .before .before .before .before .before .loop .inv .2) (c .before .before .before .before .before .before .before .before .before .before .least .ensures .0) (c .before .before .before .before .before .before .before .before .put-lead .ensures .0) (c .before .before .before .before .before .before .before .before .put-lead .ensures .1) (c .before .before .before .before .before .least2 .ensures .0) (c .before .before .put-element .ensures .0) (c .before .before .put-element .ensures .1))
+loop-again c = (omega arith, list-more _ _ _ _ (ap shownElement (c .before .before .before .before .element-at .ensures)) (c .before .before .before .before .before .before .before .before .before .before .before .before .loop .inv .1) (c .before .before .before .before .before .before .before .before .before .put-lead .ensures) (lent (c .before .before .before .before .before .before .least .ensures .0) (c .before .before .before .put-element .ensures) (c .further .ensures) (omega arith) (omega (arith, put-long (c .before .before .before .before .before .before .before .before .before .put-lead .ensures), put-long (c .before .before .before .before .before .before .before .before .before .before .before .before .loop .inv .1), c .before .before .before .before .before .before .before .before .before .before .before .before .loop .inv .2)) (leb-true _ _ refl)), c .before .before .before .before .before .before .before .before .before .before .before .before .loop .inv .2)
 
--- src/lib.rt:121:1
 same-length : tie.Need-same-length Inv-loop μ-loop
-same-length c = wrote-long (c .before .loop .inv .2)
+same-length c = put-long (c .before .loop .inv .1)
 
--- src/lib.rt:121:1
 returns : tie.Need-returns Inv-loop μ-loop
 unfolding shownElements
-returns c = promised _ (ap (separated _ _) (c .before .before .element-count .ensures)) (list-done _ _ _ _ (c .loop-test .left) (c .before .loop .inv .0) (c .before .loop .inv .2)) (omega arith)
+returns c = put-as _ (ap (separated _ _) (c .before .before .element-count .ensures)) (list-done _ _ (1 + elementMost) _ _ (c .loop-test .left) (c .before .loop .inv .0) (omega arith) (c .before .loop .inv .1))
 
 pub put-elements-spec : {M : Type 1} → statement M
 put-elements-spec =
@@ -43,18 +42,13 @@ put-elements-spec =
     (λ c κs. search needs)
     loop-holds
     (λ c κs. search needs)
-    (λ c. search needs)
-    (λ c. search needs)
-    (λ c. search needs)
-    (λ c κs. search needs)
-    (λ c. search needs)
     (λ c κs. search needs)
     (λ c. search needs)
     (λ c. search needs)
     (λ c. search needs)
     (λ c κs. search needs)
     (λ c κs. search needs)
-    (λ c. search needs)
+    (λ c κs. search needs)
     (λ c. search needs)
     (λ c. search needs)
     loop-again

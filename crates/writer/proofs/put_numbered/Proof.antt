@@ -1,13 +1,10 @@
-use native.Mathlib.Omega.{arith}
-use Rattle.buffers.proofs.OverLaws.{wrote}
-use Rattle.shown.proofs.PieceLaws.{promised, three}
+use Rattle.buffers.proofs.OverLaws.{after, put-as}
 use borrow.Author.Needs.{needs}
 use Rattle.writer.proofs.put_numbered.Statement.{statement}
 use Rattle.writer.proofs.put_numbered.Tie as tie
 
--- src/lib.rt:162:1
 returns : tie.Need-returns
-returns c = promised _ (rw (c .before .before .before .before .before .before .before .before .before .before .before .before .before .word .ensures)) (three _ _ (wrote _ _ (c .before .before .before .before .before .before .before .before .before .before .before .before .put-number .ensures .0) (c .before .before .before .before .before .before .before .before .before .before .before .before .put-number .ensures .1)) (c .before .before .before .before .before .before .before .before .before .least .ensures .0) (c .before .before .before .before .before .before .before .put-byte .ensures .0) (c .before .before .before .before .before .before .before .put-byte .ensures .1) (c .before .before .before .before .least2 .ensures .0) (c .before .before .put-contents .ensures .0) (c .before .before .put-contents .ensures .1)) (omega arith)
+returns c = put-as _ (rw (c .before .before .before .before .before .before .before .before .before .before .before .word .ensures)) (after (c .before .before .before .before .before .before .before .before .before .before .put-number .ensures) (after (c .before .before .before .before .before .before .put-byte .ensures) (c .before .before .put-contents .ensures)))
 
 pub put-numbered-spec : {M : Type 1} → statement M
 put-numbered-spec =
@@ -18,16 +15,6 @@ put-numbered-spec =
     (λ c κs. search needs)
     (λ c κs. search needs)
     (λ c κs. search needs)
-    (λ c. search needs)
-    (λ c. search needs)
-    (λ c. search needs)
     (λ c κs. search needs)
-    (λ c. search needs)
-    (λ c κs. search needs)
-    (λ c. search needs)
-    (λ c. search needs)
-    (λ c. search needs)
-    (λ c κs. search needs)
-    (λ c. search needs)
     (λ c. search needs)
     returns)

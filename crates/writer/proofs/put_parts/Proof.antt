@@ -1,49 +1,41 @@
-use Rattle.writer.proofs.PartLaws.{codes-four, parts-by, Going, going-none, going-more, going-done, parts-next, parts-end, parts-out}
 use Prim.Native.Char.{code}
-use Prim.Native.Nat.{_+_, _-_, _*_, _≤_}
-use native.Mathlib.Omega.{arith}
-use lib.ListN.{drop}
-use Rattle.buffers.proofs.OverLaws.{wrote-long}
+use Prim.Native.Nat.{_-_, _≤_, _*_, _+_}
+use Rattle.buffers.proofs.OverLaws.{put-as, put-within, put-long}
 use Rattle.shown.specs.Lengths.{partMost}
 use Rattle.shown.specs.Shown.{shownParts}
-use Rattle.shown.proofs.PieceLaws.{promised}
+use Rattle.writer.proofs.PartLaws.{codes-four, parts-by, Going, going-none, going-more, going-done, parts-next, parts-end, parts-out}
+use lib.ListN.{drop}
+use native.Mathlib.Omega.{arith}
 use borrow.Author.Needs.{needs}
 use Rattle.writer.proofs.put_parts.Statement.{statement}
 use Rattle.writer.proofs.put_parts.Tie as tie
 
 abbrev Inv-loop : tie.InvT-loop
-Inv-loop out₀ el codes sign₀ end₀ i₀ out sign end i = (i ≤ 4) × (end ≤ i * (1 + partMost)) × Going (shownParts (code "(") codes el) (shownParts sign (drop i codes) el) out₀ end out
+Inv-loop out₀ from el codes sign₀ end₀ i₀ out sign end i = (i ≤ 4) × Going (shownParts (code "(") codes el) (shownParts sign (drop i codes) el) (i * (1 + partMost)) from out₀ end out
 
 abbrev μ-loop : tie.MeasureT-loop
-μ-loop out₀ el codes sign₀ end₀ i₀ out sign end i = 4 - i
+μ-loop out₀ from el codes sign₀ end₀ i₀ out sign end i = 4 - i
 
--- src/lib.rt:89:5
 loop-holds : tie.Need-loop-holds Inv-loop μ-loop
-loop-holds c = (omega arith, omega arith, going-none _ _)
+loop-holds c = (omega arith, going-none _ (1 + partMost) _ _)
 
--- src/lib.rt:90:17
 array-read-c : tie.Need-array-read-c Inv-loop μ-loop
 array-read-c c = omega (arith, codes-four (c .before .before .before .kind-of .result) (c .before .before .before .before .kind-in .result) (c .before .before .before .kind-of .ensures))
 
--- src/lib.rt:92:13
 same-length : tie.Need-same-length Inv-loop μ-loop
-same-length c = wrote-long (c .before .before .loop .inv .2 .written)
+same-length c = put-long (c .before .before .loop .inv .1 .written)
 
--- src/lib.rt:92:13
 returns : tie.Need-returns Inv-loop μ-loop
-returns c = promised _ (parts-by _ _ _ (c .before .before .before .before .kind-of .ensures) (c .before .before .before .before .before .kind-in .ensures)) (going-done (parts-end _ _ _ _ (codes-four _ _ (c .before .before .before .before .kind-of .ensures)) (c .before .loop-test .taken) (c .if1 .taken)) (c .before .before .loop .inv .2)) (omega arith)
+returns c = put-within (put-as _ (parts-by _ _ _ (c .before .before .before .before .kind-of .ensures) (c .before .before .before .before .before .kind-in .ensures)) (going-done (parts-end _ _ _ _ (codes-four _ _ (c .before .before .before .before .kind-of .ensures)) (c .before .loop-test .taken) (c .if1 .taken)) (c .before .before .loop .inv .1))) (omega arith)
 
--- src/lib.rt:89:5
 loop-again : tie.Need-loop-again Inv-loop μ-loop
-loop-again c = (omega arith, omega arith, going-more _ _ (parts-next _ _ _ _ (codes-four _ _ (c .before .before .before .before .before .before .before .before .before .kind-of .ensures)) (c .before .before .before .before .before .before .loop-test .taken) (c .before .before .before .before .before .if1 .left)) (c .before .before .before .before .before .before .before .loop .inv .2) (c .before .before .before .before .least .ensures .0) (c .before .before .put-signed .ensures .0) (c .before .before .put-signed .ensures .1))
+loop-again c = (omega arith, going-more _ _ (parts-next _ _ _ _ (codes-four _ _ (c .before .before .before .before .before .before .before .before .kind-of .ensures)) (c .before .before .before .before .before .loop-test .taken) (c .before .before .before .before .if1 .left)) (c .before .before .before .before .before .before .loop .inv .1) (c .before .before .put-signed .ensures) (omega arith))
 
--- src/lib.rt:81:1
 same-length-2 : tie.Need-same-length-2 Inv-loop μ-loop
-same-length-2 c = wrote-long (c .before .loop .inv .2 .written)
+same-length-2 c = put-long (c .before .loop .inv .1 .written)
 
--- src/lib.rt:81:1
 returns-2 : tie.Need-returns-2 Inv-loop μ-loop
-returns-2 c = promised _ (parts-by _ _ _ (c .before .before .before .kind-of .ensures) (c .before .before .before .before .kind-in .ensures)) (going-done (parts-out _ _ _ _ (codes-four _ _ (c .before .before .before .kind-of .ensures)) (c .loop-test .left)) (c .before .loop .inv .2)) (omega arith)
+returns-2 c = put-within (put-as _ (parts-by _ _ _ (c .before .before .before .kind-of .ensures) (c .before .before .before .before .kind-in .ensures)) (going-done (parts-out _ _ _ _ (codes-four _ _ (c .before .before .before .kind-of .ensures)) (c .loop-test .left)) (c .before .loop .inv .1))) (omega arith)
 
 pub put-parts-spec : {M : Type 1} → statement M
 put-parts-spec =
@@ -58,11 +50,6 @@ put-parts-spec =
     same-length
     returns
     (λ c κs. search needs)
-    (λ c. search needs)
-    (λ c. search needs)
-    (λ c. search needs)
-    (λ c κs. search needs)
-    (λ c. search needs)
     (λ c. search needs)
     (λ c. search needs)
     loop-again

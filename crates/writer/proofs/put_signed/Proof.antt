@@ -1,14 +1,10 @@
-use mathlib.Core.Path.{refl}
-use native.Mathlib.Omega.{arith}
-use Rattle.buffers.proofs.OverLaws.{wrote, after}
-use Rattle.shown.proofs.PieceLaws.{promised}
+use Rattle.buffers.proofs.OverLaws.{after}
 use borrow.Author.Needs.{needs}
 use Rattle.writer.proofs.put_signed.Statement.{statement}
 use Rattle.writer.proofs.put_signed.Tie as tie
 
--- src/lib.rt:72:1
 returns : tie.Need-returns
-returns c = promised _ refl (after _ (wrote _ _ (c .before .before .before .before .before .before .before .put-byte .ensures .0) (c .before .before .before .before .before .before .before .put-byte .ensures .1)) (c .before .before .before .before .least .ensures .0) (c .before .before .put-part .ensures .0) (c .before .before .put-part .ensures .1)) (omega arith)
+returns c = after (c .before .before .before .before .before .before .put-byte .ensures) (c .before .before .put-part .ensures)
 
 pub put-signed-spec : {M : Type 1} → statement M
 put-signed-spec =
@@ -16,10 +12,5 @@ put-signed-spec =
     (tie.spec
     (λ c κs. search needs)
     (λ c κs. search needs)
-    (λ c. search needs)
-    (λ c. search needs)
-    (λ c. search needs)
-    (λ c κs. search needs)
-    (λ c. search needs)
     (λ c. search needs)
     returns)

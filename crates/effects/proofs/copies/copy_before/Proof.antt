@@ -1,3 +1,4 @@
+use mathlib.Core.Path.{refl}
 use Rattle.words.proofs.PickLaws.{pick-yes, pick-no}
 use borrow.Author.Tests.{ne-eqb, eq-eqb}
 use Rattle.meaning.specs.Step.{before}
@@ -12,6 +13,6 @@ unfolding before
 copy-before-spec =
     tie.close
     (tie.spec
-    (λ c. pick-yes _ _ _ _ (eq-eqb _ _ (c .if1 .taken)) (cc))  -- returns
+    (λ c. pick-yes _ _ _ _ (eq-eqb _ _ (c .if1 .taken)) refl)  -- returns
     (λ c κs. search L)
-    (λ c. pick-no _ _ _ _ (ne-eqb _ _ (c .before .if1 .left)) (cc)))  -- returns-2
+    (λ c. pick-no _ _ _ _ (ne-eqb _ _ (c .before .if1 .left)) (c .copy-of .ensures)))  -- returns-2

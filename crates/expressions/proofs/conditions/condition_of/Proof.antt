@@ -10,4 +10,4 @@ condition-of-spec =
     (tie.spec
     (λ c κs. search L)
     (λ c κs. search L)
-    (λ c. cc))  -- returns
+    (λ c. rw (c .before .condition-at .ensures) at (c .condition .ensures)))  -- returns

@@ -14,7 +14,7 @@ does-hold-spec =
     (λ c κs. search L)
     (λ c κs. search L)
     (λ c κs. search L)
-    (λ c. pick-yes _ _ _ _ (flag-is _ _ _ (c .before .before .before .is-default .ensures) (c .before .before .if1 .taken)) (cc))  -- returns
+    (λ c. pick-yes _ _ _ _ (flag-is _ _ _ (c .before .before .before .is-default .ensures) (c .before .before .if1 .taken)) (rw (c .before .exit-count .ensures) at (c .others-false .ensures)))  -- returns
     (λ c κs. search L)
     (λ c κs. search L)
-    (λ c. pick-no _ _ _ _ (flag-is _ _ _ (c .before .before .before .is-default .ensures) (c .before .before .if1 .left)) (cc)))  -- returns-2
+    (λ c. pick-no _ _ _ _ (flag-is _ _ _ (c .before .before .before .is-default .ensures) (c .before .before .if1 .left)) (rw (c .before .condition-of .ensures) at (c .is-true .ensures))))  -- returns-2

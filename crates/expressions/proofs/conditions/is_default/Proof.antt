@@ -10,4 +10,4 @@ is-default-spec =
     (tie.spec
     (λ c κs. search L)
     (λ c κs. search L)
-    (λ c. cc))  -- returns
+    (λ c. rw (c .word .ensures, c .before .condition-at .ensures)))  -- returns

@@ -1,3 +1,4 @@
+use mathlib.Core.Path.{refl}
 use borrow.Author.Tests.{eq-eqb, ne-eqb}
 use Rattle.words.proofs.PickLaws.{pick-no, pick-yes}
 use Rattle.meaning.specs.Conditions.{otherFalse}
@@ -12,7 +13,7 @@ unfolding otherFalse
 other-false-spec =
     tie.close
     (tie.spec
-    (λ c. pick-yes _ _ _ _ (eq-eqb _ _ (c .if1 .taken)) (cc))  -- returns
+    (λ c. pick-yes _ _ _ _ (eq-eqb _ _ (c .if1 .taken)) refl)  -- returns
     (λ c κs. search L)
     (λ c κs. search L)
-    (λ c. pick-no _ _ _ _ (ne-eqb _ _ (c .before .before .if1 .left)) (cc)))  -- returns-2
+    (λ c. pick-no _ _ _ _ (ne-eqb _ _ (c .before .before .if1 .left)) (rw (c .before .condition-of .ensures) at (c .is-false .ensures))))  -- returns-2

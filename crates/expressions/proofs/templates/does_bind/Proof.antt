@@ -16,4 +16,4 @@ does-bind-spec =
     (λ c. and-no _ _ (below-no _ _ _ (c .before .message-length .ensures) (c .if1 .taken)))  -- returns
     (λ c κs. search L)
     (λ c κs. search L)
-    (λ c. and-yes _ _ _ (below-yes _ _ _ (c .before .before .before .message-length .ensures) (c .before .before .if1 .left)) (cc)))  -- returns-2
+    (λ c. and-yes _ _ _ (below-yes _ _ _ (c .before .before .before .message-length .ensures) (c .before .before .if1 .left)) (rw (c .word .ensures, c .before .item-at .ensures))))  -- returns-2

@@ -16,4 +16,4 @@ evaluate-spec =
     (λ c κs. search L)
     (λ c κs. search L)
     (λ c κs. search L)
-    (λ c. cc))  -- returns
+    (λ c. rw (c .before .before .before .before .before .message-length .ensures, c .before .before .before .before .item-value .ensures, c .before .before .before .item-value2 .ensures, c .before .before .item-value3 .ensures, c .before .item-value4 .ensures) at (c .gather .ensures)))  -- returns

@@ -15,4 +15,4 @@ gather-spec =
     (λ c κs. search L)
     (λ c κs. search L)
     (λ c κs. search L)
-    (λ c. cc))  -- returns
+    (λ c. rw (c .before .before .before .before .all-defined .ensures, c .before .before .before .number-in .ensures, c .before .before .number-in2 .ensures, c .before .number-in3 .ensures, c .number-in4 .ensures)))  -- returns

@@ -1,3 +1,4 @@
+use mathlib.Core.Path.{refl}
 use Rattle.words.proofs.PickLaws.{flag-is, pick-no, pick-yes}
 use Rattle.words.proofs.AllLaws.{le-leb-by, lt-leb-by}
 use Rattle.meaning.specs.Templates.{itemValue}
@@ -13,10 +14,10 @@ item-value-spec =
     tie.close
     (tie.spec
     (λ c κs. search L)
-    (λ c. pick-yes _ _ _ _ (le-leb-by _ _ _ (c .before .message-length .ensures) (c .if1 .taken)) (cc))  -- returns
+    (λ c. pick-yes _ _ _ _ (le-leb-by _ _ _ (c .before .message-length .ensures) (c .if1 .taken)) refl)  -- returns
     (λ c κs. search L)
     (λ c κs. search L)
-    (λ c. pick-no _ _ _ _ (lt-leb-by _ _ _ (c .before .before .before .before .message-length .ensures) (c .before .before .before .if1 .left)) (pick-yes _ _ _ _ (flag-is _ _ _ (c .before .before .does-bind .ensures) (c .before .if2 .taken)) (cc)))  -- returns-2
+    (λ c. pick-no _ _ _ _ (lt-leb-by _ _ _ (c .before .before .before .before .message-length .ensures) (c .before .before .before .if1 .left)) (pick-yes _ _ _ _ (flag-is _ _ _ (c .before .before .does-bind .ensures) (c .before .if2 .taken)) (rw (c .value-of .ensures))))  -- returns-2
     (λ c κs. search L)
     (λ c κs. search L)
-    (λ c. pick-no _ _ _ _ (lt-leb-by _ _ _ (c .before .before .before .before .before .message-length .ensures) (c .before .before .before .before .if1 .left)) (pick-no _ _ _ _ (flag-is _ _ _ (c .before .before .before .does-bind .ensures) (c .before .before .if2 .left)) (cc))))  -- returns-3
+    (λ c. pick-no _ _ _ _ (lt-leb-by _ _ _ (c .before .before .before .before .before .message-length .ensures) (c .before .before .before .before .if1 .left)) (pick-no _ _ _ _ (flag-is _ _ _ (c .before .before .before .does-bind .ensures) (c .before .before .if2 .left)) (rw (c .before .item-at .ensures) at (c .expression .ensures)))))  -- returns-3

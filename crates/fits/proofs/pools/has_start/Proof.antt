@@ -12,4 +12,4 @@ has-start-spec =
     (tie.spec
     (λ c κs. search L)
     (λ c κs. search L)
-    (λ c. cc))  -- returns
+    (λ c. rw (c .before .start-place .ensures, c .element-count .ensures)))  -- returns

@@ -1,11 +1,9 @@
 use Rattle.fits.specs.Fits.{isStart}
-use Rattle.kinds.proofs.TableLaws.{kind-in}
-use Rattle.words.proofs.PickLaws.{eqb-same}
 use borrow.Author.Needs.{needs}
 use Rattle.fits.proofs.pools.is_start.Statement.{statement}
 use Rattle.fits.proofs.pools.is_start.Tie as tie
 
-ruleset L = (needs, eqb-same)
+ruleset L = (needs)
 
 pub is-start-spec : {M : Type 1} → statement M
 unfolding isStart

@@ -1,5 +1,4 @@
 use Rattle.fits.specs.Fits.{madeFits}
-use Rattle.meaning.specs.Changes.{taken}
 use Rattle.words.proofs.AllLaws.{le-leb-by, lt-leb-by}
 use Rattle.words.proofs.PickLaws.{flag-is, pick-no, pick-yes}
 use borrow.Author.Needs.{needs}

@@ -12,4 +12,4 @@ start-place-spec =
     (tie.spec
     (λ c κs. search L)
     (λ c κs. search L)
-    (λ c. cc))  -- returns
+    (λ c. rw (c .before .element-count .ensures) at (c .start-below .ensures)))  -- returns

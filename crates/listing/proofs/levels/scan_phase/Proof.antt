@@ -1,6 +1,6 @@
 use Rattle.listing.proofs.LevelLaws.{phase-is}
-use Rattle.listing.proofs.ScanLaws.{Passed, passed-none, passed-more, level-found, level-passed}
-use Rattle.listing.specs.Parts.{acceptedOn}
+use Rattle.naming.proofs.ScanLaws.{Passed, passed-none, passed-more, level-found, level-passed}
+use Rattle.naming.specs.Parts.{acceptedOn}
 use Rattle.listing.specs.Listing.{byBranch}
 use Rattle.meaning.specs.Requirements.{branchCount}
 use Rattle.state.specs.Instances.{queuesOf}

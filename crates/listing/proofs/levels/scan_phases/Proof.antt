@@ -1,7 +1,7 @@
 use Rattle.kinds.specs.Moves.{phases}
 use Rattle.listing.proofs.LevelLaws.{element-is}
-use Rattle.listing.proofs.ScanLaws.{Passed, passed-none, passed-more, level-found, level-passed}
-use Rattle.listing.specs.Parts.{acceptedOn}
+use Rattle.naming.proofs.ScanLaws.{Passed, passed-none, passed-more, level-found, level-passed}
+use Rattle.naming.specs.Parts.{acceptedOn}
 use Rattle.listing.specs.Listing.{byPhase}
 use Rattle.state.specs.Instances.{queuesOf}
 use mathlib.Core.Path.{refl}

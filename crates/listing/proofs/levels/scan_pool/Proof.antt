@@ -1,5 +1,5 @@
 use Rattle.listing.proofs.LevelLaws.{pool-is}
-use Rattle.listing.proofs.ScanLaws.{Passed, passed-none, passed-more, level-before, level-last}
+use Rattle.naming.proofs.ScanLaws.{Passed, passed-none, passed-more, level-before, level-last}
 use Rattle.listing.specs.Scanned.{scanInstance}
 use Rattle.state.specs.Instances.{instancesOf, queuesOf, madeCount}
 use mathlib.Core.List.{List}

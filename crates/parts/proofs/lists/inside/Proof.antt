@@ -1,5 +1,6 @@
 use Rattle.parts.specs.Parts.{inside}
-use Rattle.terms.proofs.ReaderLaws.{at-no, at-yes, stored}
+use Rattle.reading.proofs.ReadingLaws.{if-stopped, if-passed}
+use Rattle.reading.proofs.KeepLaws.{stored}
 use Rattle.words.proofs.PickLaws.{pick-yes, pick-no}
 use borrow.Author.Tests.{eq-eqb, ne-eqb}
 use borrow.Author.Needs.{needs}
@@ -16,11 +17,11 @@ inside-spec =
     (λ c. search needs)
     (λ c κs. search needs)
     (λ c. search needs)
-    (λ c. pick-yes _ _ _ _ (eq-eqb _ _ (c .before .before .before .before .before .before .before .if1 .taken)) (at-no _ _ _ _ _ _ _ (c .before .before .before .before .before .before .sign-at .ensures) (c .before .before .before .before .enum-told .given .1) (c .before .before .items-to-close .ensures)))
+    (λ c. pick-yes _ _ _ _ (eq-eqb _ _ (c .before .before .before .before .before .before .before .if1 .taken)) (if-stopped _ _ (c .before .before .before .before .before .before .sign-at .ensures) _ _ _ _ _ (c .before .before .before .before .enum-told .given .1) (c .before .before .items-to-close .ensures)))
     (λ c. search needs)
     (λ c κs. search needs)
     (λ c. search needs)
-    (λ c. pick-yes _ _ _ _ (eq-eqb _ _ (c .before .before .before .before .before .before .before .before .before .if1 .taken)) (at-yes _ _ _ _ _ _ (c .before .before .before .before .before .before .before .before .sign-at .ensures) (c .before .before .before .before .before .before .closed .given .1) (stored _ _ _ (c .before .before .put .ensures))))
+    (λ c. pick-yes _ _ _ _ (eq-eqb _ _ (c .before .before .before .before .before .before .before .before .before .if1 .taken)) (if-passed _ _ (c .before .before .before .before .before .before .before .before .sign-at .ensures) _ _ _ _ (c .before .before .before .before .before .before .closed .given .1) (stored _ _ _ (c .before .before .put .ensures))))
     (λ c κs. search needs)
     (λ c. search needs)
     (λ c. pick-no _ _ _ _ (ne-eqb _ _ (c .before .before .before .before .if1 .left)) (c .before .before .items-to-close2 .ensures)))

@@ -1,4 +1,4 @@
-use Rattle.terms.proofs.ReaderLaws.{stops, goes, sign-last}
+use Rattle.reading.proofs.ReadingLaws.{then-stopped, then-passed, sign-last}
 use borrow.Author.Needs.{needs}
 use Rattle.parts.proofs.lists.items_to_close.Statement.{statement}
 use Rattle.parts.proofs.lists.items_to_close.Tie as tie
@@ -11,7 +11,7 @@ items-to-close-spec =
     (λ c. search needs)
     (λ c. search needs)
     (λ c. search needs)
-    (λ c. stops _ _ _ _ _ _ _ _ _ (c .before .before .before .before .items .ensures) (c .enum-told .given .1))
+    (λ c. then-stopped _ _ _ _ _ _ _ (c .before .before .before .before .items .ensures) _ _ (c .enum-told .given .1))
     (λ c κs. search needs)
     (λ c. search needs)
-    (λ c. goes _ _ _ _ _ _ _ _ _ (c .before .before .before .before .before .before .items .ensures) (c .before .before .r .given .1) (sign-last _ _ _ _ _ (c .sign-at .ensures))))
+    (λ c. then-passed _ _ _ _ _ _ _ (c .before .before .before .before .before .before .items .ensures) _ _ (c .before .before .r .given .1) (sign-last _ _ _ _ _ (c .sign-at .ensures))))

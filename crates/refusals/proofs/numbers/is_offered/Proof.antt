@@ -19,5 +19,5 @@ is-offered-spec =
     (λ c. and-no _ _ (and-false-left _ _ (ap not (eq-eqb _ _ (c .if1 .taken)))))  -- returns
     (λ c κs. search L)
     (λ c κs. search L)
-    (λ c. and-yes _ _ _ (and-true _ _ (ap not (ne-eqb _ _ (c .before .before .before .if1 .left))) (lt-with _ _ _ (c .before .before .branch-count .ensures) (c .before .if2 .taken))) (cc))  -- returns-2
+    (λ c. and-yes _ _ _ (and-true _ _ (ap not (ne-eqb _ _ (c .before .before .before .if1 .left))) (lt-with _ _ _ (c .before .before .branch-count .ensures) (c .before .if2 .taken))) (c .is-named .ensures))  -- returns-2
     (λ c. and-no _ _ (and-false-right (not (eqb (c .before .before .before .before .before .args .m .kind) 0)) _ (le-with _ _ _ (c .before .branch-count .ensures) (c .if2 .left)))))  -- returns-3

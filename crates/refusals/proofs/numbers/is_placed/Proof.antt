@@ -14,5 +14,5 @@ is-placed-spec =
     (tie.spec
     (λ c κs. search L)
     (λ c κs. search L)
-    (λ c. and-yes _ _ _ (lt-with _ _ _ (c .before .before .pool-count .ensures) (c .before .if1 .taken)) (cc))  -- returns
+    (λ c. and-yes _ _ _ (lt-with _ _ _ (c .before .before .pool-count .ensures) (c .before .if1 .taken)) (rw (c .element-count .ensures)))  -- returns
     (λ c. and-no _ _ (le-with _ _ _ (c .before .pool-count .ensures) (c .if1 .left))))  -- returns-2

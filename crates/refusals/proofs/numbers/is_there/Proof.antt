@@ -11,5 +11,5 @@ is-there-spec =
     (tie.spec
     (λ c κs. search L)
     (λ c κs. search L)
-    (λ c. and-yes _ _ _ (flag-is _ _ _ (c .before .before .is-placed .ensures) (c .before .if1 .taken)) (cc))  -- returns
+    (λ c. and-yes _ _ _ (flag-is _ _ _ (c .before .before .is-placed .ensures) (c .before .if1 .taken)) (c .is-offered .ensures))  -- returns
     (λ c. and-no _ _ (flag-is _ _ _ (c .before .is-placed .ensures) (c .if1 .left))))  -- returns-2

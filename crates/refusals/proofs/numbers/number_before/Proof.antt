@@ -1,3 +1,4 @@
+use mathlib.Core.Path.{refl}
 use Rattle.words.proofs.PickLaws.{pick-yes, pick-no, flag-is}
 use borrow.Author.Tests.{not-true, not-false}
 use Rattle.refusals.specs.Chain.{numberAt, listed, beforeFields}
@@ -15,7 +16,7 @@ number-before-spec =
     tie.close
     (tie.spec
     (λ c κs. search L)
-    (λ c. pick-no _ _ _ _ (flag-is _ _ _ (c .before .permits .ensures) (not-true _ (c .if1 .taken))) (cc))  -- returns
+    (λ c. pick-no _ _ _ _ (flag-is _ _ _ (c .before .permits .ensures) (not-true _ (c .if1 .taken))) refl)  -- returns
     (λ c κs. search L)
-    (λ c. pick-yes _ _ _ _ (flag-is _ _ _ (c .before .before .before .permits .ensures) (not-false _ (c .before .before .if1 .left))) (pick-no _ _ _ _ (flag-is _ _ _ (c .before .grants .ensures) (not-true _ (c .if2 .taken))) (cc)))  -- returns-2
-    (λ c. pick-yes _ _ _ _ (flag-is _ _ _ (c .before .before .before .permits .ensures) (not-false _ (c .before .before .if1 .left))) (pick-yes _ _ _ _ (flag-is _ _ _ (c .before .grants .ensures) (not-false _ (c .if2 .left))) (cc))))  -- returns-3
+    (λ c. pick-yes _ _ _ _ (flag-is _ _ _ (c .before .before .before .permits .ensures) (not-false _ (c .before .before .if1 .left))) (pick-no _ _ _ _ (flag-is _ _ _ (c .before .grants .ensures) (not-true _ (c .if2 .taken))) refl))  -- returns-2
+    (λ c. pick-yes _ _ _ _ (flag-is _ _ _ (c .before .before .before .permits .ensures) (not-false _ (c .before .before .if1 .left))) (pick-yes _ _ _ _ (flag-is _ _ _ (c .before .grants .ensures) (not-false _ (c .if2 .left))) refl)))  -- returns-3

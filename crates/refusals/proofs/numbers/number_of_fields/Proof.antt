@@ -1,3 +1,4 @@
+use mathlib.Core.Path.{refl}
 use Rattle.words.proofs.PickLaws.{pick-yes, pick-no, flag-is}
 use borrow.Author.Tests.{not-true, not-false}
 use Rattle.refusals.specs.Chain.{numberAt, listed, ofFields}
@@ -15,7 +16,7 @@ number-of-fields-spec =
     tie.close
     (tie.spec
     (λ c κs. search L)
-    (λ c. pick-no _ _ _ _ (flag-is _ _ _ (c .before .receives-or .ensures) (not-true _ (c .if1 .taken))) (cc))  -- returns
-    (λ c. pick-yes _ _ _ _ (flag-is _ _ _ (c .before .before .receives-or .ensures) (not-false _ (c .before .if1 .left))) (pick-no _ _ _ _ ((not-true _ (c .if2 .taken))) (cc)))  -- returns-2
-    (λ c. pick-yes _ _ _ _ (flag-is _ _ _ (c .before .before .before .receives-or .ensures) (not-false _ (c .before .before .if1 .left))) (pick-yes _ _ _ _ ((not-false _ (c .before .if2 .left))) (pick-no _ _ _ _ ((not-true _ (c .if3 .taken))) (cc))))  -- returns-3
-    (λ c. pick-yes _ _ _ _ (flag-is _ _ _ (c .before .before .before .receives-or .ensures) (not-false _ (c .before .before .if1 .left))) (pick-yes _ _ _ _ ((not-false _ (c .before .if2 .left))) (pick-yes _ _ _ _ ((not-false _ (c .if3 .left))) (cc)))))  -- returns-4
+    (λ c. pick-no _ _ _ _ (flag-is _ _ _ (c .before .receives-or .ensures) (not-true _ (c .if1 .taken))) refl)  -- returns
+    (λ c. pick-yes _ _ _ _ (flag-is _ _ _ (c .before .before .receives-or .ensures) (not-false _ (c .before .if1 .left))) (pick-no _ _ _ _ ((not-true _ (c .if2 .taken))) refl))  -- returns-2
+    (λ c. pick-yes _ _ _ _ (flag-is _ _ _ (c .before .before .before .receives-or .ensures) (not-false _ (c .before .before .if1 .left))) (pick-yes _ _ _ _ ((not-false _ (c .before .if2 .left))) (pick-no _ _ _ _ ((not-true _ (c .if3 .taken))) refl)))  -- returns-3
+    (λ c. pick-yes _ _ _ _ (flag-is _ _ _ (c .before .before .before .receives-or .ensures) (not-false _ (c .before .before .if1 .left))) (pick-yes _ _ _ _ ((not-false _ (c .before .if2 .left))) (pick-yes _ _ _ _ ((not-false _ (c .if3 .left))) refl))))  -- returns-4

@@ -2,7 +2,7 @@ use Prim.Native.Nat.{_≤_, _-_}
 use borrow.Author.Needs.{needs}
 use Rattle.model.specs.Places.{assignmentWords}
 use Rattle.limits.specs.Limits.{assignmentFits}
-use Rattle.limits.proofs.ThingsLaws.{Right, things-loop}
+use Rattle.tables.proofs.ThingsLaws.{Right, things-loop}
 use Rattle.tables.proofs.elements.assignment_things.Statement.{statement}
 use Rattle.tables.proofs.elements.assignment_things.Tie as tie
 
@@ -28,10 +28,6 @@ assignment-things-spec =
     (λ c. search L)
     (λ c. search L)
     (λ c. search L)
-    (λ c. search L)
-    (λ c κs. search L)
-    (λ c. search L)
-    (λ c κs. search L)
     (λ c. search L)
     (λ c. search L)
     (λ c κs. search L)

@@ -13,4 +13,4 @@ assignments-fit-spec =
     (λ c κs. search L)
     (λ c κs. search L)
     (λ c κs. search L)
-    (λ c. cc))
+    (λ c. rw (c .before .before .assignment-at .ensures, c .before .assignment-count .ensures) at (c .assignment-things .ensures)))

@@ -14,4 +14,4 @@ conditions-fit-spec =
     (λ c κs. search L)
     (λ c κs. search L)
     (λ c κs. search L)
-    (λ c. cc))
+    (λ c. rw (c .before .before .before .condition-at .ensures, c .before .count-by .ensures, c .before .before .word .ensures) at (c .condition-things .ensures)))

@@ -11,4 +11,4 @@ edge-fits-spec =
     tie.close
     (tie.spec
     (λ c κs. search L)
-    (λ c. cc))
+    (λ c. c .is-within .ensures))

@@ -1,7 +1,7 @@
 use Prim.Native.Nat.{_≤_, _-_}
 use borrow.Author.Needs.{needs}
 use Rattle.limits.specs.Limits.{edgeFits}
-use Rattle.limits.proofs.ThingsLaws.{Right, things-loop}
+use Rattle.tables.proofs.ThingsLaws.{Right, things-loop}
 use Rattle.tables.proofs.elements.edge_things.Statement.{statement}
 use Rattle.tables.proofs.elements.edge_things.Tie as tie
 
@@ -27,10 +27,6 @@ edge-things-spec =
     (λ c. search L)
     (λ c. search L)
     (λ c. search L)
-    (λ c. search L)
-    (λ c κs. search L)
-    (λ c. search L)
-    (λ c κs. search L)
     (λ c. search L)
     (λ c. search L)
     (λ c κs. search L)

@@ -10,4 +10,4 @@ entries-fit-spec =
     (tie.spec
     (λ c κs. search L)
     (λ c κs. search L)
-    (λ c. cc))
+    (λ c. rw (c .before .tail .ensures) at (c .edges-fit .ensures)))

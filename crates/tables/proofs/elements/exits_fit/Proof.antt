@@ -10,4 +10,4 @@ exits-fit-spec =
     (tie.spec
     (λ c κs. search L)
     (λ c κs. search L)
-    (λ c. cc))
+    (λ c. rw (c .before .tail .ensures) at (c .edges-fit .ensures)))

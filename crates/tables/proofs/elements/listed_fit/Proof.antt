@@ -11,4 +11,4 @@ listed-fit-spec =
     (λ c κs. search L)
     (λ c κs. search L)
     (λ c κs. search L)
-    (λ c. cc))
+    (λ c. rw (c .before .before .tail .ensures, c .before .word .ensures) at (c .edge-things .ensures)))

@@ -14,4 +14,4 @@ messages-fit-spec =
     (λ c κs. search L)
     (λ c κs. search L)
     (λ c κs. search L)
-    (λ c. cc))
+    (λ c. rw (c .before .before .before .tail .ensures, c .before .message-count .ensures, c .before .before .word .ensures) at (c .message-things .ensures)))

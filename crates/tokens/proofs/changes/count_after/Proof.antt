@@ -1,6 +1,6 @@
 use Rattle.words.proofs.AllLaws.{tests}
 use Rattle.words.proofs.PickLaws.{chains}
-use Rattle.meaning.specs.Changes.{counted}
+use Rattle.meaning.specs.Changes.{countChanged}
 use borrow.Author.Needs.{needs}
 use Rattle.tokens.proofs.changes.count_after.Statement.{statement}
 use Rattle.tokens.proofs.changes.count_after.Tie as tie
@@ -8,7 +8,7 @@ use Rattle.tokens.proofs.changes.count_after.Tie as tie
 ruleset L = (needs, chains, tests)
 
 pub count-after-spec : {M : Type 1} → statement M
-unfolding counted
+unfolding countChanged
 count-after-spec =
     tie.close
     (tie.spec

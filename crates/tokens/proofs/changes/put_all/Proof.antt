@@ -1,35 +1,17 @@
-use Prim.Native.Nat.{_≤_, _-_}
-use mathlib.Core.Path.{_≡_, _∙_}
-use lib.ListN.{length}
-use Rattle.words.specs.Iter.{iter}
-use Rattle.words.proofs.IterLaws.{iter-loop, iter-more, iter-done}
-use Rattle.meaning.specs.Changes.{putOne, puts}
+use mathlib.Core.Path.{_∙_}
+use Rattle.meaning.specs.Changes.{puts}
+use Rattle.tokens.proofs.EdgeLaws.{exits-change}
 use borrow.Author.Needs.{needs}
 use Rattle.tokens.proofs.changes.put_all.Statement.{statement}
 use Rattle.tokens.proofs.changes.put_all.Tie as tie
-
-ruleset L = (needs, iter-loop)
-
-abbrev Inv-loop : tie.InvT-loop
-Inv-loop el b h₀ f n j₀ h j = (j ≤ n) × (length h ≡ length h₀) × (h ≡ iter (putOne el f) h₀ j)
-
-abbrev μ-loop : tie.MeasureT-loop
-μ-loop el b h₀ f n j₀ h j = n - j
 
 pub put-all-spec : {M : Type 1} → statement M
 unfolding puts
 put-all-spec =
     tie.close
     (tie.spec
-    Inv-loop
-    μ-loop
-    (λ c κs. search L)
-    (λ c κs. search L)
-    (λ c κs. search L)
-    (λ c. search L)
-    (λ c κs. search L)
-    (λ c. search L)
-    (λ c. search L)
-    (λ c. (search L, search L, iter-more (putOne _ _) _ _ _ _ (c .before .before .before .before .before .loop .inv .2) (c .before .before .put-one .ensures)))  -- loop-again
-    (λ c. search L)
-    (λ c. rw (← c .before .before .before .before .first-edge .ensures, ← c .before .before .before .exit-count .ensures, ← c .before .before .touched-count .ensures) (iter-done (putOne _ _) _ _ _ _ (c .loop-test .left) (c .before .loop .inv .0) (c .before .loop .inv .2))))  -- returns
+    (λ c. search needs)
+    (λ c κs. search needs)
+    (λ c κs. search needs)
+    (λ c. search needs)
+    (λ c. rw (c .before .before .before .before .exit-count .ensures) at (c .before .before .change-edges .ensures) ∙ exits-change _ _ _ _))  -- returns

@@ -1,13 +1,13 @@
 use mathlib.Core.Bool.{_&&_}
 use borrow.Author.Tests.{not-true, not-false}
 use Rattle.words.proofs.PickLaws.{and-yes, and-no, and-true, and-false-left, and-false-right, flag-is}
-use Rattle.meaning.specs.Requirements.{hasTokens, canLower, permitted}
+use Rattle.meaning.specs.Requirements.{hasTokens, canLower, countsPermit}
 use borrow.Author.Needs.{needs}
 use Rattle.tokens.proofs.permission.permits.Statement.{statement}
 use Rattle.tokens.proofs.permission.permits.Tie as tie
 
 pub permits-spec : {M : Type 1} → statement M
-unfolding permitted
+unfolding countsPermit
 permits-spec =
     tie.close
     (tie.spec

@@ -8,7 +8,7 @@ use Rattle.values.proofs.tuples.value_of.Tie as tie
 
 returns : tie.Need-returns
 unfolding valueOf
-returns c = pick-yes _ _ _ _ (lt-ltb _ _ (c .before .before .before .if1 .taken)) (cc)
+returns c = pick-yes _ _ _ _ (lt-ltb _ _ (c .before .before .before .if1 .taken)) (rw (c .before .wide .ensures) at (c .word .ensures))
 
 returns-2 : tie.Need-returns-2
 unfolding valueOf

@@ -1,0 +1,124 @@
+// The commands on a table and a state as blocks of words: set word by word, checked, written and read again.
+use super::arguments::is_command;
+use super::arguments::number_at;
+use super::output::no_model;
+use super::output::tell_done;
+use super::output::tell_refused;
+use lexer::piece;
+use libc::STDOUT_FILENO;
+use model::places::TABLE_WORDS;
+use notation::Reading;
+use numerals::same;
+use printing::tell;
+use printing::tell_unread;
+use state::places::STATE_WORDS;
+use words::Word;
+use words::counts::TEXT_MOST;
+use words::put;
+use words::word;
+
+// clear, table, state
+
+pub(super) fn do_clear(t: &mut [Word; TABLE_WORDS]) -> bool {
+    *t = [0; TABLE_WORDS];
+    tell(b"ok\n");
+    true
+}
+
+// Whether a line sets a word of a block of so many.
+pub(super) fn is_setting(line: &[u8], keyword: &[u8], words: usize) -> bool {
+    if !is_command(line, keyword, b"nn") {
+        return false;
+    }
+    (number_at(line, 1) as usize) < words
+}
+
+fn set(line: &[u8], s: &mut [Word]) {
+    put(s, number_at(line, 1) as usize, number_at(line, 2));
+    tell(b"ok\n");
+}
+
+pub(super) fn do_set_table(line: &[u8], t: &mut [Word; TABLE_WORDS]) -> bool {
+    set(line, t);
+    true
+}
+
+pub(super) fn do_set_state(line: &[u8], loaded: bool, z: &mut [Word; STATE_WORDS]) {
+    if !loaded {
+        no_model();
+        return;
+    }
+    set(line, z);
+}
+
+// check
+
+pub(super) fn do_check(loaded: bool, t: &[Word; TABLE_WORDS]) {
+    if !loaded {
+        no_model();
+        return;
+    }
+    let v = engine::check(t);
+    if v.number == 0 {
+        tell_done(v.number);
+        return;
+    }
+    tell_unread(Reading {
+        number: v.number,
+        beside: v.beside as usize,
+    });
+}
+
+// again
+
+fn same_tables(t: &[Word; TABLE_WORDS], y: &[Word; TABLE_WORDS]) -> bool {
+    let mut i: usize = 0;
+    while i < TABLE_WORDS {
+        if word(t, i) != word(y, i) {
+            return false;
+        }
+        i += 1;
+    }
+    true
+}
+
+fn tell_again(length: usize, is_same_table: bool, is_same_text: bool) {
+    if !is_same_table {
+        tell(b"table differs\n");
+        return;
+    }
+    if !is_same_text {
+        tell(b"text differs\n");
+        return;
+    }
+    tell(b"same ");
+    io::print_decimal(STDOUT_FILENO, length as u64);
+    tell(b"\n");
+}
+
+// A table's text, read into another table and written from there.
+fn read_again(t: &[Word; TABLE_WORDS], text: &[u8]) {
+    let mut y: [Word; TABLE_WORDS] = [0; TABLE_WORDS];
+    let mut out = [0u8; TEXT_MOST];
+    engine::read(text, &mut y);
+    let n = engine::write(&y, &mut out).length;
+    tell_again(
+        text.len(),
+        same_tables(t, &y),
+        same(text, piece(&out, 0, n)),
+    );
+}
+
+pub(super) fn do_again(loaded: bool, t: &[Word; TABLE_WORDS]) {
+    if !loaded {
+        no_model();
+        return;
+    }
+    let mut out = [0u8; TEXT_MOST];
+    let r = engine::write(t, &mut out);
+    if r.number != 0 {
+        tell_refused(r.number);
+        return;
+    }
+    read_again(t, piece(&out, 0, r.length));
+}

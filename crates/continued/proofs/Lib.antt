@@ -1,0 +1,12 @@
+pub mod Tests
+pub mod Pieces
+pub mod Grammar
+pub mod Runs
+pub mod Leaves
+pub mod Choices
+pub mod Readers
+pub mod Lists
+pub mod Models
+pub mod Stops
+pub mod GoesOn
+pub mod Points

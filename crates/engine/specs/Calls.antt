@@ -1,0 +1,39 @@
+-- CALLS ONE AFTER THE OTHER: t is a table, z a state.
+use Prim.Native.Nat.{ℕ}
+use mathlib.Core.Path.{_≡_}
+use mathlib.Core.Bool.{Bool, true, _&&_}
+use mathlib.Core.List.{List, [], _∷_}
+use lib.Dec.{eqb}
+use lib.ListN.{length}
+use Rattle.state.specs.Places.{stateWords}
+use Rattle.meaning.specs.declared.Name.{Name}
+use Rattle.meaning.specs.declared.Tuple.{Tuple}
+use Rattle.engine.specs.Engine.{Left, fitting, stepped, postedTo}
+
+-- "named steps and posts"
+pub data Act : Type 0 where
+  aStep : Name → Act
+  aPost : ℕ → Tuple → Act
+
+-- the number that the public call gives back, and the state that it leaves
+unfoldable pub did : List ℕ → Act → List ℕ → Left
+did t (aStep n) z = record { number = stepped t z n .answer .number; state = stepped t z n .state }
+did t (aPost name g) z = postedTo t z name g
+
+-- each judged in the state that the earlier ones left: their numbers, whether all are accepted, the state after them
+unfoldable pub numbers : List ℕ → List Act → List ℕ → List ℕ
+numbers t [] z = []
+numbers t (a ∷ rest) z = did t a z .number ∷ numbers t rest (did t a z .state)
+
+unfoldable pub allAccepted : List ℕ → List Act → List ℕ → Bool
+allAccepted t [] z = true
+allAccepted t (a ∷ rest) z = eqb (did t a z .number) 0 && allAccepted t rest (did t a z .state)
+
+unfoldable pub after : List ℕ → List Act → List ℕ → List ℕ
+after t [] z = z
+after t (a ∷ rest) z = after t rest (did t a z .state)
+
+-- "valid states of one model": as long as the type of a lent state says, and it fits its valid table
+pub record Valid (t z : List ℕ) : Type 0 where
+  pub long : length z ≡ stateWords
+  pub fits : fitting t z ≡ true

@@ -1,0 +1,104 @@
+-- What loops and calls say, put together as the definitions have it: b and r are what a call says, n, h, g, u and v what it gives. Assumes nothing.
+use mathlib.Core.Path.{_≡_, _∙_, sym, ap, ap₂}
+use mathlib.Core.Bool.{Bool, true, false, not, _&&_}
+use mathlib.Core.List.{List}
+use Prim.Native.Nat.{ℕ, _+_, _≤_, _<_}
+use lib.Dec.{eqb, leb}
+use lib.ListN.{replicate}
+use borrow.Author.Tests.{eq-eqb, ne-eqb, le-leb, lt-leb}
+use Rattle.words.specs.All.{all}
+use Rattle.words.specs.Iter.{iter}
+use Rattle.words.specs.Counts.{values, messages}
+use Rattle.words.proofs.AllLaws.{all-more, all-fails′, lt-leb-by, le-leb-by}
+use Rattle.words.proofs.IterLaws.{iter-none, iter-more, iter-done}
+use Rattle.words.proofs.PickLaws.{and-yes, and-no, and-true, and-false-left, and-false-right, flag-yes, flag-no}
+use Rattle.model.specs.Table.{elementCount, elementAt}
+use Rattle.state.specs.Instances.{instancesOf, queuesOf, madeCount, instanceAt}
+use Rattle.state.specs.Places.{definedPlace}
+use Rattle.meaning.specs.declared.Tuple.{Tuple}
+use Rattle.meaning.specs.Tuples.{valueOf}
+use Rattle.meaning.specs.Queues.{messageCount, valueAt, messageAt}
+use Rattle.fits.specs.Fits.{madeFits, placesOf, marked, usable, instanceFits, instancesFit, slotFits, queueFits, stateFits}
+use Rattle.fits.proofs.PartLaws.{Firsts, Rest, parted, Behind, shared}
+
+-- two numbers that calls give
+pub eq-both : (r s x y : ℕ) → r ≡ x → s ≡ y → r ≡ s → eqb x y ≡ true
+eq-both r s x y e f h = eq-eqb x y (sym e ∙ h ∙ f)
+
+pub ne-both : (r s x y : ℕ) → r ≡ x → s ≡ y → (r ≡ s → ⊥) → eqb x y ≡ false
+ne-both r s x y e f h = ne-eqb x y (λ q. h (e ∙ q ∙ sym f))
+
+pub ruleset boths = (eq-both, ne-both)
+
+-- THE PLACES of a pool: w₀ before the loop, w in it, u after a turn
+module _ (t : List ℕ) (p : ℕ) (w₀ : List ℕ) where
+  abbrev pub Marks : ℕ → List ℕ
+  Marks n = iter (λ e w. marked w (placesOf (elementAt t p e))) w₀ n
+
+  pub marks-none : w₀ ≡ Marks 0
+  marks-none = iter-none (λ e w. marked w (placesOf (elementAt t p e))) w₀
+
+  pub marks-more : (n : ℕ) (el w u : List ℕ) → w ≡ Marks n → el ≡ elementAt t p n → u ≡ marked w (placesOf el) → u ≡ Marks (n + 1)
+  marks-more n el w u inv e h = iter-more (λ e w. marked w (placesOf (elementAt t p e))) w₀ n w u inv (h ∙ ap (λ x. marked w (placesOf x)) e)
+
+  pub marks-done : (n i : ℕ) (w : List ℕ) → n ≤ i → i ≤ n → w ≡ Marks i → w ≡ Marks n
+  marks-done n i w = iter-done (λ e w. marked w (placesOf (elementAt t p e))) w₀ n i w
+
+pub ruleset marks = (marks-none, marks-more, marks-done)
+
+-- THE FIRST INSTANCES of a pool
+module _ (u s : List ℕ) (p : ℕ) where
+  pub firsts-more : (i : ℕ) (h : List ℕ) (r : Bool) → Firsts u s p i ≡ true → h ≡ instanceAt s p i → r ≡ instanceFits u h → not r ≡ false → Firsts u s p (i + 1) ≡ true
+  firsts-more i h r inv e f test =
+      all-more (λ i. instanceFits u (instanceAt s p i)) i inv (flag-yes r (instanceFits u (instanceAt s p i)) (f ∙ ap (instanceFits u) e) test)
+
+  pub firsts-fail : (n i : ℕ) (h : List ℕ) (r : Bool) → i < n → h ≡ instanceAt s p i → r ≡ instanceFits u h → not r ≡ true → false ≡ Firsts u s p n
+  firsts-fail n i h r l e f test =
+      all-fails′ (λ i. instanceFits u (instanceAt s p i)) n i l (flag-no r (instanceFits u (instanceAt s p i)) (f ∙ ap (instanceFits u) e) test)
+
+pub ruleset firsts = (firsts-more, firsts-fail)
+
+pub made-ones : (t s : List ℕ) (p n : ℕ) (u : List ℕ) (b : Bool) → u ≡ Marks t p (replicate (definedPlace 0) 0) (elementCount t p) → b ≡ Firsts u s p n → b ≡ Firsts (usable t p) s p n
+unfolding usable
+made-ones t s p n u b e h = h ∙ ap (λ v. Firsts v s p n) e
+
+-- THE INSTANCES of a pool, n of them made
+module _ (t s : List ℕ) (p n : ℕ) (made : n ≡ madeCount s p) where
+  pub no-made : (b : Bool) → b ≡ madeFits t p n → not b ≡ true → false ≡ instancesFit t s p
+  no-made b e h = rw (parted t s p n made) (and-no _ (Rest s p n) (and-false-left _ (Firsts (usable t p) s p n) (flag-no b (madeFits t p n) e h)))
+
+  pub no-firsts : (b : Bool) → b ≡ Firsts (usable t p) s p n → not b ≡ true → false ≡ instancesFit t s p
+  no-firsts b e h = rw (parted t s p n made) (and-no _ (Rest s p n) (and-false-right (madeFits t p n) _ (flag-no b (Firsts (usable t p) s p n) e h)))
+
+  pub made-rest : (a b r : Bool) → a ≡ madeFits t p n → not a ≡ false → b ≡ Firsts (usable t p) s p n → not b ≡ false → r ≡ Rest s p n → r ≡ instancesFit t s p
+  made-rest a b r e h f k g =
+      rw (parted t s p n made)
+      (and-yes _ (Rest s p n) r (and-true (madeFits t p n) _ (flag-yes a (madeFits t p n) e h) (flag-yes b (Firsts (usable t p) s p n) f k)) g)
+
+-- A MESSAGE, read as g
+module _ (q : List ℕ) (m k : ℕ) (g : Tuple) (is : g ≡ messageAt q m k) where
+  pub message-no : values < g .length → false ≡ slotFits q m k
+  unfolding slotFits
+  message-no h = and-no _ _ (lt-leb-by (g .length) _ values (ap (λ (x : Tuple). x .length) is) h)
+
+  pub message-yes : g .length ≤ values → (b : Bool) → b ≡ all (λ j. eqb (valueAt q m k j) (valueOf g j)) values → b ≡ slotFits q m k
+  unfolding slotFits
+  message-yes h b e =
+      and-yes _ (all (λ j. eqb (valueAt q m k j) (valueOf (messageAt q m k) j)) values) b
+      (le-leb-by (g .length) _ values (ap (λ (x : Tuple). x .length) is) h) (e ∙ ap (λ (x : Tuple). all (λ j. eqb (valueAt q m k j) (valueOf x j)) values) is)
+
+-- A QUEUE of n messages
+module _ (q : List ℕ) (m n : ℕ) (count : n ≡ messageCount q m) where
+  pub no-room : messages < n → false ≡ queueFits q m
+  no-room h = rw (shared q m n count) (and-no _ (Behind q m n) (and-false-left _ (all (slotFits q m) n) (lt-leb n messages h)))
+
+  pub no-messages : (b : Bool) → b ≡ all (slotFits q m) n → not b ≡ true → false ≡ queueFits q m
+  no-messages b e h = rw (shared q m n count) (and-no _ (Behind q m n) (and-false-right (leb n messages) _ (flag-no b (all (slotFits q m) n) e h)))
+
+  pub queue-rest : n ≤ messages → (b r : Bool) → b ≡ all (slotFits q m) n → not b ≡ false → r ≡ Behind q m n → r ≡ queueFits q m
+  queue-rest l b r e h f =
+      rw (shared q m n count) (and-yes _ (Behind q m n) r (and-true (leb n messages) _ (le-leb n messages l) (flag-yes b (all (slotFits q m) n) e h)) f)
+
+-- A STATE in its two parts
+pub state-by : (t z s q : List ℕ) (b : Bool) → s ≡ instancesOf z → q ≡ queuesOf z → b ≡ stateFits t s q → b ≡ stateFits t (instancesOf z) (queuesOf z)
+state-by t z s q b e f h = h ∙ ap₂ (stateFits t) e f

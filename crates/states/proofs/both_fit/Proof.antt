@@ -1,0 +1,17 @@
+use Rattle.fits.specs.Fits.{stateFits}
+use Rattle.words.proofs.PickLaws.{chains}
+use borrow.Author.Needs.{needs}
+use Rattle.states.proofs.both_fit.Statement.{statement}
+use Rattle.states.proofs.both_fit.Tie as tie
+
+ruleset L = (needs, chains)
+
+pub both-fit-spec : {M : Type 1} → statement M
+unfolding stateFits
+both-fit-spec =
+    tie.close
+    (tie.spec
+    (λ c κs. search L)
+    (λ c. search L)
+    (λ c κs. search L)
+    (λ c. search L))

@@ -1,0 +1,15 @@
+use Rattle.states.proofs.CallLaws.{message-no, message-yes}
+use borrow.Author.Needs.{needs}
+use Rattle.states.proofs.messages.message_fits.Statement.{statement}
+use Rattle.states.proofs.messages.message_fits.Tie as tie
+
+ruleset L = (needs)
+
+pub message-fits-spec : {M : Type 1} → statement M
+message-fits-spec =
+    tie.close
+    (tie.spec
+    (λ c κs. search L)
+    (λ c. message-no _ _ _ _ (c .before .before .message-at .ensures) (c .if1 .taken))  -- returns
+    (λ c κs. search L)
+    (λ c. message-yes _ _ _ _ (c .before .before .before .message-at .ensures) (c .before .if1 .left) _ (c .values-fit .ensures)))  -- returns-2

@@ -1,0 +1,74 @@
+// Whether a state fits its table.
+ghost use mathlib.Core.Path.{_≡_};
+ghost use lib.ListN.{length};
+ghost use Rattle.state.specs.Places.{stateWords};
+ghost use lib.ListN.{take};
+ghost use Rattle.words.specs.All.{all};
+ghost use Rattle.words.specs.Counts.{pools, names};
+ghost use Rattle.state.specs.Instances.{instancesOf, queuesOf};
+ghost use Rattle.fits.specs.Fits.{instancesFit, queueFits, stateFits};
+use state::places::INSTANCES_WORDS;
+use state::places::STATE_WORDS;
+use words::Word;
+use words::counts::NAMES;
+use words::counts::POOLS;
+use words::tail;
+
+pub mod instances;
+pub mod marks;
+pub mod messages;
+
+use instances::instances_fit;
+use messages::queue_fits;
+
+fn all_instances_fit(t: &[Word], s: &[Word]) -> bool
+    ensures { λ r. ⌜ r ≡ all (instancesFit (now (t .entry)) (now (s .entry))) pools ⌝ }
+{
+    let mut p: Word = 0;
+    while p < POOLS {
+        if !instances_fit(t, s, p) {
+            return false;
+        }
+        p += 1;
+    }
+    true
+}
+
+fn queues_fit(q: &[Word]) -> bool
+    ensures { λ r. ⌜ r ≡ all (queueFits (now (q .entry))) names ⌝ }
+{
+    let mut m: Word = 0;
+    while m < NAMES {
+        if !queue_fits(q, m) {
+            return false;
+        }
+        m += 1;
+    }
+    true
+}
+
+fn both_fit(t: &[Word], s: &[Word], q: &[Word]) -> bool
+    ensures { λ r. ⌜ r ≡ stateFits (now (t .entry)) (now (s .entry)) (now (q .entry)) ⌝ }
+{
+    if !all_instances_fit(t, s) {
+        return false;
+    }
+    queues_fit(q)
+}
+
+// The first n words.
+fn head(s: &[Word], n: usize) -> &[Word]
+    ensures { λ r. ⌜ now r ≡ take n (now (s .entry)) ⌝ }
+{
+    if n <= s.len() {
+        return &s[..n];
+    }
+    s
+}
+
+// Whether a state fits a table; the length is in its type, and callers need it as a fact.
+pub fn state_fits(t: &[Word], z: &[Word; STATE_WORDS]) -> bool
+    ensures { λ r. ⌜ (r ≡ stateFits (now (t .entry)) (instancesOf (now (z .entry))) (queuesOf (now (z .entry)))) × (length (now (z .entry)) ≡ stateWords) ⌝ }
+{
+    both_fit(t, head(z, INSTANCES_WORDS), tail(z, INSTANCES_WORDS))
+}

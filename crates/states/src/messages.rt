@@ -1,0 +1,105 @@
+// Whether a queue fits: its messages, and 0 behind their values and behind the last.
+ghost use mathlib.Core.Path.{_≡_};
+ghost use Prim.Native.Nat.{_-_, _*_};
+ghost use lib.Dec.{eqb};
+ghost use lib.ListN.{drop};
+ghost use Rattle.words.specs.All.{all};
+ghost use Rattle.words.specs.Counts.{values, messages};
+ghost use Rattle.limits.specs.Limits.{zeros};
+ghost use Rattle.meaning.specs.Tuples.{valueOf};
+ghost use Rattle.meaning.specs.Queues.{valueAt};
+ghost use Rattle.state.specs.Places.{slotPlace, slotWords};
+ghost use Rattle.fits.specs.Fits.{slotFits, queueFits};
+use limits::zeros::less;
+use limits::zeros::zero_words;
+use meaning::Tuple;
+use queues::message_at;
+use queues::queued_in;
+use state::places::FIRST_SLOT;
+use state::places::FIRST_VALUE;
+use state::places::QUEUE_WORDS;
+use state::places::SLOT_WORDS;
+use values::tuples::value_of;
+use words::Word;
+use words::counts::MESSAGES;
+use words::counts::VALUES;
+use words::tail;
+use words::word;
+
+// Value j of message k of queue m, as it stands there.
+fn value_at(q: &[Word], m: Word, k: Word, j: Word) -> Word
+    ensures { λ r. ⌜ r ≡ valueAt (now (q .entry)) m k j ⌝ }
+{
+    word(
+        q,
+        QUEUE_WORDS * (m as usize)
+            + FIRST_SLOT
+            + SLOT_WORDS * (k as usize)
+            + FIRST_VALUE
+            + (j as usize),
+    )
+}
+
+// Whether the values of message k are those of a tuple, and 0 behind them.
+fn values_fit(q: &[Word], m: Word, k: Word, g: Tuple) -> bool
+    ensures { λ r. ⌜ r ≡ all (λ j. eqb (valueAt (now (q .entry)) m k j) (valueOf g j)) values ⌝ }
+{
+    let mut j: Word = 0;
+    while j < VALUES {
+        if value_at(q, m, k, j) != value_of(g, j) {
+            return false;
+        }
+        j += 1;
+    }
+    true
+}
+
+fn message_fits(q: &[Word], m: Word, k: Word) -> bool
+    ensures { λ r. ⌜ r ≡ slotFits (now (q .entry)) m k ⌝ }
+{
+    let g = message_at(q, m, k);
+    if VALUES < g.length {
+        return false;
+    }
+    values_fit(q, m, k, g)
+}
+
+fn messages_fit(q: &[Word], m: Word, n: Word) -> bool
+    ensures { λ r. ⌜ r ≡ all (slotFits (now (q .entry)) m) n ⌝ }
+{
+    let mut k: Word = 0;
+    while k < n {
+        if !message_fits(q, m, k) {
+            return false;
+        }
+        k += 1;
+    }
+    true
+}
+
+// The words behind the first n messages.
+fn rest_zero(q: &[Word], m: Word, n: Word) -> bool
+    ensures { λ r. ⌜ r ≡ zeros (drop (slotPlace m n) (now (q .entry))) (slotWords * (messages - n)) ⌝ }
+{
+    let rest = less(MESSAGES, n as usize);
+    zero_words(
+        tail(
+            q,
+            QUEUE_WORDS * (m as usize) + FIRST_SLOT + SLOT_WORDS * (n as usize),
+        ),
+        SLOT_WORDS * (rest as usize),
+    )
+}
+
+pub fn queue_fits(q: &[Word], m: Word) -> bool
+    ensures { λ r. ⌜ r ≡ queueFits (now (q .entry)) m ⌝ }
+{
+    let n = queued_in(q, m);
+    if MESSAGES < n {
+        return false;
+    }
+    if !messages_fit(q, m, n) {
+        return false;
+    }
+    rest_zero(q, m, n)
+}

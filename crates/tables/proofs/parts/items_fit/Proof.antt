@@ -1,0 +1,14 @@
+use borrow.Author.Needs.{needs}
+use Rattle.tables.proofs.parts.items_fit.Statement.{statement}
+use Rattle.tables.proofs.parts.items_fit.Tie as tie
+
+ruleset L = (needs)
+
+pub items-fit-spec : {M : Type 1} → statement M
+items-fit-spec =
+    tie.close
+    (tie.spec
+    (λ c κs. search L)
+    (λ c κs. search L)
+    (λ c κs. search L)
+    (λ c. rw (c .before .before .tail .ensures, c .before .word .ensures) at (c .item-things .ensures)))

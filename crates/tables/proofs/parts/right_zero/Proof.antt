@@ -1,0 +1,13 @@
+use borrow.Author.Needs.{needs}
+use Rattle.tables.proofs.parts.right_zero.Statement.{statement}
+use Rattle.tables.proofs.parts.right_zero.Tie as tie
+
+ruleset L = (needs)
+
+pub right-zero-spec : {M : Type 1} → statement M
+right-zero-spec =
+    tie.close
+    (tie.spec
+    (λ c κs. search L)
+    (λ c κs. search L)
+    (λ c. rw (c .before .tail .ensures) at (c .zero-words .ensures)))
