@@ -1,5 +1,6 @@
 pub mod FirstDemand
 pub mod SecondDemand
+pub mod PaperRules
 pub mod ThirdDemand
 pub mod ListAndRun
 pub mod Promises

@@ -24,9 +24,9 @@ unfoldable pub namedBy : (Tuple → Name) → List Tuple → List Name
 namedBy f [] = []
 namedBy f (g ∷ gs) = f g ∷ namedBy f gs
 
--- "equal messages appear once, at the oldest": message k of queue m, where no older one is equal to it
+-- "equal messages appear once, at the oldest": message k of the queue of a name, where no older one is equal to it
 unfoldable pub offered : List ℕ → ℕ → ℕ → List Tuple
-offered q m k = if has (messageAt q m k) (tab (messageAt q m) k) then [] else messageAt q m k ∷ []
+offered q name k = if has (messageAt q name k) (tab (messageAt q name) k) then [] else messageAt q name k ∷ []
 
 -- accepted: nothing refuses the step
 unfoldable pub accepted : List ℕ → List ℕ → List ℕ → Name → Bool

@@ -13,12 +13,12 @@ use Rattle.naming.specs.Names.{offered, namedBy, accepted, blank}
 abbrev pub acceptedOn : List ℕ → List ℕ → List Name → List Name
 acceptedOn t z ns = those (accepted t (instancesOf z) (queuesOf z)) ns
 
--- a name with other values; the names by message k of queue m
+-- a name with other values; the names by message k of the queue of a name
 unfoldable pub withValues : Name → Tuple → Name
 withValues n g = record { pool = n .pool; instance = n .instance; element = n .element; phase = n .phase; branch = n .branch; given = g }
 
 unfoldable pub byMessage : List ℕ → Name → ℕ → ℕ → List Name
-byMessage q n m k = namedBy (withValues n) (offered q m k)
+byMessage q n name k = namedBy (withValues n) (offered q name k)
 
 -- the k-th of a list, or what is left of k behind it
 unfoldable pub scan : List Name → ℕ → Scan

@@ -1,0 +1,16 @@
+pub mod Stores
+pub mod Spans
+pub mod Changes
+pub mod Values
+pub mod Fields
+pub mod Rows
+pub mod Rules
+pub mod Words
+pub mod EachKind
+pub mod Transitions
+pub mod Process
+pub mod Mail
+pub mod Pools
+pub mod Sites
+pub mod Steps
+pub mod Theorems

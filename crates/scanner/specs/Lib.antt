@@ -1,0 +1,4 @@
+pub mod Openings
+pub mod Passages
+pub mod Tags
+pub mod Moves

@@ -1,0 +1,7 @@
+pub mod TokenLaws
+pub mod ScanLaws
+pub mod TextLaws
+pub mod SpanLaws
+pub mod MarkupLaws
+pub mod CutLaws
+pub mod PointsHold

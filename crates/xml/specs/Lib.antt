@@ -1,0 +1,4 @@
+pub mod Tokens
+pub mod Markup
+pub mod Spans
+pub mod Points

@@ -1,0 +1,159 @@
+//! A decoder's loop over a safe wrapper: the same model, arrivals and output as examples/c/decoder.c.
+
+/// What include/cuttingvale.h declares; nothing else here is `unsafe` but the calls in `Engine`.
+mod c {
+    pub const TABLE_WORDS: usize = 33549;
+    pub const STATE_WORDS: usize = 12308;
+    pub const NOT_LISTED: u16 = 6;
+    pub const CONSUMED: u16 = 1;
+    pub const SENT: u16 = 2;
+
+    #[repr(C)]
+    #[derive(Clone, Copy)]
+    pub struct Tuple {
+        pub length: u16,
+        pub values: [u16; 4],
+    }
+
+    #[repr(C)]
+    #[derive(Clone, Copy)]
+    pub struct Name {
+        pub pool: u16,
+        pub instance: u16,
+        pub element: u16,
+        pub phase: u16,
+        pub branch: u16,
+        pub given: Tuple,
+    }
+
+    #[repr(C)]
+    pub struct Answer {
+        pub number: u16,
+        pub traffic: u16,
+        pub name: u16,
+        pub tuple: Tuple,
+    }
+
+    #[repr(C)]
+    pub struct Listed {
+        pub number: u16,
+        pub name: Name,
+    }
+
+    #[repr(C)]
+    pub struct Reading {
+        pub number: u16,
+        pub beside: usize,
+    }
+
+    #[link(name = "cuttingvale", kind = "static")]
+    extern "C" {
+        pub fn cv_read(text: *const u8, length: usize, table: *mut u16, table_words: usize) -> Reading;
+        pub fn cv_fresh(table: *const u16, table_words: usize, state: *mut u16, state_words: usize) -> u16;
+        pub fn cv_post(table: *const u16, table_words: usize, state: *mut u16, state_words: usize, name: u16, values: Tuple) -> u16;
+        pub fn cv_list(table: *const u16, table_words: usize, state: *const u16, state_words: usize, ordinal: usize) -> Listed;
+        pub fn cv_step(table: *const u16, table_words: usize, state: *mut u16, state_words: usize, name: Name) -> Answer;
+    }
+}
+
+/// The number of document 01 that a call was refused with, and what stands beside it.
+#[derive(Debug)]
+pub struct Refused(u16, usize);
+
+struct Message {
+    name: u16,
+    values: Vec<u16>,
+}
+
+enum Traffic {
+    Nothing,
+    Consumed(Message),
+    Sent(Message),
+}
+
+/// A model and its state: the blocks are lent to each call, whole, and to one call at a time.
+struct Engine {
+    table: Vec<u16>,
+    state: Vec<u16>,
+}
+
+fn accepted(number: u16) -> Result<(), Refused> {
+    if number == 0 { Ok(()) } else { Err(Refused(number, 0)) }
+}
+
+impl Engine {
+    fn read(text: &str) -> Result<Engine, Refused> {
+        let mut e = Engine { table: vec![0; c::TABLE_WORDS], state: vec![0; c::STATE_WORDS] };
+        let r = unsafe { c::cv_read(text.as_ptr(), text.len(), e.table.as_mut_ptr(), e.table.len()) };
+        if r.number != 0 {
+            return Err(Refused(r.number, r.beside));
+        }
+        accepted(unsafe { c::cv_fresh(e.table.as_ptr(), e.table.len(), e.state.as_mut_ptr(), e.state.len()) })?;
+        Ok(e)
+    }
+
+    fn instances(&self, pool: usize) -> u16 {
+        self.state[pool]
+    }
+
+    /// More than four values are refused with 19, as the engine does.
+    fn post(&mut self, name: u16, values: &[u16]) -> Result<(), Refused> {
+        let mut tuple = c::Tuple { length: values.len().min(u16::MAX as usize) as u16, values: [0; 4] };
+        for (place, value) in tuple.values.iter_mut().zip(values) {
+            *place = *value;
+        }
+        accepted(unsafe { c::cv_post(self.table.as_ptr(), self.table.len(), self.state.as_mut_ptr(), self.state.len(), name, tuple) })
+    }
+
+    /// The accepted step with an ordinal, if there is one.
+    fn list(&self, ordinal: usize) -> Result<Option<c::Name>, Refused> {
+        let l = unsafe { c::cv_list(self.table.as_ptr(), self.table.len(), self.state.as_ptr(), self.state.len(), ordinal) };
+        if l.number == c::NOT_LISTED {
+            return Ok(None);
+        }
+        accepted(l.number).map(|()| Some(l.name))
+    }
+
+    fn step(&mut self, name: c::Name) -> Result<Traffic, Refused> {
+        let a = unsafe { c::cv_step(self.table.as_ptr(), self.table.len(), self.state.as_mut_ptr(), self.state.len(), name) };
+        accepted(a.number)?;
+        let message = Message { name: a.name, values: a.tuple.values.iter().take(a.tuple.length as usize).copied().collect() };
+        Ok(match a.traffic {
+            c::CONSUMED => Traffic::Consumed(message),
+            c::SENT => Traffic::Sent(message),
+            _ => Traffic::Nothing,
+        })
+    }
+}
+
+const MODEL: &str = "miPool(1,startRcv(0:<?d0,?d1>,1)|taskSnd(1,1,a,true,{d2:=d1+40},1:<d0,d2>,2)|interRcv(2,2:<d0,?d3>,3)|\
+                     xorSplit(3,{(4,d3=1),(5,default)})|interSnd(4,3:<d0,d2>,6)|interSnd(5,4:<d0>,7)|xorJoin({6,7},8)|end(8),4)";
+
+fn shown(name: u16, values: &[u16]) -> String {
+    let joined: Vec<String> = values.iter().map(u16::to_string).collect();
+    format!("{}:{}", name, joined.join(","))
+}
+
+/// Posts what came in, then takes the first listed step until there is none.
+fn decode(engine: &mut Engine, arrivals: &[(u16, &[u16])]) -> Result<(), Refused> {
+    for (name, values) in arrivals {
+        println!("arrived {}", shown(*name, values));
+        engine.post(*name, values)?;
+    }
+    while let Some(name) = engine.list(0)? {
+        let told = match engine.step(name)? {
+            Traffic::Nothing => "no message".to_string(),
+            Traffic::Consumed(m) => format!("consumed {}", shown(m.name, &m.values)),
+            Traffic::Sent(m) => format!("sent {}", shown(m.name, &m.values)),
+        };
+        println!("instance {}, element {}: {}", name.instance, name.element, told);
+    }
+    Ok(())
+}
+
+pub fn main() -> Result<(), Refused> {
+    let mut engine = Engine::read(MODEL)?;
+    decode(&mut engine, &[(0, &[17, 2]), (0, &[17, 2])])?;
+    println!("two equal requests, {} instances", engine.instances(0));
+    decode(&mut engine, &[(2, &[17, 1]), (2, &[17, 0])])
+}

@@ -1,0 +1,128 @@
+/* Cuttingvale: a process engine for tram junction controllers. Link with libcuttingvale.a; nothing else is needed.
+
+   The caller lends a table (a model) and a state (its instances and queues), two blocks of 16-bit words, and keeps them. No call trusts them: each checks
+   what it is lent, refuses with a number, and a refused call changes no byte it was lent. No call keeps a pointer, allocates, locks or fails to end.
+
+   Each block comes with its length in words. A length other than CV_TABLE_WORDS or CV_STATE_WORDS is refused with 10 before the block is looked at, so a null
+   pointer with length 0 is safe. What a length cannot say is the caller's word: that the block has that many words, that a text or a buffer has that
+   many bytes, and that two blocks lent to one call do not overlap. */
+#ifndef CUTTINGVALE_H
+#define CUTTINGVALE_H
+
+#include <stddef.h>
+#include <stdint.h>
+
+#ifdef __cplusplus
+extern "C" {
+#define CV_STATIC_ASSERT static_assert
+#else
+#define CV_STATIC_ASSERT _Static_assert
+#endif
+
+#define CV_TABLE_WORDS 33549
+#define CV_STATE_WORDS 12308
+#define CV_TEXT_MOST 32768
+
+/* A TABLE, word by word. Places that are not in use hold 0.
+   0                      the count of pools, 1 to 4
+   1 + 8387 p             pool p, in the text's order: its number, 1 to 9
+       + 1                its limit: n of a miPool, 1 to 16; 0 of a `pool`
+       + 2                the count of its elements, 1 to 32
+       + 3 + 262 e        element e:
+           + 0            its kind, 1 to 15: start, startRcv, end, terminate, endSnd, interRcv, interSnd, eventBased, andSplit, andJoin, xorJoin,
+                          xorSplit, task, taskRcv, taskSnd
+           + 1            task number, 1 to 16
+           + 2            mode: 1 a, 2 na_c, 3 na_nc
+           + 3            the count of its entries, then 8 places for edges, 1 to 48
+           + 12           the count of its exits, then 8 places
+           + 21 + 5 b     condition of branch b (a guard: branch 0): 1 true, 2 default, 3 =, 4 <; then two operands
+           + 61 + 22 b    message of branch b (a single one: branch 0): its name, 0 to 15; its length, 0 to 4; 4 items of 5 words:
+                          1 an operand, 2 +, 3 -, 4 binds the field of its first operand; then two operands
+           + 237          the count of assignments, 0 to 4; then 4 of 6 words: a field, and an expression as an item is
+   An operand is two words: 0 and a number, or 1 and a field, 0 to 15. */
+#define CV_POOL(p) (1 + 8387 * (p))
+#define CV_ELEMENT(p, e) (CV_POOL(p) + 3 + 262 * (e))
+
+/* A STATE, word by word.
+   p                             how many instances pool p has made
+   4 + 1792 p + 112 i            instance i of pool p:
+       + e - 1                   tokens on edge e, at most 255
+       + 48 + n - 1, 64 + n - 1  active and ready count of task n, at most 255
+       + 80 + d, 96 + d          1 where field d is defined; its value
+   7172 + 321 m                  how many messages queue m holds, at most 64; then for each, oldest first, its length and 4 values */
+#define CV_INSTANCE(p, i) (4 + 1792 * (p) + 112 * (i))
+#define CV_QUEUE(m) (7172 + 321 * (m))
+
+/* The numbers given back, in document 01's words. */
+enum cv_number {
+    CV_ACCEPTED = 0,
+    CV_TOO_LONG = 1,       /* text above 32,768 bytes */
+    CV_MISPLACED = 2,      /* the token at this place (or the text's end) continues no text of the notation */
+    CV_EXCESSIVE = 3,      /* a number is outside its range or a count above it */
+    CV_CHECK_BROKEN = 4,   /* a model check is broken */
+    CV_TOO_SHORT = 5,      /* the writer's buffer is shorter than the text */
+    CV_NOT_LISTED = 6,     /* listing: no accepted step with that ordinal */
+    CV_BAD = 10,           /* the table breaks a limit or check, or the state doesn't fit the table and the limits; or a block's length is wrong */
+    CV_NO_SUCH = 11,       /* no such pool, instance, element, phase or branch */
+    CV_NOT_PERMITTED = 12, /* tokens or task counts don't permit the step */
+    CV_NOT_TRUE = 13,      /* condition not true, or an undefined value in condition, template, assignment or message */
+    CV_NOT_MATCHING = 14,  /* values don't match, or were given to a step that receives nothing */
+    CV_NOT_QUEUED = 15,    /* no equal message queued */
+    CV_LIMIT_REACHED = 16, /* startRcv: the pool's limit is reached */
+    CV_QUEUE_FULL = 17,    /* the queue sent or posted to holds 64 */
+    CV_WOULD_PASS = 18,    /* an edge or task count, after the taking, would pass 255 */
+    CV_NOT_POSTABLE = 19   /* post: name above 15 or more than 4 values */
+};
+
+/* A message: its length, 0 to 4, and its values; what stands behind them is ignored, and 0 in an answer. */
+typedef struct { uint16_t length, values[4]; } cv_tuple;
+
+/* The name of a step: pool number, instance, element place from 0, phase, branch from 0, and the message consumed, else the empty one. */
+typedef struct { uint16_t pool, instance, element, phase, branch; cv_tuple given; } cv_name;
+
+enum cv_traffic { CV_NOTHING = 0, CV_CONSUMED = 1, CV_SENT = 2 };
+
+/* beside: the lowest check broken, where the number is 4 */
+typedef struct { uint16_t number, beside; } cv_verdict;
+/* traffic, name and tuple: the message consumed or sent by an accepted step */
+typedef struct { uint16_t number, traffic, name; cv_tuple tuple; } cv_answer;
+typedef struct { uint16_t number; cv_name name; } cv_listed;
+/* steps taken, and 1 or 0 for whether one is still accepted */
+typedef struct { uint16_t number, steps, left; } cv_ran;
+/* beside: the place where the number is 2 or 3, the lowest check broken where it is 4 */
+typedef struct { uint16_t number; size_t beside; } cv_reading;
+typedef struct { uint16_t number; size_t length; } cv_written;
+
+CV_STATIC_ASSERT(sizeof(cv_tuple) == 10 && sizeof(cv_name) == 20, "cuttingvale.h: a tuple is 10 bytes, a name 20");
+CV_STATIC_ASSERT(sizeof(cv_verdict) == 4 && sizeof(cv_answer) == 16 && sizeof(cv_listed) == 22 && sizeof(cv_ran) == 6, "cuttingvale.h: answers of words");
+CV_STATIC_ASSERT(sizeof(cv_reading) == 16 && sizeof(cv_written) == 16, "cuttingvale.h: for a 64-bit machine");
+
+/* Checks a table: 10 for a broken limit or an unused place not 0, then 4, else 0. */
+cv_verdict cv_check(const uint16_t *table, size_t table_words);
+
+/* Makes the fresh state of a model: 10, and the state stays; else 0. */
+uint16_t cv_fresh(const uint16_t *table, size_t table_words, uint16_t *state, size_t state_words);
+
+/* Takes a named step: 10 to 18, and the state stays; else 0, and what was consumed or sent. */
+cv_answer cv_step(const uint16_t *table, size_t table_words, uint16_t *state, size_t state_words, cv_name name);
+
+/* Posts a message from outside: 10, 19 or 17, and the state stays; else 0, and it is queued. */
+uint16_t cv_post(const uint16_t *table, size_t table_words, uint16_t *state, size_t state_words, uint16_t name, cv_tuple values);
+
+/* The accepted step with an ordinal, from 0: 10, or 6 where there is none; else 0 and its name. */
+cv_listed cv_list(const uint16_t *table, size_t table_words, const uint16_t *state, size_t state_words, size_t ordinal);
+
+/* Takes the first listed step until none is accepted or the limit is used up: 10, and the state stays; else 0. */
+cv_ran cv_run(const uint16_t *table, size_t table_words, uint16_t *state, size_t state_words, uint16_t limit);
+
+/* Reads a text into the table: 1 to 4 (10 for a wrong length of the table), and the table stays; else 0, and every word of it is the model's. */
+cv_reading cv_read(const uint8_t *text, size_t length, uint16_t *table, size_t table_words);
+
+/* Writes a table's text, one line: 10, or 5 where the buffer is shorter than it, and the buffer stays; else 0 and its length, at most CV_TEXT_MOST. */
+cv_written cv_write(const uint16_t *table, size_t table_words, uint8_t *buffer, size_t length);
+
+#ifdef __cplusplus
+}
+#endif
+#undef CV_STATIC_ASSERT
+#endif

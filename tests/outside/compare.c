@@ -1,0 +1,347 @@
+/* The engine against the reference: the same calls on the same blocks, and every byte lent to either compared after each call.
+   compare calls CASES SEED              prints how many calls agreed, or the first difference with what led to it, and ends with 1
+   compare sessions FIRST COUNT SEED     prints sessions for the two consoles, one after the other */
+#include "cuttingvale.h"
+#include "generate.h"
+#include <stdio.h>
+#include <stdlib.h>
+#include <sys/mman.h>
+#include <unistd.h>
+
+enum { TEXT_ROOM = REF_TEXT_MOST + 64 };
+
+/* Each library has blocks of its own, which end where no page can be read. */
+struct blocks { uint16_t *table, *state; uint8_t *buffer; };
+
+static void *lend(size_t bytes) {
+    size_t page = sysconf(_SC_PAGESIZE), room = (bytes + page - 1) / page * page;
+    uint8_t *at = mmap(NULL, room + page, PROT_READ | PROT_WRITE, MAP_PRIVATE | MAP_ANONYMOUS, -1, 0);
+    if (at == MAP_FAILED || mprotect(at + room, page, PROT_NONE)) {
+        perror("compare: cannot lend a block");
+        exit(2);
+    }
+    return at + room - bytes;
+}
+
+static struct blocks lend_all(void) {
+    return (struct blocks){lend(REF_TABLE_WORDS * sizeof(uint16_t)), lend(REF_STATE_WORDS * sizeof(uint16_t)), lend(TEXT_ROOM)};
+}
+
+static struct blocks ours, theirs;
+static char text[TEXT_ROOM + 64];
+static size_t text_length;
+static uint64_t calls, seed_of_case;
+static unsigned given[32];
+
+static void differ(const char *call, const char *what, unsigned engine, unsigned reference) {
+    printf("difference in %s, case %llu: %s: engine %u, reference %u\n", call, (unsigned long long)seed_of_case, what, engine, reference);
+    printf("text: %.*s\n", (int)text_length, text);
+    exit(1);
+}
+
+static void same(const char *call, const char *what, size_t engine, size_t reference) {
+    if (engine != reference) differ(call, what, (unsigned)engine, (unsigned)reference);
+}
+
+static void same_words(const char *call, const char *what, const uint16_t *a, const uint16_t *b, size_t n) {
+    if (memcmp(a, b, n * sizeof *a) == 0) return;
+    for (size_t k = 0; k < n; k++)
+        if (a[k] != b[k]) {
+            printf("word %zu of the %s\n", k, what);
+            differ(call, what, a[k], b[k]);
+        }
+}
+
+static void same_blocks(const char *call) {
+    calls++;
+    same_words(call, "table", ours.table, theirs.table, REF_TABLE_WORDS);
+    same_words(call, "state", ours.state, theirs.state, REF_STATE_WORDS);
+}
+
+static void same_tuple(const char *call, cv_tuple a, ref_tuple b) {
+    same(call, "length", a.length, b.length);
+    for (unsigned j = 0; j < VALUES; j++) same(call, "value", a.values[j], b.values[j]);
+}
+
+static cv_tuple as_ours(ref_tuple g) {
+    cv_tuple c;
+    memcpy(&c, &g, sizeof c);
+    return c;
+}
+
+static void same_name(const char *call, cv_name a, ref_name b) {
+    same(call, "pool", a.pool, b.pool);
+    same(call, "instance", a.instance, b.instance);
+    same(call, "element", a.element, b.element);
+    same(call, "phase", a.phase, b.phase);
+    same(call, "branch", a.branch, b.branch);
+    same_tuple(call, a.given, b.given);
+}
+
+#define TABLE ours.table, CV_TABLE_WORDS
+#define STATE ours.state, CV_STATE_WORDS
+
+static unsigned read_both(void) {
+    cv_reading a = cv_read((const uint8_t *)text, text_length, TABLE);
+    ref_reading b = ref_read((const uint8_t *)text, text_length, theirs.table);
+    same("read", "number", a.number, b.number);
+    same("read", "beside", a.beside, b.beside);
+    same_blocks("read");
+    return b.number;
+}
+
+static void check_both(void) {
+    cv_verdict a = cv_check(TABLE);
+    ref_verdict b = ref_check(theirs.table);
+    same("check", "number", a.number, b.number);
+    same("check", "beside", a.beside, b.beside);
+    same_blocks("check");
+}
+
+static void fresh_both(void) {
+    same("fresh", "number", cv_fresh(TABLE, STATE), ref_fresh(theirs.table, theirs.state));
+    same_blocks("fresh");
+}
+
+static void step_both(ref_name n) {
+    cv_name m;
+    memcpy(&m, &n, sizeof m);
+    cv_answer a = cv_step(TABLE, STATE, m);
+    ref_answer b = ref_step(theirs.table, theirs.state, n);
+    same("step", "number", a.number, b.number);
+    same("step", "traffic", a.traffic, b.traffic);
+    same("step", "name", a.name, b.name);
+    same_tuple("step", a.tuple, b.tuple);
+    same_blocks("step");
+    given[b.number]++;
+}
+
+static void post_both(unsigned name, ref_tuple g) {
+    same("post", "number", cv_post(TABLE, STATE, name, as_ours(g)), ref_post(theirs.table, theirs.state, name, g));
+    same_blocks("post");
+}
+
+static void list_both(size_t k) {
+    cv_listed a = cv_list(TABLE, STATE, k);
+    ref_listed b = ref_list(theirs.table, theirs.state, k);
+    same("list", "number", a.number, b.number);
+    same_name("list", a.name, b.name);
+    same_blocks("list");
+}
+
+static void run_both(unsigned limit) {
+    cv_ran a = cv_run(TABLE, STATE, limit);
+    ref_ran b = ref_run(theirs.table, theirs.state, limit);
+    same("run", "number", a.number, b.number);
+    same("run", "steps", a.steps, b.steps);
+    same("run", "left", a.left, b.left);
+    same_blocks("run");
+}
+
+/* The buffer ends at the page that cannot be read, whatever its length. */
+static void write_both(size_t length) {
+    uint8_t *mine = ours.buffer + TEXT_ROOM - length, *other = theirs.buffer + TEXT_ROOM - length;
+    memset(mine, 0xa5, length);
+    memset(other, 0xa5, length);
+    cv_written a = cv_write(TABLE, mine, length);
+    ref_written b = ref_write(theirs.table, other, length);
+    same("write", "number", a.number, b.number);
+    same("write", "length", a.length, b.length);
+    if (memcmp(mine, other, length)) differ("write", "buffer", 0, 0);
+    same_blocks("write");
+}
+
+/* A wrong length or no block at all is 10, no text and no buffer are short ones, and nothing is touched. */
+static void wrong_lengths(struct random *r) {
+    size_t n = draw(r, 70000);
+    cv_name name = {0};
+    cv_tuple none = {0};
+    if (n == CV_TABLE_WORDS || n == CV_STATE_WORDS) return;
+    same("check", "wrong length", cv_check(ours.table, n).number, 10);
+    same("check", "no block", cv_check(NULL, 0).number, 10);
+    same("fresh", "wrong length", cv_fresh(ours.table, n, STATE), 10);
+    same("fresh", "wrong state", cv_fresh(TABLE, ours.state, n), 10);
+    same("fresh", "no block", cv_fresh(TABLE, NULL, 0), 10);
+    same("step", "wrong length", cv_step(TABLE, ours.state, n, name).number, 10);
+    same("post", "wrong length", cv_post(ours.table, n, STATE, 0, none), 10);
+    same("list", "wrong length", cv_list(TABLE, ours.state, n, 0).number, 10);
+    same("run", "wrong length", cv_run(TABLE, ours.state, n, 1).number, 10);
+    same("read", "wrong length", cv_read((const uint8_t *)text, text_length, ours.table, n).number, 10);
+    same("write", "wrong length", cv_write(ours.table, n, ours.buffer, TEXT_ROOM).number, 10);
+    same("read", "no text", cv_read(NULL, 0, TABLE).number, 2);
+    same("write", "no buffer", cv_write(TABLE, NULL, 0).number, ref_write(theirs.table, theirs.buffer, 0).number);
+    calls += 12;
+    same_blocks("a call with a wrong length or none");
+}
+
+/* The same word of both, changed: mostly to a small number, or by one bit, at a place that is in use. */
+static void damage(struct random *r, uint16_t *a, uint16_t *b, size_t n) {
+    size_t at = draw(r, n);
+    for (unsigned k = 0; k < 30 && !a[at]; k++) at = draw(r, n);
+    if (chance(r, 30)) at = draw(r, n);
+    uint16_t v = chance(r, 60) ? draw(r, 20) : chance(r, 50) ? a[at] ^ (1u << draw(r, 16)) : draw(r, 65536);
+    a[at] = b[at] = v;
+}
+
+static void damage_both(struct random *r, bool table) {
+    for (unsigned k = 1 + draw(r, 2); k; k--) {
+        if (table) damage(r, ours.table, theirs.table, REF_TABLE_WORDS);
+        else damage(r, ours.state, theirs.state, REF_STATE_WORDS);
+    }
+}
+
+/* A state near its ends: counts at 254 and 255, queues at 63 and 64; it still fits. */
+static void fill_up(struct random *r) {
+    for (unsigned p = 0; p < ours.table[0]; p++)
+        for (unsigned i = 0; i < ours.state[p]; i++) {
+            const uint16_t *pool = pool_at(ours.table, p);
+            uint16_t *h = instance_at(ours.state, p, i);
+            for (unsigned e = 0; e < pool[POOL_COUNT]; e++) {
+                const uint16_t *el = element_at(pool, e);
+                for (unsigned j = 0; j < el[ENTRIES]; j++)
+                    if (chance(r, 40)) h[el[ENTRIES + 1 + j] - 1] = chance(r, 50) ? 1 : 254 + draw(r, 2);
+                if (el[MODE] < NA_C) continue;
+                if (chance(r, 40)) h[ACTIVE + el[TASK_NUMBER] - 1] = chance(r, 50) ? 1 : 254 + draw(r, 2);
+                if (el[KIND] != TASK && chance(r, 40)) h[READY + el[TASK_NUMBER] - 1] = chance(r, 50) ? 1 : 254 + draw(r, 2);
+            }
+            for (unsigned d = 0; d < 4; d++)
+                if (chance(r, 50)) h[DEFINED + d] = 1, h[FIELD_VALUES + d] = draw(r, 4);
+        }
+    for (unsigned m = 0; m < NAMES; m++) {
+        if (!chance(r, 30)) continue;
+        uint16_t *q = queue_at(ours.state, m);
+        for (unsigned k = q[0], n = 62 + draw(r, 3); k < n; k++) {
+            q[0] = k + 1;
+            q[1 + SLOT_WORDS * k] = draw(r, 3);
+            for (unsigned j = 0; j < q[1 + SLOT_WORDS * k]; j++) q[2 + SLOT_WORDS * k + j] = draw(r, 4);
+        }
+    }
+    memcpy(theirs.state, ours.state, REF_STATE_WORDS * sizeof(uint16_t));
+}
+
+/* A message that some template of the model may take. */
+static unsigned likely_post(struct random *r, ref_tuple *g) {
+    *g = some_tuple(r);
+    const uint16_t *pool = pool_at(theirs.table, draw(r, POOLS));
+    if (pool[POOL_COUNT] < 1 || pool[POOL_COUNT] > ELEMENTS || chance(r, 10)) return draw(r, chance(r, 90) ? NAMES : 300);
+    const uint16_t *el = element_at(pool, draw(r, pool[POOL_COUNT])), *m = message_at(el, draw(r, 2));
+    if (g->length <= VALUES && m[1] <= VALUES && chance(r, 80)) g->length = m[1];
+    return m[0];
+}
+
+static void one_call(struct random *r) {
+    ref_tuple g;
+    unsigned name, which = draw(r, 100);
+    if (which < 50) step_both(some_name(r, theirs.table, theirs.state));
+    else if (which < 75) name = likely_post(r, &g), post_both(name, g);
+    else if (which < 85) list_both(draw(r, chance(r, 80) ? 6 : 200));
+    else if (which < 90) run_both(draw(r, chance(r, 80) ? 4 : 40));
+    else if (which < 93) check_both();
+    else if (which < 97) write_both(chance(r, 50) ? draw(r, TEXT_ROOM) : text_length + 4 - draw(r, text_length < 4 ? 1 : 8));
+    else if (which < 98) fresh_both();
+    else wrong_lengths(r);
+}
+
+static void compare_case(struct random *r) {
+    text_length = model_text(r, text);
+    if (chance(r, 25)) text_length = spoiled_text(r, text, text_length);
+    if (read_both()) return;
+    fresh_both();
+    if (chance(r, 40)) fill_up(r);
+    for (unsigned k = 12 + draw(r, 30); k; k--) {
+        one_call(r);
+        if (chance(r, 6)) fill_up(r);
+        if (!chance(r, 4)) continue;
+        /* damaged, used, and put right again */
+        static uint16_t table[REF_TABLE_WORDS], state[REF_STATE_WORDS];
+        memcpy(table, ours.table, sizeof table);
+        memcpy(state, ours.state, sizeof state);
+        damage_both(r, chance(r, 50));
+        for (unsigned j = 3; j; j--) one_call(r);
+        memcpy(ours.table, table, sizeof table), memcpy(theirs.table, table, sizeof table);
+        memcpy(ours.state, state, sizeof state), memcpy(theirs.state, state, sizeof state);
+    }
+}
+
+static void print_tuple(ref_tuple g) {
+    if (!g.length) putchar('-');
+    for (unsigned j = 0; j < g.length; j++) printf(j ? ",%u" : "%u", j < VALUES ? g.values[j] : 0);
+    putchar('\n');
+}
+
+/* A line for the consoles; the reference plays along, so that most steps named are accepted ones. */
+static void session_line(struct random *r) {
+    unsigned which = draw(r, 100), name;
+    ref_tuple g;
+    if (which < 45) {
+        ref_name n = some_name(r, theirs.table, theirs.state);
+        printf("step %u %u %u %u %u ", n.pool, n.instance, n.element, n.phase, n.branch);
+        print_tuple(n.given);
+        ref_step(theirs.table, theirs.state, n);
+    } else if (which < 70) {
+        name = likely_post(r, &g);
+        printf("post %u ", name);
+        print_tuple(g);
+        ref_post(theirs.table, theirs.state, name, g);
+    } else if (which < 80) printf("list %u\n", draw(r, chance(r, 80) ? 6 : 200));
+    else if (which < 88) {
+        unsigned limit = draw(r, chance(r, 80) ? 4 : 40);
+        printf("run %u\n", limit);
+        ref_run(theirs.table, theirs.state, limit);
+    } else if (which < 91) puts("write");
+    else if (which < 98) puts("state");
+    else if (which < 99) puts("fresh"), ref_fresh(theirs.table, theirs.state);
+    else puts(chance(r, 50) ? "list 1 " : "stap");
+}
+
+/* It begins with a model of its own, so that nothing of an earlier session is left. */
+static void print_session(struct random *r) {
+    static const char first[] = "pool(1,start(1,2)|end(2))";
+    printf("read %s\n", first);
+    ref_read((const uint8_t *)first, strlen(first), theirs.table);
+    ref_fresh(theirs.table, theirs.state);
+    for (unsigned models = 1 + draw(r, 2); models; models--) {
+        text_length = model_text(r, text);
+        if (chance(r, 25)) text_length = spoiled_text(r, text, text_length);
+        for (size_t k = 0; k < text_length; k++)
+            if (text[k] == '\n') text[k] = ' ';
+        printf("read ");
+        fwrite(text, 1, text_length, stdout);
+        putchar('\n');
+        if (ref_read((const uint8_t *)text, text_length, theirs.table).number == 0) ref_fresh(theirs.table, theirs.state);
+        for (unsigned k = 20 + draw(r, 40); k; k--) session_line(r);
+    }
+}
+
+static int compare_calls(uint64_t cases, uint64_t seed) {
+    for (uint64_t k = 0; k < cases; k++) {
+        seed_of_case = seed + k;
+        struct random r = {seed_of_case};
+        compare_case(&r);
+    }
+    printf("%llu calls in %llu cases, no difference; numbers of steps:", (unsigned long long)calls, (unsigned long long)cases);
+    for (unsigned k = 0; k < 32; k++)
+        if (given[k]) printf(" %u:%u", k, given[k]);
+    putchar('\n');
+    return 0;
+}
+
+static uint64_t number(const char *word) { return strtoull(word, NULL, 10); }
+
+/* seeds of cases under two seeds of a run differ */
+static uint64_t seeded(const char *word) { return number(word) * 1000003; }
+
+int main(int count, char **words) {
+    ours = lend_all();
+    theirs = lend_all();
+    if (count == 4 && !strcmp(words[1], "calls")) return compare_calls(number(words[2]), seeded(words[3]));
+    if (count != 5 || strcmp(words[1], "sessions")) {
+        fprintf(stderr, "usage: compare calls CASES SEED, or compare sessions FIRST COUNT SEED\n");
+        return 2;
+    }
+    for (uint64_t k = number(words[2]), last = k + number(words[3]); k < last; k++) {
+        struct random r = {seeded(words[4]) + k};
+        print_session(&r);
+    }
+    return 0;
+}

@@ -1,0 +1,247 @@
+/* The console's commands over the reference: a session through this and through the engine's console must print the same. */
+#include "layout.h"
+#include <stdio.h>
+#include <stdlib.h>
+
+enum { LINE_MOST = 40000, ARGUMENTS = 8 };
+
+static word table[REF_TABLE_WORDS], state[REF_STATE_WORDS];
+static bool loaded;
+
+struct text { const char *s; size_t n; };
+
+static bool is(struct text w, const char *s) { return w.n == strlen(s) && memcmp(w.s, s, w.n) == 0; }
+
+/* a number 0 to 65,535 without leading zeros */
+static bool number_of(struct text w, word *out) {
+    unsigned v = 0;
+    if (w.n == 0 || w.n > 5 || (w.n > 1 && w.s[0] == '0')) return false;
+    for (size_t i = 0; i < w.n; i++) {
+        if (w.s[i] < '0' || w.s[i] > '9') return false;
+        v = v * 10 + (w.s[i] - '0');
+    }
+    *out = v;
+    return v <= GREATEST;
+}
+
+/* `-`, or values joined by commas: the first four are kept, all are counted */
+static bool tuple_of(struct text w, ref_tuple *g) {
+    memset(g, 0, sizeof *g);
+    if (is(w, "-")) return true;
+    for (size_t from = 0;; from++) {
+        size_t to = from;
+        word v;
+        while (to < w.n && w.s[to] != ',') to++;
+        if (!number_of((struct text){w.s + from, to - from}, &v)) return false;
+        if (g->length < VALUES) g->values[g->length] = v;
+        if (g->length < GREATEST) g->length++;
+        if (to == w.n) return true;
+        from = to;
+    }
+}
+
+static void print_tuple(const ref_tuple *g, const char *none) {
+    if (!g->length) fputs(none, stdout);
+    for (unsigned j = 0; j < g->length; j++) printf(j ? ",%u" : "%u", g->values[j]);
+}
+
+static void print_traffic(const ref_answer *a) {
+    if (!a->traffic) {
+        putchar('-');
+        return;
+    }
+    printf("%c%u:", a->traffic == 1 ? '?' : '!', a->name);
+    print_tuple(&a->tuple, "");
+}
+
+static void print_place(const ref_name *n) { printf("%u %u %u %u %u ", n->pool, n->instance, n->element, n->phase, n->branch); }
+
+static void print_done(unsigned number) { number ? printf("refused %u\n", number) : printf("ok\n"); }
+
+static void do_run(word limit) {
+    static word before[REF_STATE_WORDS];
+    memcpy(before, state, sizeof state);
+    ref_ran r = ref_run(table, state, limit);
+    if (r.number) {
+        print_done(r.number);
+        return;
+    }
+    for (unsigned k = 0; k < r.steps; k++) {
+        ref_listed next = ref_list(table, before, 0);
+        ref_answer a = ref_step(table, before, next.name);
+        print_place(&next.name);
+        print_traffic(&a);
+        putchar('\n');
+    }
+    printf("steps %u left %u\n", r.steps, r.left);
+}
+
+static void print_pairs(const word *flags, const word *values, unsigned n, unsigned first) {
+    bool any = false;
+    for (unsigned k = 0; k < n; k++)
+        if (flags[k]) printf("%s%u:%u", any ? "," : "", k + first, values[k]), any = true;
+    if (!any) putchar('-');
+}
+
+static void do_state(void) {
+    for (unsigned p = 0; p < table[0]; p++)
+        for (unsigned i = 0; i < state[p]; i++) {
+            const word *h = instance_at(state, p, i);
+            printf("instance %u %u tokens ", pool_at(table, p)[0], i);
+            print_pairs(h, h, EDGES, 1);
+            fputs(" active ", stdout);
+            print_pairs(h + ACTIVE, h + ACTIVE, TASKS, 1);
+            fputs(" ready ", stdout);
+            print_pairs(h + READY, h + READY, TASKS, 1);
+            fputs(" fields ", stdout);
+            print_pairs(h + DEFINED, h + FIELD_VALUES, FIELDS, 0);
+            putchar('\n');
+        }
+    for (unsigned m = 0; m < NAMES; m++) {
+        const word *q = queue_at(state, m);
+        if (!q[0]) continue;
+        printf("queue %u", m);
+        for (unsigned k = 0; k < q[0]; k++) {
+            ref_tuple g;
+            memcpy(&g, q + 1 + SLOT_WORDS * k, sizeof g);
+            putchar(' ');
+            print_tuple(&g, "-");
+        }
+        putchar('\n');
+    }
+    puts("end");
+}
+
+static void do_read(const char *text, size_t n) {
+    ref_reading r = ref_read((const uint8_t *)text, n, table);
+    if (r.number) {
+        printf("refused %u %zu\n", r.number, r.beside);
+        return;
+    }
+    loaded = true;
+    print_done(ref_fresh(table, state));
+}
+
+static void do_write(size_t room) {
+    static uint8_t text[GREATEST];
+    ref_written w = ref_write(table, text, room);
+    if (w.number) print_done(w.number);
+    fwrite(text, 1, w.length, stdout);
+}
+
+static void do_check(void) {
+    ref_verdict v = ref_check(table);
+    v.number ? printf("refused %u %u\n", v.number, v.beside) : printf("ok\n");
+}
+
+/* the text written, read into a second table and written from there */
+static void do_again(void) {
+    static uint8_t first[REF_TEXT_MOST], second[REF_TEXT_MOST];
+    static word other[REF_TABLE_WORDS];
+    ref_written w = ref_write(table, first, sizeof first);
+    if (w.number) {
+        print_done(w.number);
+        return;
+    }
+    ref_reading r = ref_read(first, w.length, other);
+    if (r.number) printf("refused %u %zu\n", r.number, r.beside);
+    else if (memcmp(table, other, sizeof other)) puts("table differs");
+    else if (ref_write(other, second, sizeof second).length != w.length || memcmp(first, second, w.length)) puts("text differs");
+    else printf("same %zu\n", w.length);
+}
+
+/* word I of a block becomes V */
+static bool set_word(struct text *w, word *block, unsigned words, bool lent) {
+    word v[2];
+    if (!number_of(w[1], &v[0]) || !number_of(w[2], &v[1]) || v[0] >= words) return false;
+    if (!lent) return true;
+    block[v[0]] = v[1];
+    return puts("ok"), true;
+}
+
+/* 0: no such command; 1: well formed, and done if a model was read */
+static int command(struct text *w, unsigned n) {
+    word v[5];
+    ref_tuple g;
+    if (is(w[0], "step") && n == 7) {
+        for (unsigned k = 0; k < 5; k++)
+            if (!number_of(w[1 + k], &v[k])) return 0;
+        if (!tuple_of(w[6], &g)) return 0;
+        if (!loaded) return 1;
+        ref_answer a = ref_step(table, state, (ref_name){v[0], v[1], v[2], v[3], v[4], g});
+        if (a.number) return print_done(a.number), 1;
+        fputs("ok ", stdout);
+        print_traffic(&a);
+        putchar('\n');
+    } else if (is(w[0], "post") && n == 3) {
+        if (!number_of(w[1], v) || !tuple_of(w[2], &g)) return 0;
+        if (loaded) print_done(ref_post(table, state, v[0], g));
+    } else if (is(w[0], "list") && n == 2) {
+        if (!number_of(w[1], v)) return 0;
+        if (!loaded) return 1;
+        ref_listed r = ref_list(table, state, v[0]);
+        if (r.number) return print_done(r.number), 1;
+        print_place(&r.name);
+        print_tuple(&r.name.given, "-");
+        putchar('\n');
+    } else if (is(w[0], "run") && n == 2) {
+        if (!number_of(w[1], v)) return 0;
+        if (loaded) do_run(v[0]);
+    } else if (n == 1 && is(w[0], "write")) {
+        if (loaded) do_write(GREATEST);
+    } else if (n == 2 && is(w[0], "write")) {
+        if (!number_of(w[1], v)) return 0;
+        if (loaded) do_write(v[0]);
+    } else if (n == 1 && is(w[0], "check")) {
+        if (loaded) do_check();
+    } else if (n == 1 && is(w[0], "again")) {
+        if (loaded) do_again();
+    } else if (n == 1 && is(w[0], "clear")) {
+        memset(table, 0, sizeof table);
+        loaded = true;
+        puts("ok");
+    } else if (n == 3 && is(w[0], "table")) {
+        if (!set_word(w, table, REF_TABLE_WORDS, true)) return 0;
+        loaded = true;
+    } else if (n == 3 && is(w[0], "state")) {
+        return set_word(w, state, REF_STATE_WORDS, loaded);
+    } else if (n == 1 && is(w[0], "fresh")) {
+        if (loaded) print_done(ref_fresh(table, state));
+    } else if (n == 1 && is(w[0], "state")) {
+        if (loaded) do_state();
+    } else return 0;
+    return 1;
+}
+
+static void do_line(const char *s, size_t n) {
+    struct text w[ARGUMENTS];
+    unsigned count = 0;
+    if (n > LINE_MOST) {
+        puts("bad line");
+        return;
+    }
+    if (n >= 5 && memcmp(s, "read ", 5) == 0) {
+        do_read(s + 5, n - 5);
+        return;
+    }
+    for (size_t from = 0; count < ARGUMENTS; count++) {
+        size_t to = from;
+        while (to < n && s[to] != ' ') to++;
+        w[count] = (struct text){s + from, to - from};
+        from = to + 1;
+        if (to == n) {
+            count++;
+            break;
+        }
+    }
+    if (!command(w, count)) puts("bad line");
+    else if (!loaded) puts("no model");
+}
+
+int main(void) {
+    char *line = NULL;
+    size_t room = 0;
+    for (ssize_t n; (n = getline(&line, &room, stdin)) >= 0;) do_line(line, n && line[n - 1] == '\n' ? (size_t)n - 1 : (size_t)n);
+    free(line);
+    return 0;
+}

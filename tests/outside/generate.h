@@ -1,0 +1,21 @@
+/* A seeded generator of models, texts and calls. */
+#ifndef GENERATE_H
+#define GENERATE_H
+
+#include "layout.h"
+
+struct random { uint64_t seed; };
+
+uint32_t draw(struct random *r, uint32_t below);
+bool chance(struct random *r, unsigned percent);
+
+/* a model's text: mostly one that passes every check; returns its length, at most REF_TEXT_MOST */
+size_t model_text(struct random *r, char *text);
+/* the same text with a few bytes, tokens or numbers changed */
+size_t spoiled_text(struct random *r, char *text, size_t n);
+/* values that a template is likely to meet */
+ref_tuple some_tuple(struct random *r);
+/* the name of a step: an accepted one where there is one and chance wants it, else any */
+ref_name some_name(struct random *r, const uint16_t *table, const uint16_t *state);
+
+#endif

@@ -1,0 +1,64 @@
+/* Where things stand in a table and in a state, and the kinds: what the files of the reference share. */
+#ifndef LAYOUT_H
+#define LAYOUT_H
+
+#include "reference.h"
+#include <stdbool.h>
+#include <string.h>
+
+typedef uint16_t word;
+
+enum { POOLS = 4, ELEMENTS = 32, BRANCHES = 8, FEWEST = 2, EDGES = 48, TASKS = 16, NAMES = 16, INSTANCES = 16, FIELDS = 16, VALUES = 4, ASSIGNMENTS = 4,
+       MESSAGES = 64, COUNT_MOST = 255, GREATEST = 65535 };
+
+/* An expression, item or condition: form, then two operands of two words each: 0 and a number, or 1 and a field. */
+enum { EXPRESSION_WORDS = 5, LEFT = 1, RIGHT = 3 };
+enum { SINGLE = 1, PLUS = 2, MINUS = 3, BIND = 4 };
+enum { ALWAYS = 1, DEFAULT = 2, EQUALS = 3, BELOW = 4 };
+
+/* An element's words. */
+enum { KIND = 0, TASK_NUMBER = 1, MODE = 2, ENTRIES = 3, EXITS = 12, CONDITIONS = 21, ELEMENT_MESSAGES = 61, MESSAGE_WORDS = 22, ASSIGNED = 237,
+       ASSIGNMENT_WORDS = 6, ELEMENT_WORDS = 262 };
+
+/* A pool's words, behind the table's pool count. */
+enum { POOL_LIMIT = 1, POOL_COUNT = 2, POOL_ELEMENTS = 3, POOL_WORDS = 8387 };
+
+/* An instance's words; a state's. */
+enum { ACTIVE = 48, READY = 64, DEFINED = 80, FIELD_VALUES = 96, INSTANCE_WORDS = 112, POOL_INSTANCES = INSTANCE_WORDS * INSTANCES, QUEUES = 7172,
+       SLOT_WORDS = 5, QUEUE_WORDS = 321 };
+
+enum { START = 1, START_RCV, END, TERMINATE, END_SND, INTER_RCV, INTER_SND, EVENT_BASED, AND_SPLIT, AND_JOIN, XOR_JOIN, XOR_SPLIT, TASK, TASK_RCV, TASK_SND,
+       KINDS };
+
+enum { ATOMIC = 1, NA_C = 2, NA_NC = 3 };
+
+enum { NONE = 0, ONE = 1, MANY = 2 };
+
+/* parts: E entry, X exit, F list of entries, Y list of exits, N task, T template, S message, B branches that receive, G branches with conditions */
+struct kind { const char *keyword, *parts; uint8_t entries, exits, task, conditions, receives, sends; };
+extern const struct kind kinds[KINDS];
+
+static inline const word *pool_at(const word *t, unsigned p) { return t + 1 + POOL_WORDS * p; }
+static inline const word *element_at(const word *pool, unsigned e) { return pool + POOL_ELEMENTS + ELEMENT_WORDS * e; }
+static inline unsigned limit_of(const word *pool) { return pool[POOL_LIMIT] ? pool[POOL_LIMIT] : 1; }
+static inline const word *condition_at(const word *el, unsigned b) { return el + CONDITIONS + EXPRESSION_WORDS * b; }
+static inline const word *message_at(const word *el, unsigned b) { return el + ELEMENT_MESSAGES + MESSAGE_WORDS * b; }
+static inline const word *item_at(const word *message, unsigned j) { return message + 2 + EXPRESSION_WORDS * j; }
+static inline const word *assignment_at(const word *el, unsigned j) { return el + ASSIGNED + 1 + ASSIGNMENT_WORDS * j; }
+static inline word *instance_at(word *z, unsigned p, unsigned i) { return z + POOLS + POOL_INSTANCES * p + INSTANCE_WORDS * i; }
+static inline word *queue_at(word *z, unsigned m) { return z + QUEUES + QUEUE_WORDS * m; }
+static inline unsigned used(unsigned column, unsigned n) { return column == MANY ? n : column; }
+
+/* OR over words: none is other than 0 */
+static inline bool all_zero(const word *x, size_t n) {
+    word any = 0;
+    for (size_t k = 0; k < n; k++) any |= x[k];
+    return any == 0;
+}
+
+bool table_fits(const word *t);
+unsigned lowest_broken(const word *t);
+bool valid(const word *t);
+bool fitting(const word *t, const word *z);
+
+#endif

@@ -1,0 +1,342 @@
+/* One named step, a post, the listing and the run. */
+#include "layout.h"
+
+enum { EVERY = 1, BRANCH = 2, UP = 1, DOWN = 2 };
+
+/* What a step of a kind, in a mode and phase, asks for and does. */
+struct move { uint8_t there, takes, puts, asks, receives, assigns, sends, active, ready, alone, makes, clears; };
+
+static const struct move plain[KINDS] = {
+    [START] = {.there = 1, .takes = EVERY, .puts = EVERY},
+    [START_RCV] = {.there = 1, .puts = EVERY, .receives = 1, .makes = 1},
+    [END] = {.there = 1, .takes = EVERY},
+    [TERMINATE] = {.there = 1, .takes = EVERY, .clears = 1},
+    [END_SND] = {.there = 1, .takes = EVERY, .sends = 1},
+    [INTER_RCV] = {.there = 1, .takes = EVERY, .puts = EVERY, .receives = 1},
+    [INTER_SND] = {.there = 1, .takes = EVERY, .puts = EVERY, .sends = 1},
+    [EVENT_BASED] = {.there = 1, .takes = EVERY, .puts = BRANCH, .receives = 1},
+    [AND_SPLIT] = {.there = 1, .takes = EVERY, .puts = EVERY},
+    [AND_JOIN] = {.there = 1, .takes = EVERY, .puts = EVERY},
+    [XOR_JOIN] = {.there = 1, .takes = BRANCH, .puts = EVERY},
+    [XOR_SPLIT] = {.there = 1, .takes = EVERY, .puts = BRANCH, .asks = 1},
+    [TASK] = {.there = 1, .takes = EVERY, .puts = EVERY, .asks = 1, .assigns = 1},
+    [TASK_RCV] = {.there = 1, .takes = EVERY, .puts = EVERY, .asks = 1, .receives = 1, .assigns = 1},
+    [TASK_SND] = {.there = 1, .takes = EVERY, .puts = EVERY, .asks = 1, .assigns = 1, .sends = 1},
+};
+
+/* na tasks: by kind from `task`, phases 1 to 3 */
+static const struct move phased[3][3] = {
+    {{.there = 1, .takes = EVERY, .asks = 1, .active = UP, .alone = 1}, {.there = 0}, {.there = 1, .puts = EVERY, .assigns = 1, .active = DOWN}},
+    {{.there = 1, .takes = EVERY, .asks = 1, .active = UP, .alone = 1},
+     {.there = 1, .receives = 1, .active = DOWN, .ready = UP},
+     {.there = 1, .puts = EVERY, .assigns = 1, .ready = DOWN}},
+    {{.there = 1, .takes = EVERY, .asks = 1, .active = UP, .alone = 1},
+     {.there = 1, .assigns = 1, .active = DOWN, .ready = UP},
+     {.there = 1, .puts = EVERY, .sends = 1, .ready = DOWN}},
+};
+
+static const struct move no_move;
+
+static const struct move *move_of(const word *el, unsigned phase) {
+    if (el[MODE] < NA_C) return phase == 0 ? &plain[el[KIND]] : &no_move;
+    return phase >= 1 && phase <= 3 ? &phased[el[KIND] - TASK][phase - 1] : &no_move;
+}
+
+static unsigned branch_count(const word *el, const struct move *m) {
+    return m->takes == BRANCH ? el[ENTRIES] : m->puts == BRANCH ? el[EXITS] : 1;
+}
+
+/* A value is 0 to 65,535, or undefined: -1. */
+typedef int32_t value;
+enum { UNDEFINED = -1 };
+
+static value operand(const word *x, const word *h) {
+    if (x[0] == 0) return x[1];
+    return h[DEFINED + x[1]] ? h[FIELD_VALUES + x[1]] : UNDEFINED;
+}
+
+static value expression(const word *x, const word *h) {
+    value a = operand(x + LEFT, h);
+    if (x[0] == SINGLE || a < 0) return a;
+    value b = operand(x + RIGHT, h);
+    if (b < 0) return UNDEFINED;
+    value r = x[0] == PLUS ? a + b : a - b;
+    return r < 0 || r > GREATEST ? UNDEFINED : r;
+}
+
+enum truth { IS_FALSE, IS_TRUE, NEITHER };
+
+static enum truth condition(const word *x, const word *h) {
+    if (x[0] == ALWAYS) return IS_TRUE;
+    if (x[0] == DEFAULT) return NEITHER;
+    value a = operand(x + LEFT, h), b = operand(x + RIGHT, h);
+    if (a < 0 || b < 0) return NEITHER;
+    return (x[0] == EQUALS ? a == b : a < b) ? IS_TRUE : IS_FALSE;
+}
+
+static bool condition_holds(const word *el, const word *h, unsigned b) {
+    if (condition_at(el, b)[0] != DEFAULT) return condition(condition_at(el, b), h) == IS_TRUE;
+    for (unsigned j = 0; j < el[EXITS]; j++)
+        if (j != b && condition(condition_at(el, j), h) != IS_FALSE) return false;
+    return true;
+}
+
+static bool same_tuple(const ref_tuple *a, const ref_tuple *b) {
+    if (a->length != b->length || a->length > VALUES) return false;
+    for (unsigned j = 0; j < a->length; j++)
+        if (a->values[j] != b->values[j]) return false;
+    return true;
+}
+
+/* A template or message worked out; where it binds, the given value stands. */
+static bool work_out(const word *message, const word *h, const ref_tuple *given, ref_tuple *out) {
+    bool defined = true;
+    memset(out, 0, sizeof *out);
+    out->length = message[1];
+    for (unsigned j = 0; j < message[1]; j++) {
+        const word *x = item_at(message, j);
+        value v = x[0] == BIND ? (j < given->length ? given->values[j] : 0) : expression(x, h);
+        if (v < 0) defined = false;
+        else out->values[j] = v;
+    }
+    return defined;
+}
+
+static void set_field(word *h, unsigned d, word v) { h[DEFINED + d] = 1, h[FIELD_VALUES + d] = v; }
+
+static bool assign(const word *el, word *h) {
+    for (unsigned j = 0; j < el[ASSIGNED]; j++) {
+        const word *x = assignment_at(el, j);
+        value v = expression(x + 1, h);
+        if (v < 0) return false;
+        set_field(h, x[0], v);
+    }
+    return true;
+}
+
+static bool counts_permit(const word *el, const word *h, const struct move *m, unsigned b) {
+    if (m->takes == BRANCH) {
+        if (!h[el[ENTRIES + 1 + b] - 1]) return false;
+    } else if (m->takes)
+        for (unsigned j = 0; j < el[ENTRIES]; j++)
+            if (!h[el[ENTRIES + 1 + j] - 1]) return false;
+    if (!(m->active | m->ready)) return true;
+    word active = h[ACTIVE + el[TASK_NUMBER] - 1], ready = h[READY + el[TASK_NUMBER] - 1];
+    if (m->active == DOWN && !active) return false;
+    if (m->ready == DOWN && !ready) return false;
+    return !(m->alone && el[MODE] == NA_NC && (active | ready));
+}
+
+static word *find_message(word *q, const ref_tuple *g) {
+    for (unsigned k = 0; k < q[0]; k++) {
+        word *slot = q + 1 + SLOT_WORDS * k;
+        if (slot[0] == g->length && memcmp(slot + 1, g->values, g->length * sizeof(word)) == 0) return slot;
+    }
+    return NULL;
+}
+
+static void append(word *q, const ref_tuple *g) {
+    word *slot = q + 1 + SLOT_WORDS * q[0]++;
+    slot[0] = g->length;
+    for (unsigned j = 0; j < VALUES; j++) slot[1 + j] = j < g->length ? g->values[j] : 0;
+}
+
+static void remove_message(word *q, word *slot) {
+    word *last = q + 1 + SLOT_WORDS * --q[0];
+    memmove(slot, slot + SLOT_WORDS, (last - slot) * sizeof(word));
+    memset(last, 0, SLOT_WORDS * sizeof(word));
+}
+
+/* What is worked out before anything is written. */
+struct plan {
+    word h[INSTANCE_WORDS];
+    ref_tuple message;
+    word *queue, *slot;
+};
+
+static bool puts_fit(const word *el, const word *h, const struct move *m, unsigned b) {
+    if (m->puts == BRANCH) {
+        if (h[el[EXITS + 1 + b] - 1] >= COUNT_MOST) return false;
+    } else if (m->puts)
+        for (unsigned j = 0; j < el[EXITS]; j++)
+            if (h[el[EXITS + 1 + j] - 1] >= COUNT_MOST) return false;
+    if (m->active == UP && h[ACTIVE + el[TASK_NUMBER] - 1] >= COUNT_MOST) return false;
+    return !(m->ready == UP && h[READY + el[TASK_NUMBER] - 1] >= COUNT_MOST);
+}
+
+static void take_tokens(const word *el, word *h, const struct move *m, unsigned b) {
+    if (m->takes == BRANCH) h[el[ENTRIES + 1 + b] - 1]--;
+    else if (m->takes)
+        for (unsigned j = 0; j < el[ENTRIES]; j++) h[el[ENTRIES + 1 + j] - 1]--;
+}
+
+static void finish(const word *el, word *h, const struct move *m, unsigned b) {
+    if (m->clears) {
+        memset(h, 0, DEFINED * sizeof *h);
+        return;
+    }
+    if (m->active) h[ACTIVE + el[TASK_NUMBER] - 1] += m->active == UP ? 1 : -1;
+    if (m->ready) h[READY + el[TASK_NUMBER] - 1] += m->ready == UP ? 1 : -1;
+    if (m->puts == BRANCH) h[el[EXITS + 1 + b] - 1]++;
+    else if (m->puts)
+        for (unsigned j = 0; j < el[EXITS]; j++) h[el[EXITS + 1 + j] - 1]++;
+}
+
+/* The number of a step at an element that is there, 12 to 18; 0 leaves what is to be written in the plan. */
+static unsigned decide(const word *el, const word *h, word *z, const struct move *m, unsigned b, const ref_tuple *g, unsigned made, unsigned limit,
+                       struct plan *plan) {
+    static const word unmade[INSTANCE_WORDS];
+    if (m->makes) h = unmade;
+    const word *message = message_at(el, b);
+    if (!counts_permit(el, h, m, b)) return 12;
+    if (m->asks && !condition_holds(el, h, b)) return 13;
+    memset(&plan->message, 0, sizeof plan->message);
+    if (m->receives && !work_out(message, h, g, &plan->message)) return 13;
+    memcpy(plan->h, h, sizeof plan->h);
+    plan->queue = queue_at(z, message[0]);
+    if (!m->receives) {
+        if (m->assigns && !assign(el, plan->h)) return 13;
+        if (m->sends && !work_out(message, plan->h, g, &plan->message)) return 13;
+        if (g->length) return 14;
+    } else {
+        if (!same_tuple(&plan->message, g)) return 14;
+        for (unsigned j = 0; j < message[1]; j++)
+            if (item_at(message, j)[0] == BIND) set_field(plan->h, item_at(message, j)[LEFT + 1], g->values[j]);
+        if (m->assigns && !assign(el, plan->h)) return 13;
+        plan->slot = find_message(plan->queue, g);
+        if (!plan->slot) return 15;
+        if (m->makes && made >= limit) return 16;
+    }
+    if (m->sends && plan->queue[0] >= MESSAGES) return 17;
+    take_tokens(el, plan->h, m, b);
+    return puts_fit(el, plan->h, m, b) ? 0 : 18;
+}
+
+static unsigned find_pool(const word *t, unsigned number) {
+    unsigned p = 0;
+    while (p < t[0] && pool_at(t, p)[0] != number) p++;
+    return p;
+}
+
+/* A step on a table and a state that are right; where `take` is false only its number. */
+static ref_answer step_on(const word *t, word *z, const ref_name *n, bool take) {
+    ref_answer a = {.number = 11};
+    unsigned p = find_pool(t, n->pool);
+    if (p == t[0]) return a;
+    const word *pool = pool_at(t, p);
+    if (n->element >= pool[POOL_COUNT]) return a;
+    const word *el = element_at(pool, n->element);
+    const struct move *m = move_of(el, n->phase);
+    if (!m->there || n->branch >= branch_count(el, m)) return a;
+    if (m->makes ? n->instance != z[p] : n->instance >= z[p]) return a;
+    struct plan plan;
+    a.number = decide(el, instance_at(z, p, n->instance), z, m, n->branch, &n->given, z[p], limit_of(pool), &plan);
+    if (a.number || !take) return a;
+    finish(el, plan.h, m, n->branch);
+    memcpy(instance_at(z, p, n->instance), plan.h, sizeof plan.h);
+    if (m->makes) z[p]++;
+    if (m->receives) remove_message(plan.queue, plan.slot), a.traffic = 1;
+    if (m->sends) append(plan.queue, &plan.message), a.traffic = 2;
+    if (a.traffic) a.name = message_at(el, n->branch)[0], a.tuple = plan.message;
+    return a;
+}
+
+ref_answer ref_step(const word *t, word *z, ref_name n) { return fitting(t, z) ? step_on(t, z, &n, true) : (ref_answer){.number = 10}; }
+
+uint16_t ref_post(const word *t, word *z, word name, ref_tuple g) {
+    if (!fitting(t, z)) return 10;
+    if (name >= NAMES || g.length > VALUES) return 19;
+    word *q = queue_at(z, name);
+    if (q[0] >= MESSAGES) return 17;
+    append(q, &g);
+    return 0;
+}
+
+/* An element with no token on an entry and no count cannot move. */
+static bool idle(const word *el, const word *h) {
+    for (unsigned j = 0; j < el[ENTRIES]; j++)
+        if (h[el[ENTRIES + 1 + j] - 1]) return false;
+    return el[MODE] < NA_C || !(h[ACTIVE + el[TASK_NUMBER] - 1] | h[READY + el[TASK_NUMBER] - 1]);
+}
+
+struct search { const word *t; word *z; size_t left; ref_name name; };
+
+/* Whether the step sought was among those of this name; each accepted one lowers what is left. */
+static bool offer(struct search *s, const word *el, const word *h, const struct move *m, unsigned made, unsigned limit) {
+    struct plan plan;
+    if (decide(el, h, s->z, m, s->name.branch, &s->name.given, made, limit, &plan)) return false;
+    return s->left-- == 0;
+}
+
+static bool offer_messages(struct search *s, const word *el, const word *h, const struct move *m, unsigned made, unsigned limit) {
+    const word *q = queue_at(s->z, message_at(el, s->name.branch)[0]);
+    for (unsigned k = 0; k < q[0]; k++) {
+        const word *slot = q + 1 + SLOT_WORDS * k;
+        if (slot[0] != message_at(el, s->name.branch)[1]) continue;
+        memcpy(&s->name.given, slot, sizeof s->name.given);
+        if (find_message((word *)q, &s->name.given) != slot) continue;
+        if (offer(s, el, h, m, made, limit)) return true;
+    }
+    memset(&s->name.given, 0, sizeof s->name.given);
+    return false;
+}
+
+static bool search_element(struct search *s, const word *el, const word *h, unsigned made, unsigned limit) {
+    unsigned first = el[MODE] < NA_C ? 0 : 1, last = el[MODE] < NA_C ? 0 : 3;
+    for (unsigned phase = first; phase <= last; phase++) {
+        const struct move *m = move_of(el, phase);
+        if (!m->there) continue;
+        s->name.phase = phase;
+        unsigned branches = branch_count(el, m);
+        for (unsigned b = 0; b < branches; b++) {
+            s->name.branch = b;
+            if (!m->makes && !counts_permit(el, h, m, b)) continue;
+            if (m->receives ? offer_messages(s, el, h, m, made, limit) : offer(s, el, h, m, made, limit)) return true;
+        }
+    }
+    return false;
+}
+
+static bool search_pool(struct search *s, unsigned p) {
+    const word *pool = pool_at(s->t, p);
+    unsigned made = s->z[p], limit = limit_of(pool);
+    s->name.pool = pool[0];
+    for (unsigned i = 0; i <= made; i++) {
+        s->name.instance = i;
+        if (i == made && made >= limit) continue;
+        const word *h = i < INSTANCES ? instance_at(s->z, p, i) : s->z;
+        for (unsigned e = 0; e < pool[POOL_COUNT]; e++) {
+            const word *el = element_at(pool, e);
+            if (el[KIND] == START_RCV ? i != made : i == made || idle(el, h)) continue;
+            s->name.element = e;
+            if (search_element(s, el, h, made, limit)) return true;
+        }
+    }
+    return false;
+}
+
+static bool search_all(struct search *s) {
+    memset(&s->name, 0, sizeof s->name);
+    for (unsigned p = 0; p < s->t[0]; p++)
+        if (search_pool(s, p)) return true;
+    return false;
+}
+
+ref_listed ref_list(const word *t, const word *z, size_t k) {
+    ref_listed r = {.number = 10};
+    if (!fitting(t, z)) return r;
+    struct search s = {.t = t, .z = (word *)z, .left = k};
+    r.number = search_all(&s) ? 0 : 6;
+    if (!r.number) r.name = s.name;
+    return r;
+}
+
+ref_ran ref_run(const word *t, word *z, word limit) {
+    if (!fitting(t, z)) return (ref_ran){10, 0, 0};
+    for (unsigned steps = 0;; steps++) {
+        struct search s = {.t = t, .z = z, .left = 0};
+        if (!search_all(&s)) return (ref_ran){0, steps, 0};
+        if (steps == limit) return (ref_ran){0, steps, 1};
+        step_on(t, z, &s.name, true);
+    }
+}

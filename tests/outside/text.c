@@ -1,0 +1,386 @@
+/* The notation: reading a text into a table, and writing a table's text. */
+#include "layout.h"
+
+enum form { WORD, SIGN, ASSIGN_SIGN, TEXT_END, OTHER };
+
+struct reader {
+    const uint8_t *s;
+    size_t n, at, next; /* the token in hand: its first byte, and the byte behind it */
+    enum form form;
+    unsigned number; /* of the refusal, at the place refused */
+    size_t refused;
+};
+
+static bool is_letter(uint8_t b) { return (b >= 'a' && b <= 'z') || (b >= 'A' && b <= 'Z'); }
+static bool is_digit(uint8_t b) { return b >= '0' && b <= '9'; }
+static bool is_word(uint8_t b) { return is_letter(b) || is_digit(b) || b == '_'; }
+
+/* the next token, from a place on */
+static void advance(struct reader *r, size_t from) {
+    while (from < r->n && (r->s[from] == ' ' || r->s[from] == '\t' || r->s[from] == '\n')) from++;
+    r->at = r->next = from;
+    if (from >= r->n) {
+        r->form = TEXT_END;
+        return;
+    }
+    uint8_t b = r->s[r->next++];
+    if (is_word(b)) {
+        r->form = WORD;
+        while (r->next < r->n && is_word(r->s[r->next])) r->next++;
+    } else if (b == ':' && r->next < r->n && r->s[r->next] == '=') {
+        r->form = ASSIGN_SIGN;
+        r->next++;
+    } else r->form = b && strchr("|(){},<>?+-=:", b) ? SIGN : OTHER;
+}
+
+static bool refuse(struct reader *r, unsigned number) {
+    r->number = number;
+    r->refused = r->at;
+    return false;
+}
+
+static bool at_sign(const struct reader *r, uint8_t s) { return r->form == SIGN && r->s[r->at] == s; }
+
+static bool pass(struct reader *r) {
+    advance(r, r->next);
+    return true;
+}
+
+static bool sign(struct reader *r, uint8_t s) { return at_sign(r, s) ? pass(r) : refuse(r, 2); }
+
+static bool at_word(const struct reader *r, const char *w) {
+    size_t n = strlen(w);
+    return r->form == WORD && r->next - r->at == n && memcmp(r->s + r->at, w, n) == 0;
+}
+
+/* digits from a place of the token on: -1 where they are no number, above 65,535 as 65,536 */
+static int32_t numeral(const struct reader *r, size_t from) {
+    if (r->form != WORD || from >= r->next || (r->s[from] == '0' && r->next - from > 1)) return -1;
+    int32_t v = 0;
+    for (; from < r->next; from++) {
+        if (!is_digit(r->s[from])) return -1;
+        v = v * 10 + (r->s[from] - '0');
+        if (v > GREATEST + 1) v = GREATEST + 1;
+    }
+    return v;
+}
+
+static bool ranged(struct reader *r, int32_t v, int32_t least, int32_t most, word *out) {
+    if (v < 0) return refuse(r, 2);
+    if (v < least || v > most) return refuse(r, 3);
+    *out = v;
+    return pass(r);
+}
+
+static bool number(struct reader *r, int32_t least, int32_t most, word *out) { return ranged(r, numeral(r, r->at), least, most, out); }
+
+static bool at_d(const struct reader *r) { return r->form == WORD && r->s[r->at] == 'd'; }
+
+static bool field(struct reader *r, word *out) { return ranged(r, at_d(r) ? numeral(r, r->at + 1) : -1, 0, FIELDS - 1, out); }
+
+static bool operand(struct reader *r, word *x) {
+    x[0] = at_d(r);
+    return x[0] ? field(r, x + 1) : number(r, 0, GREATEST, x + 1);
+}
+
+static bool expression(struct reader *r, word *x) {
+    if (!operand(r, x + LEFT)) return false;
+    x[0] = at_sign(r, '+') ? PLUS : at_sign(r, '-') ? MINUS : SINGLE;
+    return x[0] == SINGLE || (pass(r) && operand(r, x + RIGHT));
+}
+
+static bool template_item(struct reader *r, word *x) {
+    if (!at_sign(r, '?')) return expression(r, x);
+    x[0] = BIND, x[LEFT] = 1;
+    return pass(r) && field(r, x + LEFT + 1);
+}
+
+static bool condition(struct reader *r, word *x, bool defaults) {
+    if (r->form != WORD) return refuse(r, 2);
+    x[0] = at_word(r, "true") ? ALWAYS : defaults && at_word(r, "default") ? DEFAULT : 0;
+    if (x[0]) return pass(r);
+    if (!operand(r, x + LEFT)) return false;
+    x[0] = at_sign(r, '=') ? EQUALS : at_sign(r, '<') ? BELOW : 0;
+    return x[0] ? pass(r) && operand(r, x + RIGHT) : refuse(r, 2);
+}
+
+/* The items of lists, each read into the words of its element el, as item k of branch b or list. */
+enum item { AN_ENTRY, AN_EXIT, A_TEMPLATE_ITEM, A_MESSAGE_ITEM, AN_ASSIGNMENT, A_GUARDED, A_RECEIVING };
+
+static bool message(struct reader *r, word *el, unsigned b, bool receives);
+
+static bool item(struct reader *r, word *el, enum item which, unsigned b, unsigned k) {
+    word *x;
+    switch (which) {
+    case AN_ENTRY: return number(r, 1, EDGES, el + ENTRIES + 1 + k);
+    case AN_EXIT: return number(r, 1, EDGES, el + EXITS + 1 + k);
+    case A_TEMPLATE_ITEM: return template_item(r, (word *)item_at(message_at(el, b), k));
+    case A_MESSAGE_ITEM: return expression(r, (word *)item_at(message_at(el, b), k));
+    case AN_ASSIGNMENT:
+        x = (word *)assignment_at(el, k);
+        if (!field(r, x)) return false;
+        return (r->form == ASSIGN_SIGN ? pass(r) : refuse(r, 2)) && expression(r, x + 1);
+    case A_GUARDED:
+        return sign(r, '(') && number(r, 1, EDGES, el + EXITS + 1 + k) && sign(r, ',') && condition(r, (word *)condition_at(el, k), true) && sign(r, ')');
+    case A_RECEIVING: return sign(r, '(') && message(r, el, k, true) && sign(r, ',') && number(r, 1, EDGES, el + EXITS + 1 + k) && sign(r, ')');
+    }
+    return false;
+}
+
+static bool starts(const struct reader *r, enum item which) {
+    bool is_number = numeral(r, r->at) >= 0, is_field = at_d(r) && numeral(r, r->at + 1) >= 0;
+    switch (which) {
+    case AN_ENTRY:
+    case AN_EXIT: return is_number;
+    case A_TEMPLATE_ITEM: return is_number || is_field || at_sign(r, '?');
+    case A_MESSAGE_ITEM: return is_number || is_field;
+    case AN_ASSIGNMENT: return is_field;
+    default: return at_sign(r, '(');
+    }
+}
+
+/* items with commas between them, at least and at most so many; their count goes to a word */
+static bool items(struct reader *r, word *el, enum item which, unsigned b, unsigned least, unsigned most, word *count) {
+    for (unsigned k = 0;; k++) {
+        if (k == most) return refuse(r, starts(r, which) ? 3 : 2);
+        if (!item(r, el, which, b, k)) return false;
+        if (at_sign(r, ',')) {
+            pass(r);
+            continue;
+        }
+        if (k + 1 < least) return refuse(r, 2);
+        *count = k + 1;
+        return true;
+    }
+}
+
+static bool list(struct reader *r, word *el, enum item which, unsigned b, char open, char close, unsigned least, unsigned most, word *count) {
+    if (!sign(r, open)) return false;
+    if (least == 0 && at_sign(r, close)) {
+        *count = 0;
+        return pass(r);
+    }
+    return items(r, el, which, b, least, most, count) && sign(r, close);
+}
+
+static bool message(struct reader *r, word *el, unsigned b, bool receives) {
+    word *m = (word *)message_at(el, b);
+    return number(r, 0, NAMES - 1, m) && sign(r, ':') && list(r, el, receives ? A_TEMPLATE_ITEM : A_MESSAGE_ITEM, b, '<', '>', 0, VALUES, m + 1);
+}
+
+static bool mode(struct reader *r, word *out) {
+    *out = at_word(r, "a") ? ATOMIC : at_word(r, "na_c") ? NA_C : at_word(r, "na_nc") ? NA_NC : 0;
+    return *out ? pass(r) : refuse(r, 2);
+}
+
+static bool part(struct reader *r, word *el, char c) {
+    switch (c) {
+    case 'E': return el[ENTRIES] = 1, number(r, 1, EDGES, el + ENTRIES + 1);
+    case 'X': return el[EXITS] = 1, number(r, 1, EDGES, el + EXITS + 1);
+    case 'F': return list(r, el, AN_ENTRY, 0, '{', '}', FEWEST, BRANCHES, el + ENTRIES);
+    case 'Y': return list(r, el, AN_EXIT, 0, '{', '}', FEWEST, BRANCHES, el + EXITS);
+    case 'G': return list(r, el, A_GUARDED, 0, '{', '}', FEWEST, BRANCHES, el + EXITS);
+    case 'B': return items(r, el, A_RECEIVING, 0, FEWEST, BRANCHES, el + EXITS);
+    case 'T': return message(r, el, 0, true);
+    case 'S': return message(r, el, 0, false);
+    default:
+        return number(r, 1, TASKS, el + TASK_NUMBER) && sign(r, ',') && mode(r, el + MODE) && sign(r, ',') && condition(r, (word *)condition_at(el, 0), false)
+            && sign(r, ',') && list(r, el, AN_ASSIGNMENT, 0, '{', '}', 0, ASSIGNMENTS, el + ASSIGNED);
+    }
+}
+
+static unsigned kind_here(const struct reader *r) {
+    for (unsigned k = 1; k < KINDS; k++)
+        if (at_word(r, kinds[k].keyword)) return k;
+    return 0;
+}
+
+static bool element(struct reader *r, word *el) {
+    unsigned k = kind_here(r);
+    if (!k) return refuse(r, 2);
+    el[KIND] = k;
+    pass(r);
+    for (const char *c = kinds[k].parts; *c; c++)
+        if (!sign(r, c == kinds[k].parts ? '(' : ',') || !part(r, el, *c)) return false;
+    return sign(r, ')');
+}
+
+static bool pool(struct reader *r, word *pool) {
+    bool many = at_word(r, "miPool");
+    if (!many && !at_word(r, "pool")) return refuse(r, 2);
+    pass(r);
+    if (!sign(r, '(') || !number(r, 1, 9, pool) || !sign(r, ',')) return false;
+    for (unsigned e = 0;; e++) {
+        if (e == ELEMENTS) return refuse(r, kind_here(r) ? 3 : 2);
+        if (!element(r, (word *)element_at(pool, e))) return false;
+        pool[POOL_COUNT] = e + 1;
+        if (!at_sign(r, '|')) break;
+        pass(r);
+    }
+    if (many && (!sign(r, ',') || !number(r, 1, INSTANCES, pool + POOL_LIMIT))) return false;
+    return sign(r, ')');
+}
+
+static bool model(struct reader *r, word *t) {
+    for (unsigned p = 0;; p++) {
+        if (p == POOLS) return refuse(r, at_word(r, "pool") || at_word(r, "miPool") ? 3 : 2);
+        if (!pool(r, (word *)pool_at(t, p))) return false;
+        t[0] = p + 1;
+        if (!at_sign(r, '|')) break;
+        pass(r);
+    }
+    return r->form == TEXT_END || refuse(r, 2);
+}
+
+ref_reading ref_read(const uint8_t *text, size_t length, word *t) {
+    if (length > REF_TEXT_MOST) return (ref_reading){1, 0};
+    word read[REF_TABLE_WORDS];
+    memset(read, 0, sizeof read);
+    struct reader r = {.s = text, .n = length};
+    advance(&r, 0);
+    if (!model(&r, read)) return (ref_reading){r.number, r.refused};
+    unsigned k = lowest_broken(read);
+    if (k) return (ref_reading){4, k};
+    memcpy(t, read, sizeof read);
+    return (ref_reading){0, 0};
+}
+
+/* WRITING into a buffer that is long enough for every valid table. */
+static uint8_t *put_text(uint8_t *o, const char *w) {
+    size_t n = strlen(w);
+    memcpy(o, w, n);
+    return o + n;
+}
+
+static uint8_t *put_number(uint8_t *o, unsigned v) {
+    uint8_t digits[5];
+    unsigned n = 0;
+    do digits[n++] = '0' + v % 10;
+    while (v /= 10);
+    while (n) *o++ = digits[--n];
+    return o;
+}
+
+static uint8_t *put_operand(uint8_t *o, const word *x) {
+    if (x[0]) *o++ = 'd';
+    return put_number(o, x[1]);
+}
+
+static uint8_t *put_pair(uint8_t *o, const word *x, char sign) {
+    o = put_operand(o, x + LEFT);
+    *o++ = sign;
+    return put_operand(o, x + RIGHT);
+}
+
+static uint8_t *put_item(uint8_t *o, const word *x) {
+    if (x[0] == PLUS) return put_pair(o, x, '+');
+    if (x[0] == MINUS) return put_pair(o, x, '-');
+    if (x[0] == BIND) *o++ = '?';
+    return put_operand(o, x + LEFT);
+}
+
+static uint8_t *put_condition(uint8_t *o, const word *x) {
+    if (x[0] == ALWAYS) return put_text(o, "true");
+    if (x[0] == DEFAULT) return put_text(o, "default");
+    return put_pair(o, x, x[0] == EQUALS ? '=' : '<');
+}
+
+static uint8_t *put_message(uint8_t *o, const word *m) {
+    o = put_number(o, m[0]);
+    o = put_text(o, ":<");
+    for (unsigned j = 0; j < m[1]; j++) {
+        if (j) *o++ = ',';
+        o = put_item(o, item_at(m, j));
+    }
+    *o++ = '>';
+    return o;
+}
+
+static uint8_t *put_list(uint8_t *o, const word *list) {
+    for (unsigned j = 0; j < list[0]; j++) {
+        *o++ = j ? ',' : '{';
+        o = put_number(o, list[1 + j]);
+    }
+    *o++ = '}';
+    return o;
+}
+
+static uint8_t *put_branches(uint8_t *o, const word *el, bool guarded) {
+    if (guarded) *o++ = '{';
+    for (unsigned b = 0; b < el[EXITS]; b++) {
+        if (b) *o++ = ',';
+        *o++ = '(';
+        o = guarded ? put_number(o, el[EXITS + 1 + b]) : put_message(o, message_at(el, b));
+        *o++ = ',';
+        o = guarded ? put_condition(o, condition_at(el, b)) : put_number(o, el[EXITS + 1 + b]);
+        *o++ = ')';
+    }
+    if (guarded) *o++ = '}';
+    return o;
+}
+
+static uint8_t *put_task(uint8_t *o, const word *el) {
+    static const char *const modes[] = {"", ",a,", ",na_c,", ",na_nc,"};
+    o = put_number(o, el[TASK_NUMBER]);
+    o = put_text(o, modes[el[MODE]]);
+    o = put_condition(o, condition_at(el, 0));
+    o = put_text(o, ",{");
+    for (unsigned j = 0; j < el[ASSIGNED]; j++) {
+        const word *x = assignment_at(el, j);
+        o = put_text(o, j ? ",d" : "d");
+        o = put_number(o, x[0]);
+        o = put_text(o, ":=");
+        o = put_item(o, x + 1);
+    }
+    *o++ = '}';
+    return o;
+}
+
+static uint8_t *put_part(uint8_t *o, const word *el, char c) {
+    switch (c) {
+    case 'E': return put_number(o, el[ENTRIES + 1]);
+    case 'X': return put_number(o, el[EXITS + 1]);
+    case 'F': return put_list(o, el + ENTRIES);
+    case 'Y': return put_list(o, el + EXITS);
+    case 'G': return put_branches(o, el, true);
+    case 'B': return put_branches(o, el, false);
+    case 'N': return put_task(o, el);
+    default: return put_message(o, message_at(el, 0));
+    }
+}
+
+static uint8_t *put_element(uint8_t *o, const word *el) {
+    const struct kind *k = &kinds[el[KIND]];
+    o = put_text(o, k->keyword);
+    for (const char *c = k->parts; *c; c++) {
+        *o++ = c == k->parts ? '(' : ',';
+        o = put_part(o, el, *c);
+    }
+    *o++ = ')';
+    return o;
+}
+
+ref_written ref_write(const word *t, uint8_t *buffer, size_t length) {
+    if (!valid(t)) return (ref_written){10, 0};
+    uint8_t text[REF_TEXT_MOST], *o = text;
+    for (unsigned p = 0; p < t[0]; p++) {
+        const word *pool = pool_at(t, p);
+        if (p) *o++ = '|';
+        o = put_text(o, pool[POOL_LIMIT] ? "miPool(" : "pool(");
+        o = put_number(o, pool[0]);
+        for (unsigned e = 0; e < pool[POOL_COUNT]; e++) {
+            *o++ = e ? '|' : ',';
+            o = put_element(o, element_at(pool, e));
+        }
+        if (pool[POOL_LIMIT]) {
+            *o++ = ',';
+            o = put_number(o, pool[POOL_LIMIT]);
+        }
+        *o++ = ')';
+    }
+    *o++ = '\n';
+    size_t n = o - text;
+    if (n > length) return (ref_written){5, 0};
+    memcpy(buffer, text, n);
+    return (ref_written){0, n};
+}
