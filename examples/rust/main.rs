@@ -57,8 +57,13 @@ mod c {
 }
 
 /// The number of document 01 that a call was refused with, and what stands beside it.
-#[derive(Debug)]
 pub struct Refused(u16, usize);
+
+impl std::fmt::Debug for Refused {
+    fn fmt(&self, f: &mut std::fmt::Formatter) -> std::fmt::Result {
+        write!(f, "refused with {}, {}", self.0, self.1)
+    }
+}
 
 struct Message {
     name: u16,

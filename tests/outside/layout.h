@@ -35,7 +35,7 @@ enum { ATOMIC = 1, NA_C = 2, NA_NC = 3 };
 enum { NONE = 0, ONE = 1, MANY = 2 };
 
 /* parts: E entry, X exit, F list of entries, Y list of exits, N task, T template, S message, B branches that receive, G branches with conditions */
-struct kind { const char *keyword, *parts; uint8_t entries, exits, task, conditions, receives, sends; };
+struct kind { const char *keyword, *parts; uint8_t length, entries, exits, task, conditions, receives, sends; };
 extern const struct kind kinds[KINDS];
 
 static inline const word *pool_at(const word *t, unsigned p) { return t + 1 + POOL_WORDS * p; }
@@ -49,10 +49,23 @@ static inline word *instance_at(word *z, unsigned p, unsigned i) { return z + PO
 static inline word *queue_at(word *z, unsigned m) { return z + QUEUES + QUEUE_WORDS * m; }
 static inline unsigned used(unsigned column, unsigned n) { return column == MANY ? n : column; }
 
-/* OR over words: none is other than 0 */
+static inline uint64_t four(const word *x) {
+    uint64_t v;
+    memcpy(&v, x, sizeof v);
+    return v;
+}
+
+/* OR over words, four at a time, the last four by themselves: none is other than 0 */
 static inline bool all_zero(const word *x, size_t n) {
-    word any = 0;
-    for (size_t k = 0; k < n; k++) any |= x[k];
+    const word *end = x + n;
+    uint64_t any = 0;
+    if (n >= 4) {
+        for (; end - x >= 32; x += 32)
+            any |= four(x) | four(x + 4) | four(x + 8) | four(x + 12) | four(x + 16) | four(x + 20) | four(x + 24) | four(x + 28);
+        for (; end - x > 4; x += 4) any |= four(x);
+        any |= four(end - 4);
+    } else
+        for (; x < end; x++) any |= *x;
     return any == 0;
 }
 

@@ -127,10 +127,13 @@ static bool counts_permit(const word *el, const word *h, const struct move *m, u
     return !(m->alone && el[MODE] == NA_NC && (active | ready));
 }
 
+/* the oldest message equal to one; behind a message's values stands 0 */
 static word *find_message(word *q, const ref_tuple *g) {
+    word values[VALUES] = {0};
+    memcpy(values, g->values, g->length * sizeof(word));
     for (unsigned k = 0; k < q[0]; k++) {
         word *slot = q + 1 + SLOT_WORDS * k;
-        if (slot[0] == g->length && memcmp(slot + 1, g->values, g->length * sizeof(word)) == 0) return slot;
+        if (slot[0] == g->length && four(slot + 1) == four(values)) return slot;
     }
     return NULL;
 }
@@ -268,14 +271,24 @@ static bool offer(struct search *s, const word *el, const word *h, const struct 
     return s->left-- == 0;
 }
 
+/* Whether the values of a slot are those of a template worked out, but for what it binds. */
+static bool takes(const word *message, const ref_tuple *worked_out, const word *slot) {
+    if (slot[0] != message[1]) return false;
+    for (unsigned j = 0; j < message[1]; j++)
+        if (slot[1 + j] != worked_out->values[j] && item_at(message, j)[0] != BIND) return false;
+    return true;
+}
+
 static bool offer_messages(struct search *s, const word *el, const word *h, const struct move *m, unsigned made, unsigned limit) {
-    const word *q = queue_at(s->z, message_at(el, s->name.branch)[0]);
+    static const word unmade[INSTANCE_WORDS];
+    const word *message = message_at(el, s->name.branch), *q = queue_at(s->z, message[0]);
+    ref_tuple worked_out;
+    if (!q[0] || !work_out(message, m->makes ? unmade : h, &s->name.given, &worked_out)) return false;
     for (unsigned k = 0; k < q[0]; k++) {
         const word *slot = q + 1 + SLOT_WORDS * k;
-        if (slot[0] != message_at(el, s->name.branch)[1]) continue;
+        if (!takes(message, &worked_out, slot)) continue;
         memcpy(&s->name.given, slot, sizeof s->name.given);
-        if (find_message((word *)q, &s->name.given) != slot) continue;
-        if (offer(s, el, h, m, made, limit)) return true;
+        if (find_message((word *)q, &s->name.given) == slot && offer(s, el, h, m, made, limit)) return true;
     }
     memset(&s->name.given, 0, sizeof s->name.given);
     return false;

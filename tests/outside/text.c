@@ -11,26 +11,31 @@ struct reader {
     size_t refused;
 };
 
-static bool is_letter(uint8_t b) { return (b >= 'a' && b <= 'z') || (b >= 'A' && b <= 'Z'); }
-static bool is_digit(uint8_t b) { return b >= '0' && b <= '9'; }
-static bool is_word(uint8_t b) { return is_letter(b) || is_digit(b) || b == '_'; }
+enum { NO_TOKEN, A_SIGN, BLANK, LETTER, DIGIT };
+
+/* what a byte is, in any token or between them; a letter or `_` and a digit go on a word */
+static const uint8_t bytes[256] = {
+    [' '] = BLANK, ['\t'] = BLANK, ['\n'] = BLANK, ['a' ... 'z'] = LETTER, ['A' ... 'Z'] = LETTER, ['_'] = LETTER, ['0' ... '9'] = DIGIT,
+    ['|'] = A_SIGN, ['('] = A_SIGN, [')'] = A_SIGN, ['{'] = A_SIGN, ['}'] = A_SIGN, [','] = A_SIGN, ['<'] = A_SIGN, ['>'] = A_SIGN,
+    ['?'] = A_SIGN, ['+'] = A_SIGN, ['-'] = A_SIGN, ['='] = A_SIGN, [':'] = A_SIGN,
+};
+
+static bool is_digit(uint8_t b) { return bytes[b] == DIGIT; }
+static bool is_word(uint8_t b) { return bytes[b] >= LETTER; }
 
 /* the next token, from a place on */
 static void advance(struct reader *r, size_t from) {
-    while (from < r->n && (r->s[from] == ' ' || r->s[from] == '\t' || r->s[from] == '\n')) from++;
-    r->at = r->next = from;
-    if (from >= r->n) {
-        r->form = TEXT_END;
-        return;
-    }
-    uint8_t b = r->s[r->next++];
-    if (is_word(b)) {
+    const uint8_t *s = r->s + from, *end = r->s + r->n;
+    while (s < end && bytes[*s] == BLANK) s++;
+    r->at = s - r->s;
+    if (s == end) r->form = TEXT_END;
+    else if (is_word(*s)) {
         r->form = WORD;
-        while (r->next < r->n && is_word(r->s[r->next])) r->next++;
-    } else if (b == ':' && r->next < r->n && r->s[r->next] == '=') {
-        r->form = ASSIGN_SIGN;
-        r->next++;
-    } else r->form = b && strchr("|(){},<>?+-=:", b) ? SIGN : OTHER;
+        do s++;
+        while (s < end && is_word(*s));
+    } else if (*s == ':' && s + 1 < end && s[1] == '=') r->form = ASSIGN_SIGN, s += 2;
+    else r->form = bytes[*s++] == A_SIGN ? SIGN : OTHER;
+    r->next = s - r->s;
 }
 
 static bool refuse(struct reader *r, unsigned number) {
@@ -48,10 +53,9 @@ static bool pass(struct reader *r) {
 
 static bool sign(struct reader *r, uint8_t s) { return at_sign(r, s) ? pass(r) : refuse(r, 2); }
 
-static bool at_word(const struct reader *r, const char *w) {
-    size_t n = strlen(w);
-    return r->form == WORD && r->next - r->at == n && memcmp(r->s + r->at, w, n) == 0;
-}
+static bool at_bytes(const struct reader *r, const char *w, size_t n) { return r->form == WORD && r->next - r->at == n && memcmp(r->s + r->at, w, n) == 0; }
+
+static inline bool at_word(const struct reader *r, const char *w) { return at_bytes(r, w, strlen(w)); }
 
 /* digits from a place of the token on: -1 where they are no number, above 65,535 as 65,536 */
 static int32_t numeral(const struct reader *r, size_t from) {
@@ -191,7 +195,7 @@ static bool part(struct reader *r, word *el, char c) {
 
 static unsigned kind_here(const struct reader *r) {
     for (unsigned k = 1; k < KINDS; k++)
-        if (at_word(r, kinds[k].keyword)) return k;
+        if (at_bytes(r, kinds[k].keyword, kinds[k].length)) return k;
     return 0;
 }
 

@@ -1,0 +1,146 @@
+# shellcheck shell=bash
+# What the scripts here say to people: a wrong use in one line, the numbers given back in the words of document 01, and the place of a refusal.
+
+# One line on a wrong use, and its exit status.
+misused() { # WORDS
+    echo "$0: $1" >&2
+    exit 2
+}
+
+# Takes the words of a script that works on one file or on standard input; the file is then in $input.
+takes_a_file() { # WORDS...
+    input=
+    while [ $# -gt 0 ]; do
+        case $1 in
+        --help | -h)
+            usage
+            exit 0
+            ;;
+        -?*) misused "there is no option '$1'; $0 --help says what there is" ;;
+        *)
+            [ -z "$input" ] || misused "it takes one file, and was given '$input' and '$1'"
+            readable "$1"
+            input=$1
+            ;;
+        esac
+        shift
+    done
+}
+
+# A model's text as the command that reads it: blanks stand for its newlines, so that every place stays.
+as_command() { # MODEL
+    printf 'read '
+    tr '\n' ' ' <"$1"
+    echo
+}
+
+readable() { # FILE
+    [ -e "$1" ] || misused "there is no file '$1'"
+    [ ! -d "$1" ] || misused "'$1' is a folder, and a file is wanted"
+    [ -r "$1" ] || misused "the file '$1' cannot be read"
+}
+
+meaning() { # NUMBER
+    case $1 in
+    0) echo "accepted" ;;
+    1) echo "text above 32,768 bytes" ;;
+    2) echo "the token at this place (or the text's end) continues no text of the notation" ;;
+    3) echo "a number is outside its range or a count above it" ;;
+    4) echo "a model check is broken" ;;
+    5) echo "the writer's buffer is shorter than the text" ;;
+    6) echo "listing: no accepted step with that ordinal" ;;
+    10) echo "the table breaks a limit or check, or the state doesn't fit the table and the limits" ;;
+    11) echo "no such pool, instance, element, phase or branch" ;;
+    12) echo "tokens or task counts don't permit the step" ;;
+    13) echo "condition not true, or an undefined value in condition, template, assignment or message" ;;
+    14) echo "values don't match, or were given to a step that receives nothing" ;;
+    15) echo "no equal message queued" ;;
+    16) echo "startRcv: the pool's limit is reached" ;;
+    17) echo "the queue sent or posted to holds 64" ;;
+    18) echo "an edge or task count, after the taking, would pass 255" ;;
+    19) echo "post: name above 15 or more than 4 values" ;;
+    *) echo "a number that these words do not have" ;;
+    esac
+}
+
+model_check() { # CHECK
+    case $1 in
+    1) echo "pool numbers differ" ;;
+    2) echo "each pool has exactly one start or startRcv" ;;
+    3) echo "in a miPool the start is startRcv" ;;
+    4) echo "each edge stands exactly once as an exit and exactly once as an entry; the first edge of start is an entry only" ;;
+    5) echo "task numbers differ within a pool" ;;
+    6) echo "a message name is received in at most one pool and not sent there" ;;
+    7) echo "there is at most one default in an xorSplit" ;;
+    8) echo "no field is bound twice in one template" ;;
+    esac
+}
+
+ranges="pools 1 to 9, at most 4; elements, at most 32 a pool; edges 1 to 48; tasks 1 to 16; messages 0 to 15; n 1 to 16; lists and branches 2 to 8; \
+fields d0 to d15; values 0 to 65,535; at most 4 items in a message and 4 assignments"
+
+# A refusal in words. The number and what stands beside it are as the program printed them; the text is in FILE, and NAME is what people call it.
+explain() { # NUMBER BESIDE FILE NAME
+    case $1 in
+    2 | 3)
+        at_place "$2" "$3" "$4" "$(meaning "$1") ($1)"
+        unseen "$2" "$3"
+        ;;
+    4) echo "$4: $(meaning 4) (4): check $2 wants that $(model_check "$2")" ;;
+    *) echo "$4: $(meaning "$1") ($1)" ;;
+    esac
+    [ "$1" != 3 ] || echo "the ranges: $ranges"
+}
+
+# A refusal with a place: line and column, the words, and the text around it with a caret.
+at_place() { # PLACE FILE NAME WORDS
+    local place=$1 file=$2 end before after
+    # a column is a character, also where the user's own locale knows only bytes
+    [ -n "$( (LC_ALL=C.UTF-8) 2>&1)" ] || local LC_ALL=C.UTF-8
+    end=$(($(wc -c <"$file")))
+    # the text's end is shown behind its last token, not behind the blanks that follow it
+    [ "$place" -lt "$end" ] || place=$(printf %s "$(tr '\0\t\n' '?  ' <"$file" | LC_ALL=C sed 's/ *$//')" | wc -c)
+    before=$({ head -c "$place" "$file" && echo .; } | tr '\0' '?' | tail -n 1)
+    before=${before%.}
+    after=$(tail -c "+$((place + 1))" "$file" | head -n 1 | tr '\0' '?')
+    echo "$3, line $(($(head -c "$place" "$file" | wc -l) + 1)), column $((${#before} + 1)): $4"
+    if [ "$1" -lt "$end" ]; then
+        around "$before" "$after"
+    elif [ "$place" -gt 0 ]; then
+        around "$before" ''
+        echo "the text ends here"
+    else
+        echo "the text is empty"
+    fi
+}
+
+# A line of text with a caret below a place of it, cut to the width of the terminal.
+around() { # BEFORE AFTER
+    local before=$1 after=$2 room left
+    room=$(($(terminal_width) - 5))
+    left=$((room * 2 / 3))
+    [ ${#before} -le $left ] || before="...${before: -$((left - 3))}"
+    left=$((room - ${#before}))
+    [ ${#after} -le $left ] || after="${after:0:$((left - 3))}..."
+    before=${before//$'\t'/ } after=${after//$'\t'/ }
+    printf '    %s%s\n    %*s^\n' "${before//[[:cntrl:]]/?}" "${after//[[:cntrl:]]/?}" "${#before}" ''
+}
+
+terminal_width() {
+    local width=${COLUMNS:-}
+    [ -n "$width" ] || { [ -t 2 ] && width=$(stty size <&2 2>/dev/null | cut -d' ' -f2); }
+    case $width in '' | *[!0-9]*) width=80 ;; esac
+    [ "$width" -ge 40 ] || width=80
+    echo "$width"
+}
+
+# What stands at a place of the notation's text, where it cannot be seen.
+unseen() { # PLACE FILE
+    local byte
+    byte=$(tail -c "+$(($1 + 1))" "$2" | head -c 1 | od -An -tu1 | tr -d ' ')
+    case $byte in
+    13) echo "here stands byte 13, a carriage return: a line ends with a newline alone" ;;
+    239) echo "here stands byte 239, as of a byte order mark: the text is plain ASCII" ;;
+    [0-9] | [12][0-9] | 3[01] | 12[7-9] | 1[3-9][0-9] | 2[0-9][0-9]) echo "here stands byte $byte: the text is plain ASCII, with blanks, tabs and newlines" ;;
+    esac
+}

@@ -1,0 +1,5 @@
+pub mod ByteLaws
+pub mod SayingLaws
+pub mod SpelledLaws
+pub mod ConditionLaws
+pub mod PointsHold

@@ -1,0 +1,4 @@
+pub mod Saying
+pub mod Words
+pub mod Conditions
+pub mod Points
