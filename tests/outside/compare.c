@@ -1,14 +1,18 @@
 /* The engine against the reference: the same calls on the same blocks, and every byte lent to either compared after each call.
    compare calls CASES SEED              prints how many calls agreed, or the first difference with what led to it, and ends with 1
+   compare drawings CASES SEED           the same for drawings; before the engine has that call, the reference alone against what the generator knows
+   compare drawing CASE                  prints the drawing of a case
+   compare worst                         drawings that hold as much of one thing as fits: compared, and timed
    compare sessions FIRST COUNT SEED     prints sessions for the two consoles, one after the other */
 #include "cuttingvale.h"
 #include "generate.h"
 #include <stdio.h>
 #include <stdlib.h>
 #include <sys/mman.h>
+#include <time.h>
 #include <unistd.h>
 
-enum { TEXT_ROOM = REF_TEXT_MOST + 64 };
+enum { TEXT_ROOM = REF_TEXT_MOST + 64, DRAWING_ROOM = 80000 };
 
 /* Each library has blocks of its own, which end where no page can be read. */
 struct blocks { uint16_t *table, *state; uint8_t *buffer; };
@@ -28,14 +32,17 @@ static struct blocks lend_all(void) {
 }
 
 static struct blocks ours, theirs;
-static char text[TEXT_ROOM + 64];
+static char text[DRAWING_ROOM];
+static uint8_t *lent_text; /* ends where no page can be read */
 static size_t text_length;
 static uint64_t calls, seed_of_case;
 static unsigned given[32];
 
 static void differ(const char *call, const char *what, unsigned engine, unsigned reference) {
     printf("difference in %s, case %llu: %s: engine %u, reference %u\n", call, (unsigned long long)seed_of_case, what, engine, reference);
-    printf("text: %.*s\n", (int)text_length, text);
+    printf("text: ");
+    fwrite(text, 1, text_length, stdout);
+    putchar('\n');
     exit(1);
 }
 
@@ -88,6 +95,33 @@ static unsigned read_both(void) {
     same("read", "beside", a.beside, b.beside);
     same_blocks("read");
     return b.number;
+}
+
+/* The number due is the generator's; what was drawn is also what its text gives. */
+static void draw_both(int due) {
+    static uint16_t table[REF_TABLE_WORDS];
+    static uint8_t written[REF_TEXT_MOST];
+    uint8_t *lent = lent_text + DRAWING_ROOM - text_length;
+    memcpy(lent, text, text_length);
+    ref_reading b = ref_draw(lent, text_length, theirs.table);
+    given[b.number]++;
+    if (due >= 0 && due != b.number) {
+        printf("the generator counts on %d\n", due);
+        differ("draw", "number", due, b.number);
+    }
+#ifdef DRAWINGS
+    cv_reading a = cv_draw(lent, text_length, TABLE);
+    same("draw", "number", a.number, b.number);
+    same("draw", "beside", a.beside, b.beside);
+#else
+    if (!b.number) memcpy(ours.table, theirs.table, REF_TABLE_WORDS * sizeof(uint16_t));
+#endif
+    same_blocks("draw");
+    if (b.number) return;
+    ref_written w = ref_write(theirs.table, written, sizeof written);
+    same("draw", "text", w.number, 0);
+    same("draw", "its text read", ref_read(written, w.length, table).number, 0);
+    same_words("draw", "table of its text", ours.table, table, REF_TABLE_WORDS);
 }
 
 static void check_both(void) {
@@ -170,6 +204,11 @@ static void wrong_lengths(struct random *r) {
     same("write", "wrong length", cv_write(ours.table, n, ours.buffer, TEXT_ROOM).number, 10);
     same("read", "no text", cv_read(NULL, 0, TABLE).number, 2);
     same("write", "no buffer", cv_write(TABLE, NULL, 0).number, ref_write(theirs.table, theirs.buffer, 0).number);
+#ifdef DRAWINGS
+    same("draw", "wrong length", cv_draw((const uint8_t *)text, text_length, ours.table, n).number, 10);
+    same("draw", "no text", cv_draw(NULL, 0, TABLE).number, 20);
+    calls += 2;
+#endif
     calls += 12;
     same_blocks("a call with a wrong length or none");
 }
@@ -263,6 +302,58 @@ static void compare_case(struct random *r) {
     }
 }
 
+static void drawing_case(struct random *r) {
+    int due;
+    text_length = drawing_text(r, text, sizeof text, &due);
+    if (chance(r, 10)) damage_both(r, true); /* whatever stood there goes, or stays */
+    draw_both(due);
+}
+
+static int compare_drawings(uint64_t cases, uint64_t seed) {
+    for (uint64_t k = 0; k < cases; k++) {
+        seed_of_case = seed + k;
+        struct random r = {seed_of_case};
+        drawing_case(&r);
+    }
+#ifdef DRAWINGS
+    printf("%llu drawings, no difference; numbers:", (unsigned long long)cases);
+#else
+    printf("%llu drawings, read by the reference alone, as the engine does not read them; numbers:", (unsigned long long)cases);
+#endif
+    for (unsigned k = 0; k < 32; k++)
+        if (given[k]) printf(" %u:%u", k, given[k]);
+    putchar('\n');
+    return 0;
+}
+
+static unsigned since(clock_t start) { return (unsigned)((clock() - start) * 1000.0 / CLOCKS_PER_SEC); }
+
+static int time_worst(void) {
+    const char *name;
+    for (unsigned k = 0; (name = worst_text(k, text, &text_length)); k++) {
+        clock_t start = clock();
+        ref_reading b = ref_draw((const uint8_t *)text, text_length, theirs.table);
+        printf("%-34s %5zu bytes, %2u %5zu, reference %5u ms", name, text_length, b.number, b.beside, since(start));
+#ifdef DRAWINGS
+        start = clock();
+        cv_reading a = cv_draw((const uint8_t *)text, text_length, TABLE);
+        printf(", engine %5u ms", since(start));
+        same("draw", "number", a.number, b.number);
+        same("draw", "beside", a.beside, b.beside);
+#endif
+        putchar('\n');
+        fflush(stdout);
+    }
+    return 0;
+}
+
+static int print_drawing(uint64_t of_case) {
+    struct random r = {of_case};
+    int due;
+    fwrite(text, 1, drawing_text(&r, text, sizeof text, &due), stdout);
+    return 0;
+}
+
 static void print_tuple(ref_tuple g) {
     if (!g.length) putchar('-');
     for (unsigned j = 0; j < g.length; j++) printf(j ? ",%u" : "%u", j < VALUES ? g.values[j] : 0);
@@ -294,6 +385,24 @@ static void session_line(struct random *r) {
     else puts(chance(r, 50) ? "list 1 " : "stap");
 }
 
+/* A line that reads a model: a text or, where the consoles know them, now and then a drawing. */
+static bool print_model(struct random *r) {
+    bool drawing = false;
+#ifdef DRAWINGS
+    int due;
+    drawing = chance(r, 15);
+    if (drawing) text_length = drawing_text(r, text, sizeof text, &due);
+#endif
+    if (!drawing) text_length = model_text(r, text);
+    if (!drawing && chance(r, 25)) text_length = spoiled_text(r, text, text_length);
+    for (size_t k = 0; k < text_length; k++)
+        if (text[k] == '\n') text[k] = ' ';
+    printf(drawing ? "draw " : "read ");
+    fwrite(text, 1, text_length, stdout);
+    putchar('\n');
+    return drawing;
+}
+
 /* It begins with a model of its own, so that nothing of an earlier session is left. */
 static void print_session(struct random *r) {
     static const char first[] = "pool(1,start(1,2)|end(2))";
@@ -301,14 +410,9 @@ static void print_session(struct random *r) {
     ref_read((const uint8_t *)first, strlen(first), theirs.table);
     ref_fresh(theirs.table, theirs.state);
     for (unsigned models = 1 + draw(r, 2); models; models--) {
-        text_length = model_text(r, text);
-        if (chance(r, 25)) text_length = spoiled_text(r, text, text_length);
-        for (size_t k = 0; k < text_length; k++)
-            if (text[k] == '\n') text[k] = ' ';
-        printf("read ");
-        fwrite(text, 1, text_length, stdout);
-        putchar('\n');
-        if (ref_read((const uint8_t *)text, text_length, theirs.table).number == 0) ref_fresh(theirs.table, theirs.state);
+        bool drawing = print_model(r);
+        ref_reading read = drawing ? ref_draw((const uint8_t *)text, text_length, theirs.table) : ref_read((const uint8_t *)text, text_length, theirs.table);
+        if (read.number == 0) ref_fresh(theirs.table, theirs.state);
         for (unsigned k = 20 + draw(r, 40); k; k--) session_line(r);
     }
 }
@@ -334,9 +438,13 @@ static uint64_t seeded(const char *word) { return number(word) * 1000003; }
 int main(int count, char **words) {
     ours = lend_all();
     theirs = lend_all();
+    lent_text = lend(DRAWING_ROOM);
     if (count == 4 && !strcmp(words[1], "calls")) return compare_calls(number(words[2]), seeded(words[3]));
+    if (count == 4 && !strcmp(words[1], "drawings")) return compare_drawings(number(words[2]), seeded(words[3]));
+    if (count == 3 && !strcmp(words[1], "drawing")) return print_drawing(number(words[2]));
+    if (count == 2 && !strcmp(words[1], "worst")) return time_worst();
     if (count != 5 || strcmp(words[1], "sessions")) {
-        fprintf(stderr, "usage: compare calls CASES SEED, or compare sessions FIRST COUNT SEED\n");
+        fprintf(stderr, "usage: compare calls CASES SEED, compare drawings CASES SEED, compare drawing CASE, compare worst, or compare sessions FIRST COUNT SEED\n");
         return 2;
     }
     for (uint64_t k = number(words[2]), last = k + number(words[3]); k < last; k++) {

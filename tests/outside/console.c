@@ -1,9 +1,15 @@
-/* The console's commands over the reference: a session through this and through the engine's console must print the same. */
+/* The console's commands over the reference: a session through this and through the engine's console must print the same. With the word `drawing` it takes one
+   drawing, whole, instead. */
 #include "layout.h"
 #include <stdio.h>
 #include <stdlib.h>
 
+/* DRAWINGS: the engine's console has the command draw, and takes longer lines */
+#ifdef DRAWINGS
+enum { LINE_MOST = 80000, ARGUMENTS = 8 };
+#else
 enum { LINE_MOST = 40000, ARGUMENTS = 8 };
+#endif
 
 static word table[REF_TABLE_WORDS], state[REF_STATE_WORDS];
 static bool loaded;
@@ -112,8 +118,8 @@ static void do_state(void) {
     puts("end");
 }
 
-static void do_read(const char *text, size_t n) {
-    ref_reading r = ref_read((const uint8_t *)text, n, table);
+static void do_read(const char *text, size_t n, bool drawing) {
+    ref_reading r = drawing ? ref_draw((const uint8_t *)text, n, table) : ref_read((const uint8_t *)text, n, table);
     if (r.number) {
         printf("refused %u %zu\n", r.number, r.beside);
         return;
@@ -221,9 +227,15 @@ static void do_line(const char *s, size_t n) {
         return;
     }
     if (n >= 5 && memcmp(s, "read ", 5) == 0) {
-        do_read(s + 5, n - 5);
+        do_read(s + 5, n - 5, false);
         return;
     }
+#ifdef DRAWINGS
+    if (n >= 5 && memcmp(s, "draw ", 5) == 0) {
+        do_read(s + 5, n - 5, true);
+        return;
+    }
+#endif
     for (size_t from = 0; count < ARGUMENTS; count++) {
         size_t to = from;
         while (to < n && s[to] != ' ') to++;
@@ -238,7 +250,17 @@ static void do_line(const char *s, size_t n) {
     else if (!loaded) puts("no model");
 }
 
-int main(void) {
+/* one drawing, whole: ok and its text, or what it is refused with */
+static int one_drawing(void) {
+    static char text[GREATEST + 16];
+    size_t n = fread(text, 1, sizeof text, stdin);
+    do_read(text, n, true);
+    if (loaded) do_write(GREATEST);
+    return 0;
+}
+
+int main(int count, char **words) {
+    if (count == 2 && !strcmp(words[1], "drawing")) return one_drawing();
     char *line = NULL;
     size_t room = 0;
     for (ssize_t n; (n = getline(&line, &room, stdin)) >= 0;) do_line(line, n && line[n - 1] == '\n' ? (size_t)n - 1 : (size_t)n);

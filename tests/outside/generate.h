@@ -13,6 +13,10 @@ bool chance(struct random *r, unsigned percent);
 size_t model_text(struct random *r, char *text);
 /* the same text with a few bytes, tokens or numbers changed */
 size_t spoiled_text(struct random *r, char *text, size_t n);
+/* a drawing, into a buffer of 70,000 bytes or more: returns its length; due is the number that it must get, or -1 where that is not known */
+size_t drawing_text(struct random *r, char *text, size_t room, int *due);
+/* a drawing that holds as much of one thing as fits, by its ordinal: returns what of, or NULL where there are no more */
+const char *worst_text(unsigned which, char *text, size_t *length);
 /* values that a template is likely to meet */
 ref_tuple some_tuple(struct random *r);
 /* the name of a step: an accepted one where there is one and chance wants it, else any */

@@ -73,5 +73,7 @@ bool table_fits(const word *t);
 unsigned lowest_broken(const word *t);
 bool valid(const word *t);
 bool fitting(const word *t, const word *z);
+/* a condition of an xorSplit by itself: 2 where the text is none, 3 with the place of the first number outside its range, else 0 */
+unsigned condition_of(const uint8_t *text, size_t length, word *x, size_t *place);
 
 #endif

@@ -24,6 +24,8 @@ uint16_t ref_post(const uint16_t *table, uint16_t *state, uint16_t name, ref_tup
 ref_listed ref_list(const uint16_t *table, const uint16_t *state, size_t ordinal);
 ref_ran ref_run(const uint16_t *table, uint16_t *state, uint16_t limit);
 ref_reading ref_read(const uint8_t *text, size_t length, uint16_t *table);
+/* document 02's first request: the text is a drawing */
+ref_reading ref_draw(const uint8_t *text, size_t length, uint16_t *table);
 ref_written ref_write(const uint16_t *table, uint8_t *buffer, size_t length);
 
 #endif

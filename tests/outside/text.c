@@ -9,6 +9,7 @@ struct reader {
     enum form form;
     unsigned number; /* of the refusal, at the place refused */
     size_t refused;
+    bool unranged; /* a number outside its range is noted, the first one, and read on */
 };
 
 enum { NO_TOKEN, A_SIGN, BLANK, LETTER, DIGIT };
@@ -71,7 +72,10 @@ static int32_t numeral(const struct reader *r, size_t from) {
 
 static bool ranged(struct reader *r, int32_t v, int32_t least, int32_t most, word *out) {
     if (v < 0) return refuse(r, 2);
-    if (v < least || v > most) return refuse(r, 3);
+    if (v < least || v > most) {
+        if (!r->unranged) return refuse(r, 3);
+        if (!r->number) refuse(r, 3);
+    }
     *out = v;
     return pass(r);
 }
@@ -106,6 +110,14 @@ static bool condition(struct reader *r, word *x, bool defaults) {
     if (!operand(r, x + LEFT)) return false;
     x[0] = at_sign(r, '=') ? EQUALS : at_sign(r, '<') ? BELOW : 0;
     return x[0] ? pass(r) && operand(r, x + RIGHT) : refuse(r, 2);
+}
+
+unsigned condition_of(const uint8_t *text, size_t length, word *x, size_t *place) {
+    struct reader r = {.s = text, .n = length, .unranged = true};
+    advance(&r, 0);
+    if (condition(&r, x, true) && r.form != TEXT_END) refuse(&r, 2);
+    *place = r.refused;
+    return r.number;
 }
 
 /* The items of lists, each read into the words of its element el, as item k of branch b or list. */

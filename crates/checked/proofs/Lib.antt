@@ -3,4 +3,3 @@ pub mod KeepsFitting
 pub mod ExitsOnce
 pub mod NumberGiven
 pub mod NeverSaturates
-pub mod FewExits

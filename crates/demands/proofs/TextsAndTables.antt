@@ -34,7 +34,7 @@ written-whole t out v l = chosen (valid t) _ _ v ∙ passed (ltb (length out) (l
 
 -- so into one of 32,768 bytes
 pub write-fits : (t out : List ℕ) → valid t ≡ true → textMost ≤ length out → writtenTo t out .number ≡ 0
-write-fits t out v l = ap (λ (w : WrittenTo). w .number) (written-whole t out v (omega (arith, short t v, l)))
+write-fits t out v l = ap (λ (w : WrittenTo). w .number) (written-whole t out v (omega (arith, short t (valid-fits t v) (valid-sound t v), l)))
 
 -- what was written with number 0 is the table's text
 pub text-written : (t out : List ℕ) → writtenTo t out .number ≡ 0 → textIn (writtenTo t out) ≡ shownTable t
@@ -62,7 +62,7 @@ length-written t out =
 module _ (t : List ℕ) (words : Table t) (v : valid t ≡ true) where
   pub read-what-was-written : (out t₀ : List ℕ) → writtenTo t out .number ≡ 0 → readInto (textIn (writtenTo t out)) t₀ ≡ record { number = 0; beside = 0; table = t }
   read-what-was-written out t₀ n =
-      ap (λ (text : List ℕ). readInto text t₀) (text-written t out n) ∙ read-back t t₀ (words .small) (valid-fits t v) (valid-sound t v) (words .long) (short t v)
+      ap (λ (text : List ℕ). readInto text t₀) (text-written t out n) ∙ read-back t t₀ (words .small) (valid-fits t v) (valid-sound t v) (words .long) (short t (valid-fits t v) (valid-sound t v))
 
   -- into a buffer that is long enough, which one of 32,768 bytes is
   pub write-what-was-read : (out t₀ out₂ : List ℕ) → writtenTo t out .number ≡ 0 → writtenTo t out .length ≤ length out₂

@@ -11,20 +11,23 @@ use denote.Enum.Declared.{tagOf}
 use lib.Dec.{eqb, ltb}
 use lib.ListN.{length, set, drop, take, getD, replicate, length-set, length-replicate, drop-of-length-le}
 use lib.Seq.{drop-cons}
-use borrow.Author.Tests.{eq-eqb, ne-eqb}
+use borrow.Author.Tests.{eq-eqb, ne-eqb, eqb-true}
+use Rattle.words.specs.Each.{each}
 use Rattle.words.specs.Pick.{if_then_else_}
 use Rattle.words.specs.Seek.{seek}
 use Rattle.words.specs.Words.{part}
 use Rattle.words.proofs.AllLaws.{lt-ltb-by, le-ltb-by}
+use Rattle.words.proofs.ListLaws.{each-at}
 use Rattle.words.proofs.PickLaws.{pick-yes, pick-no}
 use Rattle.kinds.specs.declared.Kind.{Kind}
-use Rattle.kinds.specs.Kinds.{kindOf, keywordOf}
+use Rattle.kinds.specs.Kinds.{noKind, kinds, kindOf, keywordOf}
 use Rattle.model.specs.Places.{kindPlace}
 use Rattle.lexer.specs.declared.Token.{Token}
 use Rattle.lexer.specs.declared.Form.the-variants.{Word}
 use Rattle.lexer.specs.Lexer.{tokenAt}
 use Rattle.lexer.proofs.Form.{the-type}
 use Rattle.numerals.specs.Numerals.{sameBytes}
+use Rattle.numerals.proofs.NumberLaws.{same-lengths}
 use Rattle.reading.specs.declared.Read.{Read}
 use Rattle.reading.specs.declared.Read.the-variants.{At, Refused}
 use Rattle.reading.specs.Reading.{Parsed, Reader, misplaced, passed, refused, ifAt, onward, _then_, letters, signAt, sign}
@@ -33,11 +36,18 @@ use Rattle.reading.proofs.WordLaws.{word-read, word-missed}
 use Rattle.parts.specs.Parts.{partOf}
 use Rattle.elements.specs.Elements.{kindCount, isKeyword, kindNamed, blank, partsFrom, partsOf, elementOf, element, startsElement}
 
--- a row's keyword
-pub keyword-is : (w l : List ℕ) (k n : ℕ) (row : Kind) (r : Bool) → row ≡ kindOf k → n ≡ row .letters → l ≡ part (row .keyword) 0 n → r ≡ sameBytes w l → r ≡ sameBytes w (keywordOf k)
-keyword-is w l k n row r e m p h =
+-- the keyword of kind k: its letters, and how many they are
+letters-many : (k : ℕ) → length (keywordOf k) ≡ kindOf k .letters
+unfolding each kindOf
+letters-many k = eqb-true _ _ (each-at (λ (r : Kind). eqb (length (take (r .letters) (r .keyword))) (r .letters)) kinds noKind refl refl k)
+
+pub keyword-other : (w : List ℕ) (k m n : ℕ) → m ≡ kindOf k .letters → n ≡ m → (length w ≡ n → ⊥) → false ≡ sameBytes w (keywordOf k)
+keyword-other w k m n e g h = sym (same-lengths w (keywordOf k) (λ q. h (q ∙ letters-many k ∙ sym (g ∙ e))))
+
+pub keyword-is : (w l b : List ℕ) (k m n : ℕ) (r : Bool) → m ≡ kindOf k .letters → n ≡ m → b ≡ kindOf k .keyword → l ≡ part b 0 n → r ≡ sameBytes w l → r ≡ sameBytes w (keywordOf k)
+keyword-is w l b k m n r e g q p h =
     let z : n - 0 ≡ n = omega arith in
-    h ∙ ap (sameBytes w) (p ∙ ap (λ j. take j (row .keyword)) (z ∙ m)) ∙ ap (λ (d : Kind). sameBytes w (take (d .letters) (d .keyword))) e
+    h ∙ ap (sameBytes w) (p ∙ ap (λ j. take j b) (z ∙ g ∙ e) ∙ ap (take (kindOf k .letters)) q)
 
 pub keyword-no : (w : List ℕ) (j : ℕ) (r : Bool) → r ≡ sameBytes w (keywordOf (j + 1)) → r ≡ isKeyword w j
 unfolding isKeyword
@@ -130,10 +140,10 @@ module _ (text : List ℕ) (at : ℕ) (t : Token) (e : t ≡ tokenAt text at) wh
   starts-yes l k f h n = word-read text at t e (λ z p q. not (eqb (kindNamed z) 0)) (λ p. false) (not (eqb k 0)) l f h (ap (λ j. not (eqb j 0)) n)
 
 -- the parts of kind k, and the closing sign
-module _ (text : List ℕ) (at : ℕ) (x : List ℕ) (k : ℕ) (row : Kind) (er : row ≡ kindOf k) (r : Read) (y : List ℕ)
-    (e : record { end = r; words = y } ≡ partsFrom 40 (row .parts) text at x) where
+module _ (text : List ℕ) (at : ℕ) (x : List ℕ) (k : ℕ) (codes : List ℕ) (er : codes ≡ kindOf k .parts) (r : Read) (y : List ℕ)
+    (e : record { end = r; words = y } ≡ partsFrom 40 codes text at x) where
   by-row : record { end = r; words = y } ≡ partsFrom 40 (kindOf k .parts) text at x
-  by-row = e ∙ ap (λ (d : Kind). partsFrom 40 (d .parts) text at x) er
+  by-row = e ∙ ap (λ (d : List ℕ). partsFrom 40 d text at x) er
 
   pub row-stopped : (n p : ℕ) → r ≡ Refused n p → record { end = r; words = y } ≡ partsOf k text at x
   unfolding partsOf

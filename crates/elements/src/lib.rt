@@ -7,7 +7,8 @@ ghost use Rattle.numerals.specs.Numerals.{sameBytes};
 ghost use Rattle.reading.specs.Reading.{sign, _then_};
 ghost use Rattle.parts.specs.Parts.{partOf};
 ghost use Rattle.elements.specs.Elements.{kindCount, isKeyword, kindNamed, blank, partsFrom, partsOf, elementOf, element, startsElement};
-use kinds::kind_of;
+use kinds::keyword_of;
+use kinds::letters_of;
 use lexer::Form;
 use lexer::piece;
 use lexer::token_at;
@@ -25,14 +26,16 @@ use words::wide;
 // How many kinds there are.
 const KINDS: Word = 15;
 
-// Whether a word is the keyword of kind k.
+// Whether a word is the keyword of kind k; most are told apart by their length.
 fn is_keyword(word: &[u8], k: Word) -> bool
     ensures { λ r. ⌜ r ≡ sameBytes (now (word .entry)) (keywordOf k) ⌝ }
 {
-    let kind = kind_of(k);
-    let keyword = kind.keyword;
-    let letters = kind.letters;
-    same(word, piece(&keyword, 0, wide(letters)))
+    let letters = wide(letters_of(k));
+    if word.len() != letters {
+        return false;
+    }
+    let keyword = keyword_of(k);
+    same(word, piece(&keyword, 0, letters))
 }
 
 fn keyword_sought(word: &[u8]) -> Word
@@ -105,8 +108,7 @@ fn parts_from(text: &[u8], start: usize, x: &mut [Word], first: u8, codes: &[u8]
 fn parts_of(text: &[u8], at: usize, x: &mut [Word], k: Word) -> Read
     ensures { λ r. ⌜ record { end = r; words = now (x .exit) } ≡ partsOf k (now (text .entry)) at (now (x .entry)) ⌝ }
 {
-    let kind = kind_of(k);
-    let codes = kind.parts;
+    let codes = kinds::parts_of(k);
     let r = parts_from(text, at, x, b'(', &codes);
     let Read::At(q) = r else {
         return r;

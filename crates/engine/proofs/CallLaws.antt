@@ -4,12 +4,12 @@ use mathlib.Core.Path.{_≡_, sym, _∙_, ap, ap₂, subst}
 use mathlib.Core.Bool.{true, false}
 use mathlib.Core.List.{List, _++_}
 use native.Mathlib.Omega.{arith}
-use borrow.Author.Tests.{eqb-true, lt-ltb, le-ltb}
-use lib.Dec.{eqb}
+use borrow.Author.Tests.{eqb-true, leb-true, leb-false, le-leb, lt-ltb, le-ltb}
+use lib.Dec.{eqb, leb}
 use lib.ListN.{length, drop, length-drop, take-append-drop}
 use lib.Seq.{length-take-le}
 use Rattle.words.specs.Pick.{if_then_else_}
-use Rattle.words.specs.Counts.{names}
+use Rattle.words.specs.Counts.{textMost, names}
 use Rattle.words.proofs.AllLaws.{and-left, and-right}
 use Rattle.state.specs.Places.{instancesWords, queueWords, stateWords}
 use Rattle.state.specs.Instances.{instancesOf, queuesOf}
@@ -36,6 +36,7 @@ use Rattle.listing.specs.Scanned.{scanned}
 use Rattle.running.specs.Run.{Run, ranBy, ran}
 use Rattle.listed.proofs.ScannedIs.{scanned-is}
 use Rattle.listed.proofs.RunIs.{settled-step, run-is}
+use Rattle.lengths.proofs.Short.{short}
 use Rattle.engine.specs.Engine.{valid, fitting, Stepped, leaving, stepped, Left, postedTo, listedAt, RanTo, ended, ranTo, WrittenTo, written, writtenTo}
 use Rattle.shown.specs.Shown.{shownTable}
 use Rattle.buffers.specs.Buffers.{over}
@@ -126,14 +127,22 @@ module _ (t out : List ℕ) where
   unfolding writtenTo if_then_else_
   write-bad h = rw h
 
-  pub write-short : (n : ℕ) → valid t ≡ true → n ≡ length (shownTable t) → length out < n → _≡_ {A = WrittenTo} (record { number = 5; length = 0; buffer = out }) (writtenTo t out)
+  pub write-short : valid t ≡ true → leb (length (shownTable t)) (length out) ≡ false → _≡_ {A = WrittenTo} (record { number = 5; length = 0; buffer = out }) (writtenTo t out)
   unfolding writtenTo written if_then_else_
-  write-short n h e lt = rw (h, lt-ltb (length out) (length (shownTable t)) (subst (λ k. length out < k) e lt))
+  write-short h e = rw (h, lt-ltb (length out) (length (shownTable t)) (leb-false (length (shownTable t)) (length out) e))
 
-  pub write-done : (n r : ℕ) (y : List ℕ) → valid t ≡ true → n ≡ length (shownTable t) → n ≤ length out → r ≡ length (shownTable t) → y ≡ over (shownTable t) out
+  pub write-done : (r : ℕ) (y : List ℕ) → valid t ≡ true → leb (length (shownTable t)) (length out) ≡ true → r ≡ length (shownTable t) → y ≡ over (shownTable t) out
       → _≡_ {A = WrittenTo} (record { number = 0; length = r; buffer = y }) (writtenTo t out)
   unfolding writtenTo written if_then_else_
-  write-done n r y h e le l w =
-      let k : length (shownTable t) ≤ length out = subst (λ j. j ≤ length out) e le in
+  write-done r y h e l w =
+      let k : length (shownTable t) ≤ length out = leb-true (length (shownTable t)) (length out) e in
       let v : y ≡ shownTable t ++ drop (length (shownTable t)) out = w ∙ over-all (shownTable t) out k in
       rw (h, le-ltb (length out) (length (shownTable t)) k) (λ i. record { number = 0; length = l i; buffer = v i })
+
+-- a buffer of 32,768 bytes has room for the text of every valid table
+pub room-always : (t : List ℕ) (n : ℕ) → valid t ≡ true → textMost ≤ n → true ≡ leb (length (shownTable t)) n
+unfolding valid
+room-always t n v l =
+    let fits = and-left (tableFits t) (eqb (lowest (modelOf t)) 0) v in
+    let sound = eqb-true (lowest (modelOf t)) 0 (and-right (tableFits t) (eqb (lowest (modelOf t)) 0) v) in
+    sym (le-leb (length (shownTable t)) n (omega (arith, short t fits sound)))

@@ -1,6 +1,7 @@
 // The public calls. Each checks what it is lent, then calls the layer below.
 ghost use mathlib.Core.Path.{_≡_};
 ghost use mathlib.Core.Bool.{true};
+ghost use lib.Dec.{leb};
 ghost use lib.ListN.{length};
 ghost use Rattle.state.specs.Places.{stateWords};
 ghost use Rattle.engine.specs.Engine.{valid, verdictOf, Left, freshened, fitting, Stepped, stepped, postedTo, listedAt, RanTo, ranTo, WrittenTo, writtenTo};
@@ -18,6 +19,7 @@ use model::places::TABLE_WORDS;
 use notation::Reading;
 use state::places::STATE_WORDS;
 use words::Word;
+use words::counts::TEXT_MOST;
 use words::numbers::ACCEPTED;
 use words::numbers::BAD;
 use words::numbers::CHECK_BROKEN;
@@ -188,6 +190,17 @@ fn text_length(t: &[Word]) -> usize
     writer::put_table(t, &mut none)
 }
 
+// Whether the text of a valid table fits into a buffer of n bytes. None is longer than TEXT_MOST, so that a buffer of that many needs no measuring.
+fn has_room(t: &[Word; TABLE_WORDS], n: usize) -> bool
+    requires { ⌜ valid (now t) ≡ true ⌝ }
+    ensures { λ r. ⌜ r ≡ leb (length (shownTable (now (t .entry)))) n ⌝ }
+{
+    if n >= TEXT_MOST {
+        return true;
+    }
+    text_length(t) <= n
+}
+
 // Writes the text of a table: 10 where the table is bad, 5 where the buffer is shorter than the text, and the buffer stays; else 0 and its length.
 pub fn write(t: &[Word; TABLE_WORDS], out: &mut [u8]) -> Written
     ensures { λ r. ⌜ record { number = r .number; length = r .length; buffer = now (out .exit) } ≡ writtenTo (now (t .entry)) (now (out .entry)) ⌝ }
@@ -198,7 +211,7 @@ pub fn write(t: &[Word; TABLE_WORDS], out: &mut [u8]) -> Written
             length: 0,
         };
     }
-    if out.len() < text_length(t) {
+    if !has_room(t, out.len()) {
         return Written {
             number: TOO_SHORT,
             length: 0,

@@ -3,6 +3,7 @@ ghost use mathlib.Core.Path.{_≡_};
 ghost use mathlib.Core.Bool.{_&&_};
 ghost use Rattle.meaning.specs.Values.{isDefined};
 ghost use Rattle.meaning.specs.Templates.{binds, itemValue, gathered, evaluated, bindOne, bound};
+ghost use Rattle.expressions.specs.Suited.{itemSuits, suited};
 use super::expression;
 use meaning::Evaluated;
 use meaning::Tuple;
@@ -18,6 +19,7 @@ use values::is_defined;
 use values::number_in;
 use values::tuples::value_of;
 use words::Word;
+use words::wide;
 use words::word;
 
 fn does_bind(el: &[Word], b: Word, j: Word) -> bool
@@ -81,6 +83,35 @@ pub fn evaluate(el: &[Word], b: Word, h: &[Word], g: Tuple) -> Evaluated
     let w = item_value(el, b, h, g, 2);
     let x = item_value(el, b, h, g, 3);
     gather(n, u, v, w, x)
+}
+
+fn item_suits(el: &[Word], b: Word, w: Tuple, g: Tuple, j: Word) -> bool
+    ensures { λ r. ⌜ r ≡ itemSuits (now (el .entry)) b w g j ⌝ }
+{
+    let x = w.values;
+    let y = g.values;
+    if word(&x, wide(j)) == word(&y, wide(j)) {
+        return true;
+    }
+    does_bind(el, b, j)
+}
+
+// Whether values could match the template of branch b, which came to w with none given: only what binds may differ.
+pub fn suits(el: &[Word], b: Word, w: Tuple, g: Tuple) -> bool
+    ensures { λ r. ⌜ r ≡ suited (now (el .entry)) b w g ⌝ }
+{
+    let n = w.length;
+    if n != g.length {
+        return false;
+    }
+    let mut j: Word = 0;
+    while j < n {
+        if !item_suits(el, b, w, g, j) {
+            return false;
+        }
+        j += 1;
+    }
+    true
 }
 
 fn bind_one(el: &[Word], b: Word, g: Tuple, j: Word, h: &mut [Word])

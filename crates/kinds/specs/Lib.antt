@@ -1,3 +1,4 @@
 pub mod Cells
 pub mod Kinds
 pub mod Moves
+pub mod Rows

@@ -1,9 +1,10 @@
 // The rules of figures 7 to 9 as rows of a table.
 ghost use mathlib.Core.Path.{_≡_};
-ghost use Rattle.kinds.specs.Moves.{ruleOf, moveOf};
+ghost use Prim.Native.Nat.{_<_};
+ghost use Rattle.kinds.specs.Moves.{moveOf};
+ghost use Rattle.kinds.specs.Rows.{cellsOf, moveAt, rowPlaces};
 use super::ROWS;
 use words::Word;
-use words::wide;
 
 // The numbers of the kinds, as they stand in a table.
 pub const START: Word = 1;
@@ -77,65 +78,98 @@ pub struct Move {
     pub also: Word,
 }
 
-const RULES: usize = 23;
-
 const COLUMNS: usize = 13;
 
 // kind, mode, phase, takes, puts, asks, receives, assigns, sends, active, ready, alone, also
-const MOVES: [[Word; COLUMNS]; RULES + 1] = [
-    [START, O, 0, EVERY, EVERY, O, O, O, O, O, O, O, O], // P-Start
-    [START_RCV, O, 0, O, EVERY, O, ON, O, O, O, O, O, MAKES], // P-StartRcv
-    [END, O, 0, EVERY, O, O, O, O, O, O, O, O, O], // P-End
-    [TERMINATE, O, 0, EVERY, O, O, O, O, O, O, O, O, CLEARS], // P-Terminate
-    [END_SND, O, 0, EVERY, O, O, O, O, ON, O, O, O, O], // P-EndSnd
-    [INTER_RCV, O, 0, EVERY, EVERY, O, ON, O, O, O, O, O, O], // P-InterRcv
-    [INTER_SND, O, 0, EVERY, EVERY, O, O, O, ON, O, O, O, O], // P-InterSnd
-    [EVENT_BASED, O, 0, EVERY, BRANCH, O, ON, O, O, O, O, O, O], // P-EventG
-    [AND_SPLIT, O, 0, EVERY, EVERY, O, O, O, O, O, O, O, O], // P-AndSplit
-    [AND_JOIN, O, 0, EVERY, EVERY, O, O, O, O, O, O, O, O], // P-AndJoin
-    [XOR_JOIN, O, 0, BRANCH, EVERY, O, O, O, O, O, O, O, O], // P-XorJoin
-    [XOR_SPLIT, O, 0, EVERY, BRANCH, ON, O, O, O, O, O, O, O], // P-XorSplit
-    [TASK, A, 0, EVERY, EVERY, ON, O, ON, O, O, O, O, O], // P-Task-A
-    [TASK_RCV, A, 0, EVERY, EVERY, ON, ON, ON, O, O, O, O, O], // P-TaskRcv-A
-    [TASK_SND, A, 0, EVERY, EVERY, ON, O, ON, ON, O, O, O, O], // P-TaskSnd-A
-    [TASK, NA, 1, EVERY, O, ON, O, O, O, UP, O, ON, O], // P-Task-N1
-    [TASK_RCV, NA, 1, EVERY, O, ON, O, O, O, UP, O, ON, O], // P-TaskRcv-N1
-    [TASK_SND, NA, 1, EVERY, O, ON, O, O, O, UP, O, ON, O], // P-TaskSnd-N1
-    [TASK, NA, 3, O, EVERY, O, O, ON, O, DOWN, O, O, O], // P-Task-N2
-    [TASK_RCV, NA, 2, O, O, O, ON, O, O, DOWN, UP, O, O], // P-TaskRcv-N2
-    [TASK_RCV, NA, 3, O, EVERY, O, O, ON, O, O, DOWN, O, O], // P-TaskRcv-N3
-    [TASK_SND, NA, 2, O, O, O, O, ON, O, DOWN, UP, O, O], // P-TaskSnd-N2
-    [TASK_SND, NA, 3, O, EVERY, O, O, O, ON, O, DOWN, O, O], // P-TaskSnd-N3
-    [O, O, 0, O, O, O, O, O, O, O, O, O, O], // none
-];
+const P_START: [Word; COLUMNS] = [START, O, 0, EVERY, EVERY, O, O, O, O, O, O, O, O];
+
+const P_STARTRCV: [Word; COLUMNS] = [START_RCV, O, 0, O, EVERY, O, ON, O, O, O, O, O, MAKES];
+
+const P_END: [Word; COLUMNS] = [END, O, 0, EVERY, O, O, O, O, O, O, O, O, O];
+
+const P_TERMINATE: [Word; COLUMNS] = [TERMINATE, O, 0, EVERY, O, O, O, O, O, O, O, O, CLEARS];
+
+const P_ENDSND: [Word; COLUMNS] = [END_SND, O, 0, EVERY, O, O, O, O, ON, O, O, O, O];
+
+const P_INTERRCV: [Word; COLUMNS] = [INTER_RCV, O, 0, EVERY, EVERY, O, ON, O, O, O, O, O, O];
+
+const P_INTERSND: [Word; COLUMNS] = [INTER_SND, O, 0, EVERY, EVERY, O, O, O, ON, O, O, O, O];
+
+const P_EVENTG: [Word; COLUMNS] = [EVENT_BASED, O, 0, EVERY, BRANCH, O, ON, O, O, O, O, O, O];
+
+const P_ANDSPLIT: [Word; COLUMNS] = [AND_SPLIT, O, 0, EVERY, EVERY, O, O, O, O, O, O, O, O];
+
+const P_ANDJOIN: [Word; COLUMNS] = [AND_JOIN, O, 0, EVERY, EVERY, O, O, O, O, O, O, O, O];
+
+const P_XORJOIN: [Word; COLUMNS] = [XOR_JOIN, O, 0, BRANCH, EVERY, O, O, O, O, O, O, O, O];
+
+const P_XORSPLIT: [Word; COLUMNS] = [XOR_SPLIT, O, 0, EVERY, BRANCH, ON, O, O, O, O, O, O, O];
+
+const P_TASK_A: [Word; COLUMNS] = [TASK, A, 0, EVERY, EVERY, ON, O, ON, O, O, O, O, O];
+
+const P_TASKRCV_A: [Word; COLUMNS] = [TASK_RCV, A, 0, EVERY, EVERY, ON, ON, ON, O, O, O, O, O];
+
+const P_TASKSND_A: [Word; COLUMNS] = [TASK_SND, A, 0, EVERY, EVERY, ON, O, ON, ON, O, O, O, O];
+
+const P_TASK_N1: [Word; COLUMNS] = [TASK, NA, 1, EVERY, O, ON, O, O, O, UP, O, ON, O];
+
+const P_TASKRCV_N1: [Word; COLUMNS] = [TASK_RCV, NA, 1, EVERY, O, ON, O, O, O, UP, O, ON, O];
+
+const P_TASKSND_N1: [Word; COLUMNS] = [TASK_SND, NA, 1, EVERY, O, ON, O, O, O, UP, O, ON, O];
+
+const P_TASK_N2: [Word; COLUMNS] = [TASK, NA, 3, O, EVERY, O, O, ON, O, DOWN, O, O, O];
+
+const P_TASKRCV_N2: [Word; COLUMNS] = [TASK_RCV, NA, 2, O, O, O, ON, O, O, DOWN, UP, O, O];
+
+const P_TASKRCV_N3: [Word; COLUMNS] = [TASK_RCV, NA, 3, O, EVERY, O, O, ON, O, O, DOWN, O, O];
+
+const P_TASKSND_N2: [Word; COLUMNS] = [TASK_SND, NA, 2, O, O, O, O, ON, O, DOWN, UP, O, O];
+
+const P_TASKSND_N3: [Word; COLUMNS] = [TASK_SND, NA, 3, O, EVERY, O, O, O, ON, O, DOWN, O, O];
+
+const NO_RULE: [Word; COLUMNS] = [O, O, 0, O, O, O, O, O, O, O, O, O, O];
 
 // No mode and the three of a task; no phase and its three.
 const MODES: usize = 4;
 
 const PHASES: usize = 4;
 
-// The rule of a kind (a line, the first for none), mode (a group of four letters) and phase (a letter of it): a is the first row of MOVES, x the row of none.
-const RULE_OF: [u8; ROWS * MODES * PHASES] = *b"\
-    xxxxxxxxxxxxxxxx\
-    axxxxxxxxxxxxxxx\
-    bxxxxxxxxxxxxxxx\
-    cxxxxxxxxxxxxxxx\
-    dxxxxxxxxxxxxxxx\
-    exxxxxxxxxxxxxxx\
-    fxxxxxxxxxxxxxxx\
-    gxxxxxxxxxxxxxxx\
-    hxxxxxxxxxxxxxxx\
-    ixxxxxxxxxxxxxxx\
-    jxxxxxxxxxxxxxxx\
-    kxxxxxxxxxxxxxxx\
-    lxxxxxxxxxxxxxxx\
-    xxxxmxxxxpxsxpxs\
-    xxxxnxxxxqtuxqtu\
-    xxxxoxxxxrvwxrvw";
+// The row of the rule at a place: (kind * MODES + mode) * PHASES + phase.
+fn row_at(i: usize) -> [Word; COLUMNS]
+    requires { ⌜ i < rowPlaces ⌝ }
+    ensures { λ r. ⌜ r ≡ cellsOf (moveAt i) ⌝ }
+{
+    match i {
+        16 => return P_START,
+        32 => return P_STARTRCV,
+        48 => return P_END,
+        64 => return P_TERMINATE,
+        80 => return P_ENDSND,
+        96 => return P_INTERRCV,
+        112 => return P_INTERSND,
+        128 => return P_EVENTG,
+        144 => return P_ANDSPLIT,
+        160 => return P_ANDJOIN,
+        176 => return P_XORJOIN,
+        192 => return P_XORSPLIT,
+        212 => return P_TASK_A,
+        228 => return P_TASKRCV_A,
+        244 => return P_TASKSND_A,
+        217 | 221 => return P_TASK_N1,
+        233 | 237 => return P_TASKRCV_N1,
+        249 | 253 => return P_TASKSND_N1,
+        219 | 223 => return P_TASK_N2,
+        234 | 238 => return P_TASKRCV_N2,
+        235 | 239 => return P_TASKRCV_N3,
+        250 | 254 => return P_TASKSND_N2,
+        251 | 255 => return P_TASKSND_N3,
+        _ => return NO_RULE,
+    }
+}
 
-// The number of the rule of a kind, mode and phase; RULES where there is none.
-pub fn rule_of(k: Word, m: Word, p: Word) -> Word
-    ensures { λ r. ⌜ r ≡ ruleOf k m p ⌝ }
+// The row of the rule of a kind, mode and phase, cell by cell.
+fn row_of(k: Word, m: Word, p: Word) -> [Word; COLUMNS]
+    ensures { λ r. ⌜ r ≡ cellsOf (moveOf k m p) ⌝ }
 {
     let kind = k as usize;
     let mode = m as usize;
@@ -144,19 +178,18 @@ pub fn rule_of(k: Word, m: Word, p: Word) -> Word
         if mode < MODES {
             if phase < PHASES {
                 let i = (kind * MODES + mode) * PHASES + phase;
-                return (RULE_OF[i] - b'a') as Word;
+                return row_at(i);
             }
         }
     }
-    RULES as Word
+    NO_RULE
 }
 
 // The row of the rule of a kind, mode and phase.
 pub fn move_of(k: Word, m: Word, p: Word) -> Move
     ensures { λ r. ⌜ r ≡ moveOf k m p ⌝ }
 {
-    let i = wide(rule_of(k, m, p));
-    let r = MOVES[i];
+    let r = row_of(k, m, p);
     Move {
         kind: r[0],
         mode: r[1],

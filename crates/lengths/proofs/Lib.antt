@@ -1,3 +1,5 @@
+pub mod ExitsOnce
+pub mod FewExits
 pub mod Pieces
 pub mod PartsShort
 pub mod FewParts

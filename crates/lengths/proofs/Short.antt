@@ -1,4 +1,4 @@
--- THE TEXT OF EVERY VALID TABLE is at most 32,768 bytes, so that what is written is never too long to be read. Assumes nothing.
+-- THE TEXT OF EVERY TABLE that breaks no limit and no check is at most 32,768 bytes, so that what is written is never too long to be read. Assumes nothing.
 use Prim.Native.Char.{code}
 use Prim.Native.Nat.{ℕ, zero, suc, _+_, _*_, _≤_, _<_}
 use mathlib.Core.Path.{_≡_, refl}
@@ -16,7 +16,9 @@ use Rattle.words.specs.Counts.{textMost, pools, elements, edges}
 use Rattle.words.proofs.SumLaws.{sum-le, sum-add}
 use Rattle.model.specs.Places.{poolPlace, limitPlace}
 use Rattle.model.specs.Table.{poolCount, elementCount, elementAt, exitCount}
-use Rattle.engine.specs.Engine.{valid}
+use Rattle.limits.specs.Limits.{tableFits}
+use Rattle.checks.specs.Checks.{lowest}
+use Rattle.lowest.specs.Model.{modelOf}
 use Rattle.decimals.specs.Decimals.{digits, shown}
 use Rattle.decimals.proofs.DecimalLaws.{shown-short}
 use Rattle.buffers.proofs.OverLaws.{pieces-short}
@@ -24,9 +26,8 @@ use Rattle.shown.specs.Shown.{lead, between, shownElement, shownElements, shown
 use Rattle.steps.proofs.Choices.{by-choice}
 use Rattle.steps.proofs.Elements.{element-fits}
 use Rattle.steps.proofs.Elements.{elements-few}
-use Rattle.checked.proofs.ChecksHold.{valid-fits}
-use Rattle.checked.proofs.FewExits.{few-exits}
 use Rattle.lengths.proofs.Pieces.{both-short, between-long, lead-short, separated-sum}
+use Rattle.lengths.proofs.FewExits.{few-exits}
 use Rattle.lengths.proofs.ElementShort.{exitMost, elementMost, element-short}
 
 -- the most bytes of the elements of a pool: 32 elements and 48 exits; and of a pool
@@ -46,7 +47,7 @@ limit-short : (n : ℕ) → length (shownLimit n) ≤ 1 + digits
 unfolding shownLimit
 limit-short n = both-short (eqb n 0) [] (code "," ∷ shown n) (1 + digits) (omega arith) (omega (arith, shown-short n))
 
-module _ (t : List ℕ) (v : valid t ≡ true) where
+module _ (t : List ℕ) (fits : tableFits t ≡ true) (sound : lowest (modelOf t) ≡ 0) where
   module _ (p : ℕ) (there : p < poolCount t) where
     elements-short : length (shownElements t p) ≤ elementsMost
     unfolding shownElements
@@ -54,15 +55,15 @@ module _ (t : List ℕ) (v : valid t ≡ true) where
         let exits : ℕ → ℕ = λ e. exitCount (elementAt t p e) in
         let c = elementCount t p in
         let together = separated-sum (code "|") (λ e. shownElement (elementAt t p e)) (λ e. elementMost + exits e * exitMost) c
-        (λ e l. element-short (elementAt t p e) (element-fits t (valid-fits t v) p there e l)) in
+        (λ e l. element-short (elementAt t p e) (element-fits t fits p there e l)) in
         omega (
           arith,
           together,
           sum-add (λ e. elementMost) (λ e. exits e * exitMost) c,
           sum-le (λ e. elementMost) elementMost c (λ e l. omega arith),
           sum-times exits c,
-          elements-few t (valid-fits t v) p there,
-          few-exits t v p there,
+          elements-few t fits p there,
+          few-exits t fits sound p there,
         )
 
     pool-short : length (shownPool t p) ≤ poolMost

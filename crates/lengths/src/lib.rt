@@ -1,4 +1,4 @@
-// Theorems: the text of every valid table is within the greatest length of a text; there is no code but this.
+// Theorems: in a table that breaks no limit and no check exits are few, and its text is within the greatest length of a text; there is no code but this.
 ghost use mathlib.Core.Path.{_≡_};
 
 pub fn version() -> usize

@@ -27,6 +27,14 @@ pub or-last : (a : Bool) → a ≡ a || false
 or-last true = refl
 or-last false = refl
 
+-- and where the second of three is asked first
+pub or-second : (a b c : Bool) → b ≡ true → true ≡ a || (b || c)
+or-second true b c e = refl
+or-second false b c e = rw e
+
+pub or-third : (a b c r : Bool) → b ≡ false → a ≡ false → r ≡ c → r ≡ a || (b || c)
+or-third a b c r e h k = rw (h, e) k
+
 pub ruleset ors = (or-yes, or-no, or-this, or-told, or-last)
 
 -- a byte of a list passes what every byte of the list passes

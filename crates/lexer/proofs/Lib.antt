@@ -5,3 +5,4 @@ pub mod TokenLaws
 pub mod FormLaws
 pub mod LocalLaws
 pub mod Points
+pub mod PlaceLaws

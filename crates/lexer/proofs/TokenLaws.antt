@@ -22,7 +22,7 @@ use Rattle.lexer.proofs.ClassLaws.{sign-not-word, sign-not-blank, word-
 use Rattle.lexer.proofs.PieceLaws.{by-order}
 use Rattle.lexer.proofs.PastLaws.{past-end, past-from, past-within, past-run, past-whole}
 
-colon-not-word : isWord 58 ≡ false
+pub colon-not-word : isWord 58 ≡ false
 unfolding isWord isLetter isDigit between
 colon-not-word = refl
 

@@ -97,3 +97,7 @@ ifEnd (Sign s) a b = b
 ifEnd Assign a b = b
 ifEnd End a b = a
 ifEnd Other a b = b
+
+-- the place behind a given sign, where it is the token that the bytes left begin with; else the place itself
+unfoldable pub signBehind : ℕ → List ℕ → ℕ → ℕ
+signBehind s left p = ifSign (tokenHere left p .form) (λ b. if eqb b s then p + 1 else p) p

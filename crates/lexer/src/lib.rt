@@ -3,7 +3,7 @@ ghost use mathlib.Core.Path.{_≡_};
 ghost use lib.ListN.{drop};
 ghost use Prim.Native.Nat.{min};
 ghost use Rattle.words.specs.Words.{at, part};
-ghost use Rattle.lexer.specs.Lexer.{between, isBlank, isDigit, isLetter, isWord, isSign, past, placed, tokenHere, tokenAt};
+ghost use Rattle.lexer.specs.Lexer.{between, isBlank, isDigit, isLetter, isWord, isSign, past, placed, tokenHere, tokenAt, signBehind};
 
 // What a token is: a word, a sign by its byte (`:` too), `:=`, the end of the text, or a byte that starts no token.
 pub enum Form {
@@ -80,13 +80,14 @@ fn is_letter(b: u8) -> bool
     between(b'a', b'z', b) || between(b'A', b'Z', b)
 }
 
+// Most bytes of words are digits, so they are looked for first.
 fn is_word(b: u8) -> bool
     ensures { λ r. ⌜ r ≡ isWord b ⌝ }
 {
-    if is_letter(b) {
+    if is_digit(b) {
         return true;
     }
-    is_digit(b) || b == b'_'
+    is_letter(b) || b == b'_'
 }
 
 // The signs stand together in ASCII as `()`, `+,-`, `<=>?` and `{|}`.
@@ -103,7 +104,7 @@ fn is_sign(b: u8) -> bool
 }
 
 // The place of the first byte from `from` on that is not blank, or of the end.
-fn past_blanks(text: &[u8], from: usize) -> usize
+pub fn past_blanks(text: &[u8], from: usize) -> usize
     ensures { λ r. ⌜ r ≡ past isBlank (drop from (now (text .entry))) from ⌝ }
 {
     let mut i = from;
@@ -117,7 +118,7 @@ fn past_blanks(text: &[u8], from: usize) -> usize
 }
 
 // The place of the first byte from `from` on that is not of a word, or of the end.
-fn past_word(text: &[u8], from: usize) -> usize
+pub fn past_word(text: &[u8], from: usize) -> usize
     ensures { λ r. ⌜ r ≡ past isWord (drop from (now (text .entry))) from ⌝ }
 {
     let mut i = from;
@@ -158,4 +159,26 @@ pub fn token_at(text: &[u8], at: usize) -> Token
     ensures { λ r. ⌜ r ≡ tokenAt (now (text .entry)) at ⌝ }
 {
     token_here(text, past_blanks(text, at))
+}
+
+// The place behind a given sign, where it is the token that begins at p; else p. It is told by its bytes, with no token made.
+pub fn sign_behind(text: &[u8], p: usize, s: u8) -> usize
+    ensures { λ r. ⌜ r ≡ signBehind s (drop p (now (text .entry))) p ⌝ }
+{
+    if text.len() <= p {
+        return p;
+    }
+    if text[p] != s {
+        return p;
+    }
+    if is_sign(s) {
+        return p + 1;
+    }
+    if s != b':' {
+        return p;
+    }
+    if byte(text, p + 1) == b'=' {
+        return p;
+    }
+    p + 1
 }

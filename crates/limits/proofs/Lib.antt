@@ -1,2 +1,4 @@
+pub mod SameLaws
+pub mod BitLaws
 pub mod BoundLaws
 pub mod PointsHold

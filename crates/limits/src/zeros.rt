@@ -1,8 +1,9 @@
 // Words that are 0, and words within limits.
 ghost use mathlib.Core.Path.{_≡_};
-ghost use Prim.Native.Nat.{_-_, _*_};
-ghost use lib.ListN.{drop};
+ghost use Prim.Native.Nat.{_-_, _*_, _≤_};
+ghost use lib.ListN.{drop, length};
 ghost use Rattle.words.specs.Words.{at};
+ghost use Rattle.limits.specs.Bits.{bitsOf};
 ghost use Rattle.limits.specs.Limits.{within, zeros};
 use words::Word;
 use words::tail;
@@ -19,18 +20,26 @@ pub fn is_within(x: &[Word], i: usize, low: Word, high: Word) -> bool
     n <= high
 }
 
+// The bits that the first n words have between them: a loop with one way out, so that the compiler takes many words at a time.
+fn bits_below(x: &[Word], n: usize) -> Word
+    requires { ⌜ n ≤ length (now x) ⌝ }
+    ensures { λ r. ⌜ r ≡ bitsOf (at (now (x .entry))) n ⌝ }
+{
+    let mut bits: Word = 0;
+    let mut k: usize = 0;
+    while k < n {
+        bits = bits | x[k];
+        k += 1;
+    }
+    bits
+}
+
 // Whether the first n words are 0.
 pub fn zero_words(x: &[Word], n: usize) -> bool
     ensures { λ r. ⌜ r ≡ zeros (now (x .entry)) n ⌝ }
 {
-    let mut k: usize = 0;
-    while k < n {
-        if word(x, k) != 0 {
-            return false;
-        }
-        k += 1;
-    }
-    true
+    let end = if n <= x.len() { n } else { x.len() };
+    bits_below(x, end) == 0
 }
 
 // n less k, and 0 where k is greater.

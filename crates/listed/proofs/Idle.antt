@@ -12,17 +12,17 @@ use Rattle.words.specs.All.{all}
 use Rattle.words.specs.Each.{tab}
 use Rattle.words.specs.Words.{at}
 use Rattle.words.specs.Counts.{fewest, branches}
-use Rattle.words.proofs.AllLaws.{and-left, and-right, all-at}
+use Rattle.words.proofs.AllLaws.{and-left, and-right, all-at, all-of}
 use Rattle.words.proofs.ListLaws.{getD-tab}
 use Rattle.kinds.specs.declared.Kind.{Kind}
 use Rattle.kinds.specs.declared.moves.Move.{Move}
-use Rattle.kinds.specs.Kinds.{many, kindOf, used}
-use Rattle.kinds.specs.Moves.{every, branch, down, making, moveOf}
+use Rattle.kinds.specs.Kinds.{many, startRcv, kindOf, used}
+use Rattle.kinds.specs.Moves.{every, branch, down, making}
 use Rattle.model.specs.Places.{entriesPlace}
 use Rattle.model.specs.Table.{kindIn, taskIn, modeIn, entryCount, entryAt}
-use Rattle.state.specs.Places.{tokenPlace, activePlace, readyPlace, instanceWords, instancePlace}
+use Rattle.state.specs.Places.{tokenPlace, activePlace, readyPlace, definedPlace, instanceWords, instancePlace}
 use Rattle.state.specs.Instances.{madeCount, instanceAt, tokens, activeCount, readyCount}
-use Rattle.limits.specs.Limits.{within, countFits, edgesFit, elementFits, tableFits}
+use Rattle.limits.specs.Limits.{within, zeros, countFits, edgesFit, elementFits, tableFits}
 use Rattle.meaning.specs.declared.Name.{Name}
 use Rattle.meaning.specs.Requirements.{touched, first, branchCount, instanceNamed, hasToken, hasTokens, canLower, isAlone, countsPermit}
 use Rattle.meaning.specs.Refusals.{firstRefusal}
@@ -33,9 +33,9 @@ use Rattle.steps.proofs.ChangesFit.{touched-within}
 use Rattle.steps.proofs.Elements.{rowOf, fitting-parts, task-few, entry-within}
 use Rattle.steps.proofs.Found.{Found, element-named}
 use Rattle.steps.proofs.MadeAfter.{named-made}
-use Rattle.steps.proofs.Rows.{row-kind}
+use Rattle.steps.proofs.Rows.{row-kind, row-making}
 use Rattle.steps.proofs.Traffic.{here, site}
-use Rattle.listed.proofs.MoveRows.{takes-entries, takes-or-lowers, makes-first, makes-always}
+use Rattle.listed.proofs.MoveRows.{takes-entries, takes-or-lowers, startRcv-makes}
 
 -- an element of a kind that has entries has some
 entry-some : (el : List ℕ) → elementFits el ≡ true → 0 < kindOf (kindIn el) .entries → 0 < entryCount el
@@ -174,9 +174,34 @@ module _ (t s q : List ℕ) (n : Name) (fits : tableFits t ≡ true) (accepted :
   pub accepted-stirs : stirs el (instanceAt s p i) i (madeCount s p) ≡ true
   unfolding stirs moveNamed
   accepted-stirs =
-      by-choice (λ (c : Bool). c ≡ true) (eqb (moveOf (kindIn el) (modeIn el) 0 .also) making) (eqb i (madeCount s p)) _
-      (λ e. next-made (makes-always (kindIn el) (modeIn el) (n .phase) (eqb-true (moveOf (kindIn el) (modeIn el) 0 .also) making e) (f .move)))
+      let kind : m .kind ≡ kindIn el = row-kind (kindIn el) (modeIn el) (n .phase) (f .move) in
+      by-choice (λ (c : Bool). c ≡ true) (eqb (kindIn el) startRcv) (eqb i (madeCount s p)) _
+      (λ e. next-made (startRcv-makes (kindIn el) (modeIn el) (n .phase) (kind ∙ eqb-true (kindIn el) startRcv e)))
       (λ e.
-      let o : eqb (m .also) making ≡ false = ne-eqb (m .also) making (λ z. eqb-false (moveOf (kindIn el) (modeIn el) 0 .also) making e (makes-first (kindIn el) (modeIn el) (n .phase) z)) in
+      let o : eqb (m .also) making ≡ false = ne-eqb (m .also) making (λ z. eqb-false (kindIn el) startRcv e (sym kind ∙ row-making (kindIn el) (modeIn el) (n .phase) z)) in
       chosen (ltb i (madeCount s p)) (not (idle el (instanceAt s p i))) false (lt-ltb i (madeCount s p) (named-made t s n f o))
       ∙ not-idle o)
+
+-- NOTHING STIRS in a made instance h without tokens and counts
+module _ (el h : List ℕ) (i made : ℕ) (fits : elementFits el ≡ true) (none : zeros h (definedPlace 0) ≡ true) (l : i < made) where
+  zero-at : (k : ℕ) → k < definedPlace 0 → at h k ≡ 0
+  unfolding zeros
+  zero-at k r = eqb-true (at h k) 0 (all-at (λ k. eqb (at h k) 0) (definedPlace 0) none k r)
+
+  bare-at : (j : ℕ) → j < entryCount el → isBare el h j ≡ true
+  unfolding isBare
+  bare-at j r = let e = entry-within el fits j r in eq-eqb (tokens h (entryAt el j)) 0 (zero-at (tokenPlace (entryAt el j)) (omega (arith, e .0, e .1)))
+
+  idle-quiet : idle el h ≡ true
+  unfolding idle
+  idle-quiet =
+      let few = task-few el fits in
+      rw (all-of (isBare el h) (entryCount el) bare-at, eq-eqb (activeCount h (taskIn el)) 0 (zero-at (activePlace (taskIn el)) (omega (arith, few))))
+      (eq-eqb (readyCount h (taskIn el)) 0 (zero-at (readyPlace (taskIn el)) (omega (arith, few))))
+
+  pub quiet-stirs : stirs el h i made ≡ false
+  unfolding stirs
+  quiet-stirs =
+      by-choice (λ (c : Bool). c ≡ false) (eqb (kindIn el) startRcv) (eqb i made) _
+      (λ e. ne-eqb i made (λ z. omega (arith, l, z)))
+      (λ e. chosen (ltb i made) (not (idle el h)) false (lt-ltb i made l) ∙ ap not idle-quiet)

@@ -1,6 +1,6 @@
 -- What the rows of the table of moves say of an element that can move. Assumes nothing.
 use Prim.Native.Nat.{ℕ, _<_}
-use mathlib.Core.Path.{_≡_, refl, sym, _∙_, subst}
+use mathlib.Core.Path.{_≡_, refl}
 use mathlib.Core.Bool.{Bool, true, _&&_}
 use mathlib.Core.Logic.{⊎-elim}
 use native.Mathlib.Nat.{eq-or-lt-of-le}
@@ -17,7 +17,6 @@ use Rattle.kinds.specs.declared.moves.Move.{Move}
 use Rattle.kinds.specs.Kinds.{startRcv, kindOf}
 use Rattle.kinds.specs.Moves.{phases, every, branch, down, making, moves, noMove, rules, modeOf, isRule, ruleOf, moveOf}
 use Rattle.steps.proofs.Choices.{chosen-true, passed-true}
-use Rattle.steps.proofs.Rows.{row-kind, row-making}
 
 module _ (k m p : ℕ) where
   every-row : (f : Move → Bool) → each f moves ≡ true → f noMove ≡ true → f (moveOf k m p) ≡ true
@@ -37,18 +36,8 @@ module _ (k m p : ℕ) where
   unfolding each
   phase-few there = let h = every-row (λ r. ltb (r .phase) phases) refl refl in omega (arith, row-phase there, ltb-true (moveOf k m p .phase) phases h)
 
-  -- what makes an instance is a rule, and of phase 0
-  making-there : moveOf k m p .also ≡ making → moveOf k m p .kind ≡ 0 → ⊥
-  making-there e z = omega (arith, row-making k m p e)
-
-  making-phase : moveOf k m p .also ≡ making → moveOf k m p .phase ≡ 0
-  unfolding each if_then_else_
-  making-phase e =
-      let h = every-row (λ r. if eqb (r .also) making then eqb (r .phase) 0 else true) refl refl in
-      eqb-true _ 0 (chosen-true _ _ true h (eq-eqb _ making e))
-
   -- a startRcv makes one
-  startRcv-makes : moveOf k m p .kind ≡ startRcv → moveOf k m p .also ≡ making
+  pub startRcv-makes : moveOf k m p .kind ≡ startRcv → moveOf k m p .also ≡ making
   unfolding each if_then_else_
   startRcv-makes e =
       let h = every-row (λ r. if eqb (r .kind) startRcv then eqb (r .also) making else true) refl refl in
@@ -71,14 +60,3 @@ module _ (k m p : ℕ) where
       let h3 = passed-true _ true _ h2 (ne-eqb _ every e) in
       let h4 = passed-true _ true _ h3 (ne-eqb _ branch b) in
       eqb-true _ down (passed-true _ true _ h4 (ne-eqb _ down a))
-
--- an element makes instances in each phase in which it has a rule, or in none
-module _ (k m p : ℕ) where
-  pub makes-first : moveOf k m p .also ≡ making → moveOf k m 0 .also ≡ making
-  makes-first e =
-      let z : p ≡ 0 = sym (row-phase k m p (making-there k m p e)) ∙ making-phase k m p e in
-      subst (λ y. moveOf k m y .also ≡ making) z e
-
-  pub makes-always : moveOf k m 0 .also ≡ making → (moveOf k m p .kind ≡ 0 → ⊥) → moveOf k m p .also ≡ making
-  makes-always e there =
-      startRcv-makes k m p (row-kind k m p there ∙ sym (row-kind k m 0 (making-there k m 0 e)) ∙ row-making k m 0 e)

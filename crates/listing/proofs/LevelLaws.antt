@@ -20,9 +20,9 @@ use Rattle.meaning.specs.Requirements.{branchCount}
 use Rattle.listing.specs.declared.Listed.{Listed}
 use Rattle.naming.specs.declared.Scan.{Scan}
 use Rattle.naming.specs.Names.{offered, stepName, namedBy, accepted}
-use Rattle.listing.specs.Listing.{places, valuesAt, moveAt, byPlace, byBranch, byPhase, byElement, chosen}
+use Rattle.listing.specs.Listing.{places, valuesAt, moveAt, byPlace, byBranch, byPhase, chosen}
 use Rattle.naming.specs.Parts.{scan, withValues, byMessage}
-use Rattle.listing.specs.Scanned.{stirs, scanElement, scanInstance, scanPool, scanned}
+use Rattle.listing.specs.Scanned.{stirs, still, scanPhase, scanElement, scanInstance, scanMade, scanPool, scanned}
 
 named-ext : (f g : Tuple → Name) (ms : List Tuple) → ((v : Tuple) → f v ≡ g v) → namedBy f ms ≡ namedBy g ms
 unfolding namedBy
@@ -79,13 +79,19 @@ module _ (t q : List ℕ) (p i e f b : ℕ) where
 
 -- BY BRANCH, PHASE
 module _ (t q : List ℕ) (p i e : ℕ) (g : Name → Bool) where
-  pub phase-is : (f : ℕ) → those g (byPhase t q p i e f) ≡ joined (λ b. those g (byBranch t q p i e f b)) (branchCount (elementAt t p e) (moveAt t p e f))
+  phase-is : (f : ℕ) → those g (byPhase t q p i e f) ≡ joined (λ b. those g (byBranch t q p i e f b)) (branchCount (elementAt t p e) (moveAt t p e f))
   unfolding byPhase
   phase-is f = those-joined g (byBranch t q p i e f) (branchCount (elementAt t p e) (moveAt t p e f))
 
-  pub element-is : those g (byElement t q p i e) ≡ joined (λ f. those g (byPhase t q p i e f)) phases
-  unfolding byElement
-  element-is = those-joined g (byPhase t q p i e) phases
+-- A PHASE, passed over or not; m is its move
+module _ (t s q : List ℕ) (p i e f : ℕ) (m : Move) (m-is : m ≡ moveAt t p e f) where
+  pub phase-none : (k : ℕ) (r : Scan) → m .kind ≡ 0 → r ≡ scan [] k → r ≡ scan (scanPhase t s q p i e f) k
+  unfolding scanPhase if_then_else_
+  phase-none k r o w = rw (eq-eqb _ _ (ap (λ (x : Move). x .kind) (sym m-is) ∙ o)) w
+
+  pub phase-some : (m .kind ≡ 0 → ⊥) → scanPhase t s q p i e f ≡ joined (λ b. those (accepted t s q) (byBranch t q p i e f b)) (branchCount (elementAt t p e) (moveAt t p e f))
+  unfolding scanPhase if_then_else_
+  phase-some o = rw (ne-eqb _ _ (λ y. o (ap (λ (x : Move). x .kind) m-is ∙ y))) (phase-is t q p i e (accepted t s q) f)
 
 -- AN ELEMENT, passed over or not
 module _ (t s q : List ℕ) (p i e k : ℕ) (r : Scan) where
@@ -93,9 +99,19 @@ module _ (t s q : List ℕ) (p i e k : ℕ) (r : Scan) where
   unfolding scanElement if_then_else_
   element-idle test w = rw test w
 
-  pub element-stirs : stirs (elementAt t p e) (instanceAt s p i) i (madeCount s p) ≡ true → r ≡ scan (those (accepted t s q) (byElement t q p i e)) k → r ≡ scan (scanElement t s q p i e) k
+  pub element-stirs : stirs (elementAt t p e) (instanceAt s p i) i (madeCount s p) ≡ true → r ≡ scan (joined (scanPhase t s q p i e) phases) k → r ≡ scan (scanElement t s q p i e) k
   unfolding scanElement if_then_else_
   element-stirs test w = rw test w
+
+-- AN INSTANCE, passed over or not
+module _ (t s q : List ℕ) (p i k : ℕ) (r : Scan) (b : Bool) (e : b ≡ still s p i) where
+  pub made-still : b ≡ true → r ≡ scan [] k → r ≡ scan (scanMade t s q p i) k
+  unfolding scanMade if_then_else_
+  made-still o w = rw (sym e ∙ o) w
+
+  pub made-moves : b ≡ false → r ≡ scan (scanInstance t s q p i) k → r ≡ scan (scanMade t s q p i) k
+  unfolding scanMade if_then_else_
+  made-moves o w = rw (sym e ∙ o) w
 
 -- BY ELEMENT, INSTANCE, POOL
 module _ (t s q : List ℕ) where
@@ -103,7 +119,7 @@ module _ (t s q : List ℕ) where
   unfolding scanInstance
   instance-is p i = refl
 
-  pub pool-is : (p : ℕ) → scanPool t s q p ≡ joined (scanInstance t s q p) (madeCount s p + 1)
+  pub pool-is : (p : ℕ) → scanPool t s q p ≡ joined (scanMade t s q p) (madeCount s p + 1)
   unfolding scanPool
   pool-is p = refl
 

@@ -1,4 +1,4 @@
--- Whether an element could move, by its row of moves. Assumes nothing.
+-- Whether an element could move, by its kind. Assumes nothing.
 use mathlib.Core.Path.{_≡_, _∙_, sym}
 use mathlib.Core.Bool.{Bool, false, not}
 use mathlib.Core.List.{List}
@@ -6,23 +6,32 @@ use Prim.Native.Nat.{ℕ, _≤_, _<_}
 use lib.Dec.{eqb}
 use borrow.Author.Tests.{eq-eqb, ne-eqb, lt-ltb, le-ltb}
 use Rattle.words.specs.Pick.{if_then_else_}
-use Rattle.kinds.specs.declared.moves.Move.{Move}
-use Rattle.kinds.specs.Moves.{making, moveOf}
-use Rattle.model.specs.Table.{kindIn, modeIn}
-use Rattle.listing.specs.Scanned.{idle, stirs}
+use Rattle.kinds.specs.Kinds.{startRcv}
+use Rattle.model.specs.Table.{kindIn}
+use Rattle.state.specs.Places.{definedPlace}
+use Rattle.state.specs.Instances.{madeCount, instanceAt}
+use Rattle.limits.specs.Limits.{zeros}
+use Rattle.listing.specs.Scanned.{idle, stirs, still}
 
-module _ (el h : List ℕ) (i made kind mode : ℕ) (m : Move) (e₁ : kind ≡ kindIn el) (e₂ : mode ≡ modeIn el) (e₃ : m ≡ moveOf kind mode 0) where
-  also-is : m .also ≡ moveOf (kindIn el) (modeIn el) 0 .also
-  also-is = rw (e₃, e₁, e₂)
-
-  pub stirs-making : m .also ≡ making → eqb i made ≡ stirs el h i made
+module _ (el h : List ℕ) (i made kind : ℕ) (e : kind ≡ kindIn el) where
+  pub stirs-making : kind ≡ startRcv → eqb i made ≡ stirs el h i made
   unfolding stirs if_then_else_
-  stirs-making a = rw (eq-eqb _ _ (sym also-is ∙ a))
+  stirs-making a = rw (eq-eqb _ _ (sym e ∙ a))
 
-  pub stirs-made : (b : Bool) → (m .also ≡ making → ⊥) → i < made → b ≡ idle el h → not b ≡ stirs el h i made
+  pub stirs-made : (b : Bool) → (kind ≡ startRcv → ⊥) → i < made → b ≡ idle el h → not b ≡ stirs el h i made
   unfolding stirs if_then_else_
-  stirs-made b a l d = rw (ne-eqb _ _ (λ x. a (also-is ∙ x)), lt-ltb i made l, d)
+  stirs-made b a l d = rw (ne-eqb _ _ (λ x. a (e ∙ x)), lt-ltb i made l, d)
 
-  pub stirs-unmade : (m .also ≡ making → ⊥) → made ≤ i → false ≡ stirs el h i made
+  pub stirs-unmade : (kind ≡ startRcv → ⊥) → made ≤ i → false ≡ stirs el h i made
   unfolding stirs if_then_else_
-  stirs-unmade a l = rw (ne-eqb _ _ (λ x. a (also-is ∙ x)), le-ltb i made l)
+  stirs-unmade a l = rw (ne-eqb _ _ (λ x. a (e ∙ x)), le-ltb i made l)
+
+-- y is s, w its instance, as the code holds them
+module _ (s y : List ℕ) (p i made : ℕ) (d : y ≡ s) (e : made ≡ madeCount y p) where
+  pub still-made : (w : List ℕ) (b : Bool) → i < made → w ≡ instanceAt y p i → b ≡ zeros w (definedPlace 0) → b ≡ still s p i
+  unfolding still
+  still-made w b l u v = rw (← d, lt-ltb i (madeCount y p) (rw e at l), ← u) v
+
+  pub still-unmade : made ≤ i → false ≡ still s p i
+  unfolding still
+  still-unmade l = rw (← d, le-ltb i (madeCount y p) (rw e at l))

@@ -7,12 +7,15 @@ use lib.Dec.{eqb, ltb}
 use Rattle.words.specs.All.{all}
 use Rattle.words.specs.Each.{joined, those}
 use Rattle.words.specs.Pick.{if_then_else_}
-use Rattle.kinds.specs.Moves.{making, moveOf}
-use Rattle.model.specs.Table.{poolCount, elementCount, elementAt, kindIn, modeIn, taskIn, entryCount, entryAt}
+use Rattle.kinds.specs.Kinds.{startRcv}
+use Rattle.kinds.specs.Moves.{phases}
+use Rattle.model.specs.Table.{poolCount, elementCount, elementAt, kindIn, taskIn, entryCount, entryAt}
+use Rattle.state.specs.Places.{definedPlace}
 use Rattle.state.specs.Instances.{madeCount, instanceAt, tokens, activeCount, readyCount}
 use Rattle.meaning.specs.declared.Name.{Name}
+use Rattle.limits.specs.Limits.{zeros}
 use Rattle.naming.specs.Names.{accepted}
-use Rattle.listing.specs.Listing.{byElement}
+use Rattle.listing.specs.Listing.{moveAt, byPhase}
 
 -- no entry edge of an element carries a token, and its task's counts are 0
 unfoldable pub isBare : List ℕ → List ℕ → ℕ → Bool
@@ -24,18 +27,29 @@ idle el h = all (isBare el h) (entryCount el) && eqb (activeCount h (taskIn el))
 -- element el could move in instance h, which is number i of the made ones, or the unmade one
 unfoldable pub stirs : List ℕ → List ℕ → ℕ → ℕ → Bool
 stirs el h i made =
-    if eqb (moveOf (kindIn el) (modeIn el) 0 .also) making then eqb i made
+    if eqb (kindIn el) startRcv then eqb i made
     else if ltb i made then not (idle el h)
     else false
 
+-- instance i of pool p is made, and has no token and no task count
+unfoldable pub still : List ℕ → ℕ → ℕ → Bool
+still s p i = ltb i (madeCount s p) && zeros (instanceAt s p i) (definedPlace 0)
+
+-- a phase without a move is passed over, an element that does not stir, an instance that is still
+unfoldable pub scanPhase : List ℕ → List ℕ → List ℕ → ℕ → ℕ → ℕ → ℕ → List Name
+scanPhase t s q p i e f = if eqb (moveAt t p e f .kind) 0 then [] else those (accepted t s q) (byPhase t q p i e f)
+
 unfoldable pub scanElement : List ℕ → List ℕ → List ℕ → ℕ → ℕ → ℕ → List Name
-scanElement t s q p i e = if stirs (elementAt t p e) (instanceAt s p i) i (madeCount s p) then those (accepted t s q) (byElement t q p i e) else []
+scanElement t s q p i e = if stirs (elementAt t p e) (instanceAt s p i) i (madeCount s p) then joined (scanPhase t s q p i e) phases else []
 
 unfoldable pub scanInstance : List ℕ → List ℕ → List ℕ → ℕ → ℕ → List Name
 scanInstance t s q p i = joined (scanElement t s q p i) (elementCount t p)
 
+unfoldable pub scanMade : List ℕ → List ℕ → List ℕ → ℕ → ℕ → List Name
+scanMade t s q p i = if still s p i then [] else scanInstance t s q p i
+
 unfoldable pub scanPool : List ℕ → List ℕ → List ℕ → ℕ → List Name
-scanPool t s q p = joined (scanInstance t s q p) (madeCount s p + 1)
+scanPool t s q p = joined (scanMade t s q p) (madeCount s p + 1)
 
 unfoldable pub scanned : List ℕ → List ℕ → List ℕ → List Name
 scanned t s q = joined (scanPool t s q) (poolCount t)

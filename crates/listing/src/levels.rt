@@ -1,11 +1,13 @@
 // The levels of the listing: each goes through the one below it in order, and hands on what is left of k.
 ghost use mathlib.Core.Path.{_≡_};
 ghost use Rattle.state.specs.Instances.{instancesOf, queuesOf};
-ghost use Rattle.listing.specs.Listing.{byBranch, byPhase, byElement};
+ghost use Rattle.words.specs.Each.{joined};
+ghost use Rattle.kinds.specs.Moves.{phases};
+ghost use Rattle.listing.specs.Listing.{byBranch};
 ghost use Rattle.naming.specs.Parts.{scan, acceptedOn};
-ghost use Rattle.listing.specs.Scanned.{scanElement, scanInstance, scanPool, scanned};
-use super::parts::instances_in;
+ghost use Rattle.listing.specs.Scanned.{scanPhase, scanElement, scanInstance, scanMade, scanPool, scanned};
 use super::parts::move_at;
+use super::stirring::is_still;
 use super::stirring::stirs_at;
 use kinds::moves::ON;
 use model::element_at;
@@ -14,6 +16,7 @@ use model::message_name;
 use model::places::TABLE_WORDS;
 use model::pool_count;
 use naming::Scan;
+use naming::instances_in;
 use naming::name_at;
 use naming::passed;
 use naming::scan_name;
@@ -48,7 +51,7 @@ fn scan_branch(
     scan_name(t, z, n, k)
 }
 
-// The branches of phase f.
+// The branches of phase f, of which there are none where it has no move.
 fn scan_phase(
     t: &[Word; TABLE_WORDS],
     z: &[Word; STATE_WORDS],
@@ -58,9 +61,12 @@ fn scan_phase(
     f: Word,
     k: usize,
 ) -> Scan
-    ensures { λ r. ⌜ r ≡ scan (acceptedOn (now (t .entry)) (now (z .entry)) (byPhase (now (t .entry)) (queuesOf (now (z .entry))) p i e f)) k ⌝ }
+    ensures { λ r. ⌜ r ≡ scan (scanPhase (now (t .entry)) (instancesOf (now (z .entry))) (queuesOf (now (z .entry))) p i e f) k ⌝ }
 {
     let m = move_at(t, p, e, f);
+    if m.kind == 0 {
+        return passed(k);
+    }
     let count = branch_count(element_at(t, p, e), m);
     let mut left = k;
     let mut b: Word = 0;
@@ -84,7 +90,7 @@ fn scan_phases(
     e: Word,
     k: usize,
 ) -> Scan
-    ensures { λ r. ⌜ r ≡ scan (acceptedOn (now (t .entry)) (now (z .entry)) (byElement (now (t .entry)) (queuesOf (now (z .entry))) p i e)) k ⌝ }
+    ensures { λ r. ⌜ r ≡ scan (joined (scanPhase (now (t .entry)) (instancesOf (now (z .entry))) (queuesOf (now (z .entry))) p i e) phases) k ⌝ }
 {
     let mut left = k;
     let mut f: Word = 0;
@@ -140,6 +146,16 @@ fn scan_instance(
     passed(left)
 }
 
+// Instance i, which is passed over where nothing can move in it.
+fn scan_made(t: &[Word; TABLE_WORDS], z: &[Word; STATE_WORDS], p: Word, i: Word, k: usize) -> Scan
+    ensures { λ r. ⌜ r ≡ scan (scanMade (now (t .entry)) (instancesOf (now (z .entry))) (queuesOf (now (z .entry))) p i) k ⌝ }
+{
+    if is_still(z, p, i) {
+        return passed(k);
+    }
+    scan_instance(t, z, p, i, k)
+}
+
 // The instances of pool p: those that are made, and the unmade one behind them.
 fn scan_pool(t: &[Word; TABLE_WORDS], z: &[Word; STATE_WORDS], p: Word, k: usize) -> Scan
     ensures { λ r. ⌜ r ≡ scan (scanPool (now (t .entry)) (instancesOf (now (z .entry))) (queuesOf (now (z .entry))) p) k ⌝ }
@@ -148,14 +164,14 @@ fn scan_pool(t: &[Word; TABLE_WORDS], z: &[Word; STATE_WORDS], p: Word, k: usize
     let mut left = k;
     let mut i: Word = 0;
     while i < made {
-        let r = scan_instance(t, z, p, i, left);
+        let r = scan_made(t, z, p, i, left);
         if r.found {
             return r;
         }
         left = r.left;
         i += 1;
     }
-    scan_instance(t, z, p, made, left)
+    scan_made(t, z, p, made, left)
 }
 
 // The pools, in text order.

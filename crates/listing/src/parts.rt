@@ -1,23 +1,12 @@
-// What the listing reads of a table and of a state: the instances of a state, the move of an element.
+// What the listing reads of a table: the move of an element.
 ghost use mathlib.Core.Path.{_≡_};
-ghost use Rattle.state.specs.Instances.{instancesOf};
 ghost use Rattle.listing.specs.Listing.{moveAt};
 use kinds::moves::Move;
 use kinds::moves::move_of;
 use model::element_at;
 use model::kind_in;
 use model::mode_in;
-use state::places::INSTANCES_WORDS;
 use words::Word;
-
-pub fn instances_in(z: &[Word]) -> &[Word]
-    ensures { λ r. ⌜ now r ≡ instancesOf (now (z .entry)) ⌝ }
-{
-    if INSTANCES_WORDS <= z.len() {
-        return &z[..INSTANCES_WORDS];
-    }
-    z
-}
 
 pub fn move_at(t: &[Word], p: Word, e: Word, f: Word) -> Move
     ensures { λ r. ⌜ r ≡ moveAt (now (t .entry)) p e f ⌝ }

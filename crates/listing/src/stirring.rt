@@ -3,20 +3,20 @@ ghost use mathlib.Core.Path.{_≡_};
 ghost use Rattle.words.specs.All.{all};
 ghost use Rattle.model.specs.Table.{elementAt, entryCount};
 ghost use Rattle.state.specs.Instances.{instancesOf, madeCount, instanceAt};
-ghost use Rattle.listing.specs.Scanned.{isBare, idle, stirs};
-use super::parts::instances_in;
-use kinds::moves::MAKES;
-use kinds::moves::move_of;
+ghost use Rattle.listing.specs.Scanned.{isBare, idle, stirs, still};
+use kinds::moves::START_RCV;
+use limits::zeros::zero_words;
 use model::edge_at;
 use model::element_at;
 use model::entry_count;
 use model::kind_in;
-use model::mode_in;
 use model::places::ENTRIES;
 use model::task_in;
+use naming::instances_in;
 use state::active_count;
 use state::instance_at;
 use state::made_count;
+use state::places::DEFINED;
 use state::ready_count;
 use state::tokens_on;
 use words::Word;
@@ -57,8 +57,7 @@ fn is_idle(el: &[Word], h: &[Word]) -> bool
 fn can_stir(el: &[Word], h: &[Word], i: Word, made: Word) -> bool
     ensures { λ r. ⌜ r ≡ stirs (now (el .entry)) (now (h .entry)) i made ⌝ }
 {
-    let m = move_of(kind_in(el), mode_in(el), 0);
-    if m.also == MAKES {
+    if kind_in(el) == START_RCV {
         return i == made;
     }
     if i < made {
@@ -75,4 +74,15 @@ pub fn stirs_at(t: &[Word], z: &[Word], p: Word, i: Word, e: Word) -> bool
     let h = instance_at(s, p, i);
     let made = made_count(s, p);
     can_stir(el, h, i, made)
+}
+
+// Instance i of pool p is made, and has no token and no task count.
+pub fn is_still(z: &[Word], p: Word, i: Word) -> bool
+    ensures { λ r. ⌜ r ≡ still (instancesOf (now (z .entry))) p i ⌝ }
+{
+    let s = instances_in(z);
+    if i < made_count(s, p) {
+        return zero_words(instance_at(s, p, i), DEFINED);
+    }
+    false
 }

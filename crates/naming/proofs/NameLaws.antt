@@ -1,18 +1,18 @@
 -- One name, and the messages of a queue, each equal one once. Assumes nothing.
-use mathlib.Core.Path.{_≡_, _∙_, refl, sym, ap}
+use mathlib.Core.Path.{_≡_, _∙_, refl, sym, ap, ap₂}
 use mathlib.Core.Bool.{Bool, true, false, true≢false}
-use mathlib.Core.List.{List, [], _∷_}
+use mathlib.Core.List.{List, [], _∷_, _++_}
 use mathlib.Core.Logic.{⊎-elim}
 use Prim.Native.Nat.{ℕ, zero, suc, _-_, _≤_, _<_}
 use native.Mathlib.Numerals.{sub-one}
 use native.Mathlib.Nat.{eq-or-lt-of-le}
 use native.Mathlib.Omega.{arith}
-use lib.Dec.{ltb}
+use lib.Dec.{eqb, ltb}
 use borrow.Author.Tests.{ltb-true, ltb-false}
-use Rattle.words.specs.Each.{tab, those}
+use Rattle.words.specs.Each.{tab, joined, those}
 use Rattle.words.specs.Pick.{if_then_else_}
 use Rattle.words.specs.Seek.{seek}
-use Rattle.words.proofs.AllLaws.{eq-eqb-by, ne-eqb-by}
+use Rattle.words.proofs.JoinLaws.{those-joined}
 use Rattle.words.proofs.SeekLaws.{sought}
 use Rattle.meaning.specs.declared.Tuple.{Tuple}
 use Rattle.meaning.specs.declared.Name.{Name}
@@ -27,19 +27,19 @@ use Rattle.naming.specs.declared.Scan.{Scan}
 use Rattle.naming.specs.Names.{offered, namedBy, accepted}
 use Rattle.naming.specs.Parts.{scan, withValues, byMessage}
 
--- ONE NAME, the step being refused by a number or by none
-module _ (t s q : List ℕ) (n : Name) (k number : ℕ) (e : number ≡ firstRefusal (refusals t s q n)) where
-  pub name-refused : (r : Scan) → (number ≡ 0 → ⊥) → r ≡ scan [] k → r ≡ scan (those (accepted t s q) (n ∷ [])) k
+-- ONE NAME, the step being accepted or not
+module _ (t s q : List ℕ) (n : Name) (k : ℕ) (b : Bool) (e : b ≡ eqb (firstRefusal (refusals t s q n)) 0) where
+  pub name-refused : (r : Scan) → b ≡ false → r ≡ scan [] k → r ≡ scan (those (accepted t s q) (n ∷ [])) k
   unfolding those if_then_else_ accepted
-  name-refused r h d = rw (ne-eqb-by _ _ _ e h) d
+  name-refused r h d = rw (sym e ∙ h) d
 
-  pub name-first : number ≡ 0 → k ≡ 0 → record { found = true; left = 0; name = n } ≡ scan (those (accepted t s q) (n ∷ [])) k
+  pub name-first : b ≡ true → k ≡ 0 → record { found = true; left = 0; name = n } ≡ scan (those (accepted t s q) (n ∷ [])) k
   unfolding those if_then_else_ accepted scan
-  name-first h d = rw (eq-eqb-by _ _ _ e h, d)
+  name-first h d = rw (sym e ∙ h, d)
 
-  pub name-next : (r : Scan) → number ≡ 0 → (k ≡ 0 → ⊥) → r ≡ scan [] (k - 1) → r ≡ scan (those (accepted t s q) (n ∷ [])) k
+  pub name-next : (r : Scan) → b ≡ true → (k ≡ 0 → ⊥) → r ≡ scan [] (k - 1) → r ≡ scan (those (accepted t s q) (n ∷ [])) k
   unfolding those if_then_else_ accepted scan
-  name-next r h d w = rw (eq-eqb-by _ _ _ e h) (w ∙ behind k d)
+  name-next r h d w = rw (sym e ∙ h) (w ∙ behind k d)
     where
       behind : (k : ℕ) → (k ≡ 0 → ⊥) → scan [] (k - 1) ≡ scan (n ∷ []) k
       behind zero d = absurd (d refl)
@@ -113,3 +113,17 @@ module _ (q : List ℕ) (m k : ℕ) (h : k < messageCount q m) where
       pub message-oldest : (x : Name) → o ≡ k → x ≡ withValues n g → r ≡ scan (those f (x ∷ [])) i → r ≡ scan (those f (byMessage q n m k)) i
       unfolding byMessage namedBy
       message-oldest x p v w = rw (offered-oldest p, ← v) w
+
+-- NOTHING: lists with nothing in them, and names of which none passes
+pub joined-nothing : {A : Type 0} (f : ℕ → List A) (n : ℕ) → ((k : ℕ) → f k ≡ []) → joined f n ≡ []
+unfolding joined
+joined-nothing f zero h = refl
+joined-nothing f (suc n) h = ap₂ _++_ (joined-nothing f n h) (h n)
+
+pub those-joined-nothing : {A : Type 0} (f : A → Bool) (g : ℕ → List A) (n : ℕ) → ((k : ℕ) → those f (g k) ≡ []) → those f (joined g n) ≡ []
+those-joined-nothing f g n h = those-joined f g n ∙ joined-nothing (λ k. those f (g k)) n h
+
+pub those-named-nothing : (f : Name → Bool) (name : Tuple → Name) (gs : List Tuple) → ((g : Tuple) → f (name g) ≡ false) → those f (namedBy name gs) ≡ []
+unfolding those namedBy if_then_else_
+those-named-nothing f name [] h = refl
+those-named-nothing f name (g ∷ gs) h = rw (h g) (those-named-nothing f name gs h)

@@ -1,11 +1,19 @@
 -- What the code goes through: of some names the k-th accepted one; the names by the messages of a queue, on a whole state z.
 use Prim.Native.Nat.{ℕ, zero, suc}
-use mathlib.Core.Bool.{true, false}
+use mathlib.Core.Bool.{Bool, true, false}
 use mathlib.Core.List.{List, [], _∷_}
+use lib.Dec.{eqb}
 use Rattle.words.specs.Each.{those}
-use Rattle.state.specs.Instances.{instancesOf, queuesOf}
+use Rattle.model.specs.Table.{limitOf}
+use Rattle.state.specs.Instances.{instancesOf, queuesOf, madeCount}
 use Rattle.meaning.specs.declared.Tuple.{Tuple}
 use Rattle.meaning.specs.declared.Name.{Name}
+use Rattle.meaning.specs.Tuples.{empty}
+use Rattle.meaning.specs.Refusals.{firstRefusal}
+use Rattle.meaning.specs.Requirements.{belowLimit}
+use Rattle.meaning.specs.Changes.{expected}
+use Rattle.meaning.specs.Step.{poolNamed, elementNamed, moveNamed, instanceOf, before}
+use Rattle.refusals.specs.Chain.{beforeFields}
 use Rattle.naming.specs.declared.Scan.{Scan}
 use Rattle.naming.specs.Names.{offered, namedBy, accepted, blank}
 
@@ -19,6 +27,20 @@ withValues n g = record { pool = n .pool; instance = n .instance; element = n .e
 
 unfoldable pub byMessage : List ℕ → Name → ℕ → ℕ → List Name
 byMessage q n name k = namedBy (withValues n) (offered q name k)
+
+-- What a name finds whatever its values: the words h of its instance before the step; whether 16, and 12 or 13 of the guard, let it pass; what is
+-- expected where no values are given.
+unfoldable pub instanceFor : List ℕ → List ℕ → Name → List ℕ
+instanceFor t s n = before (moveNamed t n) (instanceOf s (poolNamed t n) (n .instance))
+
+unfoldable pub belowFor : List ℕ → List ℕ → Name → Bool
+belowFor t s n = belowLimit (moveNamed t n) (madeCount s (poolNamed t n)) (limitOf t (poolNamed t n))
+
+unfoldable pub readyFor : List ℕ → List ℕ → Name → Bool
+readyFor t h n = eqb (firstRefusal (beforeFields (elementNamed t n) h (moveNamed t n) (n .branch))) 0
+
+unfoldable pub workedFor : List ℕ → List ℕ → Name → Tuple
+workedFor t h n = expected (elementNamed t n) h (moveNamed t n) (n .branch) empty .tuple
 
 -- the k-th of a list, or what is left of k behind it
 unfoldable pub scan : List Name → ℕ → Scan

@@ -3,23 +3,38 @@ ghost use mathlib.Core.Path.{_≡_};
 ghost use mathlib.Core.List.{[], _∷_};
 ghost use Prim.Native.Nat.{_<_};
 ghost use Rattle.words.specs.Each.{joined};
-ghost use Rattle.state.specs.Instances.{queuesOf};
+ghost use Rattle.state.specs.Instances.{instancesOf, queuesOf};
 ghost use Rattle.meaning.specs.Tuples.{empty};
 ghost use Rattle.meaning.specs.Queues.{messageCount};
+ghost use Rattle.meaning.specs.Step.{elementNamed, moveNamed};
 ghost use Rattle.naming.specs.Names.{stepName, blank};
-ghost use Rattle.naming.specs.Parts.{scan, acceptedOn, withValues, byMessage};
+ghost use Rattle.naming.specs.Parts.{scan, acceptedOn, withValues, byMessage, instanceFor, belowFor, readyFor, workedFor};
+use effects::copies::copy_before;
+use expressions::templates::suits;
+use fields::expect;
+use kinds::moves::Move;
+use kinds::moves::move_of;
 use meaning::Name;
 use meaning::Tuple;
 use meaning::empty_tuple;
+use model::element_at;
+use model::kind_in;
+use model::limit_of;
+use model::mode_in;
 use model::places::FIRST_POOL;
 use model::places::POOL_WORDS;
 use model::places::TABLE_WORDS;
+use model::pool_of;
 use queues::message_at;
 use queues::oldest_of;
 use queues::queued_in;
-use rules::number_of;
+use refusals::numbers::number_before;
+use rules::is_accepted;
+use state::made_count;
+use state::places::INSTANCE_WORDS;
 use state::places::INSTANCES_WORDS;
 use state::places::STATE_WORDS;
+use tokens::is_below_limit;
 use words::Word;
 use words::tail;
 use words::word;
@@ -86,7 +101,7 @@ pub fn passed(k: usize) -> Scan
 pub fn scan_name(t: &[Word; TABLE_WORDS], z: &[Word; STATE_WORDS], n: Name, k: usize) -> Scan
     ensures { λ r. ⌜ r ≡ scan (acceptedOn (now (t .entry)) (now (z .entry)) (n ∷ [])) k ⌝ }
 {
-    if number_of(t, z, n) != 0 {
+    if !is_accepted(t, z, n) {
         return passed(k);
     }
     if k == 0 {
@@ -105,27 +120,120 @@ fn queues_in(z: &[Word]) -> &[Word]
     tail(z, INSTANCES_WORDS)
 }
 
-// A message of a queue: "equal messages appear once, at the oldest".
+pub fn instances_in(z: &[Word]) -> &[Word]
+    ensures { λ r. ⌜ now r ≡ instancesOf (now (z .entry)) ⌝ }
+{
+    if INSTANCES_WORDS <= z.len() {
+        return &z[..INSTANCES_WORDS];
+    }
+    z
+}
+
+// The element that a name finds, its move, and the words of its instance before the step.
+fn element_for(t: &[Word], n: Name) -> &[Word]
+    ensures { λ r. ⌜ now r ≡ elementNamed (now (t .entry)) n ⌝ }
+{
+    let p = pool_of(t, n.pool);
+    element_at(t, p, n.element)
+}
+
+fn move_for(t: &[Word], n: Name) -> Move
+    ensures { λ r. ⌜ r ≡ moveNamed (now (t .entry)) n ⌝ }
+{
+    let el = element_for(t, n);
+    move_of(kind_in(el), mode_in(el), n.phase)
+}
+
+fn instance_for(t: &[Word], z: &[Word], n: Name) -> [Word; INSTANCE_WORDS]
+    ensures { λ r. ⌜ r ≡ instanceFor (now (t .entry)) (instancesOf (now (z .entry))) n ⌝ }
+{
+    let p = pool_of(t, n.pool);
+    let v = move_for(t, n);
+    let s = instances_in(z);
+    copy_before(s, v, p, n.instance)
+}
+
+// Whatever the values: 16, and 12 or 13 of the guard, do not refuse the step.
+fn is_below(t: &[Word], z: &[Word], n: Name) -> bool
+    ensures { λ r. ⌜ r ≡ belowFor (now (t .entry)) (instancesOf (now (z .entry))) n ⌝ }
+{
+    let p = pool_of(t, n.pool);
+    let v = move_for(t, n);
+    let s = instances_in(z);
+    is_below_limit(v, made_count(s, p), limit_of(t, p))
+}
+
+fn is_ready(t: &[Word], h: &[Word], n: Name) -> bool
+    ensures { λ r. ⌜ r ≡ readyFor (now (t .entry)) (now (h .entry)) n ⌝ }
+{
+    let el = element_for(t, n);
+    let v = move_for(t, n);
+    number_before(el, h, v, n.branch) == 0
+}
+
+// What is expected where no values are given.
+fn worked_for(t: &[Word], h: &[Word], n: Name) -> Tuple
+    ensures { λ r. ⌜ r ≡ workedFor (now (t .entry)) (now (h .entry)) n ⌝ }
+{
+    let el = element_for(t, n);
+    let v = move_for(t, n);
+    let worked = expect(el, h, v, n.branch, empty_tuple());
+    worked.tuple
+}
+
+// A message of a queue: "equal messages appear once, at the oldest". What is expected is w.
 fn scan_message(
     t: &[Word; TABLE_WORDS],
     z: &[Word; STATE_WORDS],
+    el: &[Word],
+    w: Tuple,
     n: Name,
     m: Word,
     place: Word,
     k: usize,
 ) -> Scan
-    requires { ⌜ place < messageCount (queuesOf (now z)) m ⌝ }
+    requires { ⌜ (place < messageCount (queuesOf (now z)) m) × (now el ≡ elementNamed (now t) n) × (w ≡ workedFor (now t) (instanceFor (now t) (instancesOf (now z)) n) n) ⌝ }
     ensures { λ r. ⌜ r ≡ scan (acceptedOn (now (t .entry)) (now (z .entry)) (byMessage (queuesOf (now (z .entry))) n m place)) k ⌝ }
 {
     let q = queues_in(z);
     let g = message_at(q, m, place);
+    if !suits(el, n.branch, w, g) {
+        return passed(k);
+    }
     if oldest_of(q, m, g) != place {
         return passed(k);
     }
     scan_name(t, z, with_values(n, g), k)
 }
 
-// The messages of a queue, oldest first.
+// The messages of a queue, oldest first, of which w is expected.
+fn scan_messages(
+    t: &[Word; TABLE_WORDS],
+    z: &[Word; STATE_WORDS],
+    w: Tuple,
+    n: Name,
+    m: Word,
+    k: usize,
+) -> Scan
+    requires { ⌜ w ≡ workedFor (now t) (instanceFor (now t) (instancesOf (now z)) n) n ⌝ }
+    ensures { λ r. ⌜ r ≡ scan (acceptedOn (now (t .entry)) (now (z .entry)) (joined (byMessage (queuesOf (now (z .entry))) n m) (messageCount (queuesOf (now (z .entry))) m))) k ⌝ }
+{
+    let el = element_for(t, n);
+    let count = queued_in(queues_in(z), m);
+    let mut left = k;
+    let mut place: Word = 0;
+    while place < count {
+        let r = scan_message(t, z, el, w, n, m, place, left);
+        if r.found {
+            return r;
+        }
+        left = r.left;
+        place += 1;
+    }
+    passed(left)
+}
+
+// The same, with what no message changes looked at first.
 pub fn scan_queue(
     t: &[Word; TABLE_WORDS],
     z: &[Word; STATE_WORDS],
@@ -135,16 +243,13 @@ pub fn scan_queue(
 ) -> Scan
     ensures { λ r. ⌜ r ≡ scan (acceptedOn (now (t .entry)) (now (z .entry)) (joined (byMessage (queuesOf (now (z .entry))) n m) (messageCount (queuesOf (now (z .entry))) m))) k ⌝ }
 {
-    let count = queued_in(queues_in(z), m);
-    let mut left = k;
-    let mut place: Word = 0;
-    while place < count {
-        let r = scan_message(t, z, n, m, place, left);
-        if r.found {
-            return r;
-        }
-        left = r.left;
-        place += 1;
+    if !is_below(t, z, n) {
+        return passed(k);
     }
-    passed(left)
+    let h = instance_for(t, z, n);
+    if !is_ready(t, &h, n) {
+        return passed(k);
+    }
+    let w = worked_for(t, &h, n);
+    scan_messages(t, z, w, n, m, k)
 }

@@ -1,5 +1,5 @@
 pub mod NumberLaws
-pub mod OperandLaws
 pub mod AnswerLaws
 pub mod Spelled
 pub mod Points
+pub mod NumeralLaws

@@ -8,8 +8,11 @@ use lib.Dec.{ltb, leb, eqb}
 use lib.ListN.{length, drop}
 use Rattle.words.specs.Counts.{fields}
 use Rattle.words.specs.Pick.{if_then_else_}
-use Rattle.words.specs.Words.{at, greatest}
-use Rattle.lexer.specs.Lexer.{isDigit}
+use Rattle.words.specs.Words.{at, part, greatest}
+use Rattle.lexer.specs.Lexer.{past, isDigit, isWord}
+use Rattle.numerals.specs.declared.Decimal.{Decimal}
+use Rattle.numerals.specs.declared.Numeral.{Numeral}
+use Rattle.numerals.specs.declared.Term.{Term}
 use Rattle.numerals.specs.declared.Number.{Number}
 use Rattle.numerals.specs.declared.Number.the-variants.{Value, TooLarge, NotANumber}
 use Rattle.numerals.specs.declared.Operand.{Operand}
@@ -47,6 +50,28 @@ asField NotANumber = NotAnOperand
 
 unfoldable pub operandOf : List ℕ → Operand
 operandOf word = if eqb (at word 0) (code "d") then asField (numberOf (drop 1 word)) else asNumber (numberOf word)
+
+-- THE SAME FROM A PLACE OF A TEXT ON, in one go: v and then the digits of s, which starts at the place p; above the greatest word a value grows no more
+unfoldable pub grown : ℕ → ℕ → ℕ
+grown v d = if leb v greatest then v * 10 + (d - code "0") else v
+
+unfoldable pub digitsFrom : ℕ → List ℕ → ℕ → Decimal
+digitsFrom v [] p = record { value = v; end = p }
+digitsFrom v (d ∷ s) p = if isDigit d then digitsFrom (grown v d) s (p + 1) else record { value = v; end = p }
+
+-- a word of digits alone, which come to v
+unfoldable pub numberBy : ℕ → List ℕ → Number
+numberBy v word = if eqb (length word) 0 then NotANumber else if leadingZero word then NotANumber else valueFrom v []
+
+-- the word at a place of a text, and the place behind it
+abbrev pub wordEnd : List ℕ → ℕ → ℕ
+wordEnd text p = past isWord (drop p text) p
+
+unfoldable pub numeralAt : List ℕ → ℕ → Numeral
+numeralAt text p = record { number = numberOf (part text p (wordEnd text p)); next = wordEnd text p }
+
+unfoldable pub operandAt : List ℕ → ℕ → Term
+operandAt text p = record { operand = operandOf (part text p (wordEnd text p)); next = wordEnd text p }
 
 -- one choice for each pattern that a reader takes an answer apart with
 unfoldable pub ifValue : {A : Type 0} → Number → (ℕ → A) → A → A

@@ -1,8 +1,13 @@
 // Words as numbers and operands, and words compared.
 ghost use mathlib.Core.Path.{_≡_};
-ghost use Rattle.numerals.specs.Numerals.{valueFrom, leadingZero, numberOf, sameBytes, asNumber, asField, operandOf};
+ghost use mathlib.Core.Bool.{true};
+ghost use lib.ListN.{drop};
+ghost use Rattle.lexer.specs.Lexer.{isDigit};
+ghost use Rattle.numerals.specs.Numerals.{valueFrom, leadingZero, numberOf, sameBytes, asNumber, asField};
+ghost use Rattle.numerals.specs.Numerals.{grown, digitsFrom, numberBy, numeralAt, operandAt};
 use lexer::byte;
 use lexer::is_digit;
+use lexer::past_word;
 use lexer::piece;
 use words::GREATEST;
 use words::Word;
@@ -106,12 +111,109 @@ fn as_field(n: Number) -> Operand
     }
 }
 
-// A word as an operand: a number, or a field by its letter and number.
-pub fn operand_of(word: &[u8]) -> Operand
-    ensures { λ r. ⌜ r ≡ operandOf (now (word .entry)) ⌝ }
+// Digits of a text: what they come to, and the place behind them.
+pub struct Decimal {
+    pub value: u32,
+    pub end: usize,
+}
+
+// A value and one digit more; above the greatest word it grows no more.
+fn grown(v: u32, d: u8) -> u32
+    requires { ⌜ isDigit d ≡ true ⌝ }
+    ensures { λ r. ⌜ r ≡ grown v d ⌝ }
 {
-    if byte(word, 0) == b'd' {
-        return as_field(number_of(piece(word, 1, word.len())));
+    if v <= GREATEST as u32 {
+        return v * 10 + (d - b'0') as u32;
     }
-    as_number(number_of(word))
+    v
+}
+
+// The digits from a place of the text on.
+fn digits_at(text: &[u8], from: usize) -> Decimal
+    ensures { λ r. ⌜ r ≡ digitsFrom 0 (drop from (now (text .entry))) from ⌝ }
+{
+    let mut v: u32 = 0;
+    let mut i = from;
+    while i < text.len() {
+        let d = text[i];
+        if !is_digit(d) {
+            return Decimal { value: v, end: i };
+        }
+        v = grown(v, d);
+        i += 1;
+    }
+    Decimal { value: v, end: i }
+}
+
+// A word of digits alone, which come to v, as a number.
+fn number_by(word: &[u8], v: u32) -> Number
+    ensures { λ r. ⌜ r ≡ numberBy v (now (word .entry)) ⌝ }
+{
+    if word.len() == 0 {
+        return Number::NotANumber;
+    }
+    if leading_zero(word) {
+        return Number::NotANumber;
+    }
+    if v <= GREATEST as u32 {
+        return Number::Value(v as Word);
+    }
+    Number::TooLarge
+}
+
+// The word at a place of a text as a number, and the place behind it.
+pub struct Numeral {
+    pub number: Number,
+    pub next: usize,
+}
+
+// A word is taken digit by digit, so that a number is gone over once.
+pub fn numeral_at(text: &[u8], from: usize) -> Numeral
+    ensures { λ r. ⌜ r ≡ numeralAt (now (text .entry)) from ⌝ }
+{
+    let d = digits_at(text, from);
+    let v = d.value;
+    let end = d.end;
+    let next = past_word(text, end);
+    if end < next {
+        return Numeral {
+            number: Number::NotANumber,
+            next: next,
+        };
+    }
+    Numeral {
+        number: number_by(piece(text, from, end), v),
+        next: end,
+    }
+}
+
+// The word at a place of a text as an operand, and the place behind it.
+pub struct Term {
+    pub operand: Operand,
+    pub next: usize,
+}
+
+pub fn operand_at(text: &[u8], p: usize) -> Term
+    ensures { λ r. ⌜ r ≡ operandAt (now (text .entry)) p ⌝ }
+{
+    if text.len() <= p {
+        return Term {
+            operand: Operand::NotAnOperand,
+            next: p,
+        };
+    }
+    if text[p] != b'd' {
+        let plain = numeral_at(text, p);
+        let number = plain.number;
+        return Term {
+            operand: as_number(number),
+            next: plain.next,
+        };
+    }
+    let field = numeral_at(text, p + 1);
+    let number = field.number;
+    Term {
+        operand: as_field(number),
+        next: field.next,
+    }
 }

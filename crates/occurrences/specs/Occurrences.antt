@@ -1,9 +1,10 @@
 -- How often something stands in one element el: what the model checks count.
-use mathlib.Core.Bool.{Bool, _&&_}
+use mathlib.Core.Bool.{Bool, true, _&&_}
 use mathlib.Core.List.{List}
 use Prim.Native.Nat.{ℕ, _+_}
-use lib.Dec.{eqb, leb}
+use lib.Dec.{eqb, leb, ltb}
 use Rattle.words.specs.All.{all}
+use Rattle.words.specs.Pick.{if_then_else_}
 use Rattle.words.specs.Sum.{sum, hit, oneIf}
 use Rattle.words.specs.Words.{at}
 use Rattle.words.specs.Counts.{fields}
@@ -69,6 +70,15 @@ timesBound el j d = sum (λ i. bindsField d (itemAt el j i)) (messageLength el j
 
 unfoldable pub templateOnce : List ℕ → ℕ → Bool
 templateOnce el j = all (λ d. leb (timesBound el j d) 1) fields
+
+-- item i of template j binds no field that an item before it binds
+unfoldable pub bindsAnew : List ℕ → ℕ → ℕ → Bool
+bindsAnew el j i =
+    if eqb (at (itemAt el j i) formPlace) binding
+    then (if ltb (at (itemAt el j i) (leftPlace + operandNumber)) fields
+    then eqb (sum (λ k. bindsField (at (itemAt el j i) (leftPlace + operandNumber)) (itemAt el j k)) i) 0
+    else true)
+    else true
 
 unfoldable pub boundOnce : List ℕ → Bool
 boundOnce el = all (templateOnce el) (receivedCount el)

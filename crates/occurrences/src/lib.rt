@@ -1,12 +1,14 @@
 // What the model checks count in one element; checks 7 and 8 are about one element alone.
 ghost use mathlib.Core.Path.{_≡_};
 ghost use Prim.Native.Nat.{_≤_};
-ghost use Rattle.occurrences.specs.Occurrences.{conditionCount, receivedCount, sentCount, conditionForm, isDefault, defaultOnce, bindsField, timesBound, templateOnce, boundOnce};
+ghost use Rattle.occurrences.specs.Occurrences.{conditionCount, receivedCount, sentCount, conditionForm, isDefault, defaultOnce, bindsField, bindsAnew, templateOnce, boundOnce};
 ghost use Rattle.words.specs.All.{all};
 ghost use Rattle.words.specs.Sum.{sum};
 ghost use Rattle.model.specs.Table.{itemAt};
+use kinds::conditions_of;
 use kinds::count_by;
-use kinds::kind_of;
+use kinds::receives_of;
+use kinds::sends_of;
 use model::condition_at;
 use model::exit_count;
 use model::item_at;
@@ -24,22 +26,19 @@ use words::word;
 pub fn condition_count(el: &[Word]) -> Word
     ensures { λ r. ⌜ r ≡ conditionCount (now (el .entry)) ⌝ }
 {
-    let kind = kind_of(kind_in(el));
-    count_by(kind.conditions, exit_count(el))
+    count_by(conditions_of(kind_in(el)), exit_count(el))
 }
 
 pub fn received_count(el: &[Word]) -> Word
     ensures { λ r. ⌜ r ≡ receivedCount (now (el .entry)) ⌝ }
 {
-    let kind = kind_of(kind_in(el));
-    count_by(kind.receives, exit_count(el))
+    count_by(receives_of(kind_in(el)), exit_count(el))
 }
 
 pub fn sent_count(el: &[Word]) -> Word
     ensures { λ r. ⌜ r ≡ sentCount (now (el .entry)) ⌝ }
 {
-    let kind = kind_of(kind_in(el));
-    count_by(kind.sends, exit_count(el))
+    count_by(sends_of(kind_in(el)), exit_count(el))
 }
 
 fn condition_form(el: &[Word], j: Word) -> Word
@@ -76,10 +75,11 @@ pub fn default_once(el: &[Word]) -> bool
     defaults_below(el, condition_count(el)) <= 1
 }
 
-// 1 where the item binds field d.
-fn binds_field(d: Word, x: &[Word]) -> usize
-    ensures { λ r. ⌜ (r ≡ bindsField d (now (x .entry))) × (r ≤ 1) ⌝ }
+// 1 where item i of template j binds field d.
+fn item_binds(el: &[Word], j: Word, i: Word, d: Word) -> usize
+    ensures { λ r. ⌜ (r ≡ bindsField d (itemAt (now (el .entry)) j i)) × (r ≤ 1) ⌝ }
 {
+    let x = item_at(el, j, i);
     if word(x, FORM) != BINDING {
         return 0;
     }
@@ -87,12 +87,6 @@ fn binds_field(d: Word, x: &[Word]) -> usize
         return 0;
     }
     1
-}
-
-fn item_binds(el: &[Word], j: Word, i: Word, d: Word) -> usize
-    ensures { λ r. ⌜ (r ≡ bindsField d (itemAt (now (el .entry)) j i)) × (r ≤ 1) ⌝ }
-{
-    binds_field(d, item_at(el, j, i))
 }
 
 fn bound_below(el: &[Word], j: Word, d: Word, count: Word) -> usize
@@ -107,24 +101,38 @@ fn bound_below(el: &[Word], j: Word, d: Word, count: Word) -> usize
     n
 }
 
-// How often template j binds field d.
-fn times_bound(el: &[Word], j: Word, d: Word) -> usize
-    ensures { λ r. ⌜ r ≡ timesBound (now (el .entry)) j d ⌝ }
+// Whether item i of template j binds no field that an item before it binds.
+fn binds_anew(el: &[Word], j: Word, i: Word) -> bool
+    ensures { λ r. ⌜ r ≡ bindsAnew (now (el .entry)) j i ⌝ }
 {
-    bound_below(el, j, d, message_length(el, j))
+    let x = item_at(el, j, i);
+    if word(x, FORM) != BINDING {
+        return true;
+    }
+    let d = word(x, LEFT + OPERAND_NUMBER);
+    if FIELDS <= d {
+        return true;
+    }
+    bound_below(el, j, d, i) == 0
+}
+
+fn items_bind_anew(el: &[Word], j: Word, count: Word) -> bool
+    ensures { λ r. ⌜ r ≡ all (bindsAnew (now (el .entry)) j) count ⌝ }
+{
+    let mut i: Word = 0;
+    while i < count {
+        if !binds_anew(el, j, i) {
+            return false;
+        }
+        i += 1;
+    }
+    true
 }
 
 fn template_once(el: &[Word], j: Word) -> bool
     ensures { λ r. ⌜ r ≡ templateOnce (now (el .entry)) j ⌝ }
 {
-    let mut d: Word = 0;
-    while d < FIELDS {
-        if times_bound(el, j, d) > 1 {
-            return false;
-        }
-        d += 1;
-    }
-    true
+    items_bind_anew(el, j, message_length(el, j))
 }
 
 fn templates_once(el: &[Word], count: Word) -> bool

@@ -6,12 +6,14 @@ use mathlib.Core.List.{List, [], _∷_, _++_, map, append-assoc, append-nil}
 use native.Mathlib.Numerals.{add-one}
 use native.Mathlib.Omega.{arith}
 use lib.ListN.{length, set, take, drop, getD, replicate, length-append, length-replicate, length-take, replicate-append-replicate}
-use lib.Seq.{take-suc, drop-cons, set-at, take-all, length-take-le, append-snoc}
+use lib.Seq.{take-suc, drop-cons, set-at, set-out, take-all, length-take-le, append-snoc}
 use Rattle.words.specs.Pick.{if_then_else_}
 use Rattle.words.specs.Words.{at}
 use Rattle.words.specs.Writes.{writes}
 use Rattle.words.specs.Counts.{pools, elements}
+use Rattle.words.proofs.WritesLaws.{length-writes}
 use Rattle.model.specs.Places.{elementWords, poolWords, poolsPlace, poolPlace, limitPlace, elementsPlace, elementPlace, tableWords}
+use Rattle.lexer.proofs.PieceLaws.{by-order}
 use Rattle.checks.specs.Checks.{Pool}
 use Rattle.passes.specs.Model.{flat, filled, poolTable, tableOf}
 use Rattle.passes.specs.Passes.{stored, keptElement, keptAll, summed, placed, headed, keptHead, keptPool}
@@ -26,6 +28,20 @@ Block x = length x ≡ elementWords
 
 abbrev pub Fits : Pool → Type 0
 Fits p = AtMost Block elements (p .elements)
+
+-- what is stored behind the end of a list is lost, so that a loop may stop there
+beyond : (f : ℕ → ℕ) (s : List ℕ) (a n k : ℕ) → length s ≤ a + n → writes f s a (n + k) ≡ writes f s a n
+unfolding writes
+beyond f s a n zero h = let z : n + 0 ≡ n = omega arith in ap (writes f s a) z
+beyond f s a n (suc k) h =
+    let z : n + suc k ≡ suc (n + k) = omega arith in
+    ap (writes f s a) z ∙ set-out (writes f s a (n + k)) (a + (n + k)) (f (n + k)) (omega (arith, length-writes f s a (n + k))) ∙ beyond f s a n k h
+
+pub writes-whole : (f : ℕ → ℕ) (s : List ℕ) (a m n i : ℕ) (t : List ℕ) → i ≤ m → m ≤ i → m ≤ n → (m < n → length s ≤ a + m) → t ≡ writes f s a i → t ≡ writes f s a n
+writes-whole f s a m n i t h k l out e =
+    let j : i ≡ m = omega arith in
+    e ∙ ap (writes f s a) j ∙ by-order n m (λ q. let z : m ≡ n = omega arith in ap (writes f s a) z)
+    (λ q. let z : m + (n - m) ≡ n = omega arith in sym (beyond f s a m (n - m) (out q)) ∙ ap (writes f s a) z)
 
 -- a block x stored over as many words z
 module _ (p x z q : List ℕ) (a : ℕ) (e : length p ≡ a) (h : length x ≡ length z) where

@@ -18,8 +18,11 @@ use Rattle.reading.specs.declared.Read.the-variants.{At}
 use Rattle.passes.specs.Model.{Got}
 
 -- element n of pool i, stored in a table t, and counted
+abbrev pub storedAs : ℕ → ℕ → ℕ → List ℕ → List ℕ → List ℕ
+storedAs i n count x t = set (writes (λ j. at x j) t (elementPlace i n) elementWords) (elementsPlace i) count
+
 unfoldable pub stored : ℕ → ℕ → List ℕ → List ℕ → List ℕ
-stored i n x t = set (writes (λ j. at x j) t (elementPlace i n) elementWords) (elementsPlace i) (n + 1)
+stored i n x t = storedAs i n (n + 1) x t
 
 unfoldable pub keptElement : Bool → ℕ → ℕ → List ℕ → List ℕ → List ℕ
 keptElement fills i n x w = if fills then stored i n x w else tally w (marksOf (regions x))
@@ -37,8 +40,11 @@ unfoldable pub placed : Bool → ℕ → List (List ℕ) → List ℕ → List �
 placed fills i els w = if fills then keptAll (keptElement fills i) 0 els w else w
 
 -- pool i behind its elements: its number, its limit, and the count of pools, stored; or marked with its summary s
+abbrev pub headedAs : ℕ → ℕ → ℕ → ℕ → List ℕ → List ℕ
+headedAs i count number limit t = set (set (set t (poolPlace i) number) (limitPlace i) limit) poolsPlace count
+
 unfoldable pub headed : ℕ → ℕ → ℕ → List ℕ → List ℕ
-headed i number limit t = set (set (set t (poolPlace i) number) (limitPlace i) limit) poolsPlace (i + 1)
+headed i number limit t = headedAs i (i + 1) number limit t
 
 unfoldable pub keptHead : Bool → ℕ → ℕ → ℕ → List ℕ → List ℕ → List ℕ
 keptHead fills i number limit s w = if fills then headed i number limit w else tally w (marksOf (summaryRegions number limit s))

@@ -6,7 +6,7 @@ use reading::Read;
 use reading::end_at;
 use words::Word;
 
-mod keep;
+pub mod keep;
 mod pools;
 
 // The whole text, kept in w.

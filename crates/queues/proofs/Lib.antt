@@ -4,3 +4,4 @@ pub mod SlotLaws
 pub mod QueueLaws
 pub mod ReadLaws
 pub mod ChangeLaws
+pub mod EqualLaws

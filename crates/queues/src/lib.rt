@@ -1,10 +1,12 @@
 // The queues of a state: the oldest equal message, one more behind the others, one taken out.
 ghost use mathlib.Core.Path.{_≡_};
-ghost use Prim.Native.Nat.{_+_, _-_, _*_};
+ghost use Prim.Native.Nat.{_+_, _-_, _*_, _≤_};
+ghost use lib.Dec.{eqb};
+ghost use Rattle.words.specs.All.{all};
 ghost use Rattle.words.specs.Seek.{seek};
 ghost use Rattle.words.specs.Writes.{writes};
 ghost use Rattle.meaning.specs.Tuples.{valueOf};
-ghost use Rattle.words.specs.Words.{at};
+ghost use Rattle.words.specs.Words.{at, greatest};
 ghost use Rattle.words.specs.Counts.{values};
 ghost use Rattle.state.specs.Places.{slotPlace, slotWords, valuesIn};
 ghost use Rattle.meaning.specs.Queues.{messageCount, messageAt};
@@ -54,10 +56,35 @@ pub fn message_at(q: &[Word], m: Word, k: Word) -> Tuple
     }
 }
 
+// The n words from place i on are the first of v.
+fn words_are(q: &[Word], i: usize, v: &[Word], n: Word) -> bool
+    requires { ⌜ i ≤ slotPlace greatest greatest + valuesIn ⌝ }
+    ensures { λ r. ⌜ r ≡ all (λ j. eqb (at (now (q .entry)) (i + j)) (at (now (v .entry)) j)) n ⌝ }
+{
+    let mut j: Word = 0;
+    while j < n {
+        if word(q, i + (j as usize)) != word(v, j as usize) {
+            return false;
+        }
+        j += 1;
+    }
+    true
+}
+
+// Message k of queue m is equal to g. Longer ones than there are do not come.
 fn message_is(q: &[Word], m: Word, g: Tuple, k: Word) -> bool
     ensures { λ r. ⌜ r ≡ messageIs (now (q .entry)) m g k ⌝ }
 {
-    same_tuple(message_at(q, m, k), g)
+    let n = g.length;
+    let values = g.values;
+    let i = slot_place(m, k);
+    if word(q, i) != n {
+        return false;
+    }
+    if VALUES < n {
+        return same_tuple(message_at(q, m, k), g);
+    }
+    words_are(q, i + FIRST_VALUE, &values, n)
 }
 
 fn oldest_below(q: &[Word], m: Word, g: Tuple, n: Word) -> Word

@@ -1,32 +1,37 @@
 -- The token at a place, by the answers of the calls that take it apart. Assumes nothing.
 use mathlib.Core.Path.{_≡_, _∙_, refl, sym, ap}
-use mathlib.Core.Bool.{Bool, false}
+use mathlib.Core.Bool.{Bool, true, false}
 use mathlib.Core.List.{List, [], _∷_}
 use Prim.Native.Char.{code}
-use Prim.Native.Nat.{ℕ, _-_}
+use Prim.Native.Nat.{ℕ, suc, _-_, _<_, _≤_}
 use native.Mathlib.Omega.{arith}
 use types.Run.{OneOf}
 use denote.Enum.Declared.{tagOf}
-use lib.Dec.{eqb}
-use lib.ListN.{length, drop, length-drop}
+use lib.Dec.{eqb, ltb}
+use lib.ListN.{length, take, drop, length-drop}
 use lib.Seq.{take-all}
-use borrow.Author.Tests.{eq-eqb, ne-eqb}
+use borrow.Author.Tests.{eq-eqb, ne-eqb, ltb-true, ltb-false}
 use Rattle.words.specs.Pick.{if_then_else_}
 use Rattle.words.specs.Counts.{fields}
 use Rattle.words.specs.Words.{at as wordAt, part}
 use Rattle.words.proofs.PickLaws.{pick-yes, pick-no}
 use Rattle.lexer.specs.declared.Token.{Token}
 use Rattle.lexer.specs.declared.Form.the-variants.{Word, Sign, Assign, End}
-use Rattle.lexer.specs.Lexer.{tokenAt, ifWord, ifSign, ifAssign, ifEnd}
+use Rattle.lexer.specs.Lexer.{isBlank, isWord, past, tokenAt, ifWord, ifSign, ifAssign, ifEnd, signBehind}
 use Rattle.lexer.proofs.Form.{the-type}
 use Rattle.lexer.proofs.FormLaws.{is-word, is-sign, is-assign, is-end, not-word, not-sign, not-assign, not-end}
+use Rattle.lexer.proofs.PlaceLaws.{Worded, some-word, no-word, not-worded, worded, sign-hit, sign-miss}
 use Rattle.numerals.specs.declared.Number.{Number}
 use Rattle.numerals.specs.declared.Operand.{Operand}
 use Rattle.numerals.specs.declared.Number.the-variants.{NotANumber}
-use Rattle.numerals.specs.Numerals.{numberOf, operandOf}
+use Rattle.numerals.specs.declared.Numeral.{Numeral}
+use Rattle.numerals.specs.declared.Term.{Term}
+use Rattle.numerals.specs.Numerals.{numberOf, asNumber, operandOf, wordEnd, numeralAt, operandAt}
 use Rattle.reading.specs.declared.Read.{Read}
 use Rattle.reading.specs.declared.Read.the-variants.{At, Refused}
-use Rattle.reading.specs.Reading.{Parsed, passed, refused, misplaced, placeOf, behind, letters, signAt, assignAt, endAt, keepNumber, number, fieldOf, field, keepOperand, operand, modeNamed, keepMode, mode, isSpelled, startsNumber, startsField, startsSign}
+use Rattle.reading.specs.declared.Asked.{Asked}
+use Rattle.reading.specs.declared.Asked.the-variants.{Behind, Another}
+use Rattle.reading.specs.Reading.{taken, Parsed, passed, refused, misplaced, placeOf, behind, letters, signAt, assignAt, endAt, keepNumber, number, fieldOf, field, keepOperand, operand, modeNamed, keepMode, mode, isSpelled, startsNumber, startsField, startsSign}
 
 -- what a token gives where a word is asked for
 abbrev wordOf : {A : Type 0} → List ℕ → (List ℕ → ℕ → ℕ → A) → (ℕ → A) → Token → A
@@ -52,24 +57,6 @@ module _ (text : List ℕ) (at : ℕ) (t : Token) (e : t ≡ tokenAt text at) wh
 
   -- the readers of a word, and whether one starts; n is what its bytes say
   module _ (l : List ℕ) (f : t .form ≡ Word) (h : l ≡ part text (t .at) (t .next)) where
-    pub number-read : (least most place : ℕ) (x : List ℕ) (n : Number) (w : Parsed) → n ≡ numberOf l → w ≡ keepNumber n least most place (t .at) (t .next) x → w ≡ number least most place text at x
-    unfolding number
-    number-read least most place x n w g k =
-        word-read (λ z p q. keepNumber (numberOf z) least most place p q x) (λ p. refused misplaced p x) w l f h
-        (k ∙ ap (λ (z : Number). keepNumber z least most place (t .at) (t .next) x) g)
-
-    pub field-read : (place : ℕ) (x : List ℕ) (n : Number) (w : Parsed) → n ≡ fieldOf l → w ≡ keepNumber n 0 (fields - 1) place (t .at) (t .next) x → w ≡ field place text at x
-    unfolding field
-    field-read place x n w g k =
-        word-read (λ z p q. keepNumber (fieldOf z) 0 (fields - 1) place p q x) (λ p. refused misplaced p x) w l f h
-        (k ∙ ap (λ (z : Number). keepNumber z 0 (fields - 1) place (t .at) (t .next) x) g)
-
-    pub operand-read : (place : ℕ) (x : List ℕ) (n : Operand) (w : Parsed) → n ≡ operandOf l → w ≡ keepOperand n place (t .at) (t .next) x → w ≡ operand place text at x
-    unfolding operand
-    operand-read place x n w g k =
-        word-read (λ z p q. keepOperand (operandOf z) place p q x) (λ p. refused misplaced p x) w l f h
-        (k ∙ ap (λ (z : Operand). keepOperand z place (t .at) (t .next) x) g)
-
     pub mode-read : (x : List ℕ) (n : ℕ) (w : Parsed) → n ≡ modeNamed l → w ≡ keepMode n (t .at) (t .next) x → w ≡ mode text at x
     unfolding mode
     mode-read x n w g k =
@@ -85,21 +72,6 @@ module _ (text : List ℕ) (at : ℕ) (t : Token) (e : t ≡ tokenAt text at) wh
     starts-field n w g k = word-read (λ z p q. isSpelled (fieldOf z)) (λ p. false) w l f h (k ∙ ap isSpelled g)
 
   module _ (f : OneOf (1 ∷ 2 ∷ 3 ∷ 4 ∷ []) (tagOf the-type (t .form))) where
-    pub number-missed : (least most place : ℕ) (x : List ℕ) → refused misplaced (t .at) x ≡ number least most place text at x
-    unfolding number
-    number-missed least most place x =
-        word-missed (λ z p q. keepNumber (numberOf z) least most place p q x) (λ p. refused misplaced p x) (refused misplaced (t .at) x) f refl
-
-    pub field-missed : (place : ℕ) (x : List ℕ) → refused misplaced (t .at) x ≡ field place text at x
-    unfolding field
-    field-missed place x =
-        word-missed (λ z p q. keepNumber (fieldOf z) 0 (fields - 1) place p q x) (λ p. refused misplaced p x) (refused misplaced (t .at) x) f refl
-
-    pub operand-missed : (place : ℕ) (x : List ℕ) → refused misplaced (t .at) x ≡ operand place text at x
-    unfolding operand
-    operand-missed place x =
-        word-missed (λ z p q. keepOperand (operandOf z) place p q x) (λ p. refused misplaced p x) (refused misplaced (t .at) x) f refl
-
     pub mode-missed : (x : List ℕ) → refused misplaced (t .at) x ≡ mode text at x
     unfolding mode
     mode-missed x = word-missed (λ z p q. keepMode (modeNamed z) p q x) (λ p. refused misplaced p x) (refused misplaced (t .at) x) f refl
@@ -125,32 +97,8 @@ module _ (text : List ℕ) (at : ℕ) (t : Token) (e : t ≡ tokenAt text at) wh
   pub behind-known : (x : List ℕ) → passed (t .next) x ≡ passed (behind text at) x
   behind-known x = ap (λ (z : Token). passed (z .next) x) e
 
-  -- the signs
+  -- whether a sign starts
   module _ (s : ℕ) where
-    abbrev given : Token → Read
-    given z = ifSign (z .form) (λ b. if eqb b s then At (z .next) else Refused misplaced (z .at)) (Refused misplaced (z .at))
-
-    by-sign : given t ≡ signAt s text at
-    unfolding signAt
-    by-sign = ap given e
-
-    pub sign-read : (b : ℕ) → t .form ≡ Sign b → b ≡ s → At (t .next) ≡ signAt s text at
-    sign-read b f h =
-        pick-yes (eqb b s) (At (t .next)) (At (t .next)) (Refused misplaced (t .at)) (eq-eqb b s h) refl
-        ∙ sym (is-sign (t .form) (λ z. if eqb z s then At (t .next) else Refused misplaced (t .at)) (Refused misplaced (t .at)) b f)
-        ∙ by-sign
-
-    pub sign-other : (b : ℕ) → t .form ≡ Sign b → (b ≡ s → ⊥) → Refused misplaced (t .at) ≡ signAt s text at
-    sign-other b f h =
-        pick-no (eqb b s) (Refused misplaced (t .at)) (At (t .next)) (Refused misplaced (t .at)) (ne-eqb b s h) refl
-        ∙ sym (is-sign (t .form) (λ z. if eqb z s then At (t .next) else Refused misplaced (t .at)) (Refused misplaced (t .at)) b f)
-        ∙ by-sign
-
-    pub sign-missed : OneOf (0 ∷ 2 ∷ 3 ∷ 4 ∷ []) (tagOf the-type (t .form)) → Refused misplaced (t .at) ≡ signAt s text at
-    sign-missed f =
-        sym (not-sign (t .form) (λ z. if eqb z s then At (t .next) else Refused misplaced (t .at)) (Refused misplaced (t .at)) f)
-        ∙ by-sign
-
     pub starts-read : (b : ℕ) → t .form ≡ Sign b → eqb b s ≡ startsSign s text at
     unfolding startsSign
     starts-read b f = rw (← e) (sym (is-sign (t .form) (λ z. eqb z s) false b f))
@@ -179,6 +127,75 @@ module _ (text : List ℕ) (at : ℕ) (t : Token) (e : t ≡ tokenAt text at) wh
 
   pub end-missed : OneOf (0 ∷ 1 ∷ 2 ∷ 4 ∷ []) (tagOf the-type (t .form)) → Refused misplaced (t .at) ≡ endAt text at
   end-missed f = sym (not-end (t .form) (At (t .next)) (Refused misplaced (t .at)) f) ∙ by-end
+
+-- A TOKEN ASKED FOR at p, k is where it ends: it stands there, or another does
+isBehind : Asked → ℕ
+isBehind (Behind q) = suc q
+isBehind Another = 0
+
+pub taken-behind : (r : Asked) (p k q : ℕ) → r ≡ taken p k → r ≡ Behind q → (q ≡ k) × (p < k)
+unfolding taken isBehind if_then_else_
+taken-behind r p k q e h = go (ltb p k) refl (sym h ∙ e)
+  where
+    go : (b : Bool) → ltb p k ≡ b → Behind q ≡ (if b then Behind k else Another) → (q ≡ k) × (p < k)
+    go true l z = (omega (arith, ap isBehind z), ltb-true p k l)
+    go false l z = absurd (omega (arith, ap isBehind z))
+
+pub taken-another : (r : Asked) (p k : ℕ) → r ≡ taken p k → r ≡ Another → k ≤ p
+unfolding taken isBehind if_then_else_
+taken-another r p k e h = go (ltb p k) refl (sym h ∙ e)
+  where
+    go : (b : Bool) → ltb p k ≡ b → Another ≡ (if b then Behind k else Another) → k ≤ p
+    go true l z = absurd (omega (arith, ap isBehind z))
+    go false l z = ltb-false p k l
+
+-- A TOKEN WITH NO TOKEN MADE: p is where the blanks end, q where the letters behind them end, or the place behind a sign
+module _ (text : List ℕ) (at p q : ℕ) (e : p ≡ past isBlank (drop at text) at) where
+  module _ (g : q ≡ past isWord (drop p text) p) (l : List ℕ) (h : l ≡ part text p q) where
+    pub word-direct : {A : Type 0} (keep : List ℕ → ℕ → ℕ → A) (miss : ℕ → A) → ((z : ℕ) → keep [] z z ≡ miss z)
+        → keep l p q ≡ ifWord (tokenAt text at .form) (keep (letters text at) (placeOf text at) (behind text at)) (miss (placeOf text at))
+    word-direct keep miss none = ap (λ (z : List ℕ). keep z p q) h ∙ go (worded text at p q e g)
+      where
+        go : Worded text at p q → keep (part text p q) p q ≡ wordOf text keep miss (tokenAt text at)
+        go (some-word k) = sym (is-word Word (keep (part text p q) p q) (miss p) refl) ∙ ap (wordOf text keep miss) (sym k)
+        go (no-word f n k o r) =
+            let none-left : q - p ≡ 0 = omega (arith, r) in
+            let nothing : part text p q ≡ [] = ap (λ n. take n (drop p text)) none-left in
+            ap (λ (z : List ℕ). keep z p q) nothing ∙ ap (keep [] p) r ∙ none p
+            ∙ sym (not-worded f (keep (part text p n) p n) (miss p) o) ∙ ap (wordOf text keep miss) (sym k)
+
+    pub field-read : (place : ℕ) (x : List ℕ) (n : Number) (w : Parsed) → n ≡ fieldOf l → w ≡ keepNumber n 0 (fields - 1) place p q x → w ≡ field place text at x
+    unfolding field fieldOf keepNumber if_then_else_
+    field-read place x n w d k =
+        k ∙ ap (λ (z : Number). keepNumber z 0 (fields - 1) place p q x) d
+        ∙ word-direct (λ z a b. keepNumber (fieldOf z) 0 (fields - 1) place a b x) (λ a. refused misplaced a x) (λ z. refl)
+
+  module _ (s : ℕ) (g : q ≡ signBehind s (drop p text) p) where
+    pub sign-read : p < q → At q ≡ signAt s text at
+    unfolding signAt
+    sign-read l = sign-hit s At (Refused misplaced) text at p q e g l
+
+    pub sign-missed : q ≤ p → Refused misplaced p ≡ signAt s text at
+    unfolding signAt
+    sign-missed l = sign-miss s At (Refused misplaced) text at p q e g l
+
+-- the same for words that were taken digit by digit
+module _ (text : List ℕ) (at p : ℕ) (e : p ≡ past isBlank (drop at text) at) where
+  abbrev word-here : {A : Type 0} (keep : List ℕ → ℕ → ℕ → A) (miss : ℕ → A) → ((z : ℕ) → keep [] z z ≡ miss z)
+      → keep (part text p (wordEnd text p)) p (wordEnd text p) ≡ wordOf text keep miss (tokenAt text at)
+  word-here = word-direct text at p (wordEnd text p) e refl (part text p (wordEnd text p)) refl
+
+  pub number-read : (n : Numeral) → n ≡ numeralAt text p → (least most place : ℕ) (x : List ℕ) (w : Parsed) → w ≡ keepNumber (n .number) least most place p (n .next) x → w ≡ number least most place text at x
+  unfolding number numberOf keepNumber numeralAt if_then_else_
+  number-read n g least most place x w k =
+      k ∙ ap (λ (z : Numeral). keepNumber (z .number) least most place p (z .next) x) g
+      ∙ word-here (λ z a b. keepNumber (numberOf z) least most place a b x) (λ a. refused misplaced a x) (λ z. refl)
+
+  pub operand-read : (n : Term) → n ≡ operandAt text p → (place : ℕ) (x : List ℕ) (w : Parsed) → w ≡ keepOperand (n .operand) place p (n .next) x → w ≡ operand place text at x
+  unfolding operand operandOf numberOf asNumber keepOperand operandAt if_then_else_
+  operand-read n g place x w k =
+      k ∙ ap (λ (z : Term). keepOperand (z .operand) place p (z .next) x) g
+      ∙ word-here (λ z a b. keepOperand (operandOf z) place a b x) (λ a. refused misplaced a x) (λ z. refl)
 
 -- the number of a field's word
 pub field-number : (w p : List ℕ) (b : ℕ) (n : Number) → b ≡ wordAt w 0 → b ≡ code "d" → p ≡ part w 1 (length w) → n ≡ numberOf p → n ≡ fieldOf w

@@ -4,7 +4,7 @@ use Prim.Native.Char.{code}
 use Prim.Native.Nat.{ℕ, _+_, _-_}
 use mathlib.Core.Bool.{Bool, true, false, _&&_, _||_}
 use mathlib.Core.List.{List, [], _∷_}
-use lib.Dec.{eqb, leb}
+use lib.Dec.{eqb, leb, ltb}
 use lib.ListN.{set, drop}
 use Rattle.words.specs.Pick.{if_then_else_}
 use Rattle.words.specs.Text.{bytes}
@@ -21,6 +21,8 @@ use Rattle.numerals.specs.declared.Operand.the-variants.{Number as OfNumber, Fi
 use Rattle.numerals.specs.Numerals.{numberOf, operandOf, sameBytes}
 use Rattle.reading.specs.declared.Read.{Read}
 use Rattle.reading.specs.declared.Read.the-variants.{At, Refused}
+use Rattle.reading.specs.declared.Asked.{Asked}
+use Rattle.reading.specs.declared.Asked.the-variants.{Behind, Another}
 
 pub record Parsed : Type 0 where
   pub end : Read
@@ -69,6 +71,10 @@ behind text at = tokenAt text at .next
 -- the bytes of the token at a place
 abbrev pub letters : List ℕ → ℕ → List ℕ
 letters text at = part text (placeOf text at) (behind text at)
+
+-- a token that is asked for at p and ends at q, if it stands there
+unfoldable pub taken : ℕ → ℕ → Asked
+taken p q = if ltb p q then Behind q else Another
 
 -- a given sign; `:=`; the text's end
 unfoldable pub signAt : ℕ → List ℕ → ℕ → Read

@@ -1,12 +1,15 @@
 // Readers of one token: the place behind it, or a refusal with the place of its first byte; what the token says is stored in words that are lent.
 ghost use mathlib.Core.Path.{_≡_};
-ghost use Rattle.reading.specs.Reading.{signAt, assignAt, endAt, keepNumber, number, fieldOf, field, keepOperand, operand, modeNamed, keepMode, mode, isSpelled, startsNumber, startsField, startsSign};
+ghost use Rattle.reading.specs.Reading.{taken, signAt, assignAt, endAt, keepNumber, number, fieldOf, field, keepOperand, operand, modeNamed, keepMode, mode, isSpelled, startsNumber, startsField, startsSign};
 use kinds::moves::A;
 use kinds::moves::NA_C;
 use kinds::moves::NA_NC;
 use lexer::Form;
 use lexer::byte;
+use lexer::past_blanks;
+use lexer::past_word;
 use lexer::piece;
+use lexer::sign_behind;
 use lexer::token_at;
 use model::places::A_FIELD;
 use model::places::MODE;
@@ -14,7 +17,8 @@ use model::places::OPERAND_NUMBER;
 use numerals::Number;
 use numerals::Operand;
 use numerals::number_of;
-use numerals::operand_of;
+use numerals::numeral_at;
+use numerals::operand_at;
 use numerals::same;
 use words::Word;
 use words::counts::FIELDS;
@@ -28,21 +32,32 @@ pub enum Read {
     Refused(Word, usize),
 }
 
+// A token that is asked for at p: the place behind it, or another token stands there.
+pub enum Asked {
+    Behind(usize),
+    Another,
+}
+
+// Where the token that is asked for ends behind p, it stands there.
+fn taken(p: usize, q: usize) -> Asked
+    ensures { λ r. ⌜ r ≡ taken p q ⌝ }
+{
+    if p < q {
+        return Asked::Behind(q);
+    }
+    Asked::Another
+}
+
 // A given sign.
 pub fn sign_at(text: &[u8], at: usize, s: u8) -> Read
     ensures { λ r. ⌜ r ≡ signAt s (now (text .entry)) at ⌝ }
 {
-    let token = token_at(text, at);
-    let p = token.at;
-    let q = token.next;
-    let form = token.form;
-    let Form::Sign(b) = form else {
+    let p = past_blanks(text, at);
+    let token = taken(p, sign_behind(text, p, s));
+    let Asked::Behind(q) = token else {
         return Read::Refused(MISPLACED, p);
     };
-    if b == s {
-        return Read::At(q);
-    }
-    Read::Refused(MISPLACED, p)
+    Read::At(q)
 }
 
 // The sign `:=`.
@@ -98,7 +113,7 @@ fn keep_number(
     }
 }
 
-// A number from `least` to `most`, stored at a place of x.
+// A number from `least` to `most`, stored at a place of x. Where no word stands, its letters are none, and so it is no number.
 pub fn number_in(
     text: &[u8],
     at: usize,
@@ -109,14 +124,10 @@ pub fn number_in(
 ) -> Read
     ensures { λ r. ⌜ record { end = r; words = now (x .exit) } ≡ number least most place (now (text .entry)) at (now (x .entry)) ⌝ }
 {
-    let token = token_at(text, at);
-    let p = token.at;
-    let q = token.next;
-    let form = token.form;
-    let Form::Word = form else {
-        return Read::Refused(MISPLACED, p);
-    };
-    keep_number(number_of(piece(text, p, q)), least, most, place, p, q, x)
+    let p = past_blanks(text, at);
+    let numeral = numeral_at(text, p);
+    let number = numeral.number;
+    keep_number(number, least, most, place, p, numeral.next, x)
 }
 
 // The number of a field's word.
@@ -133,13 +144,8 @@ fn field_of(word: &[u8]) -> Number
 pub fn field_in(text: &[u8], at: usize, x: &mut [Word], place: u32) -> Read
     ensures { λ r. ⌜ record { end = r; words = now (x .exit) } ≡ field place (now (text .entry)) at (now (x .entry)) ⌝ }
 {
-    let token = token_at(text, at);
-    let p = token.at;
-    let q = token.next;
-    let form = token.form;
-    let Form::Word = form else {
-        return Read::Refused(MISPLACED, p);
-    };
+    let p = past_blanks(text, at);
+    let q = past_word(text, p);
     keep_number(field_of(piece(text, p, q)), 0, FIELDS - 1, place, p, q, x)
 }
 
@@ -167,14 +173,10 @@ fn keep_operand(o: Operand, place: u32, p: usize, q: usize, x: &mut [Word]) -> R
 pub fn operand_in(text: &[u8], at: usize, x: &mut [Word], place: u32) -> Read
     ensures { λ r. ⌜ record { end = r; words = now (x .exit) } ≡ operand place (now (text .entry)) at (now (x .entry)) ⌝ }
 {
-    let token = token_at(text, at);
-    let p = token.at;
-    let q = token.next;
-    let form = token.form;
-    let Form::Word = form else {
-        return Read::Refused(MISPLACED, p);
-    };
-    keep_operand(operand_of(piece(text, p, q)), place, p, q, x)
+    let p = past_blanks(text, at);
+    let term = operand_at(text, p);
+    let operand = term.operand;
+    keep_operand(operand, place, p, term.next, x)
 }
 
 // The mode that a word names; 0 where it names none.

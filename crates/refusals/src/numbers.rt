@@ -143,7 +143,7 @@ fn is_queued(m: Move, q: &[Word], name: Word, g: Tuple) -> bool
 }
 
 // 17: the queue sent to holds fewer than it may.
-fn has_space(m: Move, q: &[Word], name: Word) -> bool
+pub fn has_space(m: Move, q: &[Word], name: Word) -> bool
     ensures { λ r. ⌜ r ≡ spaceFor m (now (q .entry)) name ⌝ }
 {
     if m.sends == ON {

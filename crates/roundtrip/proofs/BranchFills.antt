@@ -18,7 +18,7 @@ use Rattle.parts.specs.Parts.{guardedList, guarded, itemOf, starts, series, rec
 use Rattle.trips.proofs.ReadsLaws.{Both}
 use Rattle.trips.proofs.NumberReads.{Span}
 use Rattle.roundtrip.proofs.FitLaws.{edges-most}
-use Rattle.roundtrip.proofs.SameLaws.{things-same, edges-same, condition-same, message-same}
+use Rattle.limits.proofs.SameLaws.{things-same, edges-same, condition-same, message-same}
 use Rattle.roundtrip.proofs.FillLaws.{Fills, span-region, either-region, idle-sign, fills-then, fills-before, fills-behind, fills-wider}
 use Rattle.roundtrip.proofs.WordFills.{Ranged, fills-number}
 use Rattle.roundtrip.proofs.ExpressionFills.{tail-same, fills-condition}
@@ -40,10 +40,11 @@ guarded-local : (y z : List ℕ) → ((i : ℕ) → Span exitsPlace 49 i → at 
 guarded-local y z s g =
     let e : at z exitsPlace ≡ at y exitsPlace = s exitsPlace (omega arith, omega arith) in
     let m = edges-most y many exitsPlace (g .0) (omega arith) in (
-      edges-same (drop exitsPlace y) (drop exitsPlace z) many (omega arith) (tail-same y z exitsPlace 9 (λ i r. s i (r .0, omega (arith, r .1)))) (g .0),
+      edges-same (drop exitsPlace y) (drop exitsPlace z) many (omega arith) (tail-same y z exitsPlace 9 (λ i r. s i (r .0, omega (arith, r .1)))) ∙ g .0,
       ap (λ (n : ℕ). things (drop (conditionPlace 0) z) expressionWords branches n (conditionFits many)) e
           ∙ things-same (drop (conditionPlace 0) y) (drop (conditionPlace 0) z) expressionWords branches (at y exitsPlace) 40 (conditionFits many) (λ j l. omega (arith, l, m)) (omega (arith, m))
-          (λ c d e f. condition-same c d many e ∙ f) (tail-same y z (conditionPlace 0) 40 (λ i r. s i (omega (arith, r .0), omega (arith, r .1)))) (g .1),
+          (λ c d e. condition-same c d many e) (tail-same y z (conditionPlace 0) 40 (λ i r. s i (omega (arith, r .0), omega (arith, r .1))))
+          ∙ g .1,
     )
 
 abbrev Place : ℕ → ℕ → Type 0
@@ -96,10 +97,11 @@ module _ (receives : ℕ) (n : receives ≡ none → ⊥) where
   receiving-local y z s g =
       let e : at z exitsPlace ≡ at y exitsPlace = s exitsPlace (inl (omega arith, omega arith)) in
       let m = edges-most y many exitsPlace (g .0) (omega arith) in (
-        edges-same (drop exitsPlace y) (drop exitsPlace z) many (omega arith) (tail-same y z exitsPlace 9 (λ i r. s i (inl r))) (g .0),
+        edges-same (drop exitsPlace y) (drop exitsPlace z) many (omega arith) (tail-same y z exitsPlace 9 (λ i r. s i (inl r))) ∙ g .0,
         ap (λ (k : ℕ). things (drop (messagePlace 0) z) messageWords branches k (messageFits receives)) e
             ∙ things-same (drop (messagePlace 0) y) (drop (messagePlace 0) z) messageWords branches (at y exitsPlace) 176 (messageFits receives) (λ j l. omega (arith, l, m)) (omega (arith, m))
-            (λ c d e f. message-same c d receives e f) (tail-same y z (messagePlace 0) 176 (λ i r. s i (inr r))) (g .1),
+            (λ c d e. message-same c d receives e) (tail-same y z (messagePlace 0) 176 (λ i r. s i (inr r)))
+            ∙ g .1,
       )
 
   abbrev Spot : ℕ → ℕ → Type 0

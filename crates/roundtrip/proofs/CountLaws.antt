@@ -20,18 +20,13 @@ use Rattle.kinds.specs.Kinds.{kindOf, used, start, many}
 use Rattle.model.specs.Places.{kindPlace, taskPlace, entriesPlace, exitsPlace, edgePlace, conditionPlace, messagePlace, messageWords, lengthPlace, itemPlace, elementWords, default, binding}
 use Rattle.model.specs.Table.{kindIn, entryCount, exitCount, entryAt, exitAt, messageName, messageLength, itemAt}
 use Rattle.limits.specs.Limits.{messageFits, elementFits}
+use Rattle.limits.proofs.SameLaws.{all-ext, used-most}
 use Rattle.elements.specs.Elements.{kindCount}
 use Rattle.occurrences.specs.Occurrences.{conditionCount, receivedCount, sentCount, ofKind, asExit, asEntry, asFirst, asTask, asReceived, asSent, isDefault, defaults, defaultOnce, bindsField, timesBound, templateOnce, boundOnce}
 use Rattle.trips.proofs.FitsLaws.{things-right, message-length, entries-fit, exits-fit, messages-fit}
 use Rattle.trips.proofs.TripLaws.{or-either}
 use Rattle.roundtrip.proofs.KindLaws.{kind-bounds, of-kind}
 use Rattle.roundtrip.proofs.FitLaws.{fits-kind, fits-parts, edges-most, used-few}
-
--- a test at the same numbers
-pub all-ext : (f g : ℕ → Bool) (n : ℕ) → ((k : ℕ) → k < n → f k ≡ g k) → all f n ≡ all g n
-unfolding all
-all-ext f g zero h = refl
-all-ext f g (suc n) h = ap₂ (λ a b. a && b) (all-ext f g n (λ k l. h k (omega (arith, l)))) (h n (omega arith))
 
 -- THE ROWS: no cell is above many; where messages are received, none are sent, and several only with several exits
 module _ (k : ℕ) (l : 0 < k) (u : k < kindCount + 1) where
@@ -71,13 +66,6 @@ module _ (k : ℕ) (l : 0 < k) (u : k < kindCount + 1) where
 used-all : (holds n : ℕ) → holds ≡ many → used holds n ≡ n
 unfolding used
 used-all holds n e = sym (pick-yes (eqb holds many) n n holds (eq-eqb holds many e) refl)
-
-pub used-most : (holds n : ℕ) → holds ≤ many → n ≤ branches → used holds n ≤ branches
-used-most holds n l h = go (ℕ-discrete holds many)
-  where
-    go : Dec (holds ≡ many) → used holds n ≤ branches
-    go (yes e) = let f = used-all holds n e in omega (arith, f, h)
-    go (no e) = let f = used-few holds n (omega (arith, l, e)) in omega (arith, f, l)
 
 all-messages : (v s x n j : ℕ) → j < used v (used x n) → eqb v 0 || eqb s 0 ≡ true → leb v 1 || eqb x many ≡ true → j < used (v + s) n
 all-messages v s x n j h a b = ⊎-elim (λ z. absurd (none (eqb-true v 0 z))) (λ z. alone (eqb-true s 0 z) (or-either _ _ b)) (or-either _ _ a)

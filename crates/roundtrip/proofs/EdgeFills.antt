@@ -19,7 +19,7 @@ use Rattle.model.specs.Places.{elementWords, edgePlace}
 use Rattle.limits.specs.Limits.{things, countFits, edgeFits, edgesFit}
 use Rattle.parts.specs.Parts.{edgeList, itemOf, starts, series, oneEdge}
 use Rattle.trips.proofs.NumberReads.{Span}
-use Rattle.roundtrip.proofs.SameLaws.{edges-same}
+use Rattle.limits.proofs.SameLaws.{edges-same}
 use Rattle.roundtrip.proofs.FillLaws.{Fills, span-region, fills-then, fills-wider, fills-store}
 use Rattle.roundtrip.proofs.WordFills.{Ranged, fills-number}
 use Rattle.roundtrip.proofs.ExpressionFills.{tail-same}
@@ -55,7 +55,7 @@ edges-of column list n y e m c r z =
 
 module _ (list : ℕ) (h : list + 9 ≤ elementWords) where
   edges-local : (column : ℕ) → column ≤ many → (y z : List ℕ) → ((i : ℕ) → Span list 9 i → at z i ≡ at y i) → edgesFit column (drop list y) ≡ true → edgesFit column (drop list z) ≡ true
-  edges-local column c y z s f = edges-same (drop list y) (drop list z) column c (tail-same y z list 9 s) f
+  edges-local column c y z s f = edges-same (drop list y) (drop list z) column c (tail-same y z list 9 s) ∙ f
 
   -- one
   pub fills-one : Fills (oneEdge list) (Span list 9) (λ y. edgesFit one (drop list y) ≡ true)

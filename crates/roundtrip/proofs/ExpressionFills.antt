@@ -29,7 +29,7 @@ use Rattle.parts.specs.Parts.{store, joint, expression, bind, templateItem, com
 use Rattle.trips.proofs.ReadsLaws.{Both}
 use Rattle.trips.proofs.NumberReads.{Span}
 use Rattle.trips.proofs.ExpressionLaws.{fits-pair}
-use Rattle.roundtrip.proofs.SameLaws.{Same, zeros-same, operand-same, expression-same, item-same, condition-same, assignment-same}
+use Rattle.limits.proofs.SameLaws.{Same, zeros-same, operand-same, expression-same, item-same, condition-same, assignment-same}
 use Rattle.roundtrip.proofs.FillLaws.{Fills, Filled, span-region, idle-sign, idle-assign, fills-then, fills-behind, fills-wider, fills-either, fills-store}
 use Rattle.roundtrip.proofs.WordFills.{Ranged, word-passed, fills-field, fills-operand}
 

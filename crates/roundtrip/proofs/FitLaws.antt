@@ -17,6 +17,7 @@ use Rattle.kinds.specs.Kinds.{kindOf, used, one, many}
 use Rattle.model.specs.Places.{taskPlace, modePlace, entriesPlace, exitsPlace, expressionWords, conditionPlace, messageWords, messagePlace, assignmentsPlace, assignmentWords, assignmentPlace, elementWords}
 use Rattle.model.specs.Table.{kindIn}
 use Rattle.limits.specs.Limits.{taskFits, countFits, edgesFit, conditionFits, messageFits, assignmentFits, partsFit, elementFits}
+use Rattle.limits.proofs.SameLaws.{count-most}
 use Rattle.trips.proofs.NumberReads.{then-of, else-of}
 use Rattle.trips.proofs.FitsLaws.{things-none, edges-count, edges-none, task-fits, entries-fit, exits-fit, conditions-fit, messages-fit, assignments-fit, task-ranges}
 
@@ -31,14 +32,6 @@ module _ (el : List ℕ) (h : elementFits el ≡ true) where
   fits-parts = and-right (not (eqb (kindOf (kindIn el) .letters) 0)) (partsFit (kindOf (kindIn el)) el) h
 
 -- a list of edges: how many there are, and its words where there are none
-pub count-most : (column n : ℕ) → column ≤ many → countFits column n ≡ true → n ≤ branches
-unfolding countFits
-count-most column n c h = go (ℕ-discrete column many)
-  where
-    go : Dec (column ≡ many) → n ≤ branches
-    go (yes e) = leb-true n branches (and-right (leb fewest n) (leb n branches) (then-of (eqb column many) _ _ _ h (eq-eqb column many e)))
-    go (no m) = let e = eqb-true n column (else-of (eqb column many) _ _ _ h (ne-eqb column many m)) in omega (arith, e, c)
-
 module _ (el : List ℕ) (column list : ℕ) (h : edgesFit column (drop list el) ≡ true) where
   pub edges-most : column ≤ many → at el list ≤ branches
   edges-most c = count-most column (at el list) c (edges-count el column list h)
@@ -55,16 +48,6 @@ module _ (el : List ℕ) (column list : ℕ) (h : edgesFit column (drop list el)
       go : Dec (i ≡ list) → at el i ≡ 0
       go (yes q) = ap (at el) q ∙ none
       go (no q) = edges-none el column list h i (omega (arith, l, q, none)) u
-
-pub assignments-most : (task : ℕ) (el : List ℕ) → taskFits task el ≡ true → at el assignmentsPlace ≤ assignments
-unfolding taskFits
-assignments-most task el h = go (ℕ-discrete task one)
-  where
-    go : Dec (task ≡ one) → at el assignmentsPlace ≤ assignments
-    go (yes e) = task-ranges el (subst (λ (n : ℕ). taskFits n el ≡ true) e h) .4
-    go (no n) =
-        let e : at el assignmentsPlace ≡ 0 = eqb-true (at el assignmentsPlace) 0 (and-right (eqb (at el taskPlace) 0 && eqb (at el modePlace) 0) (eqb (at el assignmentsPlace) 0) (else-of (eqb task one) _ _ _ h (ne-eqb task one n))) in
-        omega (arith, e)
 
 -- how many are in use, of what a cell says
 pub used-few : (holds n : ℕ) → holds < many → used holds n ≡ holds

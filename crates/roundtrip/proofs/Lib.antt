@@ -13,7 +13,6 @@ pub mod ModelReads
 pub mod TableLaws
 pub mod CountLaws
 pub mod LowestLaws
-pub mod SameLaws
 pub mod FillLaws
 pub mod WordFills
 pub mod ExpressionFills

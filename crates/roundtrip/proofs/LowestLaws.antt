@@ -23,7 +23,8 @@ use Rattle.checks.specs.Checks.{Pool, check1, check2, check3, edgeRight, check4
 use Rattle.lowest.specs.Model.{poolAt, modelOf}
 use Rattle.roundtrip.specs.Blocks.{wordsAt, blockAt, blocksOf}
 use Rattle.roundtrip.proofs.TableFits.{pools-fit, elements-fit}
-use Rattle.roundtrip.proofs.CountLaws.{all-ext, kind-of-same, exit-same, entry-same, first-same, task-same, received-same, sent-same, default-same, bound-same}
+use Rattle.limits.proofs.SameLaws.{all-ext}
+use Rattle.roundtrip.proofs.CountLaws.{kind-of-same, exit-same, entry-same, first-same, task-same, received-same, sent-same, default-same, bound-same}
 
 -- lists whose things come to the same
 pub total-same : {A : Type 0} (f : A → ℕ) (g h : ℕ → A) (n : ℕ) → ((k : ℕ) → k < n → f (g k) ≡ f (h k)) → total f (tab g n) ≡ total f (tab h n)

@@ -20,7 +20,7 @@ use Rattle.limits.specs.Limits.{things, itemFits, messageFits}
 use Rattle.reading.specs.Reading.{Reader}
 use Rattle.parts.specs.Parts.{aTemplateItem, aMessageItem, tuple, itemOf, starts, series, message}
 use Rattle.trips.proofs.NumberReads.{Span}
-use Rattle.roundtrip.proofs.SameLaws.{things-same, item-same, message-same}
+use Rattle.limits.proofs.SameLaws.{things-same, item-same, message-same}
 use Rattle.roundtrip.proofs.FillLaws.{Fills, span-region, idle-sign, fills-then, fills-behind, fills-wider}
 use Rattle.roundtrip.proofs.WordFills.{Ranged, fills-number}
 use Rattle.roundtrip.proofs.ExpressionFills.{tail-same, fills-message-item, fills-template-item}
@@ -42,7 +42,8 @@ module _ (b receives : ℕ) (h : b < branches) where
         omega (arith, e, t .0),
         ap (λ (n : ℕ). things (drop (messagePlace b + 2) z) 5 values n (itemFits receives)) e
             ∙ things-same (drop (messagePlace b + 2) y) (drop (messagePlace b + 2) z) 5 values (at y (lengthPlace b)) 20 (itemFits receives) (λ j l. omega (arith, l, t .0)) (omega (arith, t .0))
-            (λ c d e f. item-same c d receives e ∙ f) (tail-same y z (messagePlace b + 2) 20 (λ i r. s i (omega (arith, r .0), omega (arith, r .1)))) (t .1),
+            (λ c d e. item-same c d receives e) (tail-same y z (messagePlace b + 2) 20 (λ i r. s i (omega (arith, r .0), omega (arith, r .1))))
+            ∙ t .1,
       )
 
   module _ (item : ℕ) (each-item : (j : ℕ) → j < values → Fills (itemOf (tuple item b) j) (Span (itemPlace b j) 5) (λ y. itemFits receives (drop (itemPlace b j) y) ≡ true)) where
@@ -85,7 +86,7 @@ module _ (b receives : ℕ) (h : b < branches) where
     unfolding message
     fills-message =
         fills-wider (span-region (messagePlace b) 22) (λ i. ⊎-elim (λ e. (omega (arith, e), omega (arith, e))) (λ s. (omega (arith, s .0), omega (arith, s .1))))
-        (λ y z s f. message-same (drop (messagePlace b) y) (drop (messagePlace b) z) receives (tail-same y z (messagePlace b) 22 s) f)
+        (λ y z s f. message-same (drop (messagePlace b) y) (drop (messagePlace b) z) receives (tail-same y z (messagePlace b) 22 s) ∙ f)
         (λ y q z. fit y (q .0) (q .1))
         (fills-then (fills-number 0 15 (messagePlace b) (omega (arith, h)) (omega arith)) (fills-behind (idle-sign (code ":")) fills-tuple) (λ i e s. omega (arith, e, s .0)))
       where

@@ -21,7 +21,7 @@ use Rattle.roundtrip.specs.Blocks.{wordsAt, blockAt, blocksOf}
 use Rattle.roundtrip.proofs.BarLaws.{tab-front}
 use Rattle.roundtrip.proofs.TableLaws.{tab-ext}
 use Rattle.roundtrip.proofs.TableFits.{element-long}
-use Rattle.roundtrip.proofs.SameLaws.{element-same}
+use Rattle.limits.proofs.SameLaws.{element-same}
 use Rattle.roundtrip.proofs.ExpressionFills.{zeros-of}
 use Rattle.roundtrip.proofs.ListFills.{things-of}
 use Rattle.roundtrip.proofs.ReadElements.{Right}
@@ -157,7 +157,8 @@ module _ (ps : List Pool) (m : Model ps) where
         right : (e : ℕ) → e < length (nth p .elements) → elementFits (drop (elementPlace p 0 + elementWords * e) (tableOf ps)) ≡ true
         right e h =
             ap (λ (k : ℕ). elementFits (drop k (tableOf ps))) (let q : elementPlace p 0 + elementWords * e ≡ elementPlace p e = omega arith in q)
-            ∙ element-same (getD (nth p .elements) e []) (elementAt (tableOf ps) p e) (λ i u. element-is e i h u) (element-right e h .fits)
+            ∙ element-same (getD (nth p .elements) e []) (elementAt (tableOf ps) p e) (λ i u. element-is e i h u)
+            ∙ element-right e h .fits
 
     -- the pool that the table holds is the one that was read
     words-is : (e : ℕ) → e < length (nth p .elements) → wordsAt (tableOf ps) p e ≡ getD (nth p .elements) e []

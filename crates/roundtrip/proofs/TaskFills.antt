@@ -21,7 +21,7 @@ use Rattle.reading.specs.Reading.{Reader}
 use Rattle.parts.specs.Parts.{assignmentList, itemOf, starts, series, taskPart}
 use Rattle.trips.proofs.ReadsLaws.{Both}
 use Rattle.trips.proofs.NumberReads.{Span}
-use Rattle.roundtrip.proofs.SameLaws.{things-same, assignment-same}
+use Rattle.limits.proofs.SameLaws.{things-same, assignment-same}
 use Rattle.roundtrip.proofs.FillLaws.{Fills, span-region, idle-sign, fills-then, fills-behind, fills-wider}
 use Rattle.roundtrip.proofs.WordFills.{Ranged, fills-number, fills-mode}
 use Rattle.roundtrip.proofs.ExpressionFills.{tail-same, fills-condition, fills-assignment}
@@ -43,7 +43,8 @@ assigned-local y z s g =
       omega (arith, e, g .0),
       ap (λ (n : ℕ). things (drop (assignmentPlace 0) z) assignmentWords assignments n assignmentFits) e
           ∙ things-same (drop (assignmentPlace 0) y) (drop (assignmentPlace 0) z) assignmentWords assignments (at y assignmentsPlace) 24 assignmentFits (λ j l. omega (arith, l, g .0)) (omega (arith, g .0))
-          (λ c d e f. assignment-same c d e ∙ f) (tail-same y z (assignmentPlace 0) 24 (λ i r. s i (omega (arith, r .0), omega (arith, r .1)))) (g .1),
+          (λ c d e. assignment-same c d e) (tail-same y z (assignmentPlace 0) 24 (λ i r. s i (omega (arith, r .0), omega (arith, r .1))))
+          ∙ g .1,
     )
 
 abbrev Place : ℕ → ℕ → Type 0

@@ -28,7 +28,7 @@ use Rattle.numerals.specs.Numerals.{valueFrom, leadingZero, numberOf, sameBytes
 use Rattle.reading.specs.Reading.{Parsed, misplaced, excessive, passed, refused, placeOf, behind, letters, keepNumber, number, fieldOf, field, keepOperand, operand, modeNamed, keepMode, mode}
 use Rattle.trips.proofs.NumberReads.{Span}
 use Rattle.roundtrip.proofs.FillLaws.{refused-passed, same-words, Filled, Fills, filled-set, span-region}
-use Rattle.roundtrip.proofs.SameLaws.{operand-same}
+use Rattle.limits.proofs.SameLaws.{operand-same}
 
 -- a word is read where reading passes
 pub word-passed : (form : Form) (u : Parsed) (n p q : ℕ) (x y : List ℕ) → ifWord form u (refused n p x) ≡ passed q y → u ≡ passed q y

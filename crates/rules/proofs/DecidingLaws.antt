@@ -1,20 +1,24 @@
--- The number that refuses a step, by what its name finds. Assumes nothing.
+-- Whether a step is accepted, by what its name finds. Assumes nothing.
 use Prim.Native.Nat.{ℕ}
-use mathlib.Core.Path.{_≡_, _∙_}
-use mathlib.Core.Bool.{true, false, _&&_}
+use mathlib.Core.Path.{_≡_, _∙_, refl, sym, ap}
+use mathlib.Core.Bool.{Bool, true, false, _&&_, false≢true}
 use mathlib.Core.List.{List}
+use lib.Dec.{eqb}
+use borrow.Author.Tests.{eqb-true}
+use Rattle.words.specs.Each.{each}
 use Rattle.words.specs.Pick.{if_then_else_}
 use Rattle.kinds.specs.declared.moves.Move.{Move}
 use Rattle.kinds.specs.Moves.{moveOf}
-use Rattle.model.specs.Table.{kindIn, modeIn, elementAt, poolOf, limitOf}
+use Rattle.model.specs.Table.{kindIn, modeIn, elementAt, poolOf, limitOf, messageName}
 use Rattle.state.specs.Instances.{instancesOf, queuesOf, madeCount}
 use Rattle.meaning.specs.declared.Tuple.{Tuple}
 use Rattle.meaning.specs.declared.Name.{Name}
 use Rattle.meaning.specs.Refusals.{firstRefusal}
-use Rattle.meaning.specs.Step.{siteOf, elementNamed, moveNamed, instanceOf, before, refusalsAt, refusals}
+use Rattle.meaning.specs.Step.{siteOf, elementNamed, moveNamed, instanceOf, before, space, refusalsAt, refusals}
 use Rattle.plans.specs.declared.Plan.{Plan}
 use Rattle.plans.specs.Plans.{siteAt, Decided}
-use Rattle.refusals.specs.Chain.{placed, offered}
+use Rattle.refusals.specs.Chain.{placed, offered, spaceFor}
+use Rattle.refusals.proofs.NumberLaws.{numbered, hold-at}
 use Rattle.rules.proofs.StateLaws.{there-is}
 
 -- h is the copy of the instance h₀
@@ -28,13 +32,32 @@ module _ (t z : List ℕ) (n : Name) (p : ℕ) (el : List ℕ) (m : Move) (made 
     (e₂ : el ≡ elementAt t p (n .element))
     (e₃ : m ≡ moveOf (kindIn el) (modeIn el) (n .phase))
     (e₄ : made ≡ madeCount (instancesOf z) p) where
-  pub number-nowhere : placed t p (n .element) && offered el m (n .branch) (n .instance) made ≡ false
+  number-nowhere : placed t p (n .element) && offered el m (n .branch) (n .instance) made ≡ false
       → 11 ≡ firstRefusal (refusals t (instancesOf z) (queuesOf z) n)
   unfolding refusals firstRefusal if_then_else_
   number-nowhere k = rw (there-is t z n p el m made e₁ e₂ e₃ e₄ ∙ k)
 
-  pub number-there : (limit r : ℕ) → placed t p (n .element) && offered el m (n .branch) (n .instance) made ≡ true → limit ≡ limitOf t p
+  number-there : (limit r : ℕ) → placed t p (n .element) && offered el m (n .branch) (n .instance) made ≡ true → limit ≡ limitOf t p
       → r ≡ firstRefusal (refusalsAt (siteAt el (before m (instanceOf (instancesOf z) p (n .instance))) m (n .branch) (n .given) made limit) (queuesOf z))
       → r ≡ firstRefusal (refusals t (instancesOf z) (queuesOf z) n)
   unfolding refusals firstRefusal if_then_else_ siteOf elementNamed moveNamed
   number-there limit r k e d = rw (there-is t z n p el m made e₁ e₂ e₃ e₄ ∙ k) (rw (e, e₄, e₃, e₂, e₁) at d)
+
+  pub accepted-nowhere : placed t p (n .element) && offered el m (n .branch) (n .instance) made ≡ false
+      → false ≡ eqb (firstRefusal (refusals t (instancesOf z) (queuesOf z) n)) 0
+  accepted-nowhere k = rw (← number-nowhere k)
+
+  pub accepted-there : (limit : ℕ) (r : Bool) → placed t p (n .element) && offered el m (n .branch) (n .instance) made ≡ true → limit ≡ limitOf t p
+      → r ≡ eqb (firstRefusal (refusalsAt (siteAt el (before m (instanceOf (instancesOf z) p (n .instance))) m (n .branch) (n .given) made limit) (queuesOf z))) 0
+      → r ≡ eqb (firstRefusal (refusals t (instancesOf z) (queuesOf z) n)) 0
+  accepted-there limit r k e d = d ∙ ap (λ x. eqb x 0) (number-there limit _ k e refl)
+
+-- the queue sent to is full
+pub accepted-full : (el h : List ℕ) (m : Move) (b : ℕ) (g : Tuple) (made limit : ℕ) (q : List ℕ) (name : ℕ) (s : Bool) → name ≡ messageName el b → s ≡ spaceFor m q name
+    → s ≡ false → false ≡ eqb (firstRefusal (refusalsAt (siteAt el h m b g made limit) q)) 0
+unfolding refusalsAt space spaceFor numbered each
+accepted-full el h m b g made limit q name s e d o = go (eqb (firstRefusal (refusalsAt (siteAt el h m b g made limit) q)) 0) refl
+  where
+    go : (a : Bool) → eqb (firstRefusal (refusalsAt (siteAt el h m b g made limit) q)) 0 ≡ a → false ≡ a
+    go true a = absurd (false≢true (sym (rw e at (sym d ∙ o)) ∙ hold-at (refusalsAt (siteAt el h m b g made limit) q) refl (eqb-true (firstRefusal (refusalsAt (siteAt el h m b g made limit) q)) 0 a) 8))
+    go false a = refl

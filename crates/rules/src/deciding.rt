@@ -1,5 +1,6 @@
-// The number that refuses a step, with nothing applied.
+// Whether a step is accepted, with nothing applied.
 ghost use mathlib.Core.Path.{_≡_};
+ghost use lib.Dec.{eqb};
 ghost use lib.ListN.{length};
 ghost use Prim.Native.Nat.{_≤_};
 ghost use Rattle.state.specs.Places.{instancesWords};
@@ -9,18 +10,19 @@ ghost use Rattle.meaning.specs.Step.{instanceOf, before, refusalsAt, refusals};
 ghost use Rattle.plans.specs.Plans.{siteAt};
 use super::halves::copy_in;
 use super::halves::decide_in;
+use super::halves::has_space_in;
 use super::halves::made_in;
 use super::move_at;
 use kinds::moves::Move;
 use meaning::Name;
 use model::element_at;
 use model::limit_of;
+use model::message_name;
 use model::pool_of;
 use refusals::numbers::is_there;
 use words::Word;
-use words::numbers::NO_SUCH;
 
-// Of a step of instance n.instance of pool p, which exists.
+// The number that refuses a step of instance n.instance of pool p, which exists.
 fn number_at(el: &[Word], z: &[Word], m: Move, p: Word, made: Word, limit: Word, n: Name) -> Word
     requires { ⌜ instancesWords ≤ length (now z) ⌝ }
     ensures { λ r. ⌜ r ≡ firstRefusal (refusalsAt (siteAt (now (el .entry)) (before m (instanceOf (instancesOf (now (z .entry))) p (n .instance))) m (n .branch) (n .given) made limit) (queuesOf (now (z .entry)))) ⌝ }
@@ -31,17 +33,37 @@ fn number_at(el: &[Word], z: &[Word], m: Move, p: Word, made: Word, limit: Word,
     plan.number
 }
 
-pub fn number_in(t: &[Word], z: &[Word], n: Name) -> Word
+// The queue sent to is looked at before anything is worked out.
+fn is_accepted_at(
+    el: &[Word],
+    z: &[Word],
+    m: Move,
+    p: Word,
+    made: Word,
+    limit: Word,
+    n: Name,
+) -> bool
     requires { ⌜ instancesWords ≤ length (now z) ⌝ }
-    ensures { λ r. ⌜ r ≡ firstRefusal (refusals (now (t .entry)) (instancesOf (now (z .entry))) (queuesOf (now (z .entry))) n) ⌝ }
+    ensures { λ r. ⌜ r ≡ eqb (firstRefusal (refusalsAt (siteAt (now (el .entry)) (before m (instanceOf (instancesOf (now (z .entry))) p (n .instance))) m (n .branch) (n .given) made limit) (queuesOf (now (z .entry))))) 0 ⌝ }
+{
+    let name = message_name(el, n.branch);
+    if !has_space_in(z, m, name) {
+        return false;
+    }
+    number_at(el, z, m, p, made, limit, n) == 0
+}
+
+pub fn is_accepted_in(t: &[Word], z: &[Word], n: Name) -> bool
+    requires { ⌜ instancesWords ≤ length (now z) ⌝ }
+    ensures { λ r. ⌜ r ≡ eqb (firstRefusal (refusals (now (t .entry)) (instancesOf (now (z .entry))) (queuesOf (now (z .entry))) n)) 0 ⌝ }
 {
     let p = pool_of(t, n.pool);
     let el = element_at(t, p, n.element);
     let m = move_at(el, n.phase);
     let made = made_in(z, p);
     if !is_there(t, el, m, p, made, n) {
-        return NO_SUCH;
+        return false;
     }
     let limit = limit_of(t, p);
-    number_at(el, z, m, p, made, limit, n)
+    is_accepted_at(el, z, m, p, made, limit, n)
 }

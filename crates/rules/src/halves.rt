@@ -7,6 +7,7 @@ ghost use Rattle.state.specs.Places.{instancesWords};
 ghost use Rattle.state.specs.Instances.{instancesOf, queuesOf, madeCount};
 ghost use Rattle.meaning.specs.Step.{instanceOf, before};
 ghost use Rattle.effects.specs.Effects.{storedIn, deliveredBy};
+ghost use Rattle.refusals.specs.Chain.{spaceFor};
 ghost use Rattle.plans.specs.Plans.{siteAt, Decided};
 ghost use Rattle.rules.specs.Parts.{Applied};
 ghost use Rattle.rules.specs.Settled.{posted};
@@ -24,6 +25,7 @@ use plans::Plan;
 use plans::decide;
 use queues::append;
 use refusals::numbers::has_place;
+use refusals::numbers::has_space;
 use refusals::numbers::is_postable;
 use state::made_count;
 use state::places::INSTANCE_WORDS;
@@ -61,6 +63,13 @@ pub fn decide_in(
     ensures { λ r. ⌜ Decided (siteAt (now (el .entry)) (now (h .entry)) m b g made limit) (queuesOf (now (z .entry))) r (now (h .exit)) ⌝ }
 {
     decide(el, h, m, b, g, made, limit, &z[INSTANCES_WORDS..])
+}
+
+pub fn has_space_in(z: &[Word], m: Move, name: Word) -> bool
+    requires { ⌜ instancesWords ≤ length (now z) ⌝ }
+    ensures { λ r. ⌜ r ≡ spaceFor m (queuesOf (now (z .entry))) name ⌝ }
+{
+    has_space(m, &z[INSTANCES_WORDS..], name)
 }
 
 // Writing.

@@ -1,5 +1,6 @@
 // A named step and a post, on a whole state: the instances, then the queues.
 ghost use mathlib.Core.Path.{_≡_};
+ghost use lib.Dec.{eqb};
 ghost use lib.ListN.{length};
 ghost use Prim.Native.Nat.{_≤_};
 ghost use Rattle.kinds.specs.Moves.{moveOf};
@@ -31,7 +32,7 @@ use words::numbers::NO_SUCH;
 mod deciding;
 mod halves;
 
-use deciding::number_in;
+use deciding::is_accepted_in;
 use halves::apply;
 use halves::copy_in;
 use halves::decide_in;
@@ -89,11 +90,11 @@ pub fn step_on(t: &[Word; TABLE_WORDS], z: &mut [Word; STATE_WORDS], n: Name) ->
     step_in(t, z, n)
 }
 
-// The number that refuses a named step, or 0.
-pub fn number_of(t: &[Word; TABLE_WORDS], z: &[Word; STATE_WORDS], n: Name) -> Word
-    ensures { λ r. ⌜ r ≡ firstRefusal (refusals (now (t .entry)) (instancesOf (now (z .entry))) (queuesOf (now (z .entry))) n) ⌝ }
+// Whether nothing refuses a named step.
+pub fn is_accepted(t: &[Word; TABLE_WORDS], z: &[Word; STATE_WORDS], n: Name) -> bool
+    ensures { λ r. ⌜ r ≡ eqb (firstRefusal (refusals (now (t .entry)) (instancesOf (now (z .entry))) (queuesOf (now (z .entry))) n)) 0 ⌝ }
 {
-    number_in(t, z, n)
+    is_accepted_in(t, z, n)
 }
 
 // A post: the number that refuses it, or 0.

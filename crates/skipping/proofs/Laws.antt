@@ -22,20 +22,20 @@ use Rattle.skipping.specs.declared.Part.{Part}
 use Rattle.skipping.specs.declared.Part.the-variants.{Element, Close, On, Fault as PartFault}
 use Rattle.skipping.specs.declared.Tag.{Tag}
 use Rattle.skipping.specs.declared.Tag.the-variants.{Open, Empty, Fault as TagFault}
-use Rattle.skipping.specs.Skipping.{partBy, partOf, partFor, partAt, tagBy, tagOf, behind, byTag, elementBy, byPart, contentBy, contentIn, contentAt, elementAt}
+use Rattle.skipping.specs.Skipping.{partBy, partOf, partFor, partAt, tagBy, tagOf, behind, byTag, elementBy, byPart, contentBy, contentIn, contentAt, elementAt, depth, skipped}
 
 -- WHAT IS PASSED IS FURTHER ON
-abbrev Further : ℕ → Skipped → Type 0
+abbrev pub Further : ℕ → Skipped → Type 0
 Further p (Past q) = p < q
 Further p (Fault q) = Unit {0}
 
-abbrev Onward : ℕ → Part → Type 0
+abbrev pub Onward : ℕ → Part → Type 0
 Onward p Element = Unit {0}
 Onward p (Close q) = p < q
 Onward p (On q) = p < q
 Onward p (PartFault q) = Unit {0}
 
-abbrev Behind : ℕ → Tag → Type 0
+abbrev pub Behind : ℕ → Tag → Type 0
 Behind p (Open q) = p < q
 Behind p (Empty q) = p < q
 Behind p (TagFault q) = Unit {0}
@@ -75,7 +75,7 @@ tag-by Instruction q p h = tt
 tag-by End q p h = tt
 tag-by AFault q p h = tt
 
-part-onward : (t : List ℕ) (outer p : ℕ) → Onward p (partAt t outer p)
+pub part-onward : (t : List ℕ) (outer p : ℕ) → Onward p (partAt t outer p)
 unfolding partAt
 part-onward t outer p = go (opener t p)
   where
@@ -91,12 +91,12 @@ part-onward t outer p = go (opener t p)
     go EndOpener = unfold partFor in by (sameName t outer p)
     go Other = unfold partFor in here
 
-tag-behind : (t : List ℕ) (p : ℕ) → Behind p (tagOf (markup t p) p)
+pub tag-behind : (t : List ℕ) (p : ℕ) → Behind p (tagOf (markup t p) p)
 unfolding tagOf
 tag-behind t p = tag-by (markup t p .sort) (markup t p .next) p (markup-ahead t p)
 
 -- the content of an element begins within the text
-abbrev Within : ℕ → Tag → Type 0
+abbrev pub Within : ℕ → Tag → Type 0
 Within e (Open q) = q ≤ e
 Within e (Empty q) = Unit {0}
 Within e (TagFault q) = Unit {0}
@@ -114,7 +114,7 @@ within-by Instruction q p e h = tt
 within-by End q p e h = tt
 within-by AFault q p e h = tt
 
-tag-within : (t : List ℕ) (p : ℕ) → Within (length t) (tagOf (markup t p) p)
+pub tag-within : (t : List ℕ) (p : ℕ) → Within (length t) (tagOf (markup t p) p)
 unfolding tagOf
 tag-within t p = within-by (markup t p .sort) (markup t p .next) p (length t) (markup-within t p)
 
@@ -195,6 +195,10 @@ content-is t outer p d = stable (length t) (suc (length t)) t outer p d (omega a
 pub element-past : (t : List ℕ) (p d : ℕ) (r : Skipped) → r ≡ elementAt t p d → (q : ℕ) → r ≡ Past q → p < q
 unfolding elementAt contentAt
 element-past t p d r er q e = rw (← er, e) at (element-on (contentAt t) (in-on (length t) t) t p d)
+
+pub skipped-further : (t : List ℕ) (p : ℕ) → Further p (skipped t p)
+unfolding skipped elementAt contentAt
+skipped-further t p = element-on (contentAt t) (in-on (length t) t) t p depth
 
 -- the part at a place of content, as the loop meets it
 pub part-past : (t : List ℕ) (outer p : ℕ) (g : Part) → g ≡ partAt t outer p → (q : ℕ) → g ≡ On q → p < q

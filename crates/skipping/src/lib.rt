@@ -52,7 +52,7 @@ fn part_of(m: Markup) -> Part
 }
 
 // The content of the element whose tag is at `outer`.
-fn part_at(text: &[u8], outer: usize, p: usize) -> Part
+pub fn part_at(text: &[u8], outer: usize, p: usize) -> Part
     ensures { λ r. ⌜ r ≡ partAt (now (text .entry)) outer p ⌝ }
 {
     let o = opener(text, p);
@@ -68,7 +68,8 @@ fn part_at(text: &[u8], outer: usize, p: usize) -> Part
     }
 }
 
-fn tag_of(m: Markup, p: usize) -> Tag
+// What the markup at a place is as an element's tag.
+pub fn tag_of(m: Markup, p: usize) -> Tag
     ensures { λ r. ⌜ r ≡ tagOf m p ⌝ }
 {
     let s = m.sort;

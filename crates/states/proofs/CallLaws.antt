@@ -1,34 +1,26 @@
 -- What loops and calls say, put together as the definitions have it: b and r are what a call says, n, h, g, u and v what it gives. Assumes nothing.
-use mathlib.Core.Path.{_≡_, _∙_, sym, ap, ap₂}
+use mathlib.Core.Path.{_≡_, _∙_, refl, sym, ap, ap₂}
 use mathlib.Core.Bool.{Bool, true, false, not, _&&_}
 use mathlib.Core.List.{List}
 use Prim.Native.Nat.{ℕ, _+_, _≤_, _<_}
-use lib.Dec.{eqb, leb}
+use lib.Dec.{eqb, leb, ltb}
 use lib.ListN.{replicate}
-use borrow.Author.Tests.{eq-eqb, ne-eqb, le-leb, lt-leb}
+use borrow.Author.Tests.{eq-eqb, ne-eqb, le-leb, lt-leb, lt-ltb, le-ltb}
 use Rattle.words.specs.All.{all}
 use Rattle.words.specs.Iter.{iter}
+use Rattle.words.specs.Words.{at}
 use Rattle.words.specs.Counts.{values, messages}
-use Rattle.words.proofs.AllLaws.{all-more, all-fails′, lt-leb-by, le-leb-by}
+use Rattle.words.proofs.AllLaws.{all-of, all-more, all-fails′, lt-leb-by, le-leb-by}
 use Rattle.words.proofs.IterLaws.{iter-none, iter-more, iter-done}
-use Rattle.words.proofs.PickLaws.{and-yes, and-no, and-true, and-false-left, and-false-right, flag-yes, flag-no}
+use Rattle.words.proofs.PickLaws.{pick-yes, pick-no, and-yes, and-no, and-true, and-false-left, and-false-right, flag-yes, flag-no}
 use Rattle.model.specs.Table.{elementCount, elementAt}
 use Rattle.state.specs.Instances.{instancesOf, queuesOf, madeCount, instanceAt}
-use Rattle.state.specs.Places.{definedPlace}
-use Rattle.meaning.specs.declared.Tuple.{Tuple}
+use Rattle.state.specs.Places.{definedPlace, slotPlace}
 use Rattle.meaning.specs.Tuples.{valueOf}
 use Rattle.meaning.specs.Queues.{messageCount, valueAt, messageAt}
 use Rattle.fits.specs.Fits.{madeFits, placesOf, marked, usable, instanceFits, instancesFit, slotFits, queueFits, stateFits}
+use Rattle.states.specs.Places.{shownBy}
 use Rattle.fits.proofs.PartLaws.{Firsts, Rest, parted, Behind, shared}
-
--- two numbers that calls give
-pub eq-both : (r s x y : ℕ) → r ≡ x → s ≡ y → r ≡ s → eqb x y ≡ true
-eq-both r s x y e f h = eq-eqb x y (sym e ∙ h ∙ f)
-
-pub ne-both : (r s x y : ℕ) → r ≡ x → s ≡ y → (r ≡ s → ⊥) → eqb x y ≡ false
-ne-both r s x y e f h = ne-eqb x y (λ q. h (e ∙ q ∙ sym f))
-
-pub ruleset boths = (eq-both, ne-both)
 
 -- THE PLACES of a pool: w₀ before the loop, w in it, u after a turn
 module _ (t : List ℕ) (p : ℕ) (w₀ : List ℕ) where
@@ -75,17 +67,27 @@ module _ (t s : List ℕ) (p n : ℕ) (made : n ≡ madeCount s p) where
       rw (parted t s p n made)
       (and-yes _ (Rest s p n) r (and-true (madeFits t p n) _ (flag-yes a (madeFits t p n) e h) (flag-yes b (Firsts (usable t p) s p n) f k)) g)
 
--- A MESSAGE, read as g
-module _ (q : List ℕ) (m k : ℕ) (g : Tuple) (is : g ≡ messageAt q m k) where
-  pub message-no : values < g .length → false ≡ slotFits q m k
-  unfolding slotFits
-  message-no h = and-no _ _ (lt-leb-by (g .length) _ values (ap (λ (x : Tuple). x .length) is) h)
+-- A MESSAGE of n values
+module _ (q : List ℕ) (m k n : ℕ) where
+  pub shown-first : all (shownBy q m k n) n ≡ true
+  unfolding shownBy
+  shown-first = all-of (shownBy q m k n) n (λ j l. eq-eqb (valueAt q m k j) _ (pick-yes (ltb j n) (valueAt q m k j) (valueAt q m k j) 0 (lt-ltb j n l) refl))
 
-  pub message-yes : g .length ≤ values → (b : Bool) → b ≡ all (λ j. eqb (valueAt q m k j) (valueOf g j)) values → b ≡ slotFits q m k
+  pub shown-more : (j r : ℕ) → n ≤ j → r ≡ valueAt q m k j → r ≡ 0 → shownBy q m k n j ≡ true
+  unfolding shownBy
+  shown-more j r l e h = eq-eqb (valueAt q m k j) _ (sym e ∙ pick-no (ltb j n) r (valueAt q m k j) 0 (le-ltb j n l) h)
+
+  pub shown-fails : (j r : ℕ) → n ≤ j → r ≡ valueAt q m k j → (r ≡ 0 → ⊥) → shownBy q m k n j ≡ false
+  unfolding shownBy
+  shown-fails j r l e h = ne-eqb (valueAt q m k j) _ (λ o. h (e ∙ o ∙ sym (pick-no (ltb j n) 0 (valueAt q m k j) 0 (le-ltb j n l) refl)))
+
+  pub message-no : n ≡ at q (slotPlace m k) → values < n → false ≡ slotFits q m k
   unfolding slotFits
-  message-yes h b e =
-      and-yes _ (all (λ j. eqb (valueAt q m k j) (valueOf (messageAt q m k) j)) values) b
-      (le-leb-by (g .length) _ values (ap (λ (x : Tuple). x .length) is) h) (e ∙ ap (λ (x : Tuple). all (λ j. eqb (valueAt q m k j) (valueOf x j)) values) is)
+  message-no e h = and-no _ _ (lt-leb-by n _ values e h)
+
+  pub message-yes : n ≡ at q (slotPlace m k) → n ≤ values → (b : Bool) → b ≡ all (shownBy q m k n) values → b ≡ slotFits q m k
+  unfolding slotFits shownBy valueOf all
+  message-yes e h b f = and-yes _ _ b (le-leb-by n _ values e h) (rw e at f)
 
 -- A QUEUE of n messages
 module _ (q : List ℕ) (m n : ℕ) (count : n ≡ messageCount q m) where

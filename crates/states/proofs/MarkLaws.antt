@@ -43,9 +43,9 @@ module _ (w₀ el : List ℕ) (list : ℕ) where
 
 pub ruleset edged = (edged-none, edged-more, edged-done)
 
--- a row of the table of kinds, by an element's kind
-pub silent-is : (el : List ℕ) (k : ℕ) (r : Kind) → k ≡ kindIn el → r ≡ kindOf k → eqb (r .receives + r .sends) 0 ≡ eqb (kindOf (kindIn el) .receives + kindOf (kindIn el) .sends) 0
-silent-is el k r is row = rw (row, is)
+-- two cells of the table of kinds, by an element's kind
+pub silent-is : (el : List ℕ) (k r s : ℕ) → k ≡ kindIn el → r ≡ kindOf k .receives → s ≡ kindOf k .sends → eqb (r + s) 0 ≡ eqb (kindOf (kindIn el) .receives + kindOf (kindIn el) .sends) 0
+silent-is el k r s is e f = rw (e, f, is)
 
 -- THE COUNTS of an element: r its mode, n its task, b whether it neither receives nor sends; v and x after a mark each
 module _ (w el : List ℕ) where

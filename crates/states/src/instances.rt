@@ -1,12 +1,15 @@
 // Whether the instances of a pool fit: h is the words of one, u the places that it may use.
 ghost use mathlib.Core.Path.{_≡_};
-ghost use Prim.Native.Nat.{_-_, _*_};
+ghost use Prim.Native.Nat.{_-_, _*_, _≤_};
+ghost use lib.ListN.{length};
 ghost use Rattle.words.specs.All.{all};
 ghost use Rattle.words.specs.Counts.{fields, instances};
+ghost use Rattle.limits.specs.Bits.{bitsOf};
 ghost use Rattle.limits.specs.Limits.{zeros};
 ghost use Rattle.state.specs.Instances.{instanceAt};
 ghost use Rattle.state.specs.Places.{definedPlace, instanceWords};
 ghost use Rattle.fits.specs.Fits.{usable, placeFits, fieldFits, instanceFits, instancesFit};
+ghost use Rattle.states.specs.Places.{excessOf, excessAt};
 use super::marks::mark_pool;
 use fits::pools::made_fits;
 use limits::zeros::less;
@@ -22,17 +25,17 @@ use words::counts::FIELDS;
 use words::counts::INSTANCES;
 use words::word;
 
-fn count_fits(u: &[Word], h: &[Word], k: usize) -> bool
-    ensures { λ r. ⌜ r ≡ placeFits (now (u .entry)) (now (h .entry)) k ⌝ }
+// 0 where a count n may stand at a place of which u says whether it may be used.
+fn excess(u: Word, n: Word) -> Word
+    ensures { λ r. ⌜ r ≡ excessOf u n ⌝ }
 {
-    let n = word(h, k);
-    if n == 0 {
-        return true;
+    if u == 1 {
+        if n <= COUNT_MOST {
+            return 0;
+        }
+        return 1;
     }
-    if word(u, k) != 1 {
-        return false;
-    }
-    n <= COUNT_MOST
+    n
 }
 
 fn field_fits(h: &[Word], d: Word) -> bool
@@ -45,17 +48,25 @@ fn field_fits(h: &[Word], d: Word) -> bool
     defined == 1
 }
 
-fn counts_fit(u: &[Word], h: &[Word]) -> bool
-    ensures { λ r. ⌜ r ≡ all (placeFits (now (u .entry)) (now (h .entry))) (definedPlace 0) ⌝ }
+// The first n places put together: a loop with one way out, as `limits::zeros` has it.
+fn excess_below(u: &[Word; DEFINED], h: &[Word], n: usize) -> Word
+    requires { ⌜ (n ≤ length (now h)) × (n ≤ definedPlace 0) ⌝ }
+    ensures { λ r. ⌜ r ≡ bitsOf (excessAt (now (u .entry)) (now (h .entry))) n ⌝ }
 {
+    let mut bits: Word = 0;
     let mut k: usize = 0;
-    while k < DEFINED {
-        if !count_fits(u, h, k) {
-            return false;
-        }
+    while k < n {
+        bits = bits | excess(u[k], h[k]);
         k += 1;
     }
-    true
+    bits
+}
+
+fn counts_fit(u: &[Word; DEFINED], h: &[Word]) -> bool
+    ensures { λ r. ⌜ r ≡ all (placeFits (now (u .entry)) (now (h .entry))) (definedPlace 0) ⌝ }
+{
+    let end = if DEFINED <= h.len() { DEFINED } else { h.len() };
+    excess_below(u, h, end) == 0
 }
 
 fn fields_fit(h: &[Word]) -> bool
@@ -71,7 +82,7 @@ fn fields_fit(h: &[Word]) -> bool
     true
 }
 
-fn instance_fits(u: &[Word], h: &[Word]) -> bool
+fn instance_fits(u: &[Word; DEFINED], h: &[Word]) -> bool
     ensures { λ r. ⌜ r ≡ instanceFits (now (u .entry)) (now (h .entry)) ⌝ }
 {
     if !counts_fit(u, h) {
@@ -81,7 +92,7 @@ fn instance_fits(u: &[Word], h: &[Word]) -> bool
 }
 
 // The first n instances of a pool, and the words of the others.
-fn first_fit(u: &[Word], s: &[Word], p: Word, n: Word) -> bool
+fn first_fit(u: &[Word; DEFINED], s: &[Word], p: Word, n: Word) -> bool
     ensures { λ r. ⌜ r ≡ all (λ i. instanceFits (now (u .entry)) (instanceAt (now (s .entry)) p i)) n ⌝ }
 {
     let mut i: Word = 0;

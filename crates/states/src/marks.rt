@@ -10,8 +10,9 @@ ghost use Rattle.model.specs.Places.{edgePlace};
 ghost use Rattle.model.specs.Table.{elementCount, elementAt, kindIn, entryCount, exitCount, entryAt, exitAt};
 ghost use Rattle.state.specs.Places.{tokenPlace};
 ghost use Rattle.fits.specs.Fits.{countPlaces, placesOf, marked};
-use kinds::kind_of;
 use kinds::moves::A;
+use kinds::receives_of;
+use kinds::sends_of;
 use model::edge_at;
 use model::element_at;
 use model::element_count;
@@ -54,8 +55,8 @@ fn mark_exits(w: &mut [Word], el: &[Word])
 fn is_silent(el: &[Word]) -> bool
     ensures { λ r. ⌜ r ≡ eqb (kindOf (kindIn (now (el .entry))) .receives + kindOf (kindIn (now (el .entry))) .sends) 0 ⌝ }
 {
-    let kind = kind_of(kind_in(el));
-    (kind.receives as u32) + (kind.sends as u32) == 0
+    let kind = kind_in(el);
+    (receives_of(kind) as u32) + (sends_of(kind) as u32) == 0
 }
 
 fn mark_counts(w: &mut [Word], el: &[Word])

@@ -1,25 +1,22 @@
 // Whether a queue fits: its messages, and 0 behind their values and behind the last.
 ghost use mathlib.Core.Path.{_≡_};
-ghost use Prim.Native.Nat.{_-_, _*_};
-ghost use lib.Dec.{eqb};
+ghost use Prim.Native.Nat.{_-_, _*_, _≤_};
 ghost use lib.ListN.{drop};
 ghost use Rattle.words.specs.All.{all};
+ghost use Rattle.words.specs.Words.{at};
 ghost use Rattle.words.specs.Counts.{values, messages};
 ghost use Rattle.limits.specs.Limits.{zeros};
-ghost use Rattle.meaning.specs.Tuples.{valueOf};
 ghost use Rattle.meaning.specs.Queues.{valueAt};
 ghost use Rattle.state.specs.Places.{slotPlace, slotWords};
 ghost use Rattle.fits.specs.Fits.{slotFits, queueFits};
+ghost use Rattle.states.specs.Places.{shownBy};
 use limits::zeros::less;
 use limits::zeros::zero_words;
-use meaning::Tuple;
-use queues::message_at;
 use queues::queued_in;
 use state::places::FIRST_SLOT;
 use state::places::FIRST_VALUE;
 use state::places::QUEUE_WORDS;
 use state::places::SLOT_WORDS;
-use values::tuples::value_of;
 use words::Word;
 use words::counts::MESSAGES;
 use words::counts::VALUES;
@@ -40,13 +37,24 @@ fn value_at(q: &[Word], m: Word, k: Word, j: Word) -> Word
     )
 }
 
-// Whether the values of message k are those of a tuple, and 0 behind them.
-fn values_fit(q: &[Word], m: Word, k: Word, g: Tuple) -> bool
-    ensures { λ r. ⌜ r ≡ all (λ j. eqb (valueAt (now (q .entry)) m k j) (valueOf g j)) values ⌝ }
+// How many values message k of queue m has.
+fn length_at(q: &[Word], m: Word, k: Word) -> Word
+    ensures { λ r. ⌜ r ≡ at (now (q .entry)) (slotPlace m k) ⌝ }
 {
-    let mut j: Word = 0;
+    word(
+        q,
+        QUEUE_WORDS * (m as usize) + FIRST_SLOT + SLOT_WORDS * (k as usize),
+    )
+}
+
+// Whether 0 stands behind the first n values of message k.
+fn values_fit(q: &[Word], m: Word, k: Word, n: Word) -> bool
+    requires { ⌜ n ≤ values ⌝ }
+    ensures { λ r. ⌜ r ≡ all (shownBy (now (q .entry)) m k n) values ⌝ }
+{
+    let mut j: Word = n;
     while j < VALUES {
-        if value_at(q, m, k, j) != value_of(g, j) {
+        if value_at(q, m, k, j) != 0 {
             return false;
         }
         j += 1;
@@ -57,11 +65,11 @@ fn values_fit(q: &[Word], m: Word, k: Word, g: Tuple) -> bool
 fn message_fits(q: &[Word], m: Word, k: Word) -> bool
     ensures { λ r. ⌜ r ≡ slotFits (now (q .entry)) m k ⌝ }
 {
-    let g = message_at(q, m, k);
-    if VALUES < g.length {
+    let n = length_at(q, m, k);
+    if VALUES < n {
         return false;
     }
-    values_fit(q, m, k, g)
+    values_fit(q, m, k, n)
 }
 
 fn messages_fit(q: &[Word], m: Word, n: Word) -> bool

@@ -1,27 +1,23 @@
--- An element by the row of its kind: k is its kind, r the row, as calls give them. Assumes nothing.
+-- An element by its kind k and the letters n of its row, as calls give them. Assumes nothing.
 use mathlib.Core.Path.{_≡_, _∙_, sym, ap}
 use mathlib.Core.Bool.{Bool, true, false, not}
 use mathlib.Core.List.{List}
 use Prim.Native.Nat.{ℕ}
 use lib.Dec.{eqb}
-use borrow.Author.Tests.{eq-eqb, ne-eqb}
+use Rattle.words.proofs.AllLaws.{eq-eqb-by, ne-eqb-by}
 use Rattle.words.proofs.PickLaws.{and-yes, and-no}
-use Rattle.kinds.specs.declared.Kind.{Kind}
 use Rattle.kinds.specs.Kinds.{kindOf}
 use Rattle.model.specs.Table.{kindIn}
 use Rattle.limits.specs.Limits.{partsFit, elementFits}
 
-module _ (el : List ℕ) (k : ℕ) (r : Kind) (is : k ≡ kindIn el) (row : r ≡ kindOf k) where
-  rowed : r ≡ kindOf (kindIn el)
-  rowed = row ∙ ap kindOf is
+module _ (el : List ℕ) (k n : ℕ) (is : k ≡ kindIn el) (row : n ≡ kindOf k .letters) where
+  lettered : n ≡ kindOf (kindIn el) .letters
+  lettered = rw is at row
 
-  pub element-no : r .letters ≡ 0 → false ≡ elementFits el
+  pub element-no : n ≡ 0 → false ≡ elementFits el
   unfolding elementFits
-  element-no e =
-      and-no _ (partsFit (kindOf (kindIn el)) el) (ap (λ (z : Kind). not (eqb (z .letters) 0)) (sym rowed) ∙ ap not (eq-eqb (r .letters) 0 e))
+  element-no e = and-no _ (partsFit (kindOf (kindIn el)) el) (ap not (eq-eqb-by n _ 0 lettered e))
 
-  pub element-yes : (b : Bool) → (r .letters ≡ 0 → ⊥) → b ≡ partsFit r el → b ≡ elementFits el
+  pub element-yes : (b : Bool) → (n ≡ 0 → ⊥) → b ≡ partsFit (kindOf k) el → b ≡ elementFits el
   unfolding elementFits
-  element-yes b n h =
-      and-yes _ (partsFit (kindOf (kindIn el)) el) b (ap (λ (z : Kind). not (eqb (z .letters) 0)) (sym rowed) ∙ ap not (ne-eqb (r .letters) 0 n))
-      (h ∙ ap (λ (z : Kind). partsFit z el) rowed)
+  element-yes b e h = and-yes _ (partsFit (kindOf (kindIn el)) el) b (ap not (ne-eqb-by n _ 0 lettered e)) (rw is at h)

@@ -1,16 +1,20 @@
 -- A pool of a table by the tests of its parts: b and n are what calls say of a part. Assumes nothing.
-use mathlib.Core.Path.{_≡_}
+use mathlib.Core.Path.{_≡_, _∙_}
 use mathlib.Core.Bool.{Bool, true, false, not, _&&_}
 use mathlib.Core.List.{List}
-use Prim.Native.Nat.{ℕ, _<_}
+use Prim.Native.Nat.{ℕ, _+_, _-_, _*_, _≤_, _<_}
+use native.Mathlib.Omega.{arith}
 use lib.Dec.{leb}
-use Rattle.words.specs.Words.{at}
-use Rattle.words.specs.Counts.{poolNumbers, instances, elements}
-use Rattle.words.proofs.AllLaws.{lt-leb-by}
-use Rattle.words.proofs.PickLaws.{and-yes, and-no, and-true, and-false-left, and-false-right, flag-no}
-use Rattle.model.specs.Places.{elementWords, poolPlace, limitPlace}
+use lib.ListN.{length, drop, length-drop}
+use borrow.Author.Tests.{leb-true}
+use Rattle.words.specs.Words.{at, part}
+use Rattle.words.specs.Counts.{pools, poolNumbers, instances, elements}
+use Rattle.words.proofs.AllLaws.{lt-leb-by, and-right}
+use Rattle.words.proofs.PickLaws.{and-yes, and-no, and-true, and-false-left, and-false-right, flag-yes, flag-no}
+use Rattle.model.specs.Places.{elementWords, poolPlace, limitPlace, elementPlace, tableWords}
 use Rattle.model.specs.Table.{elementCount, elementAt}
 use Rattle.limits.specs.Limits.{within, things, elementFits, poolFits}
+use Rattle.limits.proofs.SameLaws.{element-cut}
 
 module _ (t : List ℕ) (p : ℕ) where
   abbrev pub Numbered : Bool
@@ -40,3 +44,18 @@ module _ (t : List ℕ) (p : ℕ) where
   pub all-right : Numbered ≡ true → Limited ≡ true → Counted ≡ true → (b : Bool) → b ≡ Filled → b ≡ poolFits t p
   unfolding poolFits
   all-right h k l b e = and-yes _ Filled b (and-true _ Counted (and-true Numbered Limited h k) l) e
+
+-- what a call says of a range
+pub top : (b : Bool) (low high n : ℕ) → b ≡ within low high n → not b ≡ false → n ≤ high
+top b low high n e h = leb-true n high (and-right (leb low n) (leb n high) (flag-yes b (within low high n) e h))
+
+pub top-by : (r n high : ℕ) → r ≡ n → n ≤ high → r ≤ high
+top-by r n high e h = omega arith
+
+-- the words from a pool's first element on
+pub room : (t y : List ℕ) (p : ℕ) → y ≡ elementAt t p 0 → p < pools → tableWords ≤ length t → elementWords * elements ≤ length y
+room t y p e l h = rw (e, length-drop (elementPlace p 0) t) (omega arith)
+
+-- an element cut out
+pub cut-out : (x : List ℕ) (j : ℕ) (r : Bool) → r ≡ elementFits (part x (elementWords * j) (elementWords * j + elementWords)) → r ≡ elementFits (drop (elementWords * j) x)
+cut-out x j r h = h ∙ element-cut (elementWords * j + elementWords - elementWords * j) (drop (elementWords * j) x) (omega arith)

@@ -4,19 +4,24 @@ ghost use lib.ListN.{drop};
 ghost use Prim.Native.Nat.{_+_};
 ghost use Rattle.words.specs.Words.{at};
 ghost use Rattle.words.specs.Counts.{branches, assignments};
-ghost use Rattle.kinds.specs.Kinds.{used};
+ghost use Rattle.kinds.specs.Kinds.{kindOf, used};
 ghost use Rattle.model.specs.Places.{entriesPlace, exitsPlace, expressionWords, messageWords, assignmentWords};
 ghost use Rattle.limits.specs.Limits.{things, conditionFits, messageFits, assignmentFits, countFits, edgeFits, edgesFit, taskFits, conditionsFit, messagesFit, assignmentsFit, partsFit, elementFits};
 use super::parts::assignment_fits;
 use super::parts::condition_fits;
 use super::parts::message_fits;
-use kinds::Kind;
 use kinds::MANY;
 use kinds::ONE;
+use kinds::conditions_of;
 use kinds::count_by;
-use kinds::kind_of;
+use kinds::entries_of;
+use kinds::exits_of;
+use kinds::letters_of;
 use kinds::moves::A;
 use kinds::moves::NA_NC;
+use kinds::receives_of;
+use kinds::sends_of;
+use kinds::task_of;
 use limits::zeros::is_within;
 use limits::zeros::zeros_behind;
 use model::assignment_at;
@@ -45,7 +50,7 @@ use words::word;
 // A list of edges: its count, and the edges, a word each.
 const COUNT: usize = 0;
 
-const EDGE_WORDS: usize = 1;
+const EDGE_WORDS: Word = 1;
 
 fn count_fits(column: Word, x: &[Word]) -> bool
     ensures { λ r. ⌜ r ≡ countFits column (at (now (x .entry)) 0) ⌝ }
@@ -56,23 +61,17 @@ fn count_fits(column: Word, x: &[Word]) -> bool
     word(x, COUNT) == column
 }
 
-fn edge_fits(x: &[Word]) -> bool
-    ensures { λ r. ⌜ r ≡ edgeFits (now (x .entry)) ⌝ }
-{
-    is_within(x, 0, 1, EDGES)
-}
-
 fn edge_things(x: &[Word], k: Word) -> bool
     ensures { λ r. ⌜ r ≡ things (now (x .entry)) 1 branches k edgeFits ⌝ }
 {
     let mut j: Word = 0;
     while j < k {
-        if !edge_fits(tail(x, EDGE_WORDS * (j as usize))) {
+        if !is_within(x, j as usize, 1, EDGES) {
             return false;
         }
         j += 1;
     }
-    zeros_behind(x, EDGE_WORDS as Word, BRANCHES, k as u32)
+    zeros_behind(x, EDGE_WORDS, BRANCHES, k as u32)
 }
 
 // The edges of a list.
@@ -92,22 +91,22 @@ fn edges_fit(column: Word, x: &[Word]) -> bool
 }
 
 // The entries and the exits of an element.
-fn entries_fit(column: Word, el: &[Word]) -> bool
-    ensures { λ r. ⌜ r ≡ edgesFit column (drop entriesPlace (now (el .entry))) ⌝ }
+fn entries_fit(kind: Word, el: &[Word]) -> bool
+    ensures { λ r. ⌜ r ≡ edgesFit (kindOf kind .entries) (drop entriesPlace (now (el .entry))) ⌝ }
 {
-    edges_fit(column, tail(el, ENTRIES))
+    edges_fit(entries_of(kind), tail(el, ENTRIES))
 }
 
-fn exits_fit(column: Word, el: &[Word]) -> bool
-    ensures { λ r. ⌜ r ≡ edgesFit column (drop exitsPlace (now (el .entry))) ⌝ }
+fn exits_fit(kind: Word, el: &[Word]) -> bool
+    ensures { λ r. ⌜ r ≡ edgesFit (kindOf kind .exits) (drop exitsPlace (now (el .entry))) ⌝ }
 {
-    edges_fit(column, tail(el, EXITS))
+    edges_fit(exits_of(kind), tail(el, EXITS))
 }
 
-fn task_fits(task: Word, el: &[Word]) -> bool
-    ensures { λ r. ⌜ r ≡ taskFits task (now (el .entry)) ⌝ }
+fn task_fits(kind: Word, el: &[Word]) -> bool
+    ensures { λ r. ⌜ r ≡ taskFits (kindOf kind .task) (now (el .entry)) ⌝ }
 {
-    if task == ONE {
+    if task_of(kind) == ONE {
         if !is_within(el, TASK, 1, TASKS) {
             return false;
         }
@@ -138,9 +137,10 @@ fn condition_things(conditions: Word, x: &[Word], k: Word) -> bool
     zeros_behind(x, EXPRESSION_WORDS as Word, BRANCHES, k as u32)
 }
 
-fn conditions_fit(conditions: Word, el: &[Word]) -> bool
-    ensures { λ r. ⌜ r ≡ conditionsFit conditions (now (el .entry)) ⌝ }
+fn conditions_fit(kind: Word, el: &[Word]) -> bool
+    ensures { λ r. ⌜ r ≡ conditionsFit (kindOf kind .conditions) (now (el .entry)) ⌝ }
 {
+    let conditions = conditions_of(kind);
     condition_things(
         conditions,
         condition_at(el, 0),
@@ -172,13 +172,14 @@ fn message_things(receives: Word, x: &[Word], k: u32) -> bool
     zeros_behind(x, MESSAGE_WORDS as Word, BRANCHES, k)
 }
 
-fn messages_fit(receives: Word, sends: Word, el: &[Word]) -> bool
-    ensures { λ r. ⌜ r ≡ messagesFit receives sends (now (el .entry)) ⌝ }
+fn messages_fit(kind: Word, el: &[Word]) -> bool
+    ensures { λ r. ⌜ r ≡ messagesFit (kindOf kind .receives) (kindOf kind .sends) (now (el .entry)) ⌝ }
 {
+    let receives = receives_of(kind);
     message_things(
         receives,
         tail(el, MESSAGES),
-        message_count(receives, sends, word(el, EXITS)),
+        message_count(receives, sends_of(kind), word(el, EXITS)),
     )
 }
 
@@ -201,22 +202,22 @@ fn assignments_fit(el: &[Word]) -> bool
     assignment_things(assignment_at(el, 0), assignment_count(el))
 }
 
-fn parts_fit(kind: Kind, el: &[Word]) -> bool
-    ensures { λ r. ⌜ r ≡ partsFit kind (now (el .entry)) ⌝ }
+fn parts_fit(kind: Word, el: &[Word]) -> bool
+    ensures { λ r. ⌜ r ≡ partsFit (kindOf kind) (now (el .entry)) ⌝ }
 {
-    if !task_fits(kind.task, el) {
+    if !task_fits(kind, el) {
         return false;
     }
-    if !entries_fit(kind.entries, el) {
+    if !entries_fit(kind, el) {
         return false;
     }
-    if !exits_fit(kind.exits, el) {
+    if !exits_fit(kind, el) {
         return false;
     }
-    if !conditions_fit(kind.conditions, el) {
+    if !conditions_fit(kind, el) {
         return false;
     }
-    if !messages_fit(kind.receives, kind.sends, el) {
+    if !messages_fit(kind, el) {
         return false;
     }
     assignments_fit(el)
@@ -226,8 +227,8 @@ fn parts_fit(kind: Kind, el: &[Word]) -> bool
 pub fn element_fits(el: &[Word]) -> bool
     ensures { λ r. ⌜ r ≡ elementFits (now (el .entry)) ⌝ }
 {
-    let kind = kind_of(kind_in(el));
-    if kind.letters == 0 {
+    let kind = kind_in(el);
+    if letters_of(kind) == 0 {
         return false;
     }
     parts_fit(kind, el)

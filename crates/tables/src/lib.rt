@@ -1,10 +1,10 @@
 // Whether a table is within the limits, with 0 in every place that is not in use.
 ghost use mathlib.Core.Path.{_≡_};
-ghost use Prim.Native.Nat.{_-_, _*_};
-ghost use lib.ListN.{drop};
+ghost use Prim.Native.Nat.{_+_, _-_, _*_, _≤_, _<_};
+ghost use lib.ListN.{drop, length};
 ghost use Rattle.words.specs.All.{all};
 ghost use Rattle.words.specs.Counts.{pools, elements};
-ghost use Rattle.model.specs.Places.{elementWords, poolWords, poolPlace};
+ghost use Rattle.model.specs.Places.{elementWords, poolWords, poolPlace, tableWords};
 ghost use Rattle.model.specs.Table.{poolCount, elementCount, elementAt};
 ghost use Rattle.limits.specs.Limits.{zeros, things, elementFits, poolFits, tableFits};
 use limits::zeros::is_within;
@@ -19,6 +19,7 @@ use model::places::FIRST_POOL;
 use model::places::LIMIT;
 use model::places::POOL_COUNT;
 use model::places::POOL_WORDS;
+use model::places::TABLE_WORDS;
 use model::pool_count;
 use words::Word;
 use words::counts::ELEMENTS;
@@ -33,12 +34,22 @@ pub mod parts;
 
 use elements::element_fits;
 
+// Element j, cut out whole: so the compiler knows how long it is.
+fn element_in(x: &[Word], j: Word) -> bool
+    requires { ⌜ elementWords * j + elementWords ≤ length (now x) ⌝ }
+    ensures { λ r. ⌜ r ≡ elementFits (drop (elementWords * j) (now (x .entry))) ⌝ }
+{
+    let from = ELEMENT_WORDS * (j as usize);
+    element_fits(&x[from..from + ELEMENT_WORDS])
+}
+
 fn element_things(x: &[Word], k: Word) -> bool
+    requires { ⌜ (k ≤ elements) × (elementWords * elements ≤ length (now x)) ⌝ }
     ensures { λ r. ⌜ r ≡ things (now (x .entry)) elementWords elements k elementFits ⌝ }
 {
     let mut j: Word = 0;
     while j < k {
-        if !element_fits(tail(x, ELEMENT_WORDS * (j as usize))) {
+        if !element_in(x, j) {
             return false;
         }
         j += 1;
@@ -48,12 +59,14 @@ fn element_things(x: &[Word], k: Word) -> bool
 
 // The elements of a pool.
 fn elements_fit(t: &[Word], p: Word) -> bool
+    requires { ⌜ (elementCount (now t) p ≤ elements) × (p < pools) × (tableWords ≤ length (now t)) ⌝ }
     ensures { λ r. ⌜ r ≡ things (elementAt (now (t .entry)) p 0) elementWords elements (elementCount (now (t .entry)) p) elementFits ⌝ }
 {
     element_things(element_at(t, p, 0), element_count(t, p))
 }
 
 fn pool_fits(t: &[Word], p: Word) -> bool
+    requires { ⌜ (p < pools) × (tableWords ≤ length (now t)) ⌝ }
     ensures { λ r. ⌜ r ≡ poolFits (now (t .entry)) p ⌝ }
 {
     let place = FIRST_POOL + POOL_WORDS * (p as usize);
@@ -70,6 +83,7 @@ fn pool_fits(t: &[Word], p: Word) -> bool
 }
 
 fn pools_below(t: &[Word], n: Word) -> bool
+    requires { ⌜ (n ≤ pools) × (tableWords ≤ length (now t)) ⌝ }
     ensures { λ r. ⌜ r ≡ all (poolFits (now (t .entry))) n ⌝ }
 {
     let mut p: Word = 0;
@@ -82,13 +96,7 @@ fn pools_below(t: &[Word], n: Word) -> bool
     true
 }
 
-// The pools of a table, and the words behind them.
-fn pools_fit(t: &[Word]) -> bool
-    ensures { λ r. ⌜ r ≡ all (poolFits (now (t .entry))) (poolCount (now (t .entry))) ⌝ }
-{
-    pools_below(t, pool_count(t))
-}
-
+// The words behind the pools of a table.
 fn rest_zero(t: &[Word]) -> bool
     ensures { λ r. ⌜ r ≡ zeros (drop (poolPlace (poolCount (now (t .entry)))) (now (t .entry))) (poolWords * (pools - poolCount (now (t .entry)))) ⌝ }
 {
@@ -101,13 +109,13 @@ fn rest_zero(t: &[Word]) -> bool
 }
 
 // Whether a table is within the limits.
-pub fn table_fits(t: &[Word]) -> bool
+pub fn table_fits(t: &[Word; TABLE_WORDS]) -> bool
     ensures { λ r. ⌜ r ≡ tableFits (now (t .entry)) ⌝ }
 {
     if !is_within(t, POOL_COUNT, 1, POOLS) {
         return false;
     }
-    if !pools_fit(t) {
+    if !pools_below(t, pool_count(t)) {
         return false;
     }
     rest_zero(t)

@@ -9,7 +9,6 @@ ghost use Rattle.limits.specs.Limits.{zeros, things, operandFits, expressionFit
 use kinds::MANY;
 use kinds::NONE;
 use limits::zeros::is_within;
-use limits::zeros::zero_words;
 use limits::zeros::zeros_behind;
 use model::places::A_FIELD;
 use model::places::ALWAYS;
@@ -25,7 +24,6 @@ use model::places::LEFT;
 use model::places::MESSAGE_LENGTH;
 use model::places::MINUS;
 use model::places::OPERAND_NUMBER;
-use model::places::OPERAND_WORDS;
 use model::places::PLUS;
 use model::places::RIGHT;
 use model::places::SINGLE;
@@ -43,49 +41,45 @@ const NAME: usize = 0;
 
 const TARGET: usize = 0;
 
-fn operand_fits(x: &[Word]) -> bool
-    ensures { λ r. ⌜ r ≡ operandFits (now (x .entry)) ⌝ }
+// The places of the two operands of an expression or a condition.
+const FIRST: Word = LEFT as Word;
+
+const SECOND: Word = RIGHT as Word;
+
+fn operand_fits(x: &[Word], i: Word) -> bool
+    ensures { λ r. ⌜ r ≡ operandFits (drop i (now (x .entry))) ⌝ }
 {
-    let sort = word(x, SORT);
+    let sort = word(x, i as usize);
     if sort == 0 {
         return true;
     }
     if sort != A_FIELD {
         return false;
     }
-    word(x, OPERAND_NUMBER) < FIELDS
+    word(x, i as usize + OPERAND_NUMBER) < FIELDS
 }
 
-// The two operands of an expression or a condition, and the second or both of them not in use.
-fn left_fits(x: &[Word]) -> bool
-    ensures { λ r. ⌜ r ≡ operandFits (drop leftPlace (now (x .entry))) ⌝ }
-{
-    operand_fits(tail(x, LEFT))
-}
-
-fn right_fits(x: &[Word]) -> bool
-    ensures { λ r. ⌜ r ≡ operandFits (drop rightPlace (now (x .entry))) ⌝ }
-{
-    operand_fits(tail(x, RIGHT))
-}
-
+// The second operand of an expression or a condition not in use, and both.
 fn right_zero(x: &[Word]) -> bool
     ensures { λ r. ⌜ r ≡ zeros (drop rightPlace (now (x .entry))) operandWords ⌝ }
 {
-    zero_words(tail(x, RIGHT), OPERAND_WORDS)
+    word(x, RIGHT) | word(x, RIGHT + OPERAND_NUMBER) == 0
 }
 
 fn both_zero(x: &[Word]) -> bool
     ensures { λ r. ⌜ r ≡ zeros (drop leftPlace (now (x .entry))) (operandWords + operandWords) ⌝ }
 {
-    zero_words(tail(x, LEFT), OPERAND_WORDS + OPERAND_WORDS)
+    if word(x, LEFT) | word(x, LEFT + OPERAND_NUMBER) != 0 {
+        return false;
+    }
+    right_zero(x)
 }
 
 fn expression_fits(x: &[Word]) -> bool
     ensures { λ r. ⌜ r ≡ expressionFits (now (x .entry)) ⌝ }
 {
     if word(x, FORM) == SINGLE {
-        if !left_fits(x) {
+        if !operand_fits(x, FIRST) {
             return false;
         }
         return right_zero(x);
@@ -93,10 +87,10 @@ fn expression_fits(x: &[Word]) -> bool
     if !is_within(x, FORM, PLUS, MINUS) {
         return false;
     }
-    if !left_fits(x) {
+    if !operand_fits(x, FIRST) {
         return false;
     }
-    right_fits(x)
+    operand_fits(x, SECOND)
 }
 
 fn bind_fits(x: &[Word]) -> bool
@@ -139,10 +133,10 @@ pub fn condition_fits(conditions: Word, x: &[Word]) -> bool
     if !is_within(x, FORM, EQUALS, BELOW) {
         return false;
     }
-    if !left_fits(x) {
+    if !operand_fits(x, FIRST) {
         return false;
     }
-    right_fits(x)
+    operand_fits(x, SECOND)
 }
 
 fn item_things(receives: Word, x: &[Word], k: Word) -> bool
@@ -158,13 +152,6 @@ fn item_things(receives: Word, x: &[Word], k: Word) -> bool
     zeros_behind(x, EXPRESSION_WORDS as Word, VALUES, k as u32)
 }
 
-// The items of a message.
-fn items_fit(receives: Word, x: &[Word]) -> bool
-    ensures { λ r. ⌜ r ≡ things (drop 2 (now (x .entry))) expressionWords values (at (now (x .entry)) 1) (itemFits receives) ⌝ }
-{
-    item_things(receives, tail(x, FIRST_ITEM), word(x, MESSAGE_LENGTH))
-}
-
 pub fn message_fits(receives: Word, x: &[Word]) -> bool
     ensures { λ r. ⌜ r ≡ messageFits receives (now (x .entry)) ⌝ }
 {
@@ -174,14 +161,7 @@ pub fn message_fits(receives: Word, x: &[Word]) -> bool
     if VALUES < word(x, MESSAGE_LENGTH) {
         return false;
     }
-    items_fit(receives, x)
-}
-
-// What an assignment assigns.
-fn source_fits(x: &[Word]) -> bool
-    ensures { λ r. ⌜ r ≡ expressionFits (drop 1 (now (x .entry))) ⌝ }
-{
-    expression_fits(tail(x, ASSIGNED))
+    item_things(receives, tail(x, FIRST_ITEM), word(x, MESSAGE_LENGTH))
 }
 
 pub fn assignment_fits(x: &[Word]) -> bool
@@ -190,5 +170,5 @@ pub fn assignment_fits(x: &[Word]) -> bool
     if FIELDS <= word(x, TARGET) {
         return false;
     }
-    source_fits(x)
+    expression_fits(tail(x, ASSIGNED))
 }

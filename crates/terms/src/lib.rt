@@ -1,10 +1,14 @@
 // The terms of an element's text: expressions, items of a template, conditions, assignments, guarded branches; each is stored at its place in the words of the element.
 ghost use mathlib.Core.Path.{_≡_};
-ghost use Prim.Native.Nat.{_≤_};
-ghost use Rattle.model.specs.Places.{itemPlace, conditionPlace};
+ghost use mathlib.Core.Bool.{_&&_};
+ghost use Prim.Native.Nat.{_+_, _≤_};
+ghost use lib.ListN.{set};
+ghost use Rattle.words.specs.Text.{bytes};
+ghost use Rattle.words.specs.Words.{part};
+ghost use Rattle.model.specs.Places.{formPlace, itemPlace, conditionPlace};
 ghost use Rattle.terms.specs.Terms.{joint, expression, bind, templateItem, comparison, condition, assignment, guarded};
-ghost use Rattle.terms.specs.Tails.{farthest, joinedBy, compared, isDefaultWord, keepForm, conditionWord, guard};
-ghost use Rattle.reading.specs.Reading.{letters};
+ghost use Rattle.terms.specs.Tails.{farthest, joinedBy, compared, conditionWord, guard};
+ghost use Rattle.reading.specs.Reading.{passed, placeOf, behind};
 ghost use Rattle.numerals.specs.Numerals.{sameBytes};
 use lexer::Form;
 use lexer::piece;
@@ -153,45 +157,48 @@ fn compared(text: &[u8], at: usize, x: &mut [Word], place: u32) -> Read
     comparison(text, q, x, place)
 }
 
-// Whether the token at a place is a given word.
-fn is_spelled(text: &[u8], at: usize, word: &[u8]) -> bool
-    ensures { λ r. ⌜ r ≡ sameBytes (letters (now (text .entry)) at) (now (word .entry)) ⌝ }
+// Whether the word from p to q is a given one.
+fn is_spelled(text: &[u8], p: usize, q: usize, word: &[u8]) -> bool
+    ensures { λ r. ⌜ r ≡ sameBytes (part (now (text .entry)) p q) (now (word .entry)) ⌝ }
 {
-    let token = token_at(text, at);
-    let p = token.at;
-    let q = token.next;
     same(piece(text, p, q), word)
 }
 
-fn is_default(text: &[u8], at: usize, defaults: bool) -> bool
-    ensures { λ r. ⌜ r ≡ isDefaultWord defaults (now (text .entry)) at ⌝ }
+fn is_default(text: &[u8], p: usize, q: usize, defaults: bool) -> bool
+    ensures { λ r. ⌜ r ≡ defaults && sameBytes (part (now (text .entry)) p q) (bytes "default") ⌝ }
 {
     if defaults {
-        return is_spelled(text, at, b"default");
+        return is_spelled(text, p, q, b"default");
     }
     false
 }
 
-// A form that a word says.
-fn keep_form(text: &[u8], at: usize, x: &mut [Word], place: u32, form: Word) -> Read
-    ensures { λ r. ⌜ record { end = r; words = now (x .exit) } ≡ keepForm form place (now (text .entry)) at (now (x .entry)) ⌝ }
+// A form that a word says; q is behind it.
+fn keep_form(q: usize, x: &mut [Word], place: u32, form: Word) -> Read
+    ensures { λ r. ⌜ record { end = r; words = now (x .exit) } ≡ passed q (set (now (x .entry)) (place + formPlace) form) ⌝ }
 {
-    let token = token_at(text, at);
-    let q = token.next;
     put(x, place as usize + FORM, form);
     Read::At(q)
 }
 
-// A condition that starts with a word.
-fn condition_word(text: &[u8], at: usize, x: &mut [Word], defaults: bool, place: u32) -> Read
-    requires { ⌜ place ≤ farthest ⌝ }
+// A condition that starts with the word from p to q.
+fn condition_word(
+    text: &[u8],
+    at: usize,
+    p: usize,
+    q: usize,
+    x: &mut [Word],
+    defaults: bool,
+    place: u32,
+) -> Read
+    requires { ⌜ (p ≡ placeOf (now text) at) × (q ≡ behind (now text) at) × (place ≤ farthest) ⌝ }
     ensures { λ r. ⌜ record { end = r; words = now (x .exit) } ≡ conditionWord defaults place (now (text .entry)) at (now (x .entry)) ⌝ }
 {
-    if is_spelled(text, at, b"true") {
-        return keep_form(text, at, x, place, ALWAYS);
+    if is_spelled(text, p, q, b"true") {
+        return keep_form(q, x, place, ALWAYS);
     }
-    if is_default(text, at, defaults) {
-        return keep_form(text, at, x, place, DEFAULT);
+    if is_default(text, p, q, defaults) {
+        return keep_form(q, x, place, DEFAULT);
     }
     compared(text, at, x, place)
 }
@@ -202,11 +209,12 @@ fn condition(text: &[u8], at: usize, x: &mut [Word], defaults: bool, place: u32)
 {
     let token = token_at(text, at);
     let p = token.at;
+    let q = token.next;
     let form = token.form;
     let Form::Word = form else {
         return Read::Refused(MISPLACED, p);
     };
-    condition_word(text, at, x, defaults, place)
+    condition_word(text, at, p, q, x, defaults, place)
 }
 
 // The condition of branch b.

@@ -51,3 +51,12 @@ pub const WOULD_PASS: Word = 18;
 
 // post: name above 15 or more than 4 values
 pub const NOT_POSTABLE: Word = 19;
+
+// drawing: not the XML named, or nested deeper
+pub const NOT_XML: Word = 20;
+
+// drawing: an element that is not run, or another fault of what is drawn
+pub const NOT_RUN: Word = 21;
+
+// poll: more than 64 items
+pub const TOO_MANY: Word = 22;

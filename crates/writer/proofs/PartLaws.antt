@@ -38,12 +38,19 @@ pub keyword-short : (k : ℕ) → length (keywordOf k) ≤ keywordMost
 unfolding each
 keyword-short k = leb-true _ _ (row (λ r. leb (length (take (r .letters) (r .keyword))) keywordMost) refl refl k)
 
--- the parts by the row r that a call gave
-pub codes-four : (r : Kind) (k : ℕ) → r ≡ kindOf k → length (r .parts) ≡ 4
+-- the keyword by the letters m and the bytes w that calls gave
+pub prefix-by : (m k : ℕ) (w : List ℕ) → m ≡ kindOf k .letters → w ≡ kindOf k .keyword → m ≤ length w
+prefix-by m k w e h = rw (e, h) (letters-in k)
+
+pub keyword-by : (m k : ℕ) (w : List ℕ) → m ≡ kindOf k .letters → w ≡ kindOf k .keyword → take m w ≡ keywordOf k
+keyword-by m k w e h = rw (e, h)
+
+-- the parts by the codes r that a call gave
+pub codes-four : (r : List ℕ) (k : ℕ) → r ≡ kindOf k .parts → length r ≡ 4
 unfolding each
 codes-four r k e = rw e (eqb-true _ _ (row (λ x. eqb (length (x .parts)) 4) refl refl k))
 
-pub parts-by : (el : List ℕ) (r : Kind) (k : ℕ) → r ≡ kindOf k → k ≡ kindIn el → shownParts (code "(") (r .parts) el ≡ parts el
+pub parts-by : (el r : List ℕ) (k : ℕ) → r ≡ kindOf k .parts → k ≡ kindIn el → shownParts (code "(") r el ≡ parts el
 parts-by el r k e h = rw (e, h)
 
 -- the parts that are lists, as they are written

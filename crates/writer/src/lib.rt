@@ -16,7 +16,9 @@ use buffers::put_byte;
 use buffers::put_bytes;
 use decimals::put_number;
 use kinds::PARTS;
-use kinds::kind_of;
+use kinds::keyword_of;
+use kinds::letters_of;
+use kinds::parts_of;
 use model::edge_at;
 use model::element_at;
 use model::element_count;
@@ -80,8 +82,7 @@ fn put_signed(out: &mut [u8], from: usize, sign: u8, c: u8, el: &[Word]) -> usiz
 fn put_parts(out: &mut [u8], from: usize, el: &[Word]) -> usize
     ensures { λ r. ⌜ Put (parts (now (el .entry))) partsMost from (now (out .entry)) r (now (out .exit)) ⌝ }
 {
-    let kind = kind_of(kind_in(el));
-    let codes = kind.parts;
+    let codes = parts_of(kind_in(el));
     let mut sign = b'(';
     let mut end = from;
     let mut i: usize = 0;
@@ -101,9 +102,8 @@ fn put_parts(out: &mut [u8], from: usize, el: &[Word]) -> usize
 fn put_keyword(out: &mut [u8], from: usize, k: Word) -> usize
     ensures { λ r. ⌜ Put (keywordOf k) keywordMost from (now (out .entry)) r (now (out .exit)) ⌝ }
 {
-    let kind = kind_of(k);
-    let letters = kind.letters as usize;
-    let keyword = kind.keyword;
+    let letters = letters_of(k) as usize;
+    let keyword = keyword_of(k);
     put_bytes(out, from, &keyword[..letters])
 }
 

@@ -1,4 +1,5 @@
 pub mod TokenLaws
+pub mod StayLaws
 pub mod ScanLaws
 pub mod TextLaws
 pub mod SpanLaws

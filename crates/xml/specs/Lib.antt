@@ -2,3 +2,4 @@ pub mod Tokens
 pub mod Markup
 pub mod Spans
 pub mod Points
+pub mod Staying

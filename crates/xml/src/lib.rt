@@ -4,6 +4,7 @@ use scanner::State;
 
 pub mod scanning;
 pub mod spans;
+pub mod staying;
 pub mod tokens;
 
 // What token a byte shows to be whole, of those that are judged then.

@@ -5,6 +5,7 @@ ghost use Rattle.xml.specs.Markup.{advance, scan, beginsAt, closesData, 
 use super::Cursor;
 use super::Markup;
 use super::Scan;
+use super::staying::stay;
 use super::tokens::begun;
 use super::tokens::is_faulty;
 use super::tokens::moved;
@@ -45,7 +46,8 @@ fn scan(text: &[u8], p: usize) -> Scan
             return a;
         };
         c = next;
-        i += 1;
+        let s = next.state;
+        i = stay(s, text, i + 1);
     }
     Scan::Fault(i)
 }

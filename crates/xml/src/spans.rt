@@ -135,7 +135,8 @@ fn local_from(name: &[u8]) -> usize
     from
 }
 
-fn local_of(name: &[u8]) -> &[u8]
+// What stands behind the last colon of a name.
+pub fn local_of(name: &[u8]) -> &[u8]
     ensures { λ r. ⌜ now r ≡ localOf (now (name .entry)) ⌝ }
 {
     piece(name, local_from(name), name.len())
@@ -158,7 +159,8 @@ pub fn same_name(text: &[u8], p: usize, q: usize) -> bool
     )
 }
 
-fn quote_at(text: &[u8], i: usize) -> usize
+// The quote that opens the value of the attribute whose name ends at a place.
+pub fn quote_at(text: &[u8], i: usize) -> usize
     ensures { λ r. ⌜ r ≡ quoteAt (now (text .entry)) i ⌝ }
 {
     run(
@@ -168,7 +170,8 @@ fn quote_at(text: &[u8], i: usize) -> usize
     )
 }
 
-fn value_at(text: &[u8], q: usize) -> Attribute
+// The value behind a quote.
+pub fn value_at(text: &[u8], q: usize) -> Attribute
     ensures { λ r. ⌜ r ≡ valueAt (now (text .entry)) q ⌝ }
 {
     let from = after(text, q);

@@ -9,6 +9,7 @@ use super::Cursor;
 use super::Found;
 use super::Scan;
 use super::Whole;
+use super::staying::stay;
 use characters::is_name;
 use characters::references::character_of;
 use characters::references::is_character;
@@ -130,7 +131,8 @@ pub fn found(text: &[u8], name: &[u8], start: usize) -> Found
             return Found::Nowhere;
         };
         c = next;
-        i += 1;
+        let s = next.state;
+        i = stay(s, text, i + 1);
     }
     Found::Nowhere
 }

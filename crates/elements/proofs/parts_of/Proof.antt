@@ -3,19 +3,25 @@ use borrow.Author.Needs.{needs}
 use Rattle.elements.proofs.parts_of.Statement.{statement}
 use Rattle.elements.proofs.parts_of.Tie as tie
 
-ruleset L = (needs)
+-- src/lib.rt:114:9
+returns : tie.Need-returns
+returns c = row-stopped _ _ _ _ _ (c .before .before .before .before .before .before .before .parts-of .ensures) _ _ (c .before .before .before .before .parts-from .ensures) _ _ (c .enum-told .given .1)
+
+-- src/lib.rt:108:1
+returns-2 : tie.Need-returns-2
+returns-2 c = row-closed _ _ _ _ _ (c .before .before .before .before .before .before .before .before .before .parts-of .ensures) _ _ (c .before .before .before .before .before .before .parts-from .ensures) _ _ (c .before .before .r .given .1) (c .sign-at .ensures)
 
 pub parts-of-spec : {M : Type 1} → statement M
 parts-of-spec =
     tie.close
     (tie.spec
-    (λ c κs. search L)
-    (λ c. search L)
-    (λ c κs. search L)
-    (λ c. search L)
-    (λ c. search L)
-    (λ c. search L)
-    (λ c. row-stopped _ _ _ _ _ (c .before .before .before .before .before .before .before .before .kind-of .ensures) _ _ (c .before .before .before .before .parts-from .ensures) _ _ (c .enum-told .given .1))  -- returns
-    (λ c κs. search L)
-    (λ c. search L)
-    (λ c. row-closed _ _ _ _ _ (c .before .before .before .before .before .before .before .before .before .before .kind-of .ensures) _ _ (c .before .before .before .before .before .before .parts-from .ensures) _ _ (c .before .before .r .given .1) (c .sign-at .ensures)))  -- returns-2
+    (λ c κs. search needs)
+    (λ c. search needs)
+    (λ c κs. search needs)
+    (λ c. search needs)
+    (λ c. search needs)
+    (λ c. search needs)
+    returns
+    (λ c κs. search needs)
+    (λ c. search needs)
+    returns-2)

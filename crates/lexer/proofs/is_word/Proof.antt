@@ -1,12 +1,12 @@
 use Rattle.words.proofs.AllLaws.{tests}
 use Rattle.words.proofs.PickLaws.{flag-is}
 use Rattle.lexer.specs.Lexer.{isWord}
-use Rattle.lexer.proofs.ClassLaws.{ors}
+use Rattle.lexer.proofs.ClassLaws.{or-second, or-third, or-told}
 use borrow.Author.Needs.{needs}
 use Rattle.lexer.proofs.is_word.Statement.{statement}
 use Rattle.lexer.proofs.is_word.Tie as tie
 
-ruleset L = (needs, ors, flag-is, tests)
+ruleset L = (needs, or-second, or-third, or-told, flag-is, tests)
 
 pub is-word-spec : {M : Type 1} → statement M
 unfolding isWord

@@ -1,4 +1,6 @@
 use Rattle.naming.proofs.NameLaws.{message-again, message-oldest}
+use Rattle.naming.proofs.RefusedLaws.{message-unsuited}
+use borrow.Author.Tests.{not-true}
 use borrow.Author.Needs.{needs}
 use Rattle.naming.proofs.scan_message.Statement.{statement}
 use Rattle.naming.proofs.scan_message.Tie as tie
@@ -13,7 +15,10 @@ scan-message-spec =
     (λ c κs. search L)
     (λ c κs. search L)
     (λ c κs. search L)
-    (λ c. message-again _ _ _ (c .before .before .before .before .before .before .pre) _ _ _ (c .before .before .before .before .queues-in .ensures) (c .before .before .before .message-at .ensures) (c .before .before .oldest-of .ensures) _ _ _ _ (c .before .if1 .taken) (c .passed .ensures))  -- returns
+    (λ c. message-unsuited _ _ _ _ _ _ _ _ (c .passed .ensures) _ _ _ _ _ (c .before .before .before .before .queues-in .ensures) (c .before .before .before .message-at .ensures) (c .before .before .before .before .before .before .before .pre .1) (c .before .before .before .before .before .before .before .pre .2) (c .before .before .suits .ensures) (not-true _ (c .before .if1 .taken)))  -- returns
     (λ c κs. search L)
     (λ c κs. search L)
-    (λ c. message-oldest _ _ _ (c .before .before .before .before .before .before .before .pre) _ _ _ (c .before .before .before .before .before .queues-in .ensures) (c .before .before .before .before .message-at .ensures) (c .before .before .before .oldest-of .ensures) _ _ _ _ _ (c .before .before .if1 .left) (c .before .with-values .ensures) (c .scan-name .ensures)))  -- returns-2
+    (λ c. message-again _ _ _ (c .before .before .before .before .before .before .before .before .before .pre .0) _ _ _ (c .before .before .before .before .before .before .queues-in .ensures) (c .before .before .before .before .before .message-at .ensures) (c .before .before .oldest-of .ensures) _ _ _ _ (c .before .if2 .taken) (c .passed2 .ensures))  -- returns-2
+    (λ c κs. search L)
+    (λ c κs. search L)
+    (λ c. message-oldest _ _ _ (c .before .before .before .before .before .before .before .before .before .before .pre .0) _ _ _ (c .before .before .before .before .before .before .before .queues-in .ensures) (c .before .before .before .before .before .before .message-at .ensures) (c .before .before .before .oldest-of .ensures) _ _ _ _ _ (c .before .before .if2 .left) (c .before .with-values .ensures) (c .scan-name .ensures)))  -- returns-3

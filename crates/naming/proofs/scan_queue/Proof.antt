@@ -1,37 +1,24 @@
-use native.Mathlib.Omega.{arith}
-use Rattle.naming.proofs.ScanLaws.{Passed, passed-none, passed-more, level-found, level-passed}
-use Rattle.naming.specs.Parts.{acceptedOn, byMessage}
-use Rattle.meaning.specs.Queues.{messageCount}
-use Rattle.state.specs.Instances.{queuesOf}
-use Rattle.words.proofs.JoinLaws.{those-joined}
-use mathlib.Core.List.{List}
-use mathlib.Core.Path.{_∙_, ap}
-use Prim.Native.Nat.{ℕ, _≤_, _-_}
+use Rattle.naming.proofs.RefusedLaws.{queue-above, queue-unready, worked-by}
+use borrow.Author.Tests.{not-true}
 use borrow.Author.Needs.{needs}
 use Rattle.naming.proofs.scan_queue.Statement.{statement}
 use Rattle.naming.proofs.scan_queue.Tie as tie
 
 ruleset L = (needs)
 
-abbrev Inv-loop : tie.InvT-loop
-Inv-loop t z n m k count left₀ place₀ left place = (place ≤ count) × Passed (λ j. acceptedOn t z (byMessage (queuesOf z) n m j)) place k left
-
-abbrev μ-loop : tie.MeasureT-loop
-μ-loop t z n m k count left₀ place₀ left place = count - place
-
 pub scan-queue-spec : {M : Type 1} → statement M
 scan-queue-spec =
     tie.close
     (tie.spec
-    Inv-loop
-    μ-loop
     (λ c κs. search L)
     (λ c κs. search L)
-    (λ c. (search L, passed-none _ _))  -- loop-holds
-    (λ c κs. omega (arith, c .loop-test .taken, c .before .before .queued-in .ensures ∙ ap (λ (l : List ℕ). messageCount l (c .before .before .before .before .before .args .m)) (c .before .before .before .queues-in .ensures)))  -- scan-message-requires
-    (λ c. level-found _ _ _ _ _ _ _ _ (those-joined _ _ _) (c .before .before .before .before .queued-in .ensures ∙ ap (λ (l : List ℕ). messageCount l (c .before .before .before .before .before .before .before .args .m)) (c .before .before .before .before .before .queues-in .ensures)) (c .before .before .loop-test .taken) (c .before .before .before .loop .inv .1) (c .before .scan-message .ensures) (c .if1 .taken))  -- returns
+    (λ c. queue-above _ _ _ _ _ _ _ (c .passed .ensures) _ (c .before .before .is-below .ensures) (not-true _ (c .before .if1 .taken)))  -- returns
+    (λ c κs. search L)
     (λ c. search L)
-    (λ c. search L)
-    (λ c. (search L, passed-more _ _ _ _ _ (c .before .before .before .loop .inv .1) (c .before .scan-message .ensures) (c .if1 .left)))  -- loop-again
     (λ c κs. search L)
-    (λ c. level-passed _ _ _ _ _ _ _ _ (those-joined _ _ _) (c .before .before .before .queued-in .ensures ∙ ap (λ (l : List ℕ). messageCount l (c .before .before .before .before .before .before .args .m)) (c .before .before .before .before .queues-in .ensures)) (c .before .loop-test .left) (c .before .before .loop .inv .0) (c .before .before .loop .inv .1) (c .passed .ensures)))  -- returns-2
+    (λ c κs. search L)
+    (λ c. queue-unready _ _ _ _ _ _ _ (c .passed2 .ensures) _ _ (c .before .before .before .before .before .instance-for .ensures) (c .before .before .is-ready .ensures) (not-true _ (c .before .if2 .taken)))  -- returns-2
+    (λ c. search L)
+    (λ c κs. search L)
+    (λ c κs. worked-by _ _ _ _ _ (c .before .before .before .before .before .before .before .instance-for .ensures) (c .worked-for .ensures))  -- scan-messages-requires
+    (λ c. c .scan-messages .ensures))  -- returns-3

@@ -1,4 +1,5 @@
 use borrow.Author.Needs.{needs}
+use Rattle.occurrences.proofs.OnceLaws.{binds-none, binds-other, binds-this}
 use Rattle.occurrences.proofs.item_binds.Statement.{statement}
 use Rattle.occurrences.proofs.item_binds.Tie as tie
 
@@ -10,4 +11,8 @@ item-binds-spec =
     (tie.spec
     (λ c κs. search L)
     (λ c κs. search L)
-    (λ c. ((rw (c .before .item-at .ensures) at (c .binds-field .ensures .0)), search needs)))
+    (λ c. (binds-none _ _ _ (rw (c .before .before .item-at .ensures) at (c .before .word .ensures)) (c .if1 .taken), search L))
+    (λ c. search L)
+    (λ c κs. search L)
+    (λ c. (binds-other _ _ _ (rw (c .before .before .before .before .item-at .ensures) at (c .before .before .before .word .ensures)) _ (c .before .before .if1 .left) (rw (c .before .before .before .before .item-at .ensures) at (c .before .word2 .ensures)) (c .if2 .taken), search L))
+    (λ c. (binds-this _ _ _ (rw (c .before .before .before .before .item-at .ensures) at (c .before .before .before .word .ensures)) _ (c .before .before .if1 .left) (rw (c .before .before .before .before .item-at .ensures) at (c .before .word2 .ensures)) (c .if2 .left), search L)))

@@ -1,12 +1,13 @@
+use mathlib.Core.Path.{refl}
 use Prim.Native.Nat.{_≤_, _-_}
 use borrow.Author.Needs.{needs}
 use Rattle.model.specs.Places.{elementWords}
 use Rattle.limits.specs.Limits.{elementFits}
-use Rattle.tables.proofs.ThingsLaws.{Right, things-loop}
+use Rattle.tables.proofs.ThingsLaws.{Right, right-none, right-more, right-fails, right-done}
 use Rattle.tables.proofs.element_things.Statement.{statement}
 use Rattle.tables.proofs.element_things.Tie as tie
 
-ruleset L = (needs, things-loop)
+ruleset L = (needs, right-none)
 
 abbrev Inv-loop : tie.InvT-loop
 Inv-loop x k j₀ j = (j ≤ k) × Right (elementFits) x elementWords j
@@ -21,14 +22,11 @@ element-things-spec =
     Inv-loop
     μ-loop
     (λ c. search L)
+    (λ c κs. search L)
+    (λ c. right-fails elementFits _ elementWords _ _ _ _ _ (c .before .before .loop-test .taken) refl (c .before .element-in .ensures) (c .if1 .taken))
     (λ c. search L)
+    (λ c. search L)
+    (λ c. (search L, right-more elementFits _ elementWords _ _ _ (c .before .before .before .loop .inv .1) refl (c .before .element-in .ensures) (c .if1 .left)))
     (λ c. search L)
     (λ c κs. search L)
-    (λ c κs. search L)
-    (λ c. search L)
-    (λ c. search L)
-    (λ c. search L)
-    (λ c. search L)
-    (λ c. search L)
-    (λ c κs. search L)
-    (λ c. search L))
+    (λ c. right-done elementFits _ elementWords _ _ _ _ (c .before .loop-test .left) (c .before .before .loop .inv .0) (c .before .before .loop .inv .1) (c .zeros-behind .ensures)))

@@ -1,4 +1,6 @@
+use native.Mathlib.Omega.{arith}
 use borrow.Author.Needs.{needs}
+use Rattle.tables.proofs.PoolLaws.{room}
 use Rattle.tables.proofs.elements_fit.Statement.{statement}
 use Rattle.tables.proofs.elements_fit.Tie as tie
 
@@ -10,5 +12,5 @@ elements-fit-spec =
     (tie.spec
     (λ c κs. search L)
     (λ c κs. search L)
-    (λ c κs. search L)
+    (λ c κs. (omega arith, room (c .before .before .before .args .t .now) _ (c .before .before .before .args .p) (c .before .element-at .ensures) (omega arith) (omega arith)))
     (λ c. rw (c .before .before .element-at .ensures, c .before .element-count .ensures) at (c .element-things .ensures)))

@@ -1,7 +1,7 @@
 use borrow.Author.Needs.{needs}
 use Rattle.words.proofs.AllLaws.{le-leb-by}
 use Rattle.words.proofs.PickLaws.{flag-yes}
-use Rattle.tables.proofs.PoolLaws.{no-number, no-limit, no-count, all-right}
+use Rattle.tables.proofs.PoolLaws.{no-number, no-limit, no-count, all-right, top}
 use Rattle.tables.proofs.pool_fits.Statement.{statement}
 use Rattle.tables.proofs.pool_fits.Tie as tie
 
@@ -21,5 +21,5 @@ pool-fits-spec =
     (λ c. search L)
     (λ c κs. search L)
     (λ c. no-count _ _ _ (c .before .is-within2 .ensures) (c .if3 .taken))  -- returns-3
-    (λ c κs. search L)
+    (λ c κs. (top _ _ _ _ (c .before .is-within2 .ensures) (c .if3 .left), search L, search L))
     (λ c. all-right _ _ (flag-yes _ _ (c .before .before .before .before .before .before .is-within .ensures) (c .before .before .before .before .before .if1 .left)) (le-leb-by _ _ _ (c .before .before .before .before .word .ensures) (c .before .before .before .if2 .left)) (flag-yes _ _ (c .before .before .is-within2 .ensures) (c .before .if3 .left)) _ (c .elements-fit .ensures)))  -- returns-4

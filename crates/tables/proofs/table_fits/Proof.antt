@@ -1,6 +1,7 @@
 use borrow.Author.Needs.{needs}
-use Rattle.words.proofs.PickLaws.{chains}
+use Rattle.words.proofs.PickLaws.{chains, flag-yes, flag-no}
 use Rattle.limits.specs.Limits.{tableFits}
+use Rattle.tables.proofs.PoolLaws.{top, top-by}
 use Rattle.tables.proofs.table_fits.Statement.{statement}
 use Rattle.tables.proofs.table_fits.Tie as tie
 
@@ -14,6 +15,7 @@ table-fits-spec =
     (λ c κs. search L)
     (λ c. search L)
     (λ c κs. search L)
-    (λ c. search L)
+    (λ c κs. (top-by _ _ _ (c .pool-count .ensures) (top _ _ _ _ (c .before .before .before .before .is-within .ensures) (c .before .before .before .if1 .left)), search L))
+    (λ c. rw (flag-yes _ _ (c .before .before .before .before .before .before .is-within .ensures) (c .before .before .before .before .before .if1 .left), flag-no _ _ (rw (c .before .before .pool-count .ensures) at (c .before .pools-below .ensures)) (c .if2 .taken)))  -- returns-2
     (λ c κs. search L)
-    (λ c. search L))
+    (λ c. rw (flag-yes _ _ (c .before .before .before .before .before .before .before .before .is-within .ensures) (c .before .before .before .before .before .before .before .if1 .left), flag-yes _ _ (rw (c .before .before .before .before .pool-count .ensures) at (c .before .before .before .pools-below .ensures)) (c .before .before .if2 .left)) (c .rest-zero .ensures)))  -- returns-3

@@ -3,11 +3,10 @@ use borrow.Author.Needs.{needs}
 use Rattle.terms.proofs.is_default.Statement.{statement}
 use Rattle.terms.proofs.is_default.Tie as tie
 
+-- src/lib.rt:171:9
+returns : tie.Need-returns
+returns c = and-yes _ _ _ (c .before .before .if1 .taken) (c .is-spelled .ensures)
+
 pub is-default-spec : {M : Type 1} → statement M
 is-default-spec =
-    tie.close
-    (tie.spec
-    (λ c. search needs)
-    (λ c κs. search needs)
-    (λ c. and-yes _ _ _ (c .before .before .if1 .taken) (c .is-spelled .ensures))
-    (λ c. and-no _ _ (c .if1 .left)))
+    tie.close (tie.spec (λ c. search needs) (λ c κs. search needs) returns (λ c. search needs))

@@ -1,21 +1,19 @@
 use Rattle.buffers.proofs.OverLaws.{put-exact}
-use Rattle.kinds.specs.declared.Kind.{Kind}
-use Rattle.writer.proofs.PartLaws.{letters-in, keyword-short}
-use lib.ListN.{take}
+use Rattle.writer.proofs.PartLaws.{letters-in, keyword-short, keyword-by, prefix-by}
 use lib.Seq.{length-take-le}
-use mathlib.Core.Path.{ap, sym}
+use mathlib.Core.Path.{sym}
 use borrow.Author.Needs.{needs}
 use Rattle.writer.proofs.put_keyword.Statement.{statement}
 use Rattle.writer.proofs.put_keyword.Tie as tie
 
 array-share-prefix-keyword : tie.Need-array-share-prefix-keyword
-array-share-prefix-keyword c = rw (c .before .before .before .kind-of .ensures) (letters-in _)
+array-share-prefix-keyword c = prefix-by _ _ _ (c .before .before .letters-of .ensures) (c .before .keyword-of .ensures)
 
 slice-aggregate-put-bytes : tie.Need-slice-aggregate-put-bytes
-slice-aggregate-put-bytes c = sym (length-take-le _ _ (rw (c .before .before .before .before .kind-of .ensures) (letters-in _)))
+slice-aggregate-put-bytes c = sym (length-take-le _ _ (prefix-by _ _ _ (c .before .before .before .letters-of .ensures) (c .before .before .keyword-of .ensures)))
 
 returns : tie.Need-returns
-returns c = put-exact _ (ap (λ (r : Kind). take (r .letters) (r .keyword)) (c .before .before .before .before .before .before .before .kind-of .ensures)) (keyword-short _) (c .before .before .put-bytes .ensures)
+returns c = put-exact _ (keyword-by _ _ _ (c .before .before .before .before .before .before .letters-of .ensures) (c .before .before .before .before .before .keyword-of .ensures)) (keyword-short _) (c .before .before .put-bytes .ensures)
 
 pub put-keyword-spec : {M : Type 1} → statement M
 put-keyword-spec =
@@ -23,6 +21,7 @@ put-keyword-spec =
     (tie.spec
     (λ c κs. search needs)
     (λ c. search needs)
+    (λ c κs. search needs)
     array-share-prefix-keyword
     slice-aggregate-put-bytes
     (λ c κs. search needs)

@@ -20,22 +20,22 @@ loop-holds : tie.Need-loop-holds Inv-loop μ-loop
 loop-holds c = (omega arith, going-none _ (1 + partMost) _ _)
 
 array-read-c : tie.Need-array-read-c Inv-loop μ-loop
-array-read-c c = omega (arith, codes-four (c .before .before .before .kind-of .result) (c .before .before .before .before .kind-in .result) (c .before .before .before .kind-of .ensures))
+array-read-c c = omega (arith, codes-four (c .before .before .parts-of .result) (c .before .before .before .kind-in .result) (c .before .before .parts-of .ensures))
 
 same-length : tie.Need-same-length Inv-loop μ-loop
 same-length c = put-long (c .before .before .loop .inv .1 .written)
 
 returns : tie.Need-returns Inv-loop μ-loop
-returns c = put-within (put-as _ (parts-by _ _ _ (c .before .before .before .before .kind-of .ensures) (c .before .before .before .before .before .kind-in .ensures)) (going-done (parts-end _ _ _ _ (codes-four _ _ (c .before .before .before .before .kind-of .ensures)) (c .before .loop-test .taken) (c .if1 .taken)) (c .before .before .loop .inv .1))) (omega arith)
+returns c = put-within (put-as _ (parts-by _ _ _ (c .before .before .before .parts-of .ensures) (c .before .before .before .before .kind-in .ensures)) (going-done (parts-end _ _ _ _ (codes-four _ _ (c .before .before .before .parts-of .ensures)) (c .before .loop-test .taken) (c .if1 .taken)) (c .before .before .loop .inv .1))) (omega arith)
 
 loop-again : tie.Need-loop-again Inv-loop μ-loop
-loop-again c = (omega arith, going-more _ _ (parts-next _ _ _ _ (codes-four _ _ (c .before .before .before .before .before .before .before .before .kind-of .ensures)) (c .before .before .before .before .before .loop-test .taken) (c .before .before .before .before .if1 .left)) (c .before .before .before .before .before .before .loop .inv .1) (c .before .before .put-signed .ensures) (omega arith))
+loop-again c = (omega arith, going-more _ _ (parts-next _ _ _ _ (codes-four _ _ (c .before .before .before .before .before .before .before .parts-of .ensures)) (c .before .before .before .before .before .loop-test .taken) (c .before .before .before .before .if1 .left)) (c .before .before .before .before .before .before .loop .inv .1) (c .before .before .put-signed .ensures) (omega arith))
 
 same-length-2 : tie.Need-same-length-2 Inv-loop μ-loop
 same-length-2 c = put-long (c .before .loop .inv .1 .written)
 
 returns-2 : tie.Need-returns-2 Inv-loop μ-loop
-returns-2 c = put-within (put-as _ (parts-by _ _ _ (c .before .before .before .kind-of .ensures) (c .before .before .before .before .kind-in .ensures)) (going-done (parts-out _ _ _ _ (codes-four _ _ (c .before .before .before .kind-of .ensures)) (c .loop-test .left)) (c .before .loop .inv .1))) (omega arith)
+returns-2 c = put-within (put-as _ (parts-by _ _ _ (c .before .before .parts-of .ensures) (c .before .before .before .kind-in .ensures)) (going-done (parts-out _ _ _ _ (codes-four _ _ (c .before .before .parts-of .ensures)) (c .loop-test .left)) (c .before .loop .inv .1))) (omega arith)
 
 pub put-parts-spec : {M : Type 1} → statement M
 put-parts-spec =

@@ -1,34 +1,17 @@
-use mathlib.Core.Path.{_≡_}
-use mathlib.Core.Bool.{true}
-use Prim.Native.Nat.{_≤_, _-_}
-use lib.Dec.{eqb}
-use borrow.Author.Needs.{needs}
-use Rattle.words.specs.Words.{at}
-use Rattle.words.specs.All.{all}
-use Rattle.words.proofs.AllLaws.{tests-by, all-loop}
-use Rattle.limits.specs.Limits.{zeros}
+use mathlib.Core.Logic.{⊎-elim}
+use native.Mathlib.Omega.{arith}
+use Rattle.limits.proofs.BitLaws.{zeros-by, zeros-by-past}
 use Rattle.limits.proofs.zeros.zero_words.Statement.{statement}
 use Rattle.limits.proofs.zeros.zero_words.Tie as tie
+use Rattle.limits.proofs.zeros.zero_words.Reads as reads
+use Rattle.limits.proofs.zeros.zero_words.Lts as lts
+use Rattle.limits.proofs.zeros.bits_below.Reads as bits-below-reads
 
-ruleset L = (needs, all-loop, tests-by)
+bits-below-requires : tie.Need-bits-below-requires
+bits-below-requires c κs = ⊎-elim (λ w. omega arith) (λ w. omega arith) (c .if1 .came)
 
-abbrev Inv-loop : tie.InvT-loop
-Inv-loop x n k₀ k = (k ≤ n) × (all (λ j. eqb (at x j) 0) k ≡ true)
-
-abbrev μ-loop : tie.MeasureT-loop
-μ-loop x n k₀ k = n - k
+returns : tie.Need-returns
+returns c = ⊎-elim (λ w. zeros-by _ _ _ _ (w .1) (c .bits-below .ensures)) (λ w. zeros-by-past _ _ _ _ (w .1) (omega arith) (c .bits-below .ensures)) (c .before .if1 .came)
 
 pub zero-words-spec : {M : Type 1} → statement M
-unfolding zeros
-zero-words-spec =
-    tie.close
-    (tie.spec
-    Inv-loop
-    μ-loop
-    (λ c. search L)
-    (λ c κs. search L)
-    (λ c. search L)
-    (λ c. search L)
-    (λ c. search L)
-    (λ c. search L)
-    (λ c. search L))
+zero-words-spec = tie.close (tie.spec bits-below-requires returns)

@@ -1,4 +1,4 @@
-use Rattle.listing.proofs.LevelLaws.{phase-is}
+use Rattle.listing.proofs.LevelLaws.{phase-none, phase-some}
 use Rattle.naming.proofs.ScanLaws.{Passed, passed-none, passed-more, level-found, level-passed}
 use Rattle.naming.specs.Parts.{acceptedOn}
 use Rattle.listing.specs.Listing.{byBranch}
@@ -26,12 +26,14 @@ scan-phase-spec =
     μ-loop
     (λ c κs. search L)
     (λ c κs. search L)
+    (λ c. phase-none _ _ _ _ _ _ _ _ (c .before .before .before .move-at .ensures) _ _ (c .before .if1 .taken) (c .passed .ensures))  -- returns
+    (λ c κs. search L)
     (λ c κs. search L)
     (λ c. (search L, passed-none _ _))  -- loop-holds
     (λ c κs. search L)
-    (λ c. level-found _ _ _ _ _ _ _ _ (phase-is _ _ _ _ _ _ _) (c .before .before .before .before .branch-count .ensures ∙ ap₂ branchCount (c .before .before .before .before .before .element-at .ensures) (c .before .before .before .before .before .before .before .move-at .ensures)) (c .before .before .loop-test .taken) (c .before .before .before .loop .inv .1) (c .before .scan-branch .ensures) (c .if1 .taken))  -- returns
+    (λ c. level-found _ _ _ _ _ _ _ _ (phase-some _ _ _ _ _ _ _ _ (c .before .before .before .before .before .before .before .before .before .move-at .ensures) (c .before .before .before .before .before .before .before .if1 .left)) (c .before .before .before .before .branch-count .ensures ∙ ap₂ branchCount (c .before .before .before .before .before .element-at .ensures) (c .before .before .before .before .before .before .before .before .before .move-at .ensures)) (c .before .before .loop-test .taken) (c .before .before .before .loop .inv .1) (c .before .scan-branch .ensures) (c .if2 .taken))  -- returns-2
     (λ c. search L)
     (λ c. search L)
-    (λ c. (search L, passed-more _ _ _ _ _ (c .before .before .before .loop .inv .1) (c .before .scan-branch .ensures) (c .if1 .left)))  -- loop-again
+    (λ c. (search L, passed-more _ _ _ _ _ (c .before .before .before .loop .inv .1) (c .before .scan-branch .ensures) (c .if2 .left)))  -- loop-again
     (λ c κs. search L)
-    (λ c. level-passed _ _ _ _ _ _ _ _ (phase-is _ _ _ _ _ _ _) (c .before .before .before .branch-count .ensures ∙ ap₂ branchCount (c .before .before .before .before .element-at .ensures) (c .before .before .before .before .before .before .move-at .ensures)) (c .before .loop-test .left) (c .before .before .loop .inv .0) (c .before .before .loop .inv .1) (c .passed .ensures)))  -- returns-2
+    (λ c. level-passed _ _ _ _ _ _ _ _ (phase-some _ _ _ _ _ _ _ _ (c .before .before .before .before .before .before .before .before .move-at .ensures) (c .before .before .before .before .before .before .if1 .left)) (c .before .before .before .branch-count .ensures ∙ ap₂ branchCount (c .before .before .before .before .element-at .ensures) (c .before .before .before .before .before .before .before .before .move-at .ensures)) (c .before .loop-test .left) (c .before .before .loop .inv .0) (c .before .before .loop .inv .1) (c .passed2 .ensures)))  -- returns-3

@@ -1,6 +1,6 @@
 use Rattle.listing.proofs.LevelLaws.{pool-is}
 use Rattle.naming.proofs.ScanLaws.{Passed, passed-none, passed-more, level-before, level-last}
-use Rattle.listing.specs.Scanned.{scanInstance}
+use Rattle.listing.specs.Scanned.{scanMade}
 use Rattle.state.specs.Instances.{instancesOf, queuesOf, madeCount}
 use mathlib.Core.List.{List}
 use mathlib.Core.Path.{_∙_, ap}
@@ -12,7 +12,7 @@ use Rattle.listing.proofs.levels.scan_pool.Tie as tie
 ruleset L = (needs)
 
 abbrev Inv-loop : tie.InvT-loop
-Inv-loop t z p k made left₀ i₀ left i = (i ≤ made) × Passed (scanInstance t (instancesOf z) (queuesOf z) p) i k left
+Inv-loop t z p k made left₀ i₀ left i = (i ≤ made) × Passed (scanMade t (instancesOf z) (queuesOf z) p) i k left
 
 abbrev μ-loop : tie.MeasureT-loop
 μ-loop t z p k made left₀ i₀ left i = made - i
@@ -27,9 +27,9 @@ scan-pool-spec =
     (λ c κs. search L)
     (λ c. (search L, passed-none _ _))  -- loop-holds
     (λ c κs. search L)
-    (λ c. level-before _ _ _ _ _ _ _ _ (pool-is _ _ _ _) (c .before .before .before .before .made-count .ensures ∙ ap (λ (l : List ℕ). madeCount l (c .before .before .before .before .before .before .before .args .p)) (c .before .before .before .before .before .instances-in .ensures)) (c .before .before .loop-test .taken) (c .before .before .before .loop .inv .1) (c .before .scan-instance .ensures) (c .if1 .taken))  -- returns
+    (λ c. level-before _ _ _ _ _ _ _ _ (pool-is _ _ _ _) (c .before .before .before .before .made-count .ensures ∙ ap (λ (l : List ℕ). madeCount l (c .before .before .before .before .before .before .before .args .p)) (c .before .before .before .before .before .instances-in .ensures)) (c .before .before .loop-test .taken) (c .before .before .before .loop .inv .1) (c .before .scan-made .ensures) (c .if1 .taken))  -- returns
     (λ c. search L)
     (λ c. search L)
-    (λ c. (search L, passed-more _ _ _ _ _ (c .before .before .before .loop .inv .1) (c .before .scan-instance .ensures) (c .if1 .left)))  -- loop-again
+    (λ c. (search L, passed-more _ _ _ _ _ (c .before .before .before .loop .inv .1) (c .before .scan-made .ensures) (c .if1 .left)))  -- loop-again
     (λ c κs. search L)
-    (λ c. level-last _ _ _ _ _ _ _ _ (pool-is _ _ _ _) (c .before .before .before .made-count .ensures ∙ ap (λ (l : List ℕ). madeCount l (c .before .before .before .before .before .before .args .p)) (c .before .before .before .before .instances-in .ensures)) (c .before .loop-test .left) (c .before .before .loop .inv .0) (c .before .before .loop .inv .1) (c .scan-instance2 .ensures)))  -- returns-2
+    (λ c. level-last _ _ _ _ _ _ _ _ (pool-is _ _ _ _) (c .before .before .before .made-count .ensures ∙ ap (λ (l : List ℕ). madeCount l (c .before .before .before .before .before .before .args .p)) (c .before .before .before .before .instances-in .ensures)) (c .before .loop-test .left) (c .before .before .loop .inv .0) (c .before .before .loop .inv .1) (c .scan-made2 .ensures)))  -- returns-2

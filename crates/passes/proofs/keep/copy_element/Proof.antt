@@ -3,19 +3,27 @@ use mathlib.Core.Path.{_≡_, refl}
 use lib.ListN.{length}
 use Rattle.words.specs.Words.{at}
 use Rattle.words.specs.Writes.{writes}
-use Rattle.words.proofs.WritesLaws.{writes-none, writes-on, writes-done}
+use Rattle.words.proofs.WritesLaws.{writes-none, writes-on}
 use Rattle.model.specs.Places.{elementWords, elementPlace}
+use Rattle.passes.proofs.FillLaws.{writes-whole}
 use borrow.Author.Needs.{needs}
 use Rattle.passes.proofs.keep.copy_element.Statement.{statement}
 use Rattle.passes.proofs.keep.copy_element.Tie as tie
 
-ruleset L = (needs, writes-none, writes-done)
+ruleset L = (needs, writes-none)
 
 abbrev Inv-loop : tie.InvT-loop
-Inv-loop t₀ i n x j₀ t j = (j ≤ elementWords) × (length t ≡ length t₀) × (t ≡ writes (λ k. at x k) t₀ (elementPlace i n) j)
+Inv-loop t₀ i n x place count j₀ t j =
+    (j ≤ count) × (length t ≡ length t₀) × (count ≤ elementWords) × (count ≤ length t₀ - place) × (t ≡ writes (λ k. at x k) t₀ place j)
 
 abbrev μ-loop : tie.MeasureT-loop
-μ-loop t₀ i n x j₀ t j = elementWords - j
+μ-loop t₀ i n x place count j₀ t j = count - j
+
+loop-again : tie.Need-loop-again Inv-loop μ-loop
+loop-again c = (search L, search L, search L, search L, writes-on _ _ _ _ _ _ _ (c .before .before .loop .inv .4) refl refl)
+
+returns : tie.Need-returns Inv-loop μ-loop
+returns c = writes-whole _ _ _ _ _ _ _ (c .before .loop .inv .0) (c .loop-test .left) (c .before .loop .inv .2) (c .before .before .fitting .ensures .2) (c .before .loop .inv .4)
 
 pub copy-element-spec : {M : Type 1} → statement M
 copy-element-spec =
@@ -25,9 +33,18 @@ copy-element-spec =
     μ-loop
     (λ c. search L)
     (λ c. search L)
+    (λ c. search L)
+    (λ c. search L)
+    (λ c. search L)
     (λ c κs. search L)
+    (λ c. (search L, search L, search L, search L, search L))
     (λ c. search L)
     (λ c. search L)
-    (λ c. (search L, search L, writes-on _ _ _ _ _ _ _ (c .before .before .before .before .before .loop .inv .2) refl (c .before .before .copy-word .ensures)))  -- loop-again
     (λ c. search L)
-    (λ c. search L))
+    (λ c. search L)
+    (λ c. search L)
+    (λ c. search L)
+    (λ c. search L)
+    loop-again
+    (λ c. search L)
+    returns)

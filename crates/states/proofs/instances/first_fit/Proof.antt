@@ -31,4 +31,4 @@ first-fit-spec =
     (λ c. search L)
     (λ c. search L)
     (λ c. (search L, firsts-more _ _ _ _ _ _ (c .before .before .before .before .loop .inv .1) (c .before .before .instance-at .ensures) (c .before .instance-fits .ensures) (c .if1 .left)))  -- loop-again
-    (λ c. all-done (λ i. instanceFits (c .before .before .before .before .args .u .now) (instanceAt (c .before .before .before .before .args .s .now) (c .before .before .before .before .args .p) i)) _ _ (c .loop-test .left) (c .before .loop .inv .0) (c .before .loop .inv .1)))  -- returns-2
+    (λ c. all-done (λ i. instanceFits (c .before .before .before .args .u .now) (instanceAt (c .before .before .before .args .s .now) (c .before .before .before .args .p) i)) _ _ (c .loop-test .left) (c .before .loop .inv .0) (c .before .loop .inv .1)))  -- returns-2

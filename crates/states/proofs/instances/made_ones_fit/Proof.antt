@@ -11,6 +11,5 @@ made-ones-fit-spec =
     (tie.spec
     (λ c. search L)
     (λ c κs. search L)
-    (λ c. search L)
     (λ c κs. search L)
     (λ c. made-ones _ _ _ _ _ _ (c .before .before .before .mark-pool .ensures) (c .first-fit .ensures)))  -- returns

@@ -12,6 +12,7 @@ is-silent-spec =
     (λ c κs. search L)
     (λ c κs. search L)
     (λ c. search L)
+    (λ c κs. search L)
     (λ c. search L)
     (λ c. search L)
-    (λ c. silent-is (c .before .before .before .before .before .args .el .now) _ _ (c .before .before .before .kind-in .ensures) (c .before .before .kind-of .ensures)))  -- returns
+    (λ c. silent-is (c .before .before .before .before .args .el .now) _ _ _ (c .before .before .kind-in .ensures) (c .before .receives-of .ensures) (c .sends-of .ensures)))

@@ -10,6 +10,6 @@ message-fits-spec =
     tie.close
     (tie.spec
     (λ c κs. search L)
-    (λ c. message-no _ _ _ _ (c .before .before .message-at .ensures) (c .if1 .taken))  -- returns
+    (λ c. message-no _ _ _ _ (c .before .length-at .ensures) (c .if1 .taken))
     (λ c κs. search L)
-    (λ c. message-yes _ _ _ _ (c .before .before .before .message-at .ensures) (c .before .if1 .left) _ (c .values-fit .ensures)))  -- returns-2
+    (λ c. message-yes _ _ _ _ (c .before .before .length-at .ensures) (c .before .if1 .left) _ (c .values-fit .ensures)))

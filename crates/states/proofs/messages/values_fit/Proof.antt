@@ -1,24 +1,22 @@
-use Prim.Native.Nat.{_-_, _≤_}
-use Rattle.states.proofs.CallLaws.{boths}
-use Rattle.meaning.specs.Queues.{valueAt}
-use Rattle.meaning.specs.Tuples.{valueOf}
-use Rattle.words.proofs.AllLaws.{all-loop}
+use mathlib.Core.Path.{_≡_}
+use mathlib.Core.Bool.{true}
+use Prim.Native.Nat.{_≤_, _-_}
+use borrow.Author.Needs.{needs}
 use Rattle.words.specs.All.{all}
 use Rattle.words.specs.Counts.{values}
-use borrow.Author.Needs.{needs}
-use lib.Dec.{eqb}
-use mathlib.Core.Bool.{true}
-use mathlib.Core.Path.{_≡_}
+use Rattle.words.proofs.AllLaws.{all-loop}
+use Rattle.states.specs.Places.{shownBy}
+use Rattle.states.proofs.CallLaws.{shown-first, shown-more, shown-fails}
 use Rattle.states.proofs.messages.values_fit.Statement.{statement}
 use Rattle.states.proofs.messages.values_fit.Tie as tie
 
-ruleset L = (needs, all-loop, boths)
+ruleset L = (needs, all-loop, shown-first, shown-more, shown-fails)
 
 abbrev Inv-loop : tie.InvT-loop
-Inv-loop q m k g j₀ j = (j ≤ values) × (all (λ i. eqb (valueAt q m k i) (valueOf g i)) j ≡ true)
+Inv-loop q m k n j₀ j = (n ≤ j) × (j ≤ values) × (all (shownBy q m k n) j ≡ true)
 
 abbrev μ-loop : tie.MeasureT-loop
-μ-loop q m k g j₀ j = values - j
+μ-loop q m k n j₀ j = values - j
 
 pub values-fit-spec : {M : Type 1} → statement M
 values-fit-spec =
@@ -27,7 +25,6 @@ values-fit-spec =
     Inv-loop
     μ-loop
     (λ c. search L)
-    (λ c κs. search L)
     (λ c κs. search L)
     (λ c. search L)
     (λ c. search L)

@@ -14,4 +14,5 @@ conditions-fit-spec =
     (λ c κs. search L)
     (λ c κs. search L)
     (λ c κs. search L)
-    (λ c. rw (c .before .before .before .condition-at .ensures, c .before .count-by .ensures, c .before .before .word .ensures) at (c .condition-things .ensures)))
+    (λ c κs. search L)
+    (λ c. rw (c .before .before .before .before .conditions-of .ensures, c .before .before .before .condition-at .ensures, (rw (c .before .before .before .before .conditions-of .ensures) at (c .before .count-by .ensures)), c .before .before .word .ensures) at (c .condition-things .ensures)))

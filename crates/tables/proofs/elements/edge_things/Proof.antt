@@ -1,7 +1,9 @@
+use mathlib.Core.Path.{refl}
 use Prim.Native.Nat.{_≤_, _-_}
 use borrow.Author.Needs.{needs}
 use Rattle.limits.specs.Limits.{edgeFits}
-use Rattle.tables.proofs.ThingsLaws.{Right, things-loop}
+use Rattle.tables.proofs.ThingsLaws.{Right, right-more, right-fails, things-loop}
+use Rattle.tables.proofs.OperandLaws.{edge-by}
 use Rattle.tables.proofs.elements.edge_things.Statement.{statement}
 use Rattle.tables.proofs.elements.edge_things.Tie as tie
 
@@ -21,13 +23,10 @@ edge-things-spec =
     μ-loop
     (λ c. search L)
     (λ c. search L)
-    (λ c. search L)
     (λ c κs. search L)
-    (λ c κs. search L)
+    (λ c. right-fails edgeFits _ 1 _ _ _ _ _ (c .before .before .loop-test .taken) refl (edge-by (c .before .before .before .before .before .args .x .now) _ _ (c .before .is-within .ensures)) (c .if1 .taken))
     (λ c. search L)
     (λ c. search L)
-    (λ c. search L)
-    (λ c. search L)
-    (λ c. search L)
+    (λ c. (search L, right-more edgeFits _ 1 _ _ _ (c .before .before .before .loop .inv .1) refl (edge-by (c .before .before .before .before .before .args .x .now) _ _ (c .before .is-within .ensures)) (c .if1 .left)))
     (λ c κs. search L)
     (λ c. search L))

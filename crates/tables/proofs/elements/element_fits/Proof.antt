@@ -11,6 +11,6 @@ element-fits-spec =
     (tie.spec
     (λ c κs. search L)
     (λ c κs. search L)
-    (λ c. element-no _ _ _ (c .before .before .before .kind-in .ensures) (c .before .before .kind-of .ensures) (c .if1 .taken))  -- returns
+    (λ c. element-no _ _ _ (c .before .before .kind-in .ensures) (c .before .letters-of .ensures) (c .if1 .taken))  -- returns
     (λ c κs. search L)
-    (λ c. element-yes _ _ _ (c .before .before .before .before .kind-in .ensures) (c .before .before .before .kind-of .ensures) _ (c .before .if1 .left) (c .parts-fit .ensures)))  -- returns-2
+    (λ c. element-yes _ _ _ (c .before .before .before .kind-in .ensures) (c .before .before .letters-of .ensures) _ (c .before .if1 .left) (c .parts-fit .ensures)))  -- returns-2

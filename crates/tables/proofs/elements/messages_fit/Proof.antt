@@ -14,4 +14,6 @@ messages-fit-spec =
     (λ c κs. search L)
     (λ c κs. search L)
     (λ c κs. search L)
-    (λ c. rw (c .before .before .before .tail .ensures, c .before .message-count .ensures, c .before .before .word .ensures) at (c .message-things .ensures)))
+    (λ c κs. search L)
+    (λ c κs. search L)
+    (λ c. rw (c .before .before .before .before .tail .ensures, (rw (c .before .before .before .sends-of .ensures, c .before .before .word .ensures) at (c .before .message-count .ensures)), c .before .before .before .before .before .receives-of .ensures) at (c .message-things .ensures)))

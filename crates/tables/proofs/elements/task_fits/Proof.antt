@@ -13,6 +13,7 @@ task-fits-spec =
     tie.close
     (tie.spec
     (λ c κs. search L)
+    (λ c κs. search L)
     (λ c. search L)
     (λ c κs. search L)
     (λ c. search L)

@@ -1,11 +1,11 @@
 use borrow.Author.Needs.{needs}
-use Rattle.words.proofs.AllLaws.{tests-by, tests}
-use Rattle.words.proofs.PickLaws.{chains}
+use Rattle.words.proofs.AllLaws.{lt-ltb-by, le-ltb-by}
+use Rattle.words.proofs.PickLaws.{and-yes, and-no}
 use Rattle.limits.specs.Limits.{assignmentFits}
 use Rattle.tables.proofs.parts.assignment_fits.Statement.{statement}
 use Rattle.tables.proofs.parts.assignment_fits.Tie as tie
 
-ruleset L = (needs, chains, tests, tests-by)
+ruleset L = (needs)
 
 pub assignment-fits-spec : {M : Type 1} → statement M
 unfolding assignmentFits
@@ -13,6 +13,7 @@ assignment-fits-spec =
     tie.close
     (tie.spec
     (λ c κs. search L)
-    (λ c. search L)
+    (λ c. and-no _ _ (le-ltb-by _ _ _ (c .before .word .ensures) (c .if1 .taken)))
     (λ c κs. search L)
-    (λ c. search L))
+    (λ c κs. search L)
+    (λ c. and-yes _ _ _ (lt-ltb-by _ _ _ (c .before .before .before .word .ensures) (c .before .before .if1 .left)) (rw (c .before .tail .ensures) at (c .expression-fits .ensures))))

@@ -1,4 +1,5 @@
 use borrow.Author.Needs.{needs}
+use Rattle.tables.proofs.OperandLaws.{both-no, both-yes}
 use Rattle.tables.proofs.parts.both_zero.Statement.{statement}
 use Rattle.tables.proofs.parts.both_zero.Tie as tie
 
@@ -11,4 +12,6 @@ both-zero-spec =
     (λ c κs. search L)
     (λ c. search L)
     (λ c κs. search L)
-    (λ c. rw (c .before .tail .ensures) at (c .zero-words .ensures)))
+    (λ c. both-no (c .before .before .before .before .args .x .now) _ _ (c .before .before .word .ensures) (c .before .word2 .ensures) (c .if1 .taken))
+    (λ c κs. search L)
+    (λ c. both-yes (c .before .before .before .before .before .args .x .now) _ _ _ (c .before .before .before .word .ensures) (c .before .before .word2 .ensures) (c .before .if1 .left) (c .right-zero .ensures)))

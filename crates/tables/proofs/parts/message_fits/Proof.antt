@@ -1,6 +1,6 @@
 use borrow.Author.Needs.{needs}
-use Rattle.words.proofs.AllLaws.{tests-by, tests}
-use Rattle.words.proofs.PickLaws.{chains}
+use Rattle.words.proofs.AllLaws.{tests-by, tests, lt-ltb-by, le-leb-by}
+use Rattle.words.proofs.PickLaws.{chains, and-yes, and-true}
 use Rattle.limits.specs.Limits.{messageFits}
 use Rattle.tables.proofs.parts.message_fits.Statement.{statement}
 use Rattle.tables.proofs.parts.message_fits.Tie as tie
@@ -17,4 +17,6 @@ message-fits-spec =
     (λ c κs. search L)
     (λ c. search L)
     (λ c κs. search L)
-    (λ c. search L))
+    (λ c κs. search L)
+    (λ c κs. search L)
+    (λ c. and-yes _ _ _ (and-true _ _ (lt-ltb-by _ _ _ (c .before .before .before .before .before .before .word .ensures) (c .before .before .before .before .before .if1 .left)) (le-leb-by _ _ _ (c .before .before .before .before .word2 .ensures) (c .before .before .before .if2 .left))) (rw (c .before .before .tail .ensures, c .before .word3 .ensures) at (c .item-things .ensures))))

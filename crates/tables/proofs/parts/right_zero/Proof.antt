@@ -1,4 +1,5 @@
 use borrow.Author.Needs.{needs}
+use Rattle.tables.proofs.OperandLaws.{right-by}
 use Rattle.tables.proofs.parts.right_zero.Statement.{statement}
 use Rattle.tables.proofs.parts.right_zero.Tie as tie
 
@@ -9,5 +10,6 @@ right-zero-spec =
     tie.close
     (tie.spec
     (λ c κs. search L)
+    (λ c. search L)
     (λ c κs. search L)
-    (λ c. rw (c .before .tail .ensures) at (c .zero-words .ensures)))
+    (λ c. right-by (c .before .before .before .args .x .now) _ _ (c .before .word .ensures) (c .word2 .ensures)))

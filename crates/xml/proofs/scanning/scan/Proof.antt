@@ -1,7 +1,9 @@
 use mathlib.Core.Path.{_≡_, _∙_, refl, sym}
-use Prim.Native.Nat.{_-_}
+use Prim.Native.Nat.{_-_, _+_}
 use lib.ListN.{length, drop}
 use Rattle.xml.specs.Markup.{scanFrom, scan}
+use Rattle.xml.proofs.StayLaws.{scan-stay, stay-ahead}
+use native.Mathlib.Omega.{arith}
 use Rattle.xml.proofs.ScanLaws.{scan-on, scan-stops, scan-end}
 use borrow.Author.Needs.{needs}
 use Rattle.xml.proofs.scanning.scan.Statement.{statement}
@@ -20,8 +22,11 @@ loop-holds c = rw (c .begun .ensures) refl
 returns : tie.Need-returns Inv-loop μ-loop
 returns c = sym (scan-stops _ _ _ _ (c .before .before .loop-test .taken) _ (c .before .advance .ensures) (c .match .keys2)) ∙ c .before .before .before .loop .inv
 
+loop-less : tie.Need-loop-less Inv-loop μ-loop
+loop-less c = omega (arith, stay-ahead _ _ _ _ (c .stay .ensures))
+
 loop-again : tie.Need-loop-again Inv-loop μ-loop
-loop-again c = sym (scan-on _ _ _ _ (c .before .before .before .before .loop-test .taken) _ (c .before .before .before .advance .ensures) _ (c .before .a .given .1)) ∙ c .before .before .before .before .before .loop .inv
+loop-again c = sym (scan-on _ _ _ _ (c .before .before .before .before .before .loop-test .taken) _ (c .before .before .before .before .advance .ensures) _ (c .before .before .a .given .1) ∙ scan-stay _ _ _ (c .before .before .before .before .before .before .loop .i + 1) _ (c .stay .ensures)) ∙ c .before .before .before .before .before .before .loop .inv
 
 returns-2 : tie.Need-returns-2 Inv-loop μ-loop
 returns-2 c = sym (scan-end _ _ _ _ (c .loop-test .left)) ∙ c .before .loop .inv
@@ -38,6 +43,7 @@ scan-spec =
     (λ c. search needs)
     returns
     (λ c. search needs)
-    (λ c. search needs)
+    (λ c κs. search needs)
+    loop-less
     loop-again
     returns-2)

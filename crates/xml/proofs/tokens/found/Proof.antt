@@ -1,7 +1,9 @@
 use mathlib.Core.Path.{_≡_, _∙_, refl, sym}
-use Prim.Native.Nat.{_-_}
+use Prim.Native.Nat.{_-_, _+_}
 use lib.ListN.{length, drop}
 use Rattle.xml.specs.Tokens.{foundFrom, found}
+use Rattle.xml.proofs.StayLaws.{found-stay, stay-ahead}
+use native.Mathlib.Omega.{arith}
 use Rattle.xml.proofs.TokenLaws.{found-here, found-on, found-stops, found-end}
 use borrow.Author.Needs.{needs}
 use Rattle.xml.proofs.tokens.found.Statement.{statement}
@@ -23,8 +25,11 @@ returns c = sym (found-here _ _ _ _ (c .before .before .loop-test .taken) (sym (
 returns-2 : tie.Need-returns-2 Inv-loop μ-loop
 returns-2 c = sym (found-stops _ _ _ _ (c .before .before .before .before .before .loop-test .taken) (sym (c .before .before .before .before .is-named .ensures) ∙ c .before .before .before .if1 .left) _ (c .before .before .byte .ensures) _ (c .before .moved .ensures) (c .match .keys2)) ∙ c .before .before .before .before .before .before .loop .inv
 
+loop-less : tie.Need-loop-less Inv-loop μ-loop
+loop-less c = omega (arith, stay-ahead _ _ _ _ (c .stay .ensures))
+
 loop-again : tie.Need-loop-again Inv-loop μ-loop
-loop-again c = sym (found-on _ _ _ _ (c .before .before .before .before .before .before .before .loop-test .taken) (sym (c .before .before .before .before .before .before .is-named .ensures) ∙ c .before .before .before .before .before .if1 .left) _ (c .before .before .before .before .byte .ensures) _ (c .before .before .before .moved .ensures) _ (c .before .a .given .1)) ∙ c .before .before .before .before .before .before .before .before .loop .inv
+loop-again c = sym (found-on _ _ _ _ (c .before .before .before .before .before .before .before .before .loop-test .taken) (sym (c .before .before .before .before .before .before .before .is-named .ensures) ∙ c .before .before .before .before .before .before .if1 .left) _ (c .before .before .before .before .before .byte .ensures) _ (c .before .before .before .before .moved .ensures) _ (c .before .before .a .given .1) ∙ found-stay _ _ _ (c .before .before .before .before .before .before .before .before .before .loop .i + 1) _ (c .stay .ensures)) ∙ c .before .before .before .before .before .before .before .before .before .loop .inv
 
 returns-3 : tie.Need-returns-3 Inv-loop μ-loop
 returns-3 c = sym (found-end _ _ _ _ (c .loop-test .left)) ∙ c .before .loop .inv
@@ -45,6 +50,7 @@ found-spec =
     (λ c. search needs)
     returns-2
     (λ c. search needs)
-    (λ c. search needs)
+    (λ c κs. search needs)
+    loop-less
     loop-again
     returns-3)

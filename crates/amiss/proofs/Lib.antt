@@ -1,0 +1,2 @@
+pub mod AmissLaws
+pub mod PointsHold

@@ -1,0 +1,3 @@
+pub mod DrawnLaws
+pub mod KeptLaws
+pub mod PointsHold

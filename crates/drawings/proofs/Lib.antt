@@ -1,0 +1,3 @@
+pub mod LongLaws
+pub mod RoomLaws
+pub mod AnswerLaws

@@ -1,0 +1,2 @@
+pub mod PointsHold
+pub mod ValueLaws

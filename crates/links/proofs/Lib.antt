@@ -1,0 +1,3 @@
+pub mod LinkLaws
+pub mod TestLaws
+pub mod PointsHold

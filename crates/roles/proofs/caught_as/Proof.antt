@@ -1,0 +1,19 @@
+use Rattle.roles.specs.Roles.{caughtAs}
+use Rattle.words.proofs.AllLaws.{eq-eqb-by, ne-eqb-by}
+use Rattle.words.proofs.PickLaws.{pick-no, pick-yes}
+use Rattle.words.specs.Words.{at}
+use mathlib.Core.Path.{refl}
+use borrow.Author.Needs.{needs}
+use Rattle.roles.proofs.caught_as.Statement.{statement}
+use Rattle.roles.proofs.caught_as.Tie as tie
+
+pub caught-as-spec : {M : Type 1} → statement M
+unfolding caughtAs
+caught-as-spec =
+    tie.close
+    (tie.spec
+    (λ c κs. search needs)
+    (λ c κs. search needs)
+    (λ c κs. search needs)
+    (λ c. pick-yes _ _ _ _ (eq-eqb-by _ _ _ (rw (c .before .before .source-of .ensures, c .before .before .before .first-with .ensures) at (c .before .sort-of .ensures)) (c .if1 .taken)) refl)
+    (λ c. pick-no _ _ _ _ (ne-eqb-by _ _ _ (rw (c .before .before .source-of .ensures, c .before .before .before .first-with .ensures) at (c .before .sort-of .ensures)) (c .if1 .left)) refl))

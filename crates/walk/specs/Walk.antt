@@ -1,0 +1,161 @@
+-- ONE WALK THROUGH A DRAWING, from left to right, that stops at the first fault of the XML text (20) and notes what is drawn on the way. "An element that is not read into is skipped whole" (R11a).
+use Prim.Native.Nat.{ℕ, zero, suc}
+use mathlib.Core.Bool.{Bool, true, false, _&&_}
+use mathlib.Core.List.{List}
+use lib.Dec.{ltb, leb, eqb}
+use lib.ListN.{length}
+use Rattle.words.specs.Pick.{if_then_else_}
+use Rattle.words.specs.Text.{bytes}
+use Rattle.words.specs.Words.{part}
+use Rattle.numerals.specs.declared.Number.{Number}
+use Rattle.numerals.specs.declared.Number.the-variants.{Value, TooLarge, NotANumber}
+use Rattle.numerals.specs.Numerals.{numberOf}
+use Rattle.xml.specs.declared.Attribute.{Attribute}
+use Rattle.xml.specs.declared.Attribute.the-variants.{Is, Absent}
+use Rattle.xml.specs.Markup.{markup}
+use Rattle.xml.specs.Spans.{isCalled, attribute}
+use Rattle.xml.specs.Tokens.{first}
+use Rattle.skipping.specs.declared.Skipped.{Skipped}
+use Rattle.skipping.specs.declared.Skipped.the-variants.{Past, Fault}
+use Rattle.skipping.specs.declared.Part.{Part}
+use Rattle.skipping.specs.declared.Part.the-variants.{Element, Close, On, Fault as PartFault}
+use Rattle.skipping.specs.declared.Tag.{Tag}
+use Rattle.skipping.specs.declared.Tag.the-variants.{Open, Empty, Fault as TagFault}
+use Rattle.skipping.specs.Skipping.{partAt, tagOf, skipped}
+use Rattle.document.specs.declared.Outside.{Outside}
+use Rattle.document.specs.declared.Outside.the-variants.{Element as Root, On as Onward, Nothing, Fault as OutsideFault}
+use Rattle.document.specs.Document.{outside}
+use Rattle.drawn.specs.Things.{nothing, definitions, participantMultiplicity, conditionExpression, stranger, oneMore, added}
+use Rattle.drawn.specs.Names.{sortIn}
+use Rattle.walk.specs.declared.Walked.{Walked}
+use Rattle.walk.specs.declared.Outer.{Outer}
+
+-- where a walk is: the place reached, or that of the fault; how many things it has met; their words
+pub record Walk : Type 0 where
+  pub end : Skipped
+  pub count : ℕ
+  pub words : List ℕ
+
+unfoldable pub told : Walked → List ℕ → Walk
+told r w = record { end = r .end; count = r .count; words = w }
+
+abbrev pub walked : Skipped → ℕ → Walked
+walked e n = record { end = e; count = n }
+
+-- "`maximum` of a participant's participantMultiplicity is a number of 01's notation (no sign, blank, leading zero, reference), else 20 at the value's first byte, judged when the value is whole" (R11):
+-- when the markup is not at fault up to the value's end
+unfoldable pub isNumber : Number → Bool
+isNumber (Value v) = true
+isNumber TooLarge = true
+isNumber NotANumber = false
+
+unfoldable pub judged : List ℕ → ℕ → ℕ → ℕ → Skipped
+judged t p from to =
+    if isNumber (numberOf (part t from to)) then skipped t p
+    else if leb (markup t p .next) to then skipped t p
+    else Fault from
+
+unfoldable pub multiplicityBy : Attribute → List ℕ → ℕ → Skipped
+multiplicityBy (Is from to) t p = judged t p from to
+multiplicityBy Absent t p = skipped t p
+
+unfoldable pub multiplicity : List ℕ → ℕ → Skipped
+multiplicity t p = multiplicityBy (attribute t p (bytes "maximum")) t p
+
+-- "The same holds for elements of 21 and for the four read from their tag or text alone (participantMultiplicity, the two event definitions, conditionExpression)" (R11a)
+unfoldable pub isPassed : ℕ → Bool
+isPassed s = if eqb s participantMultiplicity then true else leb conditionExpression s && leb s stranger
+
+unfoldable pub passed : ℕ → List ℕ → ℕ → Skipped
+passed s t p = if eqb s participantMultiplicity then multiplicity t p else skipped t p
+
+unfoldable pub tagFrom : Skipped → Tag
+tagFrom (Past q) = Empty q
+tagFrom (Fault q) = TagFault q
+
+-- an element of the sort s at p: where its content begins, or the place behind it
+unfoldable pub entered : ℕ → List ℕ → ℕ → Tag
+entered s t p =
+    if eqb s nothing then tagFrom (skipped t p)
+    else if isPassed s then tagFrom (passed s t p)
+    else tagOf (markup t p) p
+
+-- it is noted where it is a thing: at p, within thing k, after n things
+unfoldable pub noted : ℕ → ℕ → ℕ → List ℕ → ℕ → List ℕ
+noted s p k w n = if eqb s nothing then w else added s p k w n
+
+unfoldable pub counted : ℕ → ℕ → ℕ
+counted s n = if eqb s nothing then n else oneMore n
+
+abbrev pub outer : ℕ → ℕ → ℕ → Outer
+outer s k p = record { sort = s; thing = k; tag = p }
+
+-- what walks content: of an element, from a place on, with the words and the count so far
+abbrev pub Content : Type 0
+Content = Outer → ℕ → List ℕ → ℕ → Walk
+
+unfoldable pub byTag : Tag → (ℕ → Walk) → List ℕ → ℕ → Walk
+byTag (Open q) content w n = content q
+byTag (Empty q) content w n = told (walked (Past q) n) w
+byTag (TagFault q) content w n = told (walked (Fault q) n) w
+
+unfoldable pub thingBy : Content → ℕ → List ℕ → ℕ → ℕ → List ℕ → ℕ → Walk
+thingBy content s t k p w n = byTag (entered s t p) (λ q. content (outer s n p) q (noted s p k w n) (counted s n)) (noted s p k w n) (counted s n)
+
+-- goes on from the place that was reached; a fault stays
+unfoldable pub byEnd : {A : Type 0} → Skipped → (ℕ → A) → A → A
+byEnd (Past q) on r = on q
+byEnd (Fault q) on r = r
+
+unfoldable pub behind : Walk → (ℕ → List ℕ → ℕ → Walk) → Walk
+behind r on = byEnd (r .end) (λ q. on q (r .words) (r .count)) r
+
+unfoldable pub byPart : Part → Walk → (ℕ → List ℕ → ℕ → Walk) → List ℕ → ℕ → Walk
+byPart Element element content w n = behind element content
+byPart (Close q) element content w n = told (walked (Past q) n) w
+byPart (On q) element content w n = content q w n
+byPart (PartFault q) element content w n = told (walked (Fault q) n) w
+
+-- content of the element o, from p on
+unfoldable pub contentBy : Content → List ℕ → Outer → ℕ → List ℕ → ℕ → Walk
+contentBy content t o p w n =
+    if leb (length t) p then told (walked (Fault (length t)) n) w
+    else byPart (partAt t (o .tag) p) (thingBy content (sortIn (o .sort) t p) t (o .thing) p w n) (content o) w n
+
+-- the same, in m steps at most
+unfoldable pub contentIn : ℕ → List ℕ → Content
+contentIn zero t o p w n = told (walked (Fault (length t)) n) w
+contentIn (suc m) t o p w n = contentBy (contentIn m t) t o p w n
+
+-- each step passes a byte, so the text's length is enough steps
+unfoldable pub contentAt : List ℕ → Content
+contentAt t o p w n = contentIn (length t) t o p w n
+
+unfoldable pub thingAt : ℕ → List ℕ → ℕ → ℕ → List ℕ → ℕ → Walk
+thingAt s t k p w n = thingBy (contentAt t) s t k p w n
+
+-- "The root's name is `definitions`, else 20 at its `<`" (R9); without a root the text breaks off
+unfoldable pub rootBy : Outside → List ℕ → Skipped
+rootBy (Root p) t = if isCalled t p (bytes "definitions") then Past p else Fault p
+rootBy (Onward q) t = Fault q
+rootBy Nothing t = Fault (length t)
+rootBy (OutsideFault q) t = Fault q
+
+unfoldable pub rootAt : List ℕ → Skipped
+rootAt t = rootBy (outside t (first t)) t
+
+-- behind the root there is no element
+unfoldable pub lastBy : Outside → List ℕ → Skipped
+lastBy (Root p) t = Fault p
+lastBy (Onward q) t = Fault q
+lastBy Nothing t = Past (length t)
+lastBy (OutsideFault q) t = Fault q
+
+unfoldable pub lastFrom : List ℕ → ℕ → Skipped
+lastFrom t q = lastBy (outside t q) t
+
+unfoldable pub walk : List ℕ → List ℕ → Walk
+walk t w =
+    byEnd (rootAt t)
+    (λ p. behind (thingAt definitions t 0 p w 0) (λ q v n. told (walked (lastFrom t q) n) v))
+    (told (walked (rootAt t) 0) w)

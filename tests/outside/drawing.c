@@ -1,0 +1,704 @@
+/* Drawings: a text of BPMN 2.0 XML read into a table, as document 02's first request says. First one walk over the XML from left to right, which notes what
+   is drawn and stops at the first place at fault (20); then what is drawn wrong (21), what is too large (3), and the table with its checks (4). */
+#include "layout.h"
+
+enum { DRAWING_MOST = 65536, DEEPEST = 16, ITEMS = 10000, ATTRIBUTES = 14000 };
+
+/* What an element is where it stands: UNKNOWN is one that is not run, PASSED one that says nothing about the run. */
+enum role { UNKNOWN, PASSED, DEFINITIONS, COLLABORATION, PARTICIPANT, MULTIPLICITY, MESSAGE_FLOW, PROCESS, SEQUENCE_FLOW, CONDITION_TEXT, MESSAGE_EVENT,
+            TERMINATE_EVENT, START_EVENT, END_EVENT, CATCH_EVENT, THROW_EVENT, PLAIN_TASK, SEND_TASK, RECEIVE_TASK, PARALLEL, EXCLUSIVE, BY_EVENT, ANY_EVENT };
+
+static const struct { const char *name; uint8_t role, inside; } roles[] = {
+    {"collaboration", COLLABORATION, DEFINITIONS}, {"process", PROCESS, DEFINITIONS},
+    {"participant", PARTICIPANT, COLLABORATION}, {"messageFlow", MESSAGE_FLOW, COLLABORATION},
+    {"participantMultiplicity", MULTIPLICITY, PARTICIPANT},
+    {"startEvent", START_EVENT, PROCESS}, {"endEvent", END_EVENT, PROCESS}, {"intermediateCatchEvent", CATCH_EVENT, PROCESS},
+    {"intermediateThrowEvent", THROW_EVENT, PROCESS}, {"task", PLAIN_TASK, PROCESS}, {"sendTask", SEND_TASK, PROCESS},
+    {"receiveTask", RECEIVE_TASK, PROCESS}, {"parallelGateway", PARALLEL, PROCESS}, {"exclusiveGateway", EXCLUSIVE, PROCESS},
+    {"eventBasedGateway", BY_EVENT, PROCESS}, {"sequenceFlow", SEQUENCE_FLOW, PROCESS},
+    {"messageEventDefinition", MESSAGE_EVENT, ANY_EVENT}, {"terminateEventDefinition", TERMINATE_EVENT, ANY_EVENT},
+    {"conditionExpression", CONDITION_TEXT, SEQUENCE_FLOW},
+};
+
+static const char *const passed_over[] = {
+    "documentation", "extensionElements", "BPMNDiagram", "import", "extension", "relationship", "message", "itemDefinition", "category", "interface", "resource",
+    "error", "escalation", "signal", "dataStore", "endPoint", "partnerEntity", "partnerRole", "correlationProperty", "textAnnotation", "association", "group",
+    "interfaceRef", "endPointRef", "laneSet", "dataObject", "dataObjectReference", "property", "ioSpecification", "ioBinding", "auditing", "monitoring",
+    "supports", "supportedInterfaceRef", "correlationSubscription", "categoryValueRef", "incoming", "outgoing", "dataInputAssociation", "dataOutputAssociation",
+    "dataInput", "dataOutput", "inputSet", "outputSet", "resourceRole", "performer", "humanPerformer", "potentialOwner",
+};
+
+/* attributes of a process's children that may only have this value */
+static const char *const fixed[][2] = {{"instantiate", "false"}, {"isForCompensation", "false"}, {"isCollection", "false"}, {"eventGatewayType", "Exclusive"},
+                                       {"startQuantity", "1"}, {"completionQuantity", "1"}};
+
+struct span { size_t from, to; bool there; };
+
+/* A participant, process, node, sequence or message flow, in the order they stand. */
+struct item {
+    enum role role;
+    unsigned owner; /* of a node or sequence flow: its process */
+    size_t place;
+    struct span id, source, target, process, fallback, maximum;
+    unsigned many, messages, terminates, expressions;
+    struct span text; /* of a condition, in the characters */
+    /* worked out from references */
+    int from, to, pool;
+    unsigned in, out, sent, received, number;
+    bool behind, conditioned, ranged;
+    word condition[EXPRESSION_WORDS];
+    size_t excess;
+};
+
+struct attribute { struct span name, value; };
+
+struct walk {
+    const uint8_t *s;
+    size_t n, at, place, first; /* first: where a declaration may stand */
+    bool amiss;
+    unsigned count, collaborations, attribute_count;
+    struct item items[ITEMS];
+    struct attribute attributes[ATTRIBUTES];
+    uint8_t characters[DRAWING_MOST + 1];
+    size_t places[DRAWING_MOST + 1], character_count;
+};
+
+static bool fault(struct walk *w, size_t place) {
+    w->place = place;
+    return false;
+}
+
+static bool cut(struct walk *w) { return fault(w, w->n); }
+
+static bool is_blank(uint8_t b) { return b == ' ' || b == '\t' || b == '\r' || b == '\n'; }
+static bool is_control(uint8_t b) { return b < 32 && !is_blank(b); }
+static bool is_letter(uint8_t b) { return (b >= 'a' && b <= 'z') || (b >= 'A' && b <= 'Z') || b == '_' || b == ':' || b >= 128; }
+static bool is_digit(uint8_t b) { return b >= '0' && b <= '9'; }
+static bool in_name(uint8_t b) { return is_letter(b) || is_digit(b) || b == '-' || b == '.'; }
+
+static size_t name_end(const struct walk *w, size_t at) {
+    while (at < w->n && in_name(w->s[at])) at++;
+    return at;
+}
+
+static bool is(const struct walk *w, struct span x, const char *word) {
+    return x.there && x.to - x.from == strlen(word) && memcmp(w->s + x.from, word, x.to - x.from) == 0;
+}
+
+static bool equal(const struct walk *w, struct span x, struct span y) {
+    return x.there && y.there && x.to - x.from == y.to - y.from && memcmp(w->s + x.from, w->s + y.from, x.to - x.from) == 0;
+}
+
+/* what stands behind the last colon */
+static struct span behind_colon(const struct walk *w, struct span x) {
+    for (size_t k = x.from; k < x.to; k++)
+        if (w->s[k] == ':') x.from = k + 1;
+    return x;
+}
+
+/* THE XML. What stands at a `<`: a token that the end cuts off is not judged. */
+enum opening { CUT_OFF, WRONG, COMMENT, CDATA, INSTRUCTION, START_TAG, END_TAG };
+
+static enum opening opening_at(const struct walk *w, size_t at, struct span *name) {
+    static const char *const openings[] = {"--", "[CDATA["};
+    size_t left = w->n - at - 1;
+    if (left == 0) return CUT_OFF;
+    uint8_t b = w->s[at + 1];
+    if (b == '!') {
+        for (unsigned k = 0; k < 2; k++) {
+            size_t all = strlen(openings[k]), seen = all < left - 1 ? all : left - 1;
+            if (memcmp(w->s + at + 2, openings[k], seen) == 0) return seen < all ? CUT_OFF : k ? CDATA : COMMENT;
+        }
+        return WRONG;
+    }
+    size_t from = at + 1 + (b == '?' || b == '/');
+    if (from == w->n) return CUT_OFF;
+    if (!is_letter(w->s[from])) return WRONG;
+    *name = (struct span){from, name_end(w, from), true};
+    if (name->to == w->n) return CUT_OFF;
+    return b == '?' ? INSTRUCTION : b == '/' ? END_TAG : START_TAG;
+}
+
+/* up to the two or three bytes that close a comment, instruction or CDATA section; `--` closes a comment or is wrong there */
+static bool until(struct walk *w, size_t at, const char *close) {
+    size_t m = strlen(close);
+    for (;; at++) {
+        if (at == w->n) return cut(w);
+        if (is_control(w->s[at])) return fault(w, at);
+        if (w->n - at >= m && memcmp(w->s + at, close, m) == 0) break;
+        if (m == 3 && close[0] == '-' && w->n - at >= 3 && memcmp(w->s + at, "--", 2) == 0) return fault(w, at);
+    }
+    w->at = at + m;
+    return true;
+}
+
+static bool instruction(struct walk *w, struct span target) {
+    const uint8_t *s = w->s + target.from;
+    if (target.to - target.from == 3 && (s[0] | 32) == 'x' && (s[1] | 32) == 'm' && (s[2] | 32) == 'l')
+        if (!is(w, target, "xml") || w->at != w->first) return fault(w, w->at);
+    if (w->s[target.to] == '?') {
+        if (target.to + 1 == w->n) return cut(w);
+        if (w->s[target.to + 1] != '>') return fault(w, target.to);
+    } else if (!is_blank(w->s[target.to])) return fault(w, target.to);
+    return until(w, target.to, "?>");
+}
+
+static bool allowed(uint32_t c) {
+    return c == 9 || c == 10 || c == 13 || (c >= 0x20 && c <= 0xd7ff) || (c >= 0xe000 && c <= 0xfffd) || (c >= 0x10000 && c <= 0x10ffff);
+}
+
+static bool numbered(struct walk *w, size_t at, uint32_t *code) {
+    size_t k = at + 2, begin;
+    unsigned base = 10;
+    uint32_t c = 0;
+    if (k < w->n && w->s[k] == 'x') base = 16, k++;
+    for (begin = k; k < w->n; k++) {
+        uint8_t b = w->s[k], l = b | 32;
+        if (is_digit(b)) c = c * base + b - '0';
+        else if (base == 16 && l >= 'a' && l <= 'f') c = c * base + l - 'a' + 10;
+        else break;
+        if (c > 0x110000) c = 0x110000;
+    }
+    if (k == w->n) return cut(w);
+    if (w->s[k] != ';' || k == begin || !allowed(c)) return fault(w, at);
+    *code = c;
+    w->at = k + 1;
+    return true;
+}
+
+static bool reference(struct walk *w, size_t at, uint32_t *code) {
+    static const struct { const char *name; uint8_t code; } known[] = {{"lt", '<'}, {"gt", '>'}, {"amp", '&'}, {"quot", '"'}, {"apos", '\''}};
+    if (at + 1 == w->n) return cut(w);
+    if (w->s[at + 1] == '#') return numbered(w, at, code);
+    if (!is_letter(w->s[at + 1])) return fault(w, at);
+    struct span name = {at + 1, name_end(w, at + 1), true};
+    if (name.to == w->n) return cut(w);
+    if (w->s[name.to] != ';') return fault(w, at);
+    for (unsigned k = 0; k < 5; k++)
+        if (is(w, name, known[k].name)) {
+            *code = known[k].code;
+            w->at = name.to + 1;
+            return true;
+        }
+    return fault(w, at);
+}
+
+static size_t over_blanks(const struct walk *w, size_t at) {
+    while (at < w->n && is_blank(w->s[at])) at++;
+    return at;
+}
+
+/* a value from its quote on */
+static bool value_at(struct walk *w, size_t at, struct span *value) {
+    uint8_t quote = w->s[at];
+    uint32_t code;
+    *value = (struct span){at + 1, 0, true};
+    for (at++;;) {
+        if (at == w->n) return cut(w);
+        uint8_t b = w->s[at];
+        if (b == quote) break;
+        if (b == '<' || is_control(b)) return fault(w, at);
+        if (b == '&') {
+            if (!reference(w, at, &code)) return false;
+            at = w->at;
+        } else at++;
+    }
+    value->to = at;
+    w->at = at + 1;
+    return true;
+}
+
+/* digits without a leading zero: above 65,535 as 65,536; -1 where they are none */
+static int32_t numeral(const struct walk *w, struct span x) {
+    int32_t v = 0;
+    if (x.from == x.to || (w->s[x.from] == '0' && x.to - x.from > 1)) return -1;
+    for (size_t k = x.from; k < x.to; k++) {
+        if (!is_digit(w->s[k])) return -1;
+        v = v * 10 + w->s[k] - '0';
+        if (v > GREATEST) v = GREATEST + 1;
+    }
+    return v;
+}
+
+static bool attribute(struct walk *w, enum role role) {
+    struct attribute *a = &w->attributes[w->attribute_count];
+    a->name = (struct span){w->at, name_end(w, w->at), true};
+    if (a->name.to == w->n) return cut(w);
+    for (unsigned k = 0; k < w->attribute_count; k++)
+        if (equal(w, w->attributes[k].name, a->name)) return fault(w, w->at);
+    size_t at = over_blanks(w, a->name.to);
+    if (at == w->n) return cut(w);
+    if (w->s[at] != '=') return fault(w, at);
+    at = over_blanks(w, at + 1);
+    if (at == w->n) return cut(w);
+    if (w->s[at] != '"' && w->s[at] != '\'') return fault(w, at);
+    if (!value_at(w, at, &a->value)) return false;
+    if (role == MULTIPLICITY && is(w, a->name, "maximum") && numeral(w, a->value) < 0) return fault(w, a->value.from);
+    w->attribute_count++;
+    return true;
+}
+
+/* a start tag behind its name: its attributes, and whether it is empty */
+static bool tag(struct walk *w, size_t from, enum role role, bool *empty) {
+    w->attribute_count = 0;
+    for (w->at = from;;) {
+        size_t at = over_blanks(w, w->at);
+        bool apart = at > w->at;
+        if (at == w->n) return cut(w);
+        uint8_t b = w->s[at];
+        *empty = b == '/';
+        if (*empty && at + 1 == w->n) return cut(w);
+        if (*empty && w->s[at + 1] != '>') return fault(w, at);
+        if (*empty || b == '>') {
+            w->at = at + 1 + *empty;
+            return true;
+        }
+        if (!apart || !is_letter(b)) return fault(w, at);
+        w->at = at;
+        if (!attribute(w, role)) return false;
+    }
+}
+
+static bool end_tag(struct walk *w, struct span begun, struct span name) {
+    if (!equal(w, begun, name)) return fault(w, w->at);
+    size_t at = over_blanks(w, name.to);
+    if (at == w->n) return cut(w);
+    if (w->s[at] != '>') return fault(w, at);
+    w->at = at + 1;
+    return true;
+}
+
+/* WHAT IS DRAWN. */
+static bool is_event(enum role r) { return r >= START_EVENT && r <= THROW_EVENT; }
+static bool is_node(enum role r) { return r >= START_EVENT && r <= BY_EVENT; }
+static bool is_item(enum role r) { return r == PARTICIPANT || r == MESSAGE_FLOW || r == PROCESS || r == SEQUENCE_FLOW || is_node(r); }
+static bool is_read_into(enum role r) { return r == DEFINITIONS || r == COLLABORATION || is_item(r); }
+
+static enum role role_of(const struct walk *w, struct span name, enum role inside) {
+    struct span local = behind_colon(w, name);
+    unsigned within = is_event(inside) ? ANY_EVENT : inside;
+    for (unsigned k = 0; k < sizeof passed_over / sizeof *passed_over; k++)
+        if (is(w, local, passed_over[k])) return PASSED;
+    for (unsigned k = 0; k < sizeof roles / sizeof *roles; k++)
+        if (roles[k].inside == within && is(w, local, roles[k].name)) return roles[k].role;
+    return UNKNOWN;
+}
+
+static struct span value_of(const struct walk *w, const char *name) {
+    for (unsigned k = 0; k < w->attribute_count; k++)
+        if (is(w, w->attributes[k].name, name)) return w->attributes[k].value;
+    return (struct span){0, 0, false};
+}
+
+static void note_item(struct walk *w, enum role role, size_t place, unsigned owner) {
+    struct item *x = &w->items[w->count++];
+    *x = (struct item){.role = role, .owner = owner, .place = place, .from = -1, .to = -1, .pool = -1};
+    x->id = value_of(w, "id");
+    x->source = value_of(w, "sourceRef");
+    x->target = value_of(w, "targetRef");
+    x->process = value_of(w, "processRef");
+    x->fallback = value_of(w, "default");
+}
+
+/* what a start tag says, an item of its own or a part of the one it stands in */
+static void note(struct walk *w, enum role role, enum role inside, size_t place, unsigned owner) {
+    struct item *x = &w->items[owner];
+    if (inside == PROCESS)
+        for (unsigned k = 0; k < sizeof fixed / sizeof *fixed; k++) {
+            struct span v = value_of(w, fixed[k][0]);
+            if (v.there && !is(w, v, fixed[k][1])) w->amiss = true;
+        }
+    if (is_item(role)) note_item(w, role, place, owner);
+    else if (role == COLLABORATION) w->collaborations++;
+    else if (role == UNKNOWN) w->amiss = true;
+    else if (role == MESSAGE_EVENT) x->messages++;
+    else if (role == TERMINATE_EVENT) x->terminates++;
+    else if (role == MULTIPLICITY) x->many++, x->maximum = value_of(w, "maximum");
+    else if (role == CONDITION_TEXT) x->expressions++, x->text = (struct span){w->character_count, w->character_count, true};
+}
+
+static void character(struct walk *w, size_t place, uint32_t code) {
+    w->characters[w->character_count] = code == '\r' && w->s[place] == '\r' ? '\n' : code < 128 ? code : 128;
+    w->places[w->character_count++] = place;
+}
+
+static bool content(struct walk *w, struct span name, enum role role, unsigned owner, unsigned depth);
+
+/* an element: depth is how deep its parent is in what is skipped, 0 where that is read into */
+static bool element(struct walk *w, struct span name, enum role inside, unsigned owner, unsigned depth) {
+    size_t place = w->at;
+    bool empty;
+    enum role role = depth ? PASSED : role_of(w, name, inside);
+    if (depth == DEEPEST) return fault(w, place);
+    if (inside == CONDITION_TEXT) w->amiss = true;
+    if (!tag(w, name.to, role, &empty)) return false;
+    if (!depth) note(w, role, inside, place, owner);
+    if (empty) return true;
+    if (is_item(role)) owner = w->count - 1;
+    return content(w, name, role, owner, is_read_into(role) ? 0 : depth + 1);
+}
+
+/* a comment, instruction, CDATA section, tag at a `<` of some content */
+static bool markup(struct walk *w, struct span name, enum role role, unsigned owner, unsigned depth, bool *ended) {
+    struct span found = {0, 0, false};
+    size_t at = w->at;
+    switch (opening_at(w, at, &found)) {
+    case CUT_OFF: return cut(w);
+    case WRONG: return fault(w, at);
+    case COMMENT: return until(w, at + 4, "-->");
+    case INSTRUCTION: return instruction(w, found);
+    case END_TAG: return *ended = true, end_tag(w, name, found);
+    case START_TAG: return element(w, found, role, owner, depth);
+    case CDATA:
+        if (!until(w, at + 9, "]]>")) return false;
+        for (size_t k = at + 9; role == CONDITION_TEXT && k < w->at - 3; k++) character(w, k, w->s[k]);
+    }
+    return true;
+}
+
+/* what stands between an element's tags, and its end tag; of a conditionExpression the characters are kept */
+static bool content(struct walk *w, struct span name, enum role role, unsigned owner, unsigned depth) {
+    for (bool ended = false; !ended;) {
+        size_t at = w->at;
+        if (at == w->n) return cut(w);
+        uint32_t b = w->s[at];
+        if (b == '<') {
+            if (!markup(w, name, role, owner, depth, &ended)) return false;
+            continue;
+        }
+        if (is_control(b) || (w->n - at >= 3 && memcmp(w->s + at, "]]>", 3) == 0)) return fault(w, at);
+        w->at++;
+        if (b == '&' && !reference(w, at, &b)) return false;
+        if (role == CONDITION_TEXT) character(w, at, b);
+    }
+    if (role == CONDITION_TEXT) w->items[owner].text.to = w->character_count;
+    return true;
+}
+
+/* what stands before the root, up to its tag, or behind it, up to the end */
+static bool around(struct walk *w, bool before, struct span *name) {
+    for (;;) {
+        size_t at = w->at = over_blanks(w, w->at);
+        struct span found = {0, 0, false};
+        if (at == w->n) return before ? cut(w) : true;
+        if (w->s[at] != '<') return fault(w, at);
+        switch (opening_at(w, at, &found)) {
+        case CUT_OFF: return cut(w);
+        case COMMENT:
+            if (!until(w, at + 4, "-->")) return false;
+            break;
+        case INSTRUCTION:
+            if (!instruction(w, found)) return false;
+            break;
+        case START_TAG:
+            *name = found;
+            if (before && is(w, behind_colon(w, found), "definitions")) return true;
+            return fault(w, at);
+        default: return fault(w, at);
+        }
+    }
+}
+
+static bool walked(struct walk *w) {
+    static const uint8_t mark[] = {0xef, 0xbb, 0xbf};
+    struct span name;
+    bool empty;
+    size_t seen = w->n < 3 ? w->n : 3;
+    if (seen && memcmp(w->s, mark, seen) == 0) {
+        if (seen < 3) return cut(w);
+        w->first = w->at = 3;
+    }
+    if (!around(w, true, &name) || !tag(w, name.to, DEFINITIONS, &empty)) return false;
+    return (empty || content(w, name, DEFINITIONS, 0, 0)) && around(w, false, &name);
+}
+
+/* 21: WHAT IS DRAWN WRONG. */
+static bool ids_differ(const struct walk *w) {
+    for (unsigned k = 0; k < w->count; k++)
+        for (unsigned j = 0; j < k && w->items[k].id.there; j++)
+            if (equal(w, w->items[j].id, w->items[k].id)) return false;
+    return true;
+}
+
+static int named(const struct walk *w, struct span reference) {
+    struct span id = behind_colon(w, reference);
+    for (unsigned k = 0; k < w->count; k++)
+        if (equal(w, w->items[k].id, id)) return k;
+    return -1;
+}
+
+static bool sends(const struct item *x) { return x->role == SEND_TASK || ((x->role == THROW_EVENT || x->role == END_EVENT) && x->messages); }
+static bool receives(const struct item *x) { return x->role == RECEIVE_TASK || ((x->role == CATCH_EVENT || x->role == START_EVENT) && x->messages); }
+static bool is_outside(const struct item *x) { return x->role == PARTICIPANT && !x->process.there; }
+static bool splits(const struct item *x) { return x->in == 1 && x->out >= FEWEST; }
+static bool joins(const struct item *x) { return x->in >= FEWEST && x->out == 1; }
+
+static bool sequence_flow_joins(struct walk *w, struct item *x) {
+    x->from = named(w, x->source), x->to = named(w, x->target);
+    if (x->from < 0 || x->to < 0) return false;
+    struct item *a = &w->items[x->from], *b = &w->items[x->to];
+    if (!is_node(a->role) || !is_node(b->role) || a->owner != x->owner || b->owner != x->owner) return false;
+    a->out++, b->in++;
+    return true;
+}
+
+static bool message_flow_joins(struct walk *w, struct item *x) {
+    x->from = named(w, x->source), x->to = named(w, x->target);
+    if (x->from < 0 || x->to < 0) return false;
+    struct item *a = &w->items[x->from], *b = &w->items[x->to];
+    if (!(sends(a) || is_outside(a)) || !(receives(b) || is_outside(b))) return false;
+    a->sent++, b->received++;
+    return true;
+}
+
+static bool flows_join(struct walk *w) {
+    for (unsigned k = 0; k < w->count; k++) {
+        struct item *x = &w->items[k];
+        if (x->role == SEQUENCE_FLOW && !sequence_flow_joins(w, x)) return false;
+        if (x->role == MESSAGE_FLOW && !message_flow_joins(w, x)) return false;
+    }
+    return true;
+}
+
+/* the pools in their order; each process is that of exactly one */
+static bool pools_stand(struct walk *w) {
+    int pools = 0, participants = 0;
+    for (unsigned k = 0; k < w->count; k++) {
+        struct item *x = &w->items[k];
+        if (x->role != PARTICIPANT) continue;
+        participants++;
+        if (x->many > 1) return false;
+        if (is_outside(x)) continue;
+        int p = named(w, x->process);
+        if (p < 0 || w->items[p].role != PROCESS || w->items[p].pool >= 0) return false;
+        x->from = p, w->items[p].to = k;
+        x->pool = w->items[p].pool = pools++;
+    }
+    for (unsigned k = 0; k < w->count; k++) {
+        struct item *x = &w->items[k];
+        if (x->role == PROCESS && !participants) x->pool = pools++;
+        if (x->role == PROCESS && x->pool < 0) return false;
+    }
+    return pools > 0 && w->collaborations <= 1;
+}
+
+static bool event_is_known(const struct item *x) {
+    unsigned definitions = x->messages + x->terminates;
+    if (definitions > 1 || (x->terminates && x->role != END_EVENT)) return false;
+    return definitions == 1 || x->role == START_EVENT || x->role == END_EVENT;
+}
+
+/* its kind's entries and exits, and exactly one message flow where it sends or receives */
+static bool node_stands(const struct item *x) {
+    if (is_event(x->role) && !event_is_known(x)) return false;
+    if (sends(x) && x->sent != 1) return false;
+    if (receives(x) && x->received != 1) return false;
+    switch (x->role) {
+    case START_EVENT: return x->in == 0 && x->out == 1;
+    case END_EVENT: return x->in == 1 && x->out == 0;
+    case PARALLEL:
+    case EXCLUSIVE: return splits(x) || joins(x);
+    case BY_EVENT: return splits(x);
+    default: return x->in == 1 && x->out == 1;
+    }
+}
+
+static bool is_blank_text(const uint8_t *s, struct span x) {
+    for (size_t k = x.from; k < x.to; k++)
+        if (s[k] != ' ' && s[k] != '\t' && s[k] != '\n') return false;
+    return true;
+}
+
+/* a flow's condition is in the notation and leaves an exclusive split */
+static bool condition_stands(struct walk *w, struct item *x) {
+    const struct item *a = &w->items[x->from];
+    x->condition[0] = ALWAYS;
+    if (x->expressions > 1) return false;
+    if (!x->expressions || is_blank_text(w->characters, x->text)) return true;
+    size_t place;
+    unsigned number = condition_of(w->characters + x->text.from, x->text.to - x->text.from, x->condition, &place);
+    if (number == 3) x->ranged = true, x->excess = w->places[x->text.from + place];
+    return number != 2 && a->role == EXCLUSIVE && splits(a);
+}
+
+static bool is_catch(const struct item *x) { return x->role == CATCH_EVENT && x->messages; }
+
+static bool nodes_and_flows_stand(struct walk *w) {
+    for (unsigned k = 0; k < w->count; k++) {
+        struct item *x = &w->items[k];
+        if (is_node(x->role) && !node_stands(x)) return false;
+        if (x->role != SEQUENCE_FLOW) continue;
+        if (!condition_stands(w, x)) return false;
+        if (w->items[x->from].role != BY_EVENT) continue;
+        if (!is_catch(&w->items[x->to])) return false;
+        w->items[x->to].behind = x->behind = true;
+    }
+    return true;
+}
+
+/* the default flow of an exclusive split is its own, and says default whatever its condition */
+static bool defaults_stand(struct walk *w) {
+    for (unsigned k = 0; k < w->count; k++) {
+        const struct item *x = &w->items[k];
+        if (x->role != EXCLUSIVE || !splits(x) || !x->fallback.there) continue;
+        int f = named(w, x->fallback);
+        if (f < 0 || w->items[f].role != SEQUENCE_FLOW || w->items[f].from != (int)k) return false;
+        struct item *flow = &w->items[f];
+        memset(flow->condition, 0, sizeof flow->condition);
+        flow->condition[0] = DEFAULT, flow->ranged = false;
+    }
+    return true;
+}
+
+static bool stands(struct walk *w) {
+    return !w->amiss && ids_differ(w) && pools_stand(w) && flows_join(w) && nodes_and_flows_stand(w) && defaults_stand(w);
+}
+
+/* NUMBERS, and 3: WHAT IS TOO LARGE, the leftmost. */
+static bool is_task(enum role r) { return r == PLAIN_TASK || r == SEND_TASK || r == RECEIVE_TASK; }
+static bool is_start(const struct item *x) { return x->role == START_EVENT && !x->messages; }
+
+static void exceed(size_t *leftmost, bool excessive, size_t place) {
+    if (excessive && place < *leftmost) *leftmost = place;
+}
+
+/* the elements, tasks and edges of a process, each from 1 */
+static void number_process(struct walk *w, unsigned process, size_t *leftmost) {
+    unsigned elements = 0, tasks = 0, edges = 0;
+    for (unsigned k = process + 1; k < w->count; k++) {
+        struct item *x = &w->items[k];
+        if (x->owner != process || x->behind) continue;
+        if (x->role == SEQUENCE_FLOW) {
+            x->number = ++edges;
+            exceed(leftmost, edges > EDGES, x->place);
+        } else if (is_node(x->role)) {
+            exceed(leftmost, ++elements > ELEMENTS, x->place);
+            if (!is_task(x->role)) continue;
+            x->number = ++tasks;
+            exceed(leftmost, tasks > TASKS, x->place);
+        }
+    }
+    for (unsigned k = process + 1; k < w->count; k++) {
+        struct item *x = &w->items[k];
+        if (x->owner != process || !is_start(x)) continue;
+        x->number = ++edges;
+        exceed(leftmost, edges > EDGES, x->place);
+    }
+}
+
+static int32_t limit_of_pool(const struct walk *w, const struct item *x) { return !x->many ? 0 : x->maximum.there ? numeral(w, x->maximum) : 1; }
+
+static void number_others(struct walk *w, size_t *leftmost) {
+    bool participants = false;
+    unsigned messages = 0;
+    for (unsigned k = 0; k < w->count; k++) participants |= w->items[k].role == PARTICIPANT;
+    for (unsigned k = 0; k < w->count; k++) {
+        struct item *x = &w->items[k];
+        if (x->role == (participants ? PARTICIPANT : PROCESS)) exceed(leftmost, x->pool >= POOLS, x->place);
+        if (x->role == PARTICIPANT && !is_outside(x) && x->many) {
+            int32_t n = limit_of_pool(w, x);
+            exceed(leftmost, n < 1 || n > INSTANCES, x->maximum.from);
+        }
+        if (x->role == MESSAGE_FLOW) {
+            x->number = messages++;
+            exceed(leftmost, x->number >= NAMES && (is_node(w->items[x->from].role) || is_node(w->items[x->to].role)), x->place);
+        }
+        if (x->role == SEQUENCE_FLOW) exceed(leftmost, x->ranged, x->excess);
+    }
+}
+
+/* the ninth flow of each gateway's entries and exits */
+static void count_lists(struct walk *w, size_t *leftmost) {
+    static unsigned in[ITEMS], out[ITEMS];
+    memset(in, 0, sizeof in), memset(out, 0, sizeof out);
+    for (unsigned k = 0; k < w->count; k++) {
+        const struct item *x = &w->items[k];
+        if (x->role != SEQUENCE_FLOW) continue;
+        in[x->to]++, out[x->from]++;
+        exceed(leftmost, in[x->to] > BRANCHES || out[x->from] > BRANCHES, x->place);
+    }
+}
+
+/* THE TABLE. */
+static unsigned kind_of(const struct item *x) {
+    switch (x->role) {
+    case START_EVENT: return x->messages ? START_RCV : START;
+    case END_EVENT: return x->messages ? END_SND : x->terminates ? TERMINATE : END;
+    case CATCH_EVENT: return INTER_RCV;
+    case THROW_EVENT: return INTER_SND;
+    case PLAIN_TASK: return TASK;
+    case SEND_TASK: return TASK_SND;
+    case RECEIVE_TASK: return TASK_RCV;
+    case PARALLEL: return splits(x) ? AND_SPLIT : AND_JOIN;
+    case EXCLUSIVE: return splits(x) ? XOR_SPLIT : XOR_JOIN;
+    default: return EVENT_BASED;
+    }
+}
+
+static unsigned message_number(const struct walk *w, int node) {
+    for (unsigned k = 0; k < w->count; k++)
+        if (w->items[k].role == MESSAGE_FLOW && (w->items[k].from == node || w->items[k].to == node)) return w->items[k].number;
+    return 0;
+}
+
+static unsigned exit_of(const struct walk *w, int node) {
+    for (unsigned k = 0; k < w->count; k++)
+        if (w->items[k].role == SEQUENCE_FLOW && w->items[k].from == node) return w->items[k].number;
+    return 0;
+}
+
+static void add(word *list, unsigned edge) { list[++list[0]] = edge; }
+
+static void fill_element(const struct walk *w, int node, word *el) {
+    const struct item *x = &w->items[node];
+    el[KIND] = kind_of(x);
+    if (sends(x) || receives(x)) el[ELEMENT_MESSAGES] = message_number(w, node);
+    if (is_task(x->role)) el[TASK_NUMBER] = x->number, el[MODE] = ATOMIC, el[CONDITIONS] = ALWAYS;
+    if (el[KIND] == START) add(el + ENTRIES, x->number);
+    for (unsigned k = 0; k < w->count; k++) {
+        const struct item *f = &w->items[k];
+        if (f->role != SEQUENCE_FLOW) continue;
+        if (f->to == node) add(el + ENTRIES, f->number);
+        if (f->from != node) continue;
+        if (el[KIND] == XOR_SPLIT) memcpy((word *)condition_at(el, el[EXITS]), f->condition, sizeof f->condition);
+        if (el[KIND] == EVENT_BASED) *(word *)message_at(el, el[EXITS]) = message_number(w, f->to);
+        add(el + EXITS, el[KIND] == EVENT_BASED ? exit_of(w, f->to) : f->number);
+    }
+}
+
+static void fill(const struct walk *w, word *t) {
+    for (unsigned k = 0; k < w->count; k++) {
+        const struct item *x = &w->items[k];
+        if (x->role != PROCESS) continue;
+        word *pool = (word *)pool_at(t, x->pool);
+        t[0]++;
+        pool[0] = x->pool + 1;
+        pool[POOL_LIMIT] = x->to < 0 ? 0 : limit_of_pool(w, &w->items[x->to]);
+        for (unsigned j = k + 1; j < w->count; j++)
+            if (w->items[j].owner == k && is_node(w->items[j].role) && !w->items[j].behind)
+                fill_element(w, j, (word *)element_at(pool, pool[POOL_COUNT]++));
+    }
+}
+
+ref_reading ref_draw(const uint8_t *text, size_t length, word *t) {
+    static struct walk w;
+    static word drawn[REF_TABLE_WORDS];
+    if (length > DRAWING_MOST) return (ref_reading){1, 0};
+    w.s = text, w.n = length;
+    w.at = w.place = w.first = w.character_count = 0;
+    w.amiss = false, w.count = w.collaborations = 0;
+    if (!walked(&w)) return (ref_reading){20, w.place};
+    if (!stands(&w)) return (ref_reading){21, 0};
+    size_t leftmost = SIZE_MAX;
+    for (unsigned k = 0; k < w.count; k++)
+        if (w.items[k].role == PROCESS) number_process(&w, k, &leftmost);
+    number_others(&w, &leftmost);
+    count_lists(&w, &leftmost);
+    if (leftmost < SIZE_MAX) return (ref_reading){3, leftmost};
+    memset(drawn, 0, sizeof drawn);
+    fill(&w, drawn);
+    unsigned k = lowest_broken(drawn);
+    if (k) return (ref_reading){4, k};
+    memcpy(t, drawn, sizeof drawn);
+    return (ref_reading){0, 0};
+}
