@@ -1,5 +1,5 @@
 # shellcheck shell=bash
-# What the scripts here say to people: a wrong use in one line, the numbers given back in the words of document 01, and the place of a refusal.
+# What the scripts here say to people: a wrong use in one line, the numbers given back in the words of documents 01 and 02, and the place of a refusal.
 
 # One line on a wrong use, and its exit status.
 misused() { # WORDS
@@ -59,6 +59,11 @@ meaning() { # NUMBER
     17) echo "the queue sent or posted to holds 64" ;;
     18) echo "an edge or task count, after the taking, would pass 255" ;;
     19) echo "post: name above 15 or more than 4 values" ;;
+    20) echo "not the XML named here or nested deeper" ;;
+    21)
+        echo "an element we don't run or, behind an event gateway, no catch event, a condition on another flow or not in our notation, a gateway that doesn't\
+ either split or join, another node without just its kind's entries and exits, or a sender or receiver without exactly one message flow"
+        ;;
     *) echo "a number that these words do not have" ;;
     esac
 }

@@ -22,6 +22,7 @@ extern "C" {
 #define CV_TABLE_WORDS 33549
 #define CV_STATE_WORDS 12308
 #define CV_TEXT_MOST 32768
+#define CV_DRAWING_MOST 65536
 
 /* A TABLE, word by word. Places that are not in use hold 0.
    0                      the count of pools, 1 to 4
@@ -53,10 +54,10 @@ extern "C" {
 #define CV_INSTANCE(p, i) (4 + 1792 * (p) + 112 * (i))
 #define CV_QUEUE(m) (7172 + 321 * (m))
 
-/* The numbers given back, in document 01's words. */
+/* The numbers given back, in the words of documents 01 and 02. */
 enum cv_number {
     CV_ACCEPTED = 0,
-    CV_TOO_LONG = 1,       /* text above 32,768 bytes */
+    CV_TOO_LONG = 1,       /* text above 32,768 bytes, or drawing above 65,536 */
     CV_MISPLACED = 2,      /* the token at this place (or the text's end) continues no text of the notation */
     CV_EXCESSIVE = 3,      /* a number is outside its range or a count above it */
     CV_CHECK_BROKEN = 4,   /* a model check is broken */
@@ -71,7 +72,11 @@ enum cv_number {
     CV_LIMIT_REACHED = 16, /* startRcv: the pool's limit is reached */
     CV_QUEUE_FULL = 17,    /* the queue sent or posted to holds 64 */
     CV_WOULD_PASS = 18,    /* an edge or task count, after the taking, would pass 255 */
-    CV_NOT_POSTABLE = 19   /* post: name above 15 or more than 4 values */
+    CV_NOT_POSTABLE = 19,  /* post: name above 15 or more than 4 values */
+    CV_NOT_XML = 20,       /* not the XML named here or nested deeper */
+    CV_NOT_RUN = 21        /* an element we don't run or, behind an event gateway, no catch event, a condition on another flow or not in our notation, a gateway
+                              that doesn't either split or join, another node without just its kind's entries and exits, or a sender or receiver without
+                              exactly one message flow */
 };
 
 /* A message: its length, 0 to 4, and its values; what stands behind them is ignored, and 0 in an answer. */
@@ -89,7 +94,7 @@ typedef struct { uint16_t number, traffic, name; cv_tuple tuple; } cv_answer;
 typedef struct { uint16_t number; cv_name name; } cv_listed;
 /* steps taken, and 1 or 0 for whether one is still accepted */
 typedef struct { uint16_t number, steps, left; } cv_ran;
-/* beside: the place where the number is 2 or 3, the lowest check broken where it is 4 */
+/* beside: the place where the number is 2, 3 or 20, the lowest check broken where it is 4 */
 typedef struct { uint16_t number; size_t beside; } cv_reading;
 typedef struct { uint16_t number; size_t length; } cv_written;
 
@@ -117,6 +122,10 @@ cv_ran cv_run(const uint16_t *table, size_t table_words, uint16_t *state, size_t
 
 /* Reads a text into the table: 1 to 4 (10 for a wrong length of the table), and the table stays; else 0, and every word of it is the model's. */
 cv_reading cv_read(const uint8_t *text, size_t length, uint16_t *table, size_t table_words);
+
+/* Reads a drawing, BPMN 2.0 XML, into the table: 1, 20, 21, 3 or 4 (10 for a wrong length of the table), and the table stays; else 0, and every word of it
+   is the model's. */
+cv_reading cv_draw(const uint8_t *text, size_t length, uint16_t *table, size_t table_words);
 
 /* Writes a table's text, one line: 10, or 5 where the buffer is shorter than it, and the buffer stays; else 0 and its length, at most CV_TEXT_MOST. */
 cv_written cv_write(const uint16_t *table, size_t table_words, uint8_t *buffer, size_t length);

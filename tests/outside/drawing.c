@@ -147,6 +147,21 @@ static bool allowed(uint32_t c) {
     return c == 9 || c == 10 || c == 13 || (c >= 0x20 && c <= 0xd7ff) || (c >= 0xe000 && c <= 0xfffd) || (c >= 0x10000 && c <= 0x10ffff);
 }
 
+/* the first byte that continues no opening at a `<` */
+static size_t stop_of(const struct walk *w, size_t at) {
+    size_t best = at + 1 + (w->s[at + 1] == '?' || w->s[at + 1] == '/' || w->s[at + 1] == '!');
+    static const char *const openings[] = {"<!--", "<![CDATA["};
+    for (unsigned k = 0; k < 2; k++) {
+        size_t same = 0;
+        while (at + same < w->n && openings[k][same] && w->s[at + same] == (uint8_t)openings[k][same]) same++;
+        if (at + same > best) best = at + same;
+    }
+    return best;
+}
+
+/* a token from `at` that the byte at k does not continue: at the token, but a byte below 32 is at fault where it stands */
+static bool broken(struct walk *w, size_t at, size_t k) { return fault(w, is_control(w->s[k]) ? k : at); }
+
 static bool numbered(struct walk *w, size_t at, uint32_t *code) {
     size_t k = at + 2, begin;
     unsigned base = 10;
@@ -160,7 +175,8 @@ static bool numbered(struct walk *w, size_t at, uint32_t *code) {
         if (c > 0x110000) c = 0x110000;
     }
     if (k == w->n) return cut(w);
-    if (w->s[k] != ';' || k == begin || !allowed(c)) return fault(w, at);
+    if (w->s[k] != ';' || k == begin) return broken(w, at, k);
+    if (!allowed(c)) return fault(w, at);
     *code = c;
     w->at = k + 1;
     return true;
@@ -170,10 +186,10 @@ static bool reference(struct walk *w, size_t at, uint32_t *code) {
     static const struct { const char *name; uint8_t code; } known[] = {{"lt", '<'}, {"gt", '>'}, {"amp", '&'}, {"quot", '"'}, {"apos", '\''}};
     if (at + 1 == w->n) return cut(w);
     if (w->s[at + 1] == '#') return numbered(w, at, code);
-    if (!is_letter(w->s[at + 1])) return fault(w, at);
+    if (!is_letter(w->s[at + 1])) return broken(w, at, at + 1);
     struct span name = {at + 1, name_end(w, at + 1), true};
     if (name.to == w->n) return cut(w);
-    if (w->s[name.to] != ';') return fault(w, at);
+    if (w->s[name.to] != ';') return broken(w, at, name.to);
     for (unsigned k = 0; k < 5; k++)
         if (is(w, name, known[k].name)) {
             *code = known[k].code;
@@ -344,7 +360,7 @@ static bool markup(struct walk *w, struct span name, enum role role, unsigned ow
     size_t at = w->at;
     switch (opening_at(w, at, &found)) {
     case CUT_OFF: return cut(w);
-    case WRONG: return fault(w, at);
+    case WRONG: return broken(w, at, stop_of(w, at));
     case COMMENT: return until(w, at + 4, "-->");
     case INSTRUCTION: return instruction(w, found);
     case END_TAG: return *ended = true, end_tag(w, name, found);
@@ -394,6 +410,7 @@ static bool around(struct walk *w, bool before, struct span *name) {
             *name = found;
             if (before && is(w, behind_colon(w, found), "definitions")) return true;
             return fault(w, at);
+        case WRONG: return broken(w, at, stop_of(w, at));
         default: return fault(w, at);
         }
     }

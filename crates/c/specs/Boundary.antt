@@ -14,6 +14,7 @@ use Rattle.meaning.specs.Tuples.{empty}
 use Rattle.listing.specs.declared.Listed.{Listed}
 use Rattle.naming.specs.Names.{blank}
 use Rattle.notation.specs.Notation.{ReadInto, readInto}
+use Rattle.drawings.specs.Drawings.{drawInto}
 use Rattle.engine.specs.declared.Verdict.{Verdict}
 use Rattle.engine.specs.Engine.{verdictOf, Left, freshened, Stepped, stepped, postedTo, listedAt, RanTo, ranTo, WrittenTo, writtenTo}
 use Rattle.c.specs.declared.Taken.{Taken}
@@ -61,6 +62,9 @@ ranBy t n z m limit = if areWhole n m then ranTo t z limit else record { number 
 
 unfoldable pub readBy : List ℕ → List ℕ → ℕ → ReadInto
 readBy text t n = if eqb n tableWords then readInto text t else record { number = 10; beside = 0; table = t }
+
+unfoldable pub drawnBy : List ℕ → List ℕ → ℕ → ReadInto
+drawnBy text t n = if eqb n tableWords then drawInto text t else record { number = 10; beside = 0; table = t }
 
 unfoldable pub writtenBy : List ℕ → ℕ → List ℕ → WrittenTo
 writtenBy t n out = if eqb n tableWords then writtenTo t out else record { number = 10; length = 0; buffer = out }

@@ -2,7 +2,7 @@
 ghost use mathlib.Core.Path.{_≡_};
 ghost use Rattle.meaning.specs.Tuples.{empty};
 ghost use Rattle.naming.specs.Names.{blank};
-ghost use Rattle.c.specs.Boundary.{areWhole, checkedBy, freshenedBy, trafficNumber, steppedBy, postedBy, listedBy, ranBy, readBy, writtenBy};
+ghost use Rattle.c.specs.Boundary.{areWhole, checkedBy, freshenedBy, trafficNumber, steppedBy, postedBy, listedBy, ranBy, readBy, drawnBy, writtenBy};
 use engine::Ran;
 use engine::Verdict;
 use engine::Written;
@@ -199,6 +199,23 @@ pub extern "C" fn cv_read(
         };
     }
     engine::read(text, table)
+}
+
+#[no_mangle]
+pub extern "C" fn cv_draw(
+    text: &[u8],
+    table: &mut [Word; TABLE_WORDS],
+    tablelength: usize,
+) -> Reading
+    ensures { λ r. ⌜ record { number = r .number; beside = r .beside; table = now (table .exit) } ≡ drawnBy (now (text .entry)) (now (table .entry)) tablelength ⌝ }
+{
+    if tablelength != TABLE_WORDS {
+        return Reading {
+            number: BAD,
+            beside: 0,
+        };
+    }
+    engine::draw(text, table)
 }
 
 #[no_mangle]

@@ -21,6 +21,7 @@ use lexer::piece;
 use meaning::Answer;
 use meaning::Name;
 use model::places::TABLE_WORDS;
+use notation::Reading;
 use numerals::same;
 use printing::tell;
 use printing::tell_run;
@@ -29,13 +30,27 @@ use state::places::STATE_WORDS;
 use words::GREATEST;
 use words::Word;
 
-// read
+// read, draw
 
-// The bytes of `read` and its blank.
+// The bytes of `read` or `draw` and its blank.
 const READ: usize = 5;
 
 fn is_read(line: &[u8]) -> bool {
     same(piece(line, 0, READ), b"read ")
+}
+
+fn is_draw(line: &[u8]) -> bool {
+    same(piece(line, 0, READ), b"draw ")
+}
+
+// What a text or a drawing was read as: a model gets a fresh state.
+fn begin(r: Reading, loaded: bool, t: &[Word; TABLE_WORDS], z: &mut [Word; STATE_WORDS]) -> bool {
+    if r.number != 0 {
+        tell_unread(r);
+        return loaded;
+    }
+    tell_done(engine::fresh(t, z));
+    true
 }
 
 fn do_read(
@@ -45,12 +60,17 @@ fn do_read(
     z: &mut [Word; STATE_WORDS],
 ) -> bool {
     let r = engine::read(piece(line, READ, line.len()), t);
-    if r.number != 0 {
-        tell_unread(r);
-        return loaded;
-    }
-    tell_done(engine::fresh(t, z));
-    true
+    begin(r, loaded, t, z)
+}
+
+fn do_draw(
+    line: &[u8],
+    loaded: bool,
+    t: &mut [Word; TABLE_WORDS],
+    z: &mut [Word; STATE_WORDS],
+) -> bool {
+    let r = engine::draw(piece(line, READ, line.len()), t);
+    begin(r, loaded, t, z)
 }
 
 // step, post, list, run
@@ -228,6 +248,9 @@ pub(super) fn command(
 ) -> bool {
     if is_read(line) {
         return do_read(line, loaded, t, z);
+    }
+    if is_draw(line) {
+        return do_draw(line, loaded, t, z);
     }
     if is_command(line, b"clear", b"") {
         return do_clear(t);

@@ -2,6 +2,7 @@
 // word; answers go to standard output.
 //
 //   read TEXT          ok, or refused N X; a model that was read replaces the one before and makes a fresh state
+//   draw TEXT          the same for a drawing, which is every byte behind the one blank
 //   step P I E F B V   ok -, ok !M:V (sent), ok ?M:V (consumed), or refused N; V is - or values joined by commas
 //   post M V           ok, or refused N
 //   list K             P I E F B V of the K-th accepted step, or refused N
@@ -17,7 +18,7 @@
 //   state I V          word I of the state is V: ok
 //   check              ok, or refused N X
 //
-// A command other than read, clear and table before one of these made a table: no model. Any other line: bad line.
+// A command other than read, draw, clear and table before one of these made a table: no model. Any other line: bad line.
 use lexer::piece;
 use libc::STDIN_FILENO;
 use model::places::TABLE_WORDS;
@@ -36,7 +37,7 @@ use commands::command;
 const NEWLINE: u8 = 10;
 
 // The bytes of the longest line.
-const LINE: usize = 40000;
+const LINE: usize = 80000;
 
 // How much of a line there is so far, and whether more came than fits; whether there is a model, and whether the input is at its end.
 struct Session {

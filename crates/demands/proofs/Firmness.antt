@@ -1,5 +1,5 @@
 -- HOW FIRM THE PROMISES ARE: any two results that the promise of a public call allows coincide, the words and bytes lent to it included; the promise is
--- the one in the code, its `ensures`. Only read changes a table. Assumes nothing.
+-- the one in the code, its `ensures`. Only read and draw change a table. Assumes nothing.
 use Prim.Native.Nat.{ℕ}
 use mathlib.Core.Path.{_≡_, refl, sym, _∙_, ap, ap₂}
 use mathlib.Core.List.{List, [], _∷_}
@@ -22,6 +22,7 @@ use Rattle.engine.proofs.post.Reads as post
 use Rattle.engine.proofs.list.Reads as list
 use Rattle.engine.proofs.run.Reads as run
 use Rattle.engine.proofs.read.Reads as read
+use Rattle.engine.proofs.draw.Reads as draw
 use Rattle.engine.proofs.write.Reads as write
 use Rattle.demands.specs.Demands.{Allowed, AllAllowed}
 use Rattle.demands.proofs.Promises.{Lent, One, Two}
@@ -63,6 +64,12 @@ module _ (κ : Two) where
       → read.Post κ (text, (t, tt)) r₁ (text₁, (t₁, tt)) → read.Post κ (text, (t, tt)) r₂ (text₂, (t₂, tt))
       → (r₁ ≡ r₂) × (now t₁ ≡ now t₂)
   read-firm text t text₁ text₂ t₁ t₂ r₁ r₂ p₁ p₂ =
+      let p = p₁ ∙ sym p₂ in (ap (λ (o : ReadInto). record { number = o .number; beside = o .beside }) p, ap (λ (o : ReadInto). o .table) p)
+
+  pub draw-firm : (text t text₁ text₂ t₁ t₂ : Lent) (r₁ r₂ : Reading)
+      → draw.Post κ (text, (t, tt)) r₁ (text₁, (t₁, tt)) → draw.Post κ (text, (t, tt)) r₂ (text₂, (t₂, tt))
+      → (r₁ ≡ r₂) × (now t₁ ≡ now t₂)
+  draw-firm text t text₁ text₂ t₁ t₂ r₁ r₂ p₁ p₂ =
       let p = p₁ ∙ sym p₂ in (ap (λ (o : ReadInto). record { number = o .number; beside = o .beside }) p, ap (λ (o : ReadInto). o .table) p)
 
   pub write-firm : (t out t₁ t₂ out₁ out₂ : Lent) (r₁ r₂ : Written)

@@ -20,8 +20,9 @@ use Rattle.engine.proofs.post.Reads as post
 use Rattle.engine.proofs.list.Reads as list
 use Rattle.engine.proofs.run.Reads as run
 use Rattle.engine.proofs.read.Reads as read
+use Rattle.engine.proofs.draw.Reads as draw
 use Rattle.engine.proofs.write.Reads as write
-use Rattle.demands.specs.Promises.{Checks, Freshens, Steps, Posts, Lists, Runs, Reads, Writes}
+use Rattle.demands.specs.Promises.{Checks, Freshens, Steps, Posts, Lists, Runs, Reads, Draws, Writes}
 use Rattle.demands.specs.Demands.{Allowed}
 
 -- a slice or an array that is lent, and the lifetimes of one and of two
@@ -59,6 +60,9 @@ module _ (κ : Two) where
 
   pub read-promise : (text t text₁ t₁ : Lent) (r : Reading) → read.Post κ (text, (t, tt)) r (text₁, (t₁, tt)) ≡ Reads (now text) (now t) r (now t₁)
   read-promise text t text₁ t₁ r = refl
+
+  pub draw-promise : (text t text₁ t₁ : Lent) (r : Reading) → draw.Post κ (text, (t, tt)) r (text₁, (t₁, tt)) ≡ Draws (now text) (now t) r (now t₁)
+  draw-promise text t text₁ t₁ r = refl
 
   pub write-promise : (t out t₁ out₁ : Lent) (r : Written) → write.Post κ (t, (out, tt)) r (t₁, (out₁, tt)) ≡ Writes (now t) (now out) r (now out₁)
   write-promise t out t₁ out₁ r = refl

@@ -9,6 +9,7 @@ use Rattle.meaning.specs.declared.Tuple.{Tuple}
 use Rattle.listing.specs.declared.Listed.{Listed}
 use Rattle.notation.specs.declared.Reading.{Reading}
 use Rattle.notation.specs.Notation.{ReadInto, readInto}
+use Rattle.drawings.specs.Drawings.{drawInto}
 use Rattle.engine.specs.declared.Verdict.{Verdict}
 use Rattle.engine.specs.declared.Ran.{Ran}
 use Rattle.engine.specs.declared.Written.{Written}
@@ -34,6 +35,9 @@ Runs t z limit r y = _≡_ {A = RanTo} (record { number = r .number; steps = r .
 
 abbrev pub Reads : List ℕ → List ℕ → Reading → List ℕ → Type 0
 Reads text t r y = _≡_ {A = ReadInto} (record { number = r .number; beside = r .beside; table = y }) (readInto text t)
+
+abbrev pub Draws : List ℕ → List ℕ → Reading → List ℕ → Type 0
+Draws text t r y = _≡_ {A = ReadInto} (record { number = r .number; beside = r .beside; table = y }) (drawInto text t)
 
 abbrev pub Writes : List ℕ → List ℕ → Written → List ℕ → Type 0
 Writes t out r y = _≡_ {A = WrittenTo} (record { number = r .number; length = r .length; buffer = y }) (writtenTo t out)

@@ -8,6 +8,7 @@ ghost use Rattle.engine.specs.Engine.{valid, verdictOf, Left, freshened,
 ghost use Rattle.meaning.specs.Tuples.{empty};
 ghost use Rattle.naming.specs.Names.{blank};
 ghost use Rattle.notation.specs.Notation.{readInto};
+ghost use Rattle.drawings.specs.Drawings.{drawInto};
 ghost use Rattle.shown.specs.Shown.{shownTable};
 use listing::Listed;
 use meaning::Answer;
@@ -173,6 +174,13 @@ pub fn read(text: &[u8], t: &mut [Word; TABLE_WORDS]) -> Reading
     ensures { λ r. ⌜ record { number = r .number; beside = r .beside; table = now (t .exit) } ≡ readInto (now (text .entry)) (now (t .entry)) ⌝ }
 {
     notation::read_into(text, t)
+}
+
+// Reads a drawing into the lent table: 1, 20 with its place, 21, 3 with its place, 4 with the lowest check broken, and the table stays; else 0, and every word of it is the model's.
+pub fn draw(text: &[u8], t: &mut [Word; TABLE_WORDS]) -> Reading
+    ensures { λ r. ⌜ record { number = r .number; beside = r .beside; table = now (t .exit) } ≡ drawInto (now (text .entry)) (now (t .entry)) ⌝ }
+{
+    drawings::draw_into(text, t)
 }
 
 // The answer of a writing: a number, and beside 0 the length of the text.

@@ -85,3 +85,7 @@ unreadLine number beside = bytes "refused " ++ shown number ++ bytes " " ++ show
 
 abbrev pub unreadMost : ℕ
 unreadMost = 8 + digits + 1 + digits + 1
+
+-- what is said beside a number, at most: the end of the longest drawing
+abbrev pub lastBeside : ℕ
+lastBeside = 65536

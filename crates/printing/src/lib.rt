@@ -1,11 +1,9 @@
 // What the programs share of what they say on standard output. That a text is said is not part of a promise; what it is, and what becomes of the state, is.
 ghost use mathlib.Core.Path.{_≡_};
 ghost use lib.ListN.{length};
-ghost use Rattle.words.specs.Words.{greatest};
 ghost use Rattle.buffers.specs.Buffers.{lesser};
-ghost use Rattle.lines.specs.Lines.{unreadLine};
+ghost use Rattle.lines.specs.Lines.{unreadLine, lastBeside};
 ghost use Rattle.engine.specs.Engine.{RanTo, ranTo};
-use buffers::least;
 use engine::Ran;
 use lexer::piece;
 use libc::STDOUT_FILENO;
@@ -16,7 +14,6 @@ use meaning::Name;
 use model::places::TABLE_WORDS;
 use notation::Reading;
 use state::places::STATE_WORDS;
-use words::GREATEST;
 use words::Word;
 
 // Says a text; gives back its length.
@@ -27,13 +24,12 @@ pub fn tell(text: &[u8]) -> usize
     text.len()
 }
 
-// Says the line of a refused text; gives back its length. A place above what a word holds, which no text has, is said as the greatest word.
+// Says the line of a refused text; gives back its length. A place above that of the longest drawing's end, which no text has, is said as that one.
 pub fn tell_unread(r: Reading) -> usize
-    ensures { λ n. ⌜ n ≡ length (unreadLine (r .number) (lesser (r .beside) greatest)) ⌝ }
+    ensures { λ n. ⌜ n ≡ length (unreadLine (r .number) (lesser (r .beside) lastBeside)) ⌝ }
 {
     let mut out = [0u8; UNREAD_LINE];
-    let beside = least(r.beside, GREATEST as usize);
-    let n = lines::put_unread(&mut out, 0, r.number, beside as Word);
+    let n = lines::put_unread(&mut out, 0, r.number, r.beside);
     tell(piece(&out, 0, n));
     n
 }

@@ -6,7 +6,7 @@ use Rattle.lines.proofs.put_unread.Tie as tie
 
 returns : tie.Need-returns
 unfolding unreadLine
-returns c = after (after (after (after (c .before .before .before .before .before .before .before .before .before .before .before .before .before .before .before .before .before .before .put-bytes .ensures) (c .before .before .before .before .before .before .before .before .before .before .before .before .before .before .put-number .ensures)) (c .before .before .before .before .before .before .before .before .before .before .put-byte .ensures)) (c .before .before .before .before .before .before .put-number2 .ensures)) (c .before .before .put-byte2 .ensures)
+returns c = after (after (after (after (c .before .before .before .before .before .before .before .before .before .before .before .before .before .before .before .before .before .before .put-bytes .ensures) (c .before .before .before .before .before .before .before .before .before .before .before .before .before .before .put-number .ensures)) (c .before .before .before .before .before .before .before .before .before .before .put-byte .ensures)) (c .before .before .before .before .before .before .put-beside .ensures)) (c .before .before .put-byte2 .ensures)
 
 pub put-unread-spec : {M : Type 1} → statement M
 put-unread-spec =

@@ -1,8 +1,6 @@
-use mathlib.Core.Path.{refl, _∙_, ap}
-use lib.ListN.{length}
+use mathlib.Core.Path.{refl}
 use borrow.Author.Tests.{leb-true}
 use Rattle.buffers.proofs.OverLaws.{put-length}
-use Rattle.lines.specs.Lines.{unreadLine}
 use borrow.Author.Needs.{needs}
 use Rattle.printing.proofs.tell_unread.Statement.{statement}
 use Rattle.printing.proofs.tell_unread.Tie as tie
@@ -14,9 +12,6 @@ tell-unread-spec =
     (λ c. search needs)
     (λ c κs. search needs)
     (λ c. search needs)
-    (λ c. search needs)
-    (λ c κs. search needs)
-    (λ c. search needs)
     (λ c κs. search needs)
     (λ c κs. search needs)
-    (λ c. put-length (c .before .before .before .before .put-unread .ensures) (leb-true _ _ refl) ∙ ap (λ k. length (unreadLine (c .before .before .before .before .before .before .before .args .r .number) k)) (c .before .before .before .before .before .before .least .ensures .0)))  -- returns
+    (λ c. put-length (c .before .before .before .before .put-unread .ensures) (leb-true _ _ refl)))  -- returns
