@@ -12,12 +12,12 @@
 
 enum { ROUNDS = 41, BATCH = 8, LIMIT = 100 };
 
-enum call { CHECK, FRESH, STEP, POST, LIST, RUN, READ, WRITE };
+enum call { CHECK, FRESH, STEP, POST, LIST, RUN, READ, WRITE, POLL };
 
 /* A call in a case, with what is given to it; the time is divided by the steps that it takes. */
-struct job { const char *name; const struct setting *setting; enum call call; size_t ordinal; ref_name step; unsigned steps; bool room; };
+struct job { const char *name; const struct setting *setting; enum call call; size_t ordinal; ref_name step; unsigned steps; bool room, empty; };
 
-/* All that the eight calls give back, one after the other; what a call does not give is 0. */
+/* All that the nine calls give back, one after the other; what a call does not give is 0. */
 struct answer { size_t number, beside; ref_name name; ref_tuple tuple; };
 
 struct blocks { word table[REF_TABLE_WORDS], states[BATCH][REF_STATE_WORDS]; uint8_t buffer[REF_TEXT_MOST]; };
@@ -25,6 +25,17 @@ struct blocks { word table[REF_TABLE_WORDS], states[BATCH][REF_STATE_WORDS]; uin
 static struct blocks lent;
 
 static const ref_tuple posted = {2, {5, 6, 0, 0}};
+
+/* a poll of as many of these posts as there may be */
+static word items[CV_POLL_WORDS];
+
+static void make_items(void) {
+    for (unsigned k = 0; k < CV_ITEMS; k++) {
+        word *w = items + CV_ITEM(k);
+        w[0] = 1, w[1] = 3;
+        memcpy(w + 6, &posted, sizeof posted);
+    }
+}
 
 static __attribute__((noinline)) void engine(const struct job *j, struct blocks *b, word *state, struct answer *a) {
     size_t tw = CV_TABLE_WORDS, sw = CV_STATE_WORDS;
@@ -69,6 +80,11 @@ static __attribute__((noinline)) void engine(const struct job *j, struct blocks 
         a->number = v.number, a->beside = v.length;
         break;
     }
+    case POLL: {
+        cv_polled v = cv_poll(b->table, tw, state, sw, items, CV_POLL_WORDS, CV_ITEMS);
+        a->number = v.number, a->beside = v.accepted;
+        break;
+    }
     }
 }
 
@@ -106,6 +122,11 @@ static __attribute__((noinline)) void reference(const struct job *j, struct bloc
         a->number = v.number, a->beside = v.length;
         break;
     }
+    case POLL: {
+        ref_polled v = ref_poll(b->table, state, items, CV_ITEMS);
+        a->number = v.number, a->beside = v.accepted;
+        break;
+    }
     }
 }
 
@@ -117,6 +138,7 @@ static void prepare(const struct job *j, struct blocks *b, unsigned states) {
         memcpy(b->states[k], j->setting->state, sizeof b->states[k]);
         /* a post is accepted: its queue has room for one */
         word *q = queue_at(b->states[k], 3);
+        if (j->empty) memset(q, 0, (1 + SLOT_WORDS * MESSAGES) * sizeof *q);
         if (j->room && q[0] == MESSAGES) memset(q + 1 + SLOT_WORDS * --q[0], 0, SLOT_WORDS * sizeof *q);
     }
 }
@@ -228,6 +250,7 @@ static void each_job(const char *calls, void (*act)(const struct job *)) {
             {.name = "run", .call = RUN, .steps = ref_run(s->table, state, LIMIT).steps},
             {.name = "read", .call = READ, .steps = 1},
             {.name = "write", .call = WRITE, .steps = 1},
+            {.name = "poll", .call = POLL, .empty = true, .steps = CV_ITEMS},
         };
         for (unsigned c = 0; c < sizeof jobs / sizeof *jobs; c++) {
             if (!asked(calls, jobs[c].name) || (text_only && jobs[c].call != READ)) continue;
@@ -240,6 +263,7 @@ static void each_job(const char *calls, void (*act)(const struct job *)) {
 
 int main(int count, char **words) {
     make_settings();
+    make_items();
     if (count == 3 && !strcmp(words[1], "times")) each_job(words[2], time_job);
     else if (count == 3 && !strcmp(words[1], "counts")) each_job(words[2], count_job);
     else if (count == 2 && !strcmp(words[1], "sizes"))

@@ -23,6 +23,9 @@ extern "C" {
 #define CV_STATE_WORDS 12308
 #define CV_TEXT_MOST 32768
 #define CV_DRAWING_MOST 65536
+#define CV_ITEMS 64
+#define CV_ITEM_WORDS 11
+#define CV_POLL_WORDS 704
 
 /* A TABLE, word by word. Places that are not in use hold 0.
    0                      the count of pools, 1 to 4
@@ -54,6 +57,10 @@ extern "C" {
 #define CV_INSTANCE(p, i) (4 + 1792 * (p) + 112 * (i))
 #define CV_QUEUE(m) (7172 + 321 * (m))
 
+/* THE ITEMS OF A POLL, 64 of 11 words: 1 for a post, anything else a step; the pool's number, or the name posted to; instance, element, phase, branch,
+   which a post does not use; the length of the message and its 4 values. What stands behind the items counted is ignored. */
+#define CV_ITEM(k) (11 * (k))
+
 /* The numbers given back, in the words of documents 01 and 02. */
 enum cv_number {
     CV_ACCEPTED = 0,
@@ -74,9 +81,10 @@ enum cv_number {
     CV_WOULD_PASS = 18,    /* an edge or task count, after the taking, would pass 255 */
     CV_NOT_POSTABLE = 19,  /* post: name above 15 or more than 4 values */
     CV_NOT_XML = 20,       /* not the XML named here or nested deeper */
-    CV_NOT_RUN = 21        /* an element we don't run or, behind an event gateway, no catch event, a condition on another flow or not in our notation, a gateway
+    CV_NOT_RUN = 21,       /* an element we don't run or, behind an event gateway, no catch event, a condition on another flow or not in our notation, a gateway
                               that doesn't either split or join, another node without just its kind's entries and exits, or a sender or receiver without
                               exactly one message flow */
+    CV_TOO_MANY = 22       /* poll: more than 64 items */
 };
 
 /* A message: its length, 0 to 4, and its values; what stands behind them is ignored, and 0 in an answer. */
@@ -97,10 +105,12 @@ typedef struct { uint16_t number, steps, left; } cv_ran;
 /* beside: the place where the number is 2, 3 or 20, the lowest check broken where it is 4 */
 typedef struct { uint16_t number; size_t beside; } cv_reading;
 typedef struct { uint16_t number; size_t length; } cv_written;
+/* the number of the first refusal, 0 where there was none, and how many items were accepted */
+typedef struct { uint16_t number; size_t accepted; } cv_polled;
 
 CV_STATIC_ASSERT(sizeof(cv_tuple) == 10 && sizeof(cv_name) == 20, "cuttingvale.h: a tuple is 10 bytes, a name 20");
 CV_STATIC_ASSERT(sizeof(cv_verdict) == 4 && sizeof(cv_answer) == 16 && sizeof(cv_listed) == 22 && sizeof(cv_ran) == 6, "cuttingvale.h: answers of words");
-CV_STATIC_ASSERT(sizeof(cv_reading) == 16 && sizeof(cv_written) == 16, "cuttingvale.h: for a 64-bit machine");
+CV_STATIC_ASSERT(sizeof(cv_reading) == 16 && sizeof(cv_written) == 16 && sizeof(cv_polled) == 16, "cuttingvale.h: for a 64-bit machine");
 
 /* Checks a table: 10 for a broken limit or an unused place not 0, then 4, else 0. */
 cv_verdict cv_check(const uint16_t *table, size_t table_words);
@@ -129,6 +139,11 @@ cv_reading cv_draw(const uint8_t *text, size_t length, uint16_t *table, size_t t
 
 /* Writes a table's text, one line: 10, or 5 where the buffer is shorter than it, and the buffer stays; else 0 and its length, at most CV_TEXT_MOST. */
 cv_written cv_write(const uint16_t *table, size_t table_words, uint8_t *buffer, size_t length);
+
+/* A whole poll: takes up to CV_ITEMS named steps and posts one by one until the first refusal. 22 where count is above CV_ITEMS, then 10, with no items too, and nothing is
+   done; else the accepted ones stay, the refused one changes nothing, and those behind it are not looked at. Table and state are checked once.
+   items_words is CV_POLL_WORDS. */
+cv_polled cv_poll(const uint16_t *table, size_t table_words, uint16_t *state, size_t state_words, const uint16_t *items, size_t items_words, size_t count);
 
 #ifdef __cplusplus
 }

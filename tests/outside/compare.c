@@ -85,6 +85,10 @@ static void same_name(const char *call, cv_name a, ref_name b) {
     same_tuple(call, a.given, b.given);
 }
 
+/* the items of a poll, with 0 where a post has no use for a word */
+static uint16_t items[CV_POLL_WORDS];
+static unsigned polled[32];
+
 #define TABLE ours.table, CV_TABLE_WORDS
 #define STATE ours.state, CV_STATE_WORDS
 
@@ -200,6 +204,9 @@ static void wrong_lengths(struct random *r) {
     same("post", "wrong length", cv_post(ours.table, n, STATE, 0, none), 10);
     same("list", "wrong length", cv_list(TABLE, ours.state, n, 0).number, 10);
     same("run", "wrong length", cv_run(TABLE, ours.state, n, 1).number, 10);
+    same("poll", "wrong length", cv_poll(TABLE, ours.state, n, items, CV_POLL_WORDS, 1).number, 10);
+    same("poll", "no items lent", cv_poll(TABLE, STATE, NULL, 0, 0).number, 10);
+    same("poll", "too many, and a wrong length", cv_poll(ours.table, n, STATE, items, CV_POLL_WORDS, CV_ITEMS + 1).number, 22);
     same("read", "wrong length", cv_read((const uint8_t *)text, text_length, ours.table, n).number, 10);
     same("write", "wrong length", cv_write(ours.table, n, ours.buffer, TEXT_ROOM).number, 10);
     same("read", "no text", cv_read(NULL, 0, TABLE).number, 2);
@@ -209,7 +216,7 @@ static void wrong_lengths(struct random *r) {
     same("draw", "no text", cv_draw(NULL, 0, TABLE).number, 20);
     calls += 2;
 #endif
-    calls += 12;
+    calls += 15;
     same_blocks("a call with a wrong length or none");
 }
 
@@ -268,10 +275,44 @@ static unsigned likely_post(struct random *r, ref_tuple *g) {
     return m[0];
 }
 
+/* The items of a poll; a reference plays along on a state of its own, so that most of them are accepted. */
+static size_t some_items(struct random *r) {
+    static uint16_t state[REF_STATE_WORDS];
+    size_t count = chance(r, 90) ? draw(r, 10) : chance(r, 50) ? CV_ITEMS : CV_ITEMS + 1 + draw(r, 70000);
+    memcpy(state, theirs.state, sizeof state);
+    for (size_t k = 0; k < CV_ITEMS; k++) {
+        uint16_t *w = items + CV_ITEM_WORDS * k;
+        ref_tuple g;
+        for (unsigned j = 0; j < CV_ITEM_WORDS; j++) w[j] = chance(r, 50) ? 0 : draw(r, 65536);
+        if (k >= count) continue;
+        if (chance(r, 50)) w[0] = 1, w[1] = likely_post(r, &g);
+        else {
+            ref_name n = some_name(r, theirs.table, state);
+            uint16_t words[] = {chance(r, 90) ? 0 : 2 + draw(r, 65534), n.pool, n.instance, n.element, n.phase, n.branch};
+            memcpy(w, words, sizeof words);
+            g = n.given;
+        }
+        memcpy(w + 6, &g, sizeof g);
+        if (ref_poll(theirs.table, state, w, 1).number == 10) return count;
+    }
+    return count;
+}
+
+static void poll_both(struct random *r) {
+    size_t count = some_items(r);
+    cv_polled a = cv_poll(TABLE, STATE, items, CV_POLL_WORDS, count);
+    ref_polled b = ref_poll(theirs.table, theirs.state, items, count);
+    same("poll", "number", a.number, b.number);
+    same("poll", "accepted", a.accepted, b.accepted);
+    same_blocks("poll");
+    polled[b.number]++;
+}
+
 static void one_call(struct random *r) {
     ref_tuple g;
     unsigned name, which = draw(r, 100);
-    if (which < 50) step_both(some_name(r, theirs.table, theirs.state));
+    if (which < 8) poll_both(r);
+    else if (which < 50) step_both(some_name(r, theirs.table, theirs.state));
     else if (which < 75) name = likely_post(r, &g), post_both(name, g);
     else if (which < 85) list_both(draw(r, chance(r, 80) ? 6 : 200));
     else if (which < 90) run_both(draw(r, chance(r, 80) ? 4 : 40));
@@ -354,14 +395,31 @@ static int print_drawing(uint64_t of_case) {
     return 0;
 }
 
-static void print_tuple(ref_tuple g) {
+static void print_values(ref_tuple g) {
     if (!g.length) putchar('-');
     for (unsigned j = 0; j < g.length; j++) printf(j ? ",%u" : "%u", j < VALUES ? g.values[j] : 0);
+}
+
+static void print_tuple(ref_tuple g) {
+    print_values(g);
     putchar('\n');
+}
+
+static void print_batch(const uint16_t *w, size_t count) {
+    printf(count ? "batch " : "batch\n");
+    for (size_t k = 0; k < count; k++, w += CV_ITEM_WORDS) {
+        ref_tuple g;
+        memcpy(&g, w + 6, sizeof g);
+        if (w[0] == 1) printf("post %u ", w[1]);
+        else printf("step %u %u %u %u %u ", w[1], w[2], w[3], w[4], w[5]);
+        print_values(g);
+        putchar(k + 1 < count ? ';' : '\n');
+    }
 }
 
 /* A line for the consoles; the reference plays along, so that most steps named are accepted ones. */
 static void session_line(struct random *r) {
+    static uint16_t extra[CV_POLL_WORDS + CV_ITEM_WORDS];
     unsigned which = draw(r, 100), name;
     ref_tuple g;
     if (which < 45) {
@@ -374,6 +432,12 @@ static void session_line(struct random *r) {
         printf("post %u ", name);
         print_tuple(g);
         ref_post(theirs.table, theirs.state, name, g);
+    } else if (which < 75) {
+        size_t count = some_items(r);
+        if (count > CV_ITEMS + 1) count = CV_ITEMS + 1;
+        if (count > CV_ITEMS) memcpy(extra, items, sizeof items), memcpy(extra + CV_POLL_WORDS, items, sizeof *items * CV_ITEM_WORDS);
+        print_batch(count > CV_ITEMS ? extra : items, count);
+        ref_poll(theirs.table, theirs.state, items, count);
     } else if (which < 80) printf("list %u\n", draw(r, chance(r, 80) ? 6 : 200));
     else if (which < 88) {
         unsigned limit = draw(r, chance(r, 80) ? 4 : 40);
@@ -426,6 +490,9 @@ static int compare_calls(uint64_t cases, uint64_t seed) {
     printf("%llu calls in %llu cases, no difference; numbers of steps:", (unsigned long long)calls, (unsigned long long)cases);
     for (unsigned k = 0; k < 32; k++)
         if (given[k]) printf(" %u:%u", k, given[k]);
+    printf("; of polls:");
+    for (unsigned k = 0; k < 32; k++)
+        if (polled[k]) printf(" %u:%u", k, polled[k]);
     putchar('\n');
     return 0;
 }

@@ -165,6 +165,42 @@ static bool set_word(struct text *w, word *block, unsigned words, bool lent) {
     return puts("ok"), true;
 }
 
+/* one item of a batch, as the words of a step or a post; only 64 are kept */
+static bool item_of(struct text *w, unsigned n, word *item) {
+    word words[REF_ITEM_WORDS] = {0};
+    unsigned numbers = n == 3 && is(w[0], "post") ? 1 : n == 7 && is(w[0], "step") ? 5 : 0;
+    ref_tuple g;
+    if (!numbers || !tuple_of(w[1 + numbers], &g)) return false;
+    for (unsigned k = 0; k < numbers; k++)
+        if (!number_of(w[1 + k], &words[1 + k])) return false;
+    words[0] = numbers == 1;
+    memcpy(words + 6, &g, sizeof g);
+    if (item) memcpy(item, words, sizeof words);
+    return true;
+}
+
+static unsigned words_of(const char *s, size_t n, struct text *w);
+
+/* false: malformed */
+static bool do_batch(const char *s, size_t n, bool none) {
+    static word items[REF_ITEMS * REF_ITEM_WORDS];
+    size_t count = 0;
+    for (size_t from = 0; !none; from++) {
+        struct text w[ARGUMENTS];
+        size_t to = from;
+        while (to < n && s[to] != ';') to++;
+        unsigned k = words_of(s + from, to - from, w);
+        if (!item_of(w, k, count < REF_ITEMS ? items + REF_ITEM_WORDS * count : NULL)) return false;
+        count++;
+        if (to == n) break;
+        from = to;
+    }
+    if (!loaded) return true;
+    ref_polled p = ref_poll(table, state, items, count);
+    printf("accepted %zu refused %u\n", p.accepted, p.number);
+    return true;
+}
+
 /* 0: no such command; 1: well formed, and done if a model was read */
 static int command(struct text *w, unsigned n) {
     word v[5];
@@ -219,9 +255,21 @@ static int command(struct text *w, unsigned n) {
     return 1;
 }
 
+/* the words of a line, one blank between them; as many as there is room for */
+static unsigned words_of(const char *s, size_t n, struct text *w) {
+    unsigned count = 0;
+    for (size_t from = 0; count < ARGUMENTS;) {
+        size_t to = from;
+        while (to < n && s[to] != ' ') to++;
+        w[count++] = (struct text){s + from, to - from};
+        if (to == n) break;
+        from = to + 1;
+    }
+    return count;
+}
+
 static void do_line(const char *s, size_t n) {
     struct text w[ARGUMENTS];
-    unsigned count = 0;
     if (n > LINE_MOST) {
         puts("bad line");
         return;
@@ -236,17 +284,8 @@ static void do_line(const char *s, size_t n) {
         return;
     }
 #endif
-    for (size_t from = 0; count < ARGUMENTS; count++) {
-        size_t to = from;
-        while (to < n && s[to] != ' ') to++;
-        w[count] = (struct text){s + from, to - from};
-        from = to + 1;
-        if (to == n) {
-            count++;
-            break;
-        }
-    }
-    if (!command(w, count)) puts("bad line");
+    bool batch = n >= 6 && memcmp(s, "batch ", 6) == 0, empty = n == 5 && memcmp(s, "batch", 5) == 0;
+    if (batch || empty ? !do_batch(s + 6, batch ? n - 6 : 0, empty) : !command(w, words_of(s, n, w))) puts("bad line");
     else if (!loaded) puts("no model");
 }
 

@@ -119,6 +119,9 @@ static enum opening opening_at(const struct walk *w, size_t at, struct span *nam
     return b == '?' ? INSTRUCTION : b == '/' ? END_TAG : START_TAG;
 }
 
+/* a token from `at` that the byte at k does not continue: at the token, but a byte below 32 is at fault where it stands */
+static bool broken(struct walk *w, size_t at, size_t k) { return fault(w, is_control(w->s[k]) ? k : at); }
+
 /* up to the two or three bytes that close a comment, instruction or CDATA section; `--` closes a comment or is wrong there */
 static bool until(struct walk *w, size_t at, const char *close) {
     size_t m = strlen(close);
@@ -126,7 +129,7 @@ static bool until(struct walk *w, size_t at, const char *close) {
         if (at == w->n) return cut(w);
         if (is_control(w->s[at])) return fault(w, at);
         if (w->n - at >= m && memcmp(w->s + at, close, m) == 0) break;
-        if (m == 3 && close[0] == '-' && w->n - at >= 3 && memcmp(w->s + at, "--", 2) == 0) return fault(w, at);
+        if (m == 3 && close[0] == '-' && w->n - at >= 3 && memcmp(w->s + at, "--", 2) == 0) return broken(w, at, at + 2);
     }
     w->at = at + m;
     return true;
@@ -138,7 +141,7 @@ static bool instruction(struct walk *w, struct span target) {
         if (!is(w, target, "xml") || w->at != w->first) return fault(w, w->at);
     if (w->s[target.to] == '?') {
         if (target.to + 1 == w->n) return cut(w);
-        if (w->s[target.to + 1] != '>') return fault(w, target.to);
+        if (w->s[target.to + 1] != '>') return broken(w, target.to, target.to + 1);
     } else if (!is_blank(w->s[target.to])) return fault(w, target.to);
     return until(w, target.to, "?>");
 }
@@ -158,9 +161,6 @@ static size_t stop_of(const struct walk *w, size_t at) {
     }
     return best;
 }
-
-/* a token from `at` that the byte at k does not continue: at the token, but a byte below 32 is at fault where it stands */
-static bool broken(struct walk *w, size_t at, size_t k) { return fault(w, is_control(w->s[k]) ? k : at); }
 
 static bool numbered(struct walk *w, size_t at, uint32_t *code) {
     size_t k = at + 2, begin;
@@ -264,7 +264,7 @@ static bool tag(struct walk *w, size_t from, enum role role, bool *empty) {
         uint8_t b = w->s[at];
         *empty = b == '/';
         if (*empty && at + 1 == w->n) return cut(w);
-        if (*empty && w->s[at + 1] != '>') return fault(w, at);
+        if (*empty && w->s[at + 1] != '>') return broken(w, at, at + 1);
         if (*empty || b == '>') {
             w->at = at + 1 + *empty;
             return true;

@@ -402,7 +402,7 @@ static void put_gap(struct pen *o, bool inside) {
     if (now(o, 4)) put(o, "%s", ONE_OF(o->k, gaps));
     if (!inside) return;
     if (now(o, 3)) put(o, "%s", ONE_OF(o->k, texts));
-    if (now(o, 6)) put_nested(o, ONE_OF(o->k, skipped), 1 + below(o->k, any(o->k, 90) ? 4 : 16));
+    if (now(o, 6)) put_nested(o, ONE_OF(o->k, skipped), 1 + below(o->k, any(o->k, 90) ? 4 : 15)); /* one less than is right, as it may stand in a stranger */
     if (o->k->stranger && o->k->places++ == o->k->stranger_at) {
         put_nested(o, o->k->stranger, o->k->stranger_depth);
         o->k->stranger = NULL;

@@ -1,4 +1,4 @@
-/* One named step, a post, the listing and the run. */
+/* One named step, a post, the listing, the run and a whole poll. */
 #include "layout.h"
 
 enum { EVERY = 1, BRANCH = 2, UP = 1, DOWN = 2 };
@@ -246,14 +246,15 @@ static ref_answer step_on(const word *t, word *z, const ref_name *n, bool take) 
 
 ref_answer ref_step(const word *t, word *z, ref_name n) { return fitting(t, z) ? step_on(t, z, &n, true) : (ref_answer){.number = 10}; }
 
-uint16_t ref_post(const word *t, word *z, word name, ref_tuple g) {
-    if (!fitting(t, z)) return 10;
+static word post_on(word *z, word name, ref_tuple g) {
     if (name >= NAMES || g.length > VALUES) return 19;
     word *q = queue_at(z, name);
     if (q[0] >= MESSAGES) return 17;
     append(q, &g);
     return 0;
 }
+
+uint16_t ref_post(const word *t, word *z, word name, ref_tuple g) { return fitting(t, z) ? post_on(z, name, g) : 10; }
 
 /* An element with no token on an entry and no count cannot move. */
 static bool idle(const word *el, const word *h) {
@@ -352,4 +353,18 @@ ref_ran ref_run(const word *t, word *z, word limit) {
         if (steps == limit) return (ref_ran){0, steps, 1};
         step_on(t, z, &s.name, true);
     }
+}
+
+/* document 02, wish 2: given one by one until the first refusal */
+ref_polled ref_poll(const word *t, word *z, const word *items, size_t count) {
+    if (count > REF_ITEMS) return (ref_polled){22, 0};
+    if (!fitting(t, z)) return (ref_polled){10, 0};
+    for (size_t k = 0; k < count; k++) {
+        const word *w = items + REF_ITEM_WORDS * k;
+        ref_tuple g = {w[6], {w[7], w[8], w[9], w[10]}};
+        ref_name name = {w[1], w[2], w[3], w[4], w[5], g};
+        word n = w[0] == 1 ? post_on(z, w[1], g) : step_on(t, z, &name, true).number;
+        if (n) return (ref_polled){n, k};
+    }
+    return (ref_polled){0, count};
 }

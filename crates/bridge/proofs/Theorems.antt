@@ -32,7 +32,7 @@ use Rattle.steps.proofs.QueueFits.{fits-tidy}
 use Rattle.steps.proofs.Traffic.{state-queues}
 use Rattle.steps.proofs.KeepsFits.{posted-right}
 use Rattle.engine.proofs.CallLaws.{state-fits, long-instances, long-queues}
-use Rattle.checked.proofs.KeepsFitting.{did-valid}
+use Rattle.engine.proofs.KeepsValid.{did-valid}
 use Rattle.paper.specs.States.{Configuration, Multiset, add}
 use Rattle.paper.specs.Collaborations.{Seen, Steps, Posts, posted}
 use Rattle.bridge.specs.Decoders.{collaborationOf, configurationOf, namedOf, valuesOf, seenAs, toldOf}

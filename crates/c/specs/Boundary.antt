@@ -1,8 +1,8 @@
 -- THE CALLS AS C HAS THEM: each block comes with its length in words. A wrong length is 10 before the block is looked at, and what was lent stays; else it is the call of `engine`.
-use Prim.Native.Nat.{ℕ}
+use Prim.Native.Nat.{ℕ, _*_}
 use mathlib.Core.Bool.{Bool, _&&_}
 use mathlib.Core.List.{List}
-use lib.Dec.{eqb}
+use lib.Dec.{eqb, ltb}
 use Rattle.words.specs.Pick.{if_then_else_}
 use Rattle.model.specs.Places.{tableWords}
 use Rattle.state.specs.Places.{stateWords}
@@ -17,6 +17,9 @@ use Rattle.notation.specs.Notation.{ReadInto, readInto}
 use Rattle.drawings.specs.Drawings.{drawInto}
 use Rattle.engine.specs.declared.Verdict.{Verdict}
 use Rattle.engine.specs.Engine.{verdictOf, Left, freshened, Stepped, stepped, postedTo, listedAt, RanTo, ranTo, WrittenTo, writtenTo}
+use Rattle.polling.specs.Items.{itemWords, itemsMost}
+use Rattle.polling.specs.Poll.{Polling}
+use Rattle.engine.specs.Calls.{polledTo}
 use Rattle.c.specs.declared.Taken.{Taken}
 
 -- n words of a table and m words of a state
@@ -68,3 +71,16 @@ drawnBy text t n = if eqb n tableWords then drawInto text t else record { number
 
 unfoldable pub writtenBy : List ℕ → ℕ → List ℕ → WrittenTo
 writtenBy t n out = if eqb n tableWords then writtenTo t out else record { number = 10; length = 0; buffer = out }
+
+abbrev pub pollWords : ℕ
+pollWords = itemWords * itemsMost
+
+-- k words of items too; where a length is wrong, 22 goes before 10 as in the call itself
+unfoldable pub areLent : ℕ → ℕ → ℕ → Bool
+areLent n m k = eqb k pollWords && areWhole n m
+
+unfoldable pub lentWrong : ℕ → ℕ
+lentWrong count = if ltb itemsMost count then 22 else 10
+
+unfoldable pub polledAt : List ℕ → ℕ → List ℕ → ℕ → List ℕ → ℕ → ℕ → Polling
+polledAt t n z m w k count = if areLent n m k then polledTo t z w count else record { number = lentWrong count; accepted = 0; state = z }

@@ -1,8 +1,9 @@
 // The public calls as C has them: include/cuttingvale.h. Each block comes with its length in words, and a wrong one is refused before the block is looked at.
 ghost use mathlib.Core.Path.{_≡_};
 ghost use Rattle.meaning.specs.Tuples.{empty};
+ghost use Rattle.polling.specs.Poll.{Polling};
 ghost use Rattle.naming.specs.Names.{blank};
-ghost use Rattle.c.specs.Boundary.{areWhole, checkedBy, freshenedBy, trafficNumber, steppedBy, postedBy, listedBy, ranBy, readBy, drawnBy, writtenBy};
+ghost use Rattle.c.specs.Boundary.{areWhole, checkedBy, freshenedBy, trafficNumber, steppedBy, postedBy, listedBy, ranBy, readBy, drawnBy, writtenBy, lentWrong, areLent, polledAt};
 use engine::Ran;
 use engine::Verdict;
 use engine::Written;
@@ -13,9 +14,13 @@ use meaning::Tuple;
 use meaning::empty_tuple;
 use model::places::TABLE_WORDS;
 use notation::Reading;
+use polling::ITEMS;
+use polling::POLL_WORDS;
+use polling::Polled;
 use state::places::STATE_WORDS;
 use words::Word;
 use words::numbers::BAD;
+use words::numbers::TOO_MANY;
 
 // What a step did to the queues, as a number: an enum does not cross to C.
 pub const NOTHING: Word = 0;
@@ -233,4 +238,44 @@ pub extern "C" fn cv_write(
         };
     }
     engine::write(table, buffer)
+}
+
+// A block of a wrong length is 10, as a bad one, and 22 goes before it.
+fn wrong_number(count: usize) -> Word
+    ensures { λ r. ⌜ r ≡ lentWrong count ⌝ }
+{
+    if count > ITEMS {
+        return TOO_MANY;
+    }
+    BAD
+}
+
+fn are_lent(tablelength: usize, statelength: usize, itemslength: usize) -> bool
+    ensures { λ r. ⌜ r ≡ areLent tablelength statelength itemslength ⌝ }
+{
+    if itemslength != POLL_WORDS {
+        return false;
+    }
+    are_whole(tablelength, statelength)
+}
+
+#[no_mangle]
+pub extern "C" fn cv_poll(
+    table: &[Word; TABLE_WORDS],
+    tablelength: usize,
+    state: &mut [Word; STATE_WORDS],
+    statelength: usize,
+    items: &[Word; POLL_WORDS],
+    itemslength: usize,
+    count: usize,
+) -> Polled
+    ensures { λ r. ⌜ record { number = r .number; accepted = r .accepted; state = now (state .exit) } ≡ polledAt (now (table .entry)) tablelength (now (state .entry)) statelength (now (items .entry)) itemslength count ⌝ }
+{
+    if !are_lent(tablelength, statelength, itemslength) {
+        return Polled {
+            number: wrong_number(count),
+            accepted: 0,
+        };
+    }
+    engine::poll(table, state, items, count)
 }

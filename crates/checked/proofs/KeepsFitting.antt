@@ -1,90 +1,35 @@
--- A fresh state of a valid table is valid, and a valid state still is after every step, every post and every run, accepted or not. Assumes nothing.
+-- A fresh state of a valid table is valid, and a valid state still is after every run. Assumes nothing.
 use Prim.Native.Nat.{ℕ, _+_}
-use mathlib.Core.Path.{_≡_, refl, _∙_, ap₂}
+use mathlib.Core.Path.{_≡_, refl, _∙_}
 use mathlib.Core.Bool.{true}
-use mathlib.Core.List.{List, [], _∷_, _++_}
-use lib.ListN.{length, set, replicate, length-append, length-set, length-replicate}
-use lib.Seq.{take-at, drop-at}
-use Rattle.words.proofs.AllLaws.{and-left}
+use mathlib.Core.List.{List}
+use lib.ListN.{length, set, replicate, length-set, length-replicate}
 use Rattle.words.proofs.IterLaws.{iter-keeps}
 use Rattle.words.proofs.PickLaws.{and-true}
 use Rattle.model.specs.Table.{poolCount}
-use Rattle.state.specs.Places.{tokenPlace, madePlace, instancePlace, instancesWords, stateWords}
+use Rattle.state.specs.Places.{tokenPlace, madePlace, instancePlace, stateWords}
 use Rattle.state.specs.Instances.{instancesOf, queuesOf}
-use Rattle.meaning.specs.declared.Name.{Name}
-use Rattle.meaning.specs.declared.Tuple.{Tuple}
-use Rattle.meaning.specs.Step.{step}
-use Rattle.meaning.specs.Post.{post}
 use Rattle.fits.specs.Fits.{hasStart, stateFits}
 use Rattle.fits.specs.Fresh.{firstEdge, begun, fresh}
 use Rattle.fits.proofs.FreshFits.{fresh-fits}
 use Rattle.steps.proofs.Choices.{by-choice, chosen}
-use Rattle.steps.proofs.EveryStep.{Fitting, step-keeps-fits, post-keeps-state}
 use Rattle.running.specs.Run.{ran}
 use Rattle.listed.proofs.RunLaws.{run-keeps-fits}
-use Rattle.engine.specs.Engine.{valid, Left, freshened, fitting, leaving, stepped, postedTo, ended, ranTo}
-use Rattle.engine.specs.Calls.{Act, aStep, aPost, did, after, Valid}
-use Rattle.engine.proofs.CallLaws.{table-fits, checks-hold, state-fits, long-instances, long-queues}
-use Rattle.checked.proofs.ChecksHold.{valid-fits, starts-once}
+use Rattle.engine.specs.Engine.{valid, Left, freshened, fitting, ended, ranTo}
+use Rattle.engine.specs.Calls.{Valid}
+use Rattle.engine.proofs.CallLaws.{table-fits, checks-hold}
+use Rattle.engine.proofs.KeepsValid.{joined, table-valid, parts}
+use Rattle.checked.proofs.ChecksHold.{valid-fits}
 
 module _ (t : List ℕ) where
-  -- a valid table, and two parts that fit it
-  joined : (s q : List ℕ) → valid t ≡ true → Fitting t s q → Valid t (s ++ q)
-  unfolding fitting
-  joined s q v f =
-      let i : instancesOf (s ++ q) ≡ s = take-at s q instancesWords (f .long) in
-      let k : queuesOf (s ++ q) ≡ q = drop-at s q instancesWords (f .long) in
-      record {
-        long = length-append s q ∙ ap₂ _+_ (f .long) (f .wide);
-        fits = and-true (valid t) (stateFits t (instancesOf (s ++ q)) (queuesOf (s ++ q))) v (rw (i, k) (f .fits));
-      }
-
   module _ (z : List ℕ) (valid-state : Valid t z) where
-    table-valid : valid t ≡ true
-    unfolding fitting
-    table-valid = and-left (valid t) (stateFits t (instancesOf z) (queuesOf z)) (valid-state .fits)
-
-    parts : Fitting t (instancesOf z) (queuesOf z)
-    parts = record {
-      long = long-instances z (valid-state .long);
-      wide = long-queues z (valid-state .long);
-      fits = state-fits t z (valid-state .fits);
-    }
-
-    -- AFTER A STEP
-    step-valid : (n : Name) → Valid t (stepped t z n .state)
-    unfolding stepped leaving
-    step-valid n =
-        rw (chosen (fitting t z) (leaving (step t (instancesOf z) (queuesOf z) n)) _ (valid-state .fits))
-        (joined (step t (instancesOf z) (queuesOf z) n .instances) (step t (instancesOf z) (queuesOf z) n .queues) table-valid
-        (step-keeps-fits t (instancesOf z) (queuesOf z) (table-fits t z (valid-state .fits)) parts (starts-once t table-valid) n))
-
-    -- AFTER A POST
-    post-valid : (name : ℕ) (g : Tuple) → Valid t (postedTo t z name g .state)
-    unfolding postedTo
-    post-valid name g =
-        rw (chosen {A = Left} (fitting t z) (record { number = post (queuesOf z) name g .number; state = instancesOf z ++ post (queuesOf z) name g .queues }) _ (valid-state .fits))
-        (joined (instancesOf z) (post (queuesOf z) name g .queues) table-valid
-        (post-keeps-state t (instancesOf z) (queuesOf z) parts name g))
-
     -- AFTER A RUN
     pub run-valid : (limit : ℕ) → Valid t (ranTo t z limit .state)
     unfolding ranTo ended
     run-valid limit =
         rw (chosen (fitting t z) (ended (ran t limit (instancesOf z) (queuesOf z))) _ (valid-state .fits))
-        (joined (ran t limit (instancesOf z) (queuesOf z) .instances) (ran t limit (instancesOf z) (queuesOf z) .queues) table-valid
-        (run-keeps-fits t (table-fits t z (valid-state .fits)) (checks-hold t z (valid-state .fits)) limit (instancesOf z) (queuesOf z) parts))
-
-  -- AFTER EVERY CALL, accepted or not
-  pub did-valid : (a : Act) (z : List ℕ) → Valid t z → Valid t (did t a z .state)
-  unfolding did
-  did-valid (aStep n) z v = step-valid z v n
-  did-valid (aPost name g) z v = post-valid z v name g
-
-  pub after-valid : (acts : List Act) (z : List ℕ) → Valid t z → Valid t (after t acts z)
-  unfolding after
-  after-valid [] z v = v
-  after-valid (a ∷ rest) z v = after-valid rest (did t a z .state) (did-valid a z v)
+        (joined t (ran t limit (instancesOf z) (queuesOf z) .instances) (ran t limit (instancesOf z) (queuesOf z) .queues) (table-valid t z valid-state)
+        (run-keeps-fits t (table-fits t z (valid-state .fits)) (checks-hold t z (valid-state .fits)) limit (instancesOf z) (queuesOf z) (parts t z valid-state)))
 
   begun-long : (p : ℕ) (z : List ℕ) → length (begun t p z) ≡ length z
   unfolding begun

@@ -30,7 +30,7 @@ fn blanks(line: &[u8]) -> Word {
 }
 
 // The place of the first byte b from a place on; the length where there is none.
-fn next_of(line: &[u8], b: u8, from: usize) -> usize {
+pub(super) fn next_of(line: &[u8], b: u8, from: usize) -> usize {
     let mut i: usize = from;
     while i < line.len() {
         if line[i] == b {

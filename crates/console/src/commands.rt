@@ -2,6 +2,8 @@
 use super::arguments::is_command;
 use super::arguments::number_at;
 use super::arguments::values_at;
+use super::batch::do_batch;
+use super::batch::is_batch;
 use super::blocks::do_again;
 use super::blocks::do_check;
 use super::blocks::do_clear;
@@ -234,6 +236,10 @@ fn on_model(line: &[u8], loaded: bool, t: &[Word; TABLE_WORDS], z: &mut [Word; S
     }
     if is_command(line, b"run", b"n") {
         do_run(line, loaded, t, z);
+        return;
+    }
+    if is_batch(line) {
+        do_batch(line, loaded, t, z);
         return;
     }
     on_state(line, loaded, t, z);

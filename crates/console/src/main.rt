@@ -6,6 +6,7 @@
 //   step P I E F B V   ok -, ok !M:V (sent), ok ?M:V (consumed), or refused N; V is - or values joined by commas
 //   post M V           ok, or refused N
 //   list K             P I E F B V of the K-th accepted step, or refused N
+//   batch ITEM;ITEM;.. accepted N refused R of a poll; an item is a step or a post as above, `batch` alone has none
 //   run N              the line of each step, then: steps N left F; or refused N
 //   write              the text of the model, or refused N
 //   write N            the same, into a buffer of N bytes
@@ -27,6 +28,7 @@ use state::places::STATE_WORDS;
 use words::Word;
 
 mod arguments;
+mod batch;
 mod blocks;
 mod commands;
 mod output;

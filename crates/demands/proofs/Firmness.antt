@@ -10,6 +10,8 @@ use Rattle.meaning.specs.declared.Tuple.{Tuple}
 use Rattle.listing.specs.declared.Listed.{Listed}
 use Rattle.notation.specs.declared.Reading.{Reading}
 use Rattle.notation.specs.Notation.{ReadInto}
+use Rattle.polling.specs.declared.Polled.{Polled}
+use Rattle.polling.specs.Poll.{Polling}
 use Rattle.engine.specs.declared.Ran.{Ran}
 use Rattle.engine.specs.declared.Verdict.{Verdict}
 use Rattle.engine.specs.declared.Written.{Written}
@@ -24,8 +26,9 @@ use Rattle.engine.proofs.run.Reads as run
 use Rattle.engine.proofs.read.Reads as read
 use Rattle.engine.proofs.draw.Reads as draw
 use Rattle.engine.proofs.write.Reads as write
+use Rattle.engine.proofs.poll.Reads as poll
 use Rattle.demands.specs.Demands.{Allowed, AllAllowed}
-use Rattle.demands.proofs.Promises.{Lent, One, Two}
+use Rattle.demands.proofs.Promises.{Lent, One, Two, Three}
 
 -- each statement takes the promise of the code twice, for what was lent before
 pub check-firm : (κ : One) (t t₁ t₂ : Lent) (r₁ r₂ : Verdict) → check.Post κ (t, tt) r₁ (t₁, tt) → check.Post κ (t, tt) r₂ (t₂, tt) → r₁ ≡ r₂
@@ -77,6 +80,12 @@ module _ (κ : Two) where
       → (r₁ ≡ r₂) × (now out₁ ≡ now out₂)
   write-firm t out t₁ t₂ out₁ out₂ r₁ r₂ p₁ p₂ =
       let p = p₁ ∙ sym p₂ in (ap (λ (o : WrittenTo). record { number = o .number; length = o .length }) p, ap (λ (o : WrittenTo). o .buffer) p)
+
+pub poll-firm : (κ : Three) (t z w t₁ t₂ z₁ z₂ w₁ w₂ : Lent) (count count₁ count₂ : ℕ) (r₁ r₂ : Polled)
+    → poll.Post κ (t, (z, (w, (count, tt)))) r₁ (t₁, (z₁, (w₁, (count₁, tt)))) → poll.Post κ (t, (z, (w, (count, tt)))) r₂ (t₂, (z₂, (w₂, (count₂, tt))))
+    → (r₁ ≡ r₂) × (now z₁ ≡ now z₂)
+poll-firm κ t z w t₁ t₂ z₁ z₂ w₁ w₂ count count₁ count₂ r₁ r₂ p₁ p₂ =
+    let p = p₁ ∙ sym p₂ in (ap (λ (o : Polling). record { number = o .number; accepted = o .accepted }) p, ap (λ (o : Polling). o .state) p)
 
 -- WHAT THE PROMISES ALLOW is what the demands speak of
 module _ (t : List ℕ) where

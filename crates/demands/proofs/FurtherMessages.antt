@@ -32,7 +32,7 @@ use Rattle.demands.specs.Demands.{Further, roomFor, neverPasses}
 use Rattle.demands.proofs.Counts.{times-has, times-lengths}
 use Rattle.demands.proofs.QueuesMore.{queue-tidy}
 use Rattle.demands.proofs.StepMore.{post-named, post-short, post-room}
-use Rattle.checked.proofs.KeepsFitting.{did-valid}
+use Rattle.engine.proofs.KeepsValid.{did-valid}
 use Rattle.demands.proofs.StatesLeft.{queues-fit, post-number, post-instances, post-queues}
 use Rattle.demands.proofs.ThirdDemand.{more-messages}
 

@@ -18,3 +18,5 @@ pub mod ReaderNumbers
 pub mod ReadAndWrite
 pub mod TextsAndTables
 pub mod NeverTen
+pub mod PollSteps
+pub mod Polls

@@ -1,9 +1,10 @@
--- NO CALL ANSWERS 10 to a table that was read and a state that the engine made of it: by fresh, then by any steps, posts and runs. Assumes nothing.
+-- NO CALL ANSWERS 10 to a table that was read and a state that the engine made of it: by fresh, then by any steps, posts, runs and polls. Assumes nothing.
 use Prim.Native.Nat.{ℕ}
 use mathlib.Core.Path.{_≡_, refl, sym, _∙_, ap, subst}
 use mathlib.Core.Bool.{Bool, true, not, false≢true}
-use mathlib.Core.List.{List}
+use mathlib.Core.List.{List, [], _∷_}
 use native.Mathlib.Omega.{arith}
+use borrow.Author.Tests.{eqb-false}
 use lib.Dec.{eqb, ltb}
 use lib.ListN.{length}
 use Rattle.words.specs.Each.{each}
@@ -17,13 +18,18 @@ use Rattle.notation.specs.Notation.{readInto}
 use Rattle.shown.specs.Shown.{shownTable}
 use Rattle.steps.proofs.Choices.{by-choice, chosen as picked}
 use Rattle.engine.specs.declared.Verdict.{Verdict}
-use Rattle.engine.specs.Engine.{valid, fitting, stepped, postedTo, listedAt, ranTo, writtenTo}
-use Rattle.engine.specs.Calls.{did, Valid}
-use Rattle.checked.proofs.KeepsFitting.{freshened-valid, did-valid, run-valid}
-use Rattle.demands.specs.Demands.{Made, afresh, byAct, byRun, NeverTen, acceptedSteps}
+use Rattle.polling.specs.Items.{itemsMost, actsIn}
+use Rattle.polling.specs.Poll.{Polling, oneBefore, polledBy, polledFrom}
+use Rattle.engine.specs.Engine.{valid, fitting, lentNumber, stepped, postedTo, listedAt, ranTo, writtenTo}
+use Rattle.engine.specs.Calls.{Act, aStep, aPost, did, Valid, polledTo}
+use Rattle.engine.proofs.KeepsValid.{did-valid}
+use Rattle.checked.proofs.KeepsFitting.{freshened-valid, run-valid}
+use Rattle.demands.specs.Demands.{Made, afresh, byAct, byRun, byPoll, NeverTen, acceptedSteps}
 use Rattle.demands.proofs.Numbers.{first-among}
 use Rattle.demands.proofs.StatesLeft.{step-number, post-number}
 use Rattle.demands.proofs.ListAndRun.{list-number, run-number-is}
+use Rattle.demands.proofs.PollSteps.{by-first, poll-valid}
+use Rattle.demands.proofs.Polls.{lent-zero}
 use Rattle.demands.proofs.ReadAndWrite.{written-number}
 use Rattle.demands.proofs.TextsAndTables.{read-valid, read-then-check, read-then-fresh}
 
@@ -34,20 +40,34 @@ Other k = not (eqb k 10)
 other : (k : ℕ) → Other k ≡ true → k ≡ 10 → ⊥
 other k h e = absurd (false≢true (subst (λ (k : ℕ). Other k ≡ true) e h))
 
+polled-valid : (t z : List ℕ) → Valid t z → (w : List ℕ) (count : ℕ) → Valid t (polledTo t z w count .state)
+unfolding polledTo polledFrom
+polled-valid t z v w count =
+    by-choice (λ (p : Polling). Valid t (p .state)) (ltb itemsMost count) (record { number = 22; accepted = 0; state = z }) _ (λ b. v)
+    (λ b.
+    by-choice (λ (p : Polling). Valid t (p .state)) (eqb (lentNumber t z) 0) (polledBy (did t) (actsIn w count) z)
+    (record { number = lentNumber t z; accepted = 0; state = z }) (λ b. poll-valid t (actsIn w count) z v) (λ b. v))
+
 -- EVERY STATE THAT IS MADE IS VALID
 pub made-valid : (t : List ℕ) → valid t ≡ true → (z : List ℕ) → Made t z → Valid t z
 made-valid t v _ (afresh z) = freshened-valid t v z
 made-valid t v _ (byAct {z} a m) = did-valid t a z (made-valid t v z m)
 made-valid t v _ (byRun {z} limit m) = run-valid t z (made-valid t v z m) limit
+made-valid t v _ (byPoll {z} w count m) = polled-valid t z (made-valid t v z m) w count
+
+act-other : (t : List ℕ) (a : Act) (z : List ℕ) → Valid t z → Other (did t a z .number) ≡ true
+unfolding refusals refusalsAt postRefusals each
+act-other t (aStep n) z v = rw (step-number t z v n) (first-among Other (refusals t (instancesOf z) (queuesOf z) n) refl refl)
+act-other t (aPost name g) z v = rw (post-number t z v name g) (first-among Other (postRefusals (queuesOf z) name g) refl refl)
 
 module _ (t z : List ℕ) (v : Valid t z) where
   step-other : (n : Name) → stepped t z n .answer .number ≡ 10 → ⊥
-  unfolding did refusals refusalsAt each
-  step-other n e = other (stepped t z n .answer .number) (rw (step-number t z v n) (first-among Other (refusals t (instancesOf z) (queuesOf z) n) refl refl)) e
+  unfolding did
+  step-other n e = other (stepped t z n .answer .number) (act-other t (aStep n) z v) e
 
   post-other : (name : ℕ) (g : Tuple) → postedTo t z name g .number ≡ 10 → ⊥
-  unfolding did postRefusals each
-  post-other name g e = other (postedTo t z name g .number) (rw (post-number t z v name g) (first-among Other (postRefusals (queuesOf z) name g) refl refl)) e
+  unfolding did
+  post-other name g e = other (postedTo t z name g .number) (act-other t (aPost name g) z v) e
 
   list-other : (k : ℕ) → listedAt t z k .number ≡ 10 → ⊥
   list-other k e =
@@ -59,6 +79,26 @@ module _ (t z : List ℕ) (v : Valid t z) where
       let o = ranTo t z limit in
       let n = run-number-is t z limit (record { number = o .number; steps = o .steps; left = o .left }) (o .state) refl .0 in
       absurd (omega (arith, sym e ∙ n ∙ picked (fitting t z) 0 10 (v .fits)))
+
+-- a later item neither: an accepted one leaves a valid state
+polled-other : (t : List ℕ) (acts : List Act) (z : List ℕ) → Valid t z → Other (polledBy (did t) acts z .number) ≡ true
+unfolding polledBy oneBefore
+polled-other t [] z v = refl
+polled-other t (a ∷ rest) z v =
+    by-first t (λ (p : Polling). Other (p .number) ≡ true) a rest z
+    (λ e. polled-other t rest (did t a z .state) (did-valid t a z v))
+    (λ e. act-other t a z v)
+
+poll-other : (t z : List ℕ) → Valid t z → (w : List ℕ) (count : ℕ) → polledTo t z w count .number ≡ 10 → ⊥
+unfolding polledTo polledFrom
+poll-other t z v w count e =
+    other (polledTo t z w count .number)
+    (by-choice (λ (p : Polling). Other (p .number) ≡ true) (ltb itemsMost count) (record { number = 22; accepted = 0; state = z }) _ (λ b. refl)
+    (λ b.
+    by-choice (λ (p : Polling). Other (p .number) ≡ true) (eqb (lentNumber t z) 0) (polledBy (did t) (actsIn w count) z)
+    (record { number = lentNumber t z; accepted = 0; state = z })
+    (λ b. polled-other t (actsIn w count) z v)
+    (λ b. absurd (eqb-false (lentNumber t z) 0 b (lent-zero t z (v .fits)))))) e
 
 write-other : (t out : List ℕ) → valid t ≡ true → writtenTo t out .number ≡ 10 → ⊥
 write-other t out v e =
@@ -80,4 +120,5 @@ never-ten text t₀ n z m =
       list = list-other t z s;
       run = run-other t z s;
       write = λ out. write-other t out v;
+      poll = poll-other t z s;
     }

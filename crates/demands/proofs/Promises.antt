@@ -9,6 +9,7 @@ use Rattle.meaning.specs.declared.Answer.{Answer}
 use Rattle.meaning.specs.declared.Tuple.{Tuple}
 use Rattle.listing.specs.declared.Listed.{Listed}
 use Rattle.notation.specs.declared.Reading.{Reading}
+use Rattle.polling.specs.declared.Polled.{Polled}
 use Rattle.engine.specs.declared.Verdict.{Verdict}
 use Rattle.engine.specs.declared.Ran.{Ran}
 use Rattle.engine.specs.declared.Written.{Written}
@@ -22,10 +23,11 @@ use Rattle.engine.proofs.run.Reads as run
 use Rattle.engine.proofs.read.Reads as read
 use Rattle.engine.proofs.draw.Reads as draw
 use Rattle.engine.proofs.write.Reads as write
-use Rattle.demands.specs.Promises.{Checks, Freshens, Steps, Posts, Lists, Runs, Reads, Draws, Writes}
+use Rattle.engine.proofs.poll.Reads as poll
+use Rattle.demands.specs.Promises.{Checks, Freshens, Steps, Posts, Lists, Runs, Reads, Draws, Writes, Polls}
 use Rattle.demands.specs.Demands.{Allowed}
 
--- a slice or an array that is lent, and the lifetimes of one and of two
+-- a slice or an array that is lent, and the lifetimes of one, of two and of three
 abbrev pub Lent : Type 0
 Lent = RefT (List ℕ)
 
@@ -37,6 +39,9 @@ One = List ℕ × None
 
 abbrev pub Two : Type 0
 Two = List ℕ × One
+
+abbrev pub Three : Type 0
+Three = List ℕ × Two
 
 pub check-promise : (κ : One) (t t₁ : Lent) (r : Verdict) → check.Post κ (t, tt) r (t₁, tt) ≡ Checks (now t) r
 check-promise κ t t₁ r = refl
@@ -77,3 +82,7 @@ module _ (κ : Two) where
       → post.Post κ (t, (z, (name, (g, tt)))) r (t₁, (z₁, (name₁, (g₁, tt)))) ≡ Allowed (now t) (aPost name g) (now z) r (now z₁)
   unfolding Allowed
   post-allowed t z t₁ z₁ name name₁ g g₁ r = refl
+
+pub poll-promise : (κ : Three) (t z w t₁ z₁ w₁ : Lent) (count count₁ : ℕ) (r : Polled)
+    → poll.Post κ (t, (z, (w, (count, tt)))) r (t₁, (z₁, (w₁, (count₁, tt)))) ≡ Polls (now t) (now z) (now w) count r (now z₁)
+poll-promise κ t z w t₁ z₁ w₁ count count₁ r = refl

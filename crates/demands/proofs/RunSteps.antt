@@ -24,7 +24,7 @@ use Rattle.running.specs.Run.{Run, whether, oneStep, ranBy, ran}
 use Rattle.running.proofs.RunLaws.{none-listed, first-listed}
 use Rattle.listed.proofs.ListedAll.{listed-accepted}
 use Rattle.engine.specs.Engine.{fitting, listedAt, RanTo, ended}
-use Rattle.checked.proofs.KeepsFitting.{did-valid}
+use Rattle.engine.proofs.KeepsValid.{did-valid}
 use Rattle.engine.specs.Calls.{Act, aStep, did, allAccepted, after, Valid}
 use Rattle.demands.specs.Demands.{runSteps, runLeft, ranGiven}
 use Rattle.demands.proofs.StatesLeft.{step-number, step-instances, step-queues}

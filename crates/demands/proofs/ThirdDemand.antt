@@ -14,7 +14,7 @@ use Rattle.words.proofs.PickLaws.{and-true}
 use Rattle.meaning.specs.declared.Tuple.{Tuple}
 use Rattle.engine.specs.Calls.{Act, did, numbers, allAccepted, after, Valid}
 use Rattle.demands.specs.Demands.{Further, roomFor, neverPasses, AllAllowed}
-use Rattle.checked.proofs.KeepsFitting.{did-valid}
+use Rattle.engine.proofs.KeepsValid.{did-valid}
 use Rattle.demands.proofs.OneMore.{one-more}
 use Rattle.demands.proofs.Firmness.{all-allowed-is}
 

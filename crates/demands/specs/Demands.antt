@@ -23,7 +23,7 @@ use Rattle.meaning.specs.Step.{siteOf, refusals, instancesAfter, queuesAfter}
 use Rattle.meaning.specs.Post.{postRefusals}
 use Rattle.listing.specs.Listing.{listed}
 use Rattle.engine.specs.Engine.{verdictOf, freshened, fitting, stepped, postedTo, listedAt, RanTo, ranTo, WrittenTo, writtenTo}
-use Rattle.engine.specs.Calls.{Act, aStep, aPost, did, after}
+use Rattle.engine.specs.Calls.{Act, aStep, aPost, did, after, polledTo}
 use Rattle.demands.specs.Promises.{Steps, Posts}
 
 -- DEMAND 1. "Bad ones are refused with the number document 01 gives": 10 where table or state are bad, else that of the first condition that does
@@ -136,11 +136,12 @@ pub record Table (t : List ℕ) : Type 0 where
 abbrev pub textIn : WrittenTo → List ℕ
 textIn w = take (w .length) (w .buffer)
 
--- WHAT THE ENGINE MADE of a table: a fresh state, and what steps, posts and runs leave of it, accepted or not; z is what stood in the block that was lent
+-- WHAT THE ENGINE MADE of a table: a fresh state, and what steps, posts, runs and polls leave of it, accepted or not; z is what stood in the block that was lent
 pub data Made (t : List ℕ) : List ℕ → Type 0 where
   afresh : (z : List ℕ) → Made t (freshened t z .state)
   byAct : {z : List ℕ} (a : Act) → Made t z → Made t (did t a z .state)
   byRun : {z : List ℕ} (limit : ℕ) → Made t z → Made t (ranTo t z limit .state)
+  byPoll : {z : List ℕ} (w : List ℕ) (count : ℕ) → Made t z → Made t (polledTo t z w count .state)
 
 -- no call answers 10 to a table and a state
 pub record NeverTen (t z : List ℕ) : Type 0 where
@@ -151,6 +152,7 @@ pub record NeverTen (t z : List ℕ) : Type 0 where
   pub list : (k : ℕ) → listedAt t z k .number ≡ 10 → ⊥
   pub run : (limit : ℕ) → ranTo t z limit .number ≡ 10 → ⊥
   pub write : (out : List ℕ) → writtenTo t out .number ≡ 10 → ⊥
+  pub poll : (w : List ℕ) (count : ℕ) → polledTo t z w count .number ≡ 10 → ⊥
 
 -- how many steps are accepted
 unfoldable pub acceptedSteps : List ℕ → List ℕ → ℕ

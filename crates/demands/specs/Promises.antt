@@ -13,6 +13,9 @@ use Rattle.drawings.specs.Drawings.{drawInto}
 use Rattle.engine.specs.declared.Verdict.{Verdict}
 use Rattle.engine.specs.declared.Ran.{Ran}
 use Rattle.engine.specs.declared.Written.{Written}
+use Rattle.polling.specs.declared.Polled.{Polled}
+use Rattle.polling.specs.Poll.{Polling}
+use Rattle.engine.specs.Calls.{polledTo}
 use Rattle.engine.specs.Engine.{Left, Stepped, RanTo, WrittenTo, verdictOf, freshened, stepped, postedTo, listedAt, ranTo, writtenTo}
 
 abbrev pub Checks : List ℕ → Verdict → Type 0
@@ -41,3 +44,6 @@ Draws text t r y = _≡_ {A = ReadInto} (record { number = r .number; beside = r
 
 abbrev pub Writes : List ℕ → List ℕ → Written → List ℕ → Type 0
 Writes t out r y = _≡_ {A = WrittenTo} (record { number = r .number; length = r .length; buffer = y }) (writtenTo t out)
+
+abbrev pub Polls : List ℕ → List ℕ → List ℕ → ℕ → Polled → List ℕ → Type 0
+Polls t z w count r y = _≡_ {A = Polling} (record { number = r .number; accepted = r .accepted; state = y }) (polledTo t z w count)

@@ -1,7 +1,7 @@
 -- What the layer below does on a state that fits is what `meaning` says; on any other nothing is done. Assumes nothing.
 use Prim.Native.Nat.{ℕ, _+_, _*_, _≤_, _<_}
-use mathlib.Core.Path.{_≡_, sym, _∙_, ap, ap₂, subst}
-use mathlib.Core.Bool.{true, false}
+use mathlib.Core.Path.{_≡_, refl, sym, _∙_, ap, ap₂, subst}
+use mathlib.Core.Bool.{Bool, true, false}
 use mathlib.Core.List.{List, _++_}
 use native.Mathlib.Omega.{arith}
 use borrow.Author.Tests.{eqb-true, leb-true, leb-false, le-leb, lt-ltb, le-ltb}
@@ -11,6 +11,7 @@ use lib.Seq.{length-take-le}
 use Rattle.words.specs.Pick.{if_then_else_}
 use Rattle.words.specs.Counts.{textMost, names}
 use Rattle.words.proofs.AllLaws.{and-left, and-right}
+use Rattle.words.proofs.PickLaws.{pick-no, and-false-right}
 use Rattle.state.specs.Places.{instancesWords, queueWords, stateWords}
 use Rattle.state.specs.Instances.{instancesOf, queuesOf}
 use Rattle.meaning.specs.declared.Name.{Name}
@@ -37,7 +38,7 @@ use Rattle.running.specs.Run.{Run, ranBy, ran}
 use Rattle.listed.proofs.ScannedIs.{scanned-is}
 use Rattle.listed.proofs.RunIs.{settled-step, run-is}
 use Rattle.lengths.proofs.Short.{short}
-use Rattle.engine.specs.Engine.{valid, fitting, Stepped, leaving, stepped, Left, postedTo, listedAt, RanTo, ended, ranTo, WrittenTo, written, writtenTo}
+use Rattle.engine.specs.Engine.{valid, fitting, lentNumber, Stepped, leaving, stepped, Left, postedTo, listedAt, RanTo, ended, ranTo, WrittenTo, written, writtenTo}
 use Rattle.shown.specs.Shown.{shownTable}
 use Rattle.buffers.specs.Buffers.{over}
 use Rattle.buffers.proofs.OverLaws.{over-all}
@@ -69,7 +70,7 @@ module _ (t z : List ℕ) (l : length z ≡ stateWords) (h : fitting t z ≡ tru
   fits : Fitting t (instancesOf z) (queuesOf z)
   fits = record { long = long-instances z l; wide = long-queues z l; fits = state-fits t z h }
 
-  settled-post : (name : ℕ) (g : Tuple) → posted (queuesOf z) name g ≡ post (queuesOf z) name g
+  pub settled-post : (name : ℕ) (g : Tuple) → posted (queuesOf z) name g ≡ post (queuesOf z) name g
   settled-post name g =
       posted-is (queuesOf z) (long-queues z l) (λ m k. queue-tidy (queuesOf z) m (state-queues t (instancesOf z) (queuesOf z) (state-fits t z h) m k)) name g
 
@@ -103,23 +104,55 @@ module _ (t z : List ℕ) (l : length z ≡ stateWords) (h : fitting t z ≡ tru
       = e ∙ run-is t (table-fits t z h) (checks-hold t z h) limit (instancesOf z) (queuesOf z) fits in
       rw h ((λ i. record { number = 0; steps = steps; left = left; state = sym (take-append-drop instancesWords y) i }) ∙ ap ended d)
 
--- a table or a state that does not fit
-pub step-bad : (t z : List ℕ) (n : Name) (r : Answer) → fitting t z ≡ false → r ≡ record { number = 10; traffic = Nothing; name = 0; tuple = empty }
-    → _≡_ {A = Stepped} (record { answer = r; state = z }) (stepped t z n)
-unfolding stepped if_then_else_
-step-bad t z n r h e = rw h (λ i. record { answer = e i; state = z })
+-- the number of a lent table and state
+module _ (t z : List ℕ) where
+  pub lent-invalid : valid t ≡ false → 10 ≡ lentNumber t z
+  unfolding fitting lentNumber if_then_else_
+  lent-invalid h = rw h
 
-pub post-bad : (t z : List ℕ) (name : ℕ) (g : Tuple) → fitting t z ≡ false → _≡_ {A = Left} (record { number = 10; state = z }) (postedTo t z name g)
-unfolding postedTo if_then_else_
-post-bad t z name g h = rw h
+  pub lent-unfit : stateFits t (instancesOf z) (queuesOf z) ≡ false → 10 ≡ lentNumber t z
+  unfolding lentNumber fitting
+  lent-unfit h = pick-no (fitting t z) 10 0 10 (and-false-right (valid t) (stateFits t (instancesOf z) (queuesOf z)) h) refl
 
-pub list-bad : (t z : List ℕ) (k : ℕ) (r : Listed) → fitting t z ≡ false → r ≡ record { number = 10; name = blank } → r ≡ listedAt t z k
-unfolding listedAt if_then_else_
-list-bad t z k r h e = rw h e
+  pub lent-right : valid t ≡ true → stateFits t (instancesOf z) (queuesOf z) ≡ true → 0 ≡ lentNumber t z
+  unfolding fitting lentNumber if_then_else_
+  lent-right v h = rw (v, h)
 
-pub run-bad : (t z : List ℕ) (limit : ℕ) → fitting t z ≡ false → _≡_ {A = RanTo} (record { number = 10; steps = 0; left = 0; state = z }) (ranTo t z limit)
-unfolding ranTo if_then_else_
-run-bad t z limit h = rw h
+-- what the number k says
+module _ (t z : List ℕ) (k : ℕ) (e : k ≡ lentNumber t z) where
+  pub lent-good : k ≡ 0 → fitting t z ≡ true
+  unfolding lentNumber if_then_else_
+  lent-good h = go (fitting t z) (sym h ∙ e)
+    where
+      go : (b : Bool) → _≡_ {A = ℕ} 0 (if b then 0 else 10) → b ≡ true
+      go true d = refl
+      go false d = absurd (omega (arith, d))
+
+  module _ (h : k ≡ 0 → ⊥) where
+    lent-bad : (fitting t z ≡ false) × (k ≡ 10)
+    unfolding lentNumber if_then_else_
+    lent-bad = go (fitting t z) e
+      where
+        go : (b : Bool) → k ≡ (if b then 0 else 10) → (b ≡ false) × (k ≡ 10)
+        go true d = absurd (h d)
+        go false d = (refl, d)
+
+    -- a table or a state that does not fit
+    pub step-bad : (n : Name) (r : Answer) → r ≡ record { number = k; traffic = Nothing; name = 0; tuple = empty } → _≡_ {A = Stepped} (record { answer = r; state = z }) (stepped t z n)
+    unfolding stepped if_then_else_
+    step-bad n r d = rw (lent-bad .0, d, lent-bad .1)
+
+    pub post-bad : (name : ℕ) (g : Tuple) → _≡_ {A = Left} (record { number = k; state = z }) (postedTo t z name g)
+    unfolding postedTo if_then_else_
+    post-bad name g = rw (lent-bad .0, lent-bad .1)
+
+    pub list-bad : (j : ℕ) (r : Listed) → r ≡ record { number = k; name = blank } → r ≡ listedAt t z j
+    unfolding listedAt if_then_else_
+    list-bad j r d = rw (lent-bad .0, d, lent-bad .1)
+
+    pub run-bad : (limit : ℕ) → _≡_ {A = RanTo} (record { number = k; steps = 0; left = 0; state = z }) (ranTo t z limit)
+    unfolding ranTo if_then_else_
+    run-bad limit = rw (lent-bad .0, lent-bad .1)
 
 -- a writing, by the length that was measured
 module _ (t out : List ℕ) where

@@ -8,12 +8,9 @@ use lib.ListN.{length}
 use Rattle.state.specs.Places.{stateWords}
 use Rattle.meaning.specs.declared.Name.{Name}
 use Rattle.meaning.specs.declared.Tuple.{Tuple}
-use Rattle.engine.specs.Engine.{Left, fitting, stepped, postedTo}
-
--- "named steps and posts"
-pub data Act : Type 0 where
-  aStep : Name → Act
-  aPost : ℕ → Tuple → Act
+use Rattle.engine.specs.Engine.{Left, fitting, lentNumber, stepped, postedTo}
+pub use Rattle.polling.specs.Items.{Act, aStep, aPost}
+use Rattle.polling.specs.Poll.{Polling, polledFrom}
 
 -- the number that the public call gives back, and the state that it leaves
 unfoldable pub did : List ℕ → Act → List ℕ → Left
@@ -37,3 +34,8 @@ after t (a ∷ rest) z = after t rest (did t a z .state)
 pub record Valid (t z : List ℕ) : Type 0 where
   pub long : length z ≡ stateWords
   pub fits : fitting t z ≡ true
+
+-- A WHOLE POLL out of the lent words w: "22 more than 64 items, checked first, nothing done; then 10, with no items too", else one by one until the
+-- first refusal
+unfoldable pub polledTo : List ℕ → List ℕ → List ℕ → ℕ → Polling
+polledTo t z w count = polledFrom (did t) (lentNumber t z) w count z

@@ -23,6 +23,7 @@ use Rattle.naming.specs.Names.{blank}
 use Rattle.listing.specs.Listing.{listed, chosen}
 use Rattle.running.specs.Run.{Run, ran}
 use Rattle.shown.specs.Shown.{shownTable}
+pub use Rattle.polling.specs.Poll.{Left}
 use Rattle.engine.specs.declared.Verdict.{Verdict}
 
 -- a table that breaks no limit and no check
@@ -36,11 +37,6 @@ verdictOf t =
     if eqb (lowest (modelOf t)) 0 then record { number = 0; beside = 0 } else record { number = 4; beside = lowest (modelOf t) }
     else record { number = 10; beside = 0 }
 
--- a number given back, and the state that is left
-pub record Left : Type 0 where
-  pub number : ℕ
-  pub state : List ℕ
-
 -- "every other call gives 10 for all of these"
 unfoldable pub freshened : List ℕ → List ℕ → Left
 freshened t z = if valid t then record { number = 0; state = fresh t } else record { number = 10; state = z }
@@ -48,6 +44,9 @@ freshened t z = if valid t then record { number = 0; state = fresh t } else reco
 -- "10: the table breaks a limit or check, or the state doesn't fit the table and the limits"
 unfoldable pub fitting : List ℕ → List ℕ → Bool
 fitting t z = valid t && stateFits t (instancesOf z) (queuesOf z)
+
+unfoldable pub lentNumber : List ℕ → List ℕ → ℕ
+lentNumber t z = if fitting t z then 0 else 10
 
 -- an answer given back, and the state that is left
 pub record Stepped : Type 0 where

@@ -4,20 +4,23 @@ ghost use mathlib.Core.Bool.{true};
 ghost use lib.Dec.{leb};
 ghost use lib.ListN.{length};
 ghost use Rattle.state.specs.Places.{stateWords};
-ghost use Rattle.engine.specs.Engine.{valid, verdictOf, Left, freshened, fitting, Stepped, stepped, postedTo, listedAt, RanTo, ranTo, WrittenTo, writtenTo};
-ghost use Rattle.meaning.specs.Tuples.{empty};
+ghost use Rattle.engine.specs.Engine.{valid, verdictOf, Left, freshened, lentNumber, Stepped, stepped, postedTo, listedAt, RanTo, ranTo, WrittenTo, writtenTo};
+ghost use Rattle.engine.specs.Calls.{polledTo};
+ghost use Rattle.polling.specs.Poll.{Polling};
 ghost use Rattle.naming.specs.Names.{blank};
 ghost use Rattle.notation.specs.Notation.{readInto};
 ghost use Rattle.drawings.specs.Drawings.{drawInto};
 ghost use Rattle.shown.specs.Shown.{shownTable};
+use effects::refuse;
 use listing::Listed;
 use meaning::Answer;
 use meaning::Name;
-use meaning::Traffic;
 use meaning::Tuple;
 use meaning::empty_tuple;
 use model::places::TABLE_WORDS;
 use notation::Reading;
+use polling::POLL_WORDS;
+use polling::Polled;
 use state::places::STATE_WORDS;
 use words::Word;
 use words::counts::TEXT_MOST;
@@ -76,32 +79,26 @@ pub fn fresh(t: &[Word; TABLE_WORDS], z: &mut [Word; STATE_WORDS]) -> Word
     ACCEPTED
 }
 
-fn is_fitting(t: &[Word; TABLE_WORDS], z: &[Word; STATE_WORDS]) -> bool
-    ensures { λ r. ⌜ (r ≡ fitting (now (t .entry)) (now (z .entry))) × (r ≡ true → length (now (z .entry)) ≡ stateWords) ⌝ }
+// The number that a lent table and state are refused with, or 0.
+fn lent_number(t: &[Word; TABLE_WORDS], z: &[Word; STATE_WORDS]) -> Word
+    ensures { λ r. ⌜ (r ≡ lentNumber (now (t .entry)) (now (z .entry))) × (r ≡ 0 → length (now (z .entry)) ≡ stateWords) ⌝ }
 {
     if !is_valid(t) {
-        return false;
+        return BAD;
     }
-    states::state_fits(t, z)
-}
-
-fn bad() -> Answer
-    ensures { λ r. ⌜ r ≡ record { number = 10; traffic = Traffic.Nothing; name = 0; tuple = empty } ⌝ }
-{
-    Answer {
-        number: BAD,
-        traffic: Traffic::Nothing,
-        name: 0,
-        tuple: empty_tuple(),
+    if !states::state_fits(t, z) {
+        return BAD;
     }
+    ACCEPTED
 }
 
 // Takes a named step: 10 where the table or the state is bad, 11 to 18 where it is refused, and the state stays; else 0, and what was consumed or sent.
 pub fn step(t: &[Word; TABLE_WORDS], z: &mut [Word; STATE_WORDS], n: Name) -> Answer
     ensures { λ r. ⌜ record { answer = r; state = now (z .exit) } ≡ stepped (now (t .entry)) (now (z .entry)) n ⌝ }
 {
-    if !is_fitting(t, z) {
-        return bad();
+    let number = lent_number(t, z);
+    if number != ACCEPTED {
+        return refuse(number);
     }
     rules::step_on(t, z, n)
 }
@@ -110,17 +107,18 @@ pub fn step(t: &[Word; TABLE_WORDS], z: &mut [Word; STATE_WORDS], n: Name) -> An
 pub fn post(t: &[Word; TABLE_WORDS], z: &mut [Word; STATE_WORDS], name: Word, g: Tuple) -> Word
     ensures { λ r. ⌜ record { number = r; state = now (z .exit) } ≡ postedTo (now (t .entry)) (now (z .entry)) name g ⌝ }
 {
-    if !is_fitting(t, z) {
-        return BAD;
+    let number = lent_number(t, z);
+    if number != ACCEPTED {
+        return number;
     }
     rules::post_on(z, name, g)
 }
 
-fn unlisted() -> Listed
-    ensures { λ r. ⌜ r ≡ record { number = 10; name = blank } ⌝ }
+fn unlisted(number: Word) -> Listed
+    ensures { λ r. ⌜ r ≡ record { number = number; name = blank } ⌝ }
 {
     Listed {
-        number: BAD,
+        number: number,
         name: Name {
             pool: 0,
             instance: 0,
@@ -136,8 +134,9 @@ fn unlisted() -> Listed
 pub fn list(t: &[Word; TABLE_WORDS], z: &[Word; STATE_WORDS], k: usize) -> Listed
     ensures { λ r. ⌜ r ≡ listedAt (now (t .entry)) (now (z .entry)) k ⌝ }
 {
-    if !is_fitting(t, z) {
-        return unlisted();
+    let number = lent_number(t, z);
+    if number != ACCEPTED {
+        return unlisted(number);
     }
     listing::list_on(t, z, k)
 }
@@ -154,9 +153,10 @@ pub struct Ran {
 pub fn run(t: &[Word; TABLE_WORDS], z: &mut [Word; STATE_WORDS], limit: Word) -> Ran
     ensures { λ r. ⌜ record { number = r .number; steps = r .steps; left = r .left; state = now (z .exit) } ≡ ranTo (now (t .entry)) (now (z .entry)) limit ⌝ }
 {
-    if !is_fitting(t, z) {
+    let number = lent_number(t, z);
+    if number != ACCEPTED {
         return Ran {
-            number: BAD,
+            number: number,
             steps: 0,
             left: 0,
         };
@@ -230,4 +230,18 @@ pub fn write(t: &[Word; TABLE_WORDS], out: &mut [u8]) -> Written
         number: ACCEPTED,
         length: n,
     }
+}
+
+// Takes up to 64 named steps and posts out of lent words (`polling`), one by one until the first refusal: 22 where there are more, then 10, and the state stays; else
+// how many were accepted, and the number of the refusal.
+pub fn poll(
+    t: &[Word; TABLE_WORDS],
+    z: &mut [Word; STATE_WORDS],
+    items: &[Word; POLL_WORDS],
+    count: usize,
+) -> Polled
+    ensures { λ r. ⌜ record { number = r .number; accepted = r .accepted; state = now (z .exit) } ≡ polledTo (now (t .entry)) (now (z .entry)) (now (items .entry)) count ⌝ }
+{
+    let number = lent_number(t, z);
+    polling::poll_on(t, z, items, count, number)
 }

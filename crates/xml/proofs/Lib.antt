@@ -1,4 +1,5 @@
 pub mod TokenLaws
+pub mod NameLaws
 pub mod StayLaws
 pub mod ScanLaws
 pub mod TextLaws

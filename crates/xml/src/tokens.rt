@@ -1,8 +1,11 @@
 // Tokens that are judged when they are whole.
 ghost use mathlib.Core.Path.{_≡_};
-ghost use mathlib.Core.Bool.{not};
-ghost use Rattle.words.specs.Words.{part};
+ghost use mathlib.Core.Bool.{not, false};
+ghost use Rattle.words.specs.Words.{at, part};
+ghost use Prim.Native.Nat.{ℕ, _+_, _≤_, _<_};
 ghost use lib.ListN.{length};
+ghost use Rattle.numerals.specs.Numerals.{sameBytes};
+ghost use Rattle.characters.specs.Names.{isName};
 ghost use Rattle.characters.specs.References.{characterOf, isCharacter};
 ghost use Rattle.xml.specs.Tokens.{endOf, wholeInTag, wholeInInstruction, whole, moveTo, moved, isNamed, begun, found, isFound, twice, first, lower, saysXml, isDeclaration, reserved, isFaulty};
 use super::Cursor;
@@ -146,10 +149,50 @@ fn is_found(f: Found) -> bool
     }
 }
 
+// Whether an attribute's name may end at a place; its last byte is looked at first, as names that begin alike are many.
+fn may_end(text: &[u8], name: &[u8], i: usize) -> bool
+    requires { ⌜ i < length (now text) ⌝ }
+    ensures { λ r. ⌜ (r ≡ false → isName (at (now (text .entry)) (i + 1)) ≡ false → (m : ℕ) → sameBytes (part (now (text .entry)) m (i + 1)) (now (name .entry)) ≡ false) ⌝ }
+{
+    let n = name.len();
+    if n == 0 {
+        return true;
+    }
+    if text[i] != name[n - 1] {
+        return false;
+    }
+    if is_name(byte(text, i + 1)) {
+        return false;
+    }
+    if i + 1 < n {
+        return false;
+    }
+    same(piece(text, i + 1 - n, i + 1), name)
+}
+
+// Whether the name may stand in the text; in a value it may, and be no attribute's.
+fn may_stand(text: &[u8], name: &[u8], start: usize) -> bool
+    ensures { λ r. ⌜ (r ≡ false → (i : ℕ) → start ≤ i → i < length (now (text .entry)) → isName (at (now (text .entry)) (i + 1)) ≡ false → (m : ℕ) → sameBytes (part (now (text .entry)) m (i + 1)) (now (name .entry)) ≡ false) ⌝ }
+{
+    let mut i = start;
+    while i < text.len() {
+        if may_end(text, name, i) {
+            return true;
+        }
+        i += 1;
+    }
+    false
+}
+
 fn twice(text: &[u8], start: usize, mark: usize) -> bool
     ensures { λ r. ⌜ r ≡ twice (now (text .entry)) start mark ⌝ }
 {
-    is_found(found(piece(text, 0, mark), piece(text, mark, text.len()), start))
+    let tag = piece(text, 0, mark);
+    let name = piece(text, mark, text.len());
+    if !may_stand(tag, name, start) {
+        return false;
+    }
+    is_found(found(tag, name, start))
 }
 
 // Where the document begins.

@@ -1,0 +1,168 @@
+// The command `batch`: the items of a poll, each a `step ..` or a `post ..`, with a `;` between them.
+use super::arguments::is_command;
+use super::arguments::next_of;
+use super::arguments::number_at;
+use super::arguments::values_at;
+use super::output::bad_line;
+use super::output::no_model;
+use super::output::tell_number;
+use lexer::piece;
+use libc::STDOUT_FILENO;
+use meaning::Tuple;
+use model::places::TABLE_WORDS;
+use numerals::same;
+use polling::A_POST;
+use polling::BRANCH;
+use polling::ELEMENT;
+use polling::FIRST_VALUE;
+use polling::INSTANCE;
+use polling::ITEM_WORDS;
+use polling::ITEMS;
+use polling::LENGTH;
+use polling::PHASE;
+use polling::POLL_WORDS;
+use polling::POOL_OR_NAME;
+use polling::Polled;
+use printing::tell;
+use state::places::STATE_WORDS;
+use words::Word;
+use words::put;
+
+const SEMICOLON: u8 = 59;
+
+// The bytes of `batch` and its blank.
+const BATCH: usize = 6;
+
+pub(super) fn is_batch(line: &[u8]) -> bool {
+    if is_command(line, b"batch", b"") {
+        return true;
+    }
+    same(piece(line, 0, BATCH), b"batch ")
+}
+
+// Whether all items were commands, and how many they are; above 64 they are no longer counted.
+pub struct Filled {
+    pub good: bool,
+    pub count: usize,
+}
+
+fn put_values(items: &mut [Word], item: usize, g: Tuple) {
+    let values = g.values;
+    if item < POLL_WORDS {
+        put(items, item + LENGTH, g.length);
+        put(items, item + FIRST_VALUE + 0, values[0]);
+        put(items, item + FIRST_VALUE + 1, values[1]);
+        put(items, item + FIRST_VALUE + 2, values[2]);
+        put(items, item + FIRST_VALUE + 3, values[3]);
+    }
+}
+
+fn put_post(items: &mut [Word], item: usize, line: &[u8]) {
+    if item < POLL_WORDS {
+        put(items, item, A_POST);
+        put(items, item + POOL_OR_NAME, number_at(line, 1));
+        put_values(items, item, values_at(line, 2));
+    }
+}
+
+fn put_step(items: &mut [Word], item: usize, line: &[u8]) {
+    if item < POLL_WORDS {
+        put(items, item + POOL_OR_NAME, number_at(line, 1));
+        put(items, item + INSTANCE, number_at(line, 2));
+        put(items, item + ELEMENT, number_at(line, 3));
+        put(items, item + PHASE, number_at(line, 4));
+        put(items, item + BRANCH, number_at(line, 5));
+        put_values(items, item, values_at(line, 6));
+    }
+}
+
+fn one_more(count: usize) -> usize {
+    if count > ITEMS { count } else { count + 1 }
+}
+
+// Where an item stands; one behind the 64 has no place, and is not kept.
+fn place_of(count: usize) -> usize {
+    if count < ITEMS {
+        ITEM_WORDS * count
+    } else {
+        POLL_WORDS
+    }
+}
+
+fn with_item(f: Filled, items: &mut [Word; POLL_WORDS], line: &[u8]) -> Filled {
+    let item = place_of(f.count);
+    let count = one_more(f.count);
+    if is_command(line, b"post", b"nv") {
+        put_post(items, item, line);
+        return Filled {
+            good: f.good,
+            count: count,
+        };
+    }
+    put_step(items, item, line);
+    Filled {
+        good: f.good && is_command(line, b"step", b"nnnnnv"),
+        count: count,
+    }
+}
+
+fn item_at(text: &[u8], from: usize) -> &[u8] {
+    piece(text, from, next_of(text, SEMICOLON, from))
+}
+
+fn fill(text: &[u8], items: &mut [Word; POLL_WORDS]) -> Filled {
+    let none = Filled {
+        good: true,
+        count: 0,
+    };
+    let mut f = with_item(none, items, item_at(text, 0));
+    let mut from: usize = 0;
+    let mut turns = text.len();
+    while turns > 0 {
+        let end = next_of(text, SEMICOLON, from);
+        if end >= text.len() {
+            return f;
+        }
+        from = end + 1;
+        f = with_item(f, items, item_at(text, from));
+        turns -= 1;
+    }
+    f
+}
+
+fn fill_line(line: &[u8], items: &mut [Word; POLL_WORDS]) -> Filled {
+    if line.len() < BATCH {
+        return Filled {
+            good: true,
+            count: 0,
+        };
+    }
+    fill(piece(line, BATCH, line.len()), items)
+}
+
+fn tell_polled(p: Polled) {
+    tell(b"accepted ");
+    io::print_decimal(STDOUT_FILENO, p.accepted as u64);
+    tell(b" refused ");
+    tell_number(p.number);
+    tell(b"\n");
+}
+
+pub(super) fn do_batch(
+    line: &[u8],
+    loaded: bool,
+    t: &[Word; TABLE_WORDS],
+    z: &mut [Word; STATE_WORDS],
+) {
+    let mut items: [Word; POLL_WORDS] = [0; POLL_WORDS];
+    let f = fill_line(line, &mut items);
+    if !f.good {
+        bad_line();
+        return;
+    }
+    if !loaded {
+        no_model();
+        return;
+    }
+    tell_polled(engine::poll(t, z, &items, f.count));
+}

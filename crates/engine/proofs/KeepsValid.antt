@@ -1,0 +1,73 @@
+-- A valid state is still valid after every step and every post, accepted or not. Assumes nothing.
+use Prim.Native.Nat.{ℕ, _+_}
+use mathlib.Core.Path.{_≡_, _∙_, ap₂}
+use mathlib.Core.Bool.{true}
+use mathlib.Core.List.{List, [], _∷_, _++_}
+use lib.ListN.{length, length-append}
+use lib.Seq.{take-at, drop-at}
+use Rattle.words.proofs.AllLaws.{and-left}
+use Rattle.words.proofs.PickLaws.{and-true}
+use Rattle.state.specs.Places.{instancesWords}
+use Rattle.state.specs.Instances.{instancesOf, queuesOf}
+use Rattle.meaning.specs.declared.Name.{Name}
+use Rattle.meaning.specs.declared.Tuple.{Tuple}
+use Rattle.meaning.specs.Step.{step}
+use Rattle.meaning.specs.Post.{post}
+use Rattle.fits.specs.Fits.{stateFits}
+use Rattle.steps.proofs.Choices.{chosen}
+use Rattle.steps.proofs.EveryStep.{Fitting, step-keeps-fits, post-keeps-state}
+use Rattle.listed.proofs.StartUnique.{starts-once}
+use Rattle.engine.specs.Engine.{valid, Left, fitting, leaving, stepped, postedTo}
+use Rattle.engine.specs.Calls.{Act, aStep, aPost, did, after, Valid}
+use Rattle.engine.proofs.CallLaws.{table-fits, checks-hold, state-fits, long-instances, long-queues}
+
+module _ (t : List ℕ) where
+  -- a valid table, and two parts that fit it
+  pub joined : (s q : List ℕ) → valid t ≡ true → Fitting t s q → Valid t (s ++ q)
+  unfolding fitting
+  joined s q v f =
+      let i : instancesOf (s ++ q) ≡ s = take-at s q instancesWords (f .long) in
+      let k : queuesOf (s ++ q) ≡ q = drop-at s q instancesWords (f .long) in
+      record {
+        long = length-append s q ∙ ap₂ _+_ (f .long) (f .wide);
+        fits = and-true (valid t) (stateFits t (instancesOf (s ++ q)) (queuesOf (s ++ q))) v (rw (i, k) (f .fits));
+      }
+
+  module _ (z : List ℕ) (valid-state : Valid t z) where
+    pub table-valid : valid t ≡ true
+    unfolding fitting
+    table-valid = and-left (valid t) (stateFits t (instancesOf z) (queuesOf z)) (valid-state .fits)
+
+    pub parts : Fitting t (instancesOf z) (queuesOf z)
+    parts = record {
+      long = long-instances z (valid-state .long);
+      wide = long-queues z (valid-state .long);
+      fits = state-fits t z (valid-state .fits);
+    }
+
+    -- AFTER A STEP
+    step-valid : (n : Name) → Valid t (stepped t z n .state)
+    unfolding stepped leaving
+    step-valid n =
+        rw (chosen (fitting t z) (leaving (step t (instancesOf z) (queuesOf z) n)) _ (valid-state .fits))
+        (joined (step t (instancesOf z) (queuesOf z) n .instances) (step t (instancesOf z) (queuesOf z) n .queues) table-valid
+        (step-keeps-fits t (instancesOf z) (queuesOf z) (table-fits t z (valid-state .fits)) parts (starts-once t (checks-hold t z (valid-state .fits))) n))
+
+    -- AFTER A POST
+    post-valid : (name : ℕ) (g : Tuple) → Valid t (postedTo t z name g .state)
+    unfolding postedTo
+    post-valid name g =
+        rw (chosen {A = Left} (fitting t z) (record { number = post (queuesOf z) name g .number; state = instancesOf z ++ post (queuesOf z) name g .queues }) _ (valid-state .fits))
+        (joined (instancesOf z) (post (queuesOf z) name g .queues) table-valid
+        (post-keeps-state t (instancesOf z) (queuesOf z) parts name g))
+
+  -- AFTER EVERY CALL, accepted or not
+  pub did-valid : (a : Act) (z : List ℕ) → Valid t z → Valid t (did t a z .state)
+  unfolding did
+  did-valid (aStep n) z v = step-valid z v n
+  did-valid (aPost name g) z v = post-valid z v name g
+
+  pub after-valid : (acts : List Act) (z : List ℕ) → Valid t z → Valid t (after t acts z)
+  unfolding after
+  after-valid [] z v = v
+  after-valid (a ∷ rest) z v = after-valid rest (did t a z .state) (did-valid a z v)

@@ -1,0 +1,42 @@
+-- A poll as the code makes it is the poll of the public calls: the first state is checked, and every later one is valid. Assumes nothing.
+use Prim.Native.Nat.{ℕ}
+use mathlib.Core.Path.{_≡_, refl, _∙_, ap}
+use mathlib.Core.List.{List, [], _∷_, _++_}
+use lib.Dec.{eqb}
+use lib.ListN.{length}
+use Rattle.words.specs.Pick.{if_then_else_}
+use Rattle.state.specs.Places.{stateWords}
+use Rattle.state.specs.Instances.{instancesOf, queuesOf}
+use Rattle.meaning.specs.Post.{Posted}
+use Rattle.meaning.specs.Step.{Outcome}
+use Rattle.rules.specs.Settled.{Done, settled, posted}
+use Rattle.polling.specs.Items.{actsIn}
+use Rattle.polling.specs.Poll.{Polling, oneBefore, polledBy, polledFrom, settledAct}
+use Rattle.polling.proofs.PollLaws.{same-poll}
+use Rattle.engine.specs.Engine.{Left, Stepped, lentNumber, stepped, postedTo}
+use Rattle.engine.specs.Calls.{Act, aStep, aPost, did, Valid, polledTo}
+use Rattle.engine.proofs.CallLaws.{step-done, settled-post, lent-good}
+use Rattle.engine.proofs.KeepsValid.{did-valid}
+
+module _ (t : List ℕ) where
+  settled-did : (a : Act) (z : List ℕ) → Valid t z → settledAct t a z ≡ did t a z
+  unfolding settledAct did postedTo if_then_else_
+  settled-did (aStep n) z v =
+      let o : Outcome = settled t (instancesOf z) (queuesOf z) n in
+      ap (λ (x : Stepped). record { number = x .answer .number; state = x .state })
+      (step-done t z (v .long) (v .fits) n (o .answer) (o .instances ++ o .queues) (record { answer = refl; state = refl }))
+  settled-did (aPost name g) z v = rw (v .fits, settled-post t z (v .long) (v .fits) name g)
+
+  polled-did : (acts : List Act) (z : List ℕ) → Valid t z → polledBy (settledAct t) acts z ≡ polledBy (did t) acts z
+  unfolding polledBy
+  polled-did [] z v = refl
+  polled-did (a ∷ rest) z v =
+      let later : polledBy (settledAct t) rest (did t a z .state) ≡ polledBy (did t) rest (did t a z .state) = polled-did rest (did t a z .state) (did-valid t a z v) in
+      rw (settled-did a z v, later)
+
+  -- THE POLL: k is the number that table and state are refused with
+  pub poll-done : (z w : List ℕ) (count k : ℕ) → k ≡ lentNumber t z → (k ≡ 0 → length z ≡ stateWords) → polledFrom (settledAct t) k w count z ≡ polledTo t z w count
+  unfolding polledTo
+  poll-done z w count k e l =
+      rw (← e)
+      (same-poll (settledAct t) (did t) k w count z (λ (h : k ≡ 0). polled-did (actsIn w count) z (record { long = l h; fits = lent-good t z k e h })))
