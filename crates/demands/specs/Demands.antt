@@ -1,4 +1,5 @@
--- The words of the mission's three demands, over the public calls: t is a table, z a state. The theorems stand in proofs/.
+-- The words of the mission's three demands, over the public calls: t is a table, z a state. The theorems stand in proofs/. They are over every valid table, and a table that was drawn is one
+-- (`transcripts`), so that they hold of it with nothing to add.
 use Prim.Native.Nat.{ℕ, zero, suc, _+_, _<_, _≤_}
 use mathlib.Core.Path.{_≡_}
 use mathlib.Core.Bool.{Bool, true, false, _&&_}
