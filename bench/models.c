@@ -21,12 +21,12 @@ static unsigned sent(unsigned p, unsigned k) { return 4 * ((p + 1) % 4) + k % 4;
 
 /* Messages that find their instance, or in the longest text long ones. */
 static void print_template(struct setting *s, unsigned p, unsigned k) {
-    if (s->longest) print(s, "%u:<65535+65535,65535-65535,?d15,d14+d15>", received(p, k));
+    if (s->longest) print(s, "%u:<4294967295+4294967295,4294967295-4294967295,?d15,d14+d15>", received(p, k));
     else print(s, "%u:<d0,?d7,?d8,%u>", received(p, k), k % 4);
 }
 
 static void print_message(struct setting *s, unsigned p, unsigned k) {
-    if (s->longest) print(s, "%u:<65535+65535,65535-65535,d10+65535,d14+d15>", sent(p, k));
+    if (s->longest) print(s, "%u:<4294967295+4294967295,4294967295-4294967295,d10+4294967295,d14+d15>", sent(p, k));
     else print(s, "%u:<d0,d1+d2,d3,%u>", sent(p, k), k % 4);
 }
 
@@ -41,7 +41,8 @@ static void print_task(struct setting *s, unsigned p, unsigned k, unsigned from,
     static const char *const kinds[] = {"task", "taskRcv", "taskSnd"}, *const modes[] = {"a", "na_c", "na_nc"};
     unsigned kind = s->longest ? 1 + k % 2 : k % 3;
     print(s, "|%s(%u,%u,%s,", kinds[kind], from, k + 1, modes[s->longest ? 2 : k / 3 % 3]);
-    if (s->longest) print(s, "65535=65535,{d10:=65535+65535,d11:=65535-65535,d12:=65535+65535,d15:=65535-65535},");
+    if (s->longest) print(s, "4294967295=4294967295,{d10:=4294967295+4294967295,d11:=4294967295-4294967295,"
+                            "d12:=4294967295+4294967295,d15:=4294967295-4294967295},");
     else print(s, "d0<65535,{d4:=d0+1,d5:=d4+%u,d6:=d5-1,d15:=65535-d6},", k);
     if (kind == 1) print_template(s, p, k), print(s, ",");
     if (kind == 2) print_message(s, p, k), print(s, ",");

@@ -16,7 +16,7 @@ struct setting {
 enum { SETTINGS = 4 };
 
 /* session: document 01's, fresh. all, one: 4 pools of 32 elements and 48 edges, 16 instances each, queues full; a token on every edge, or on one of each
-   instance. longest: a text of 32,768 bytes for a model of as many elements, its expressions as long as they can be, blanks between its tokens. */
+   instance. longest: a text of 65,536 bytes for a model of as many elements, its expressions as long as they can be, blanks between its tokens. */
 extern struct setting settings[SETTINGS];
 
 void make_settings(void);

@@ -43,7 +43,7 @@ readable() { # FILE
 meaning() { # NUMBER
     case $1 in
     0) echo "accepted" ;;
-    1) echo "text above 32,768 bytes" ;;
+    1) echo "text above 65,536 bytes" ;;
     2) echo "the token at this place (or the text's end) continues no text of the notation" ;;
     3) echo "a number is outside its range or a count above it" ;;
     4) echo "a model check is broken" ;;
@@ -82,7 +82,7 @@ model_check() { # CHECK
 }
 
 ranges="pools 1 to 9, at most 4; elements, at most 32 a pool; edges 1 to 48; tasks 1 to 16; messages 0 to 15; n 1 to 16; lists and branches 2 to 8; \
-fields d0 to d15; values 0 to 65,535; at most 4 items in a message and 4 assignments"
+fields d0 to d15; values 0 to 4,294,967,295; at most 4 items in a message and 4 assignments"
 
 # A refusal in words. The number and what stands beside it are as the program printed them; the text is in FILE, and NAME is what people call it.
 explain() { # NUMBER BESIDE FILE NAME

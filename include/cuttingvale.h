@@ -1,6 +1,6 @@
 /* Cuttingvale: a process engine for tram junction controllers. Link with libcuttingvale.a; nothing else is needed.
 
-   The caller lends a table (a model) and a state (its instances and queues), two blocks of 16-bit words, and keeps them. No call trusts them: each checks
+   The caller lends a table (a model) and a state (its instances and queues), two blocks of 32-bit words, and keeps them. No call trusts them: each checks
    what it is lent, refuses with a number, and a refused call changes no byte it was lent. No call keeps a pointer, allocates, locks or fails to end.
 
    Each block comes with its length in words. A length other than CV_TABLE_WORDS or CV_STATE_WORDS is refused with 10 before the block is looked at, so a null
@@ -21,7 +21,7 @@ extern "C" {
 
 #define CV_TABLE_WORDS 33549
 #define CV_STATE_WORDS 12308
-#define CV_TEXT_MOST 32768
+#define CV_TEXT_MOST 65536
 #define CV_DRAWING_MOST 65536
 #define CV_ITEMS 64
 #define CV_ITEM_WORDS 11
@@ -64,7 +64,7 @@ extern "C" {
 /* The numbers given back, in the words of documents 01 and 02. */
 enum cv_number {
     CV_ACCEPTED = 0,
-    CV_TOO_LONG = 1,       /* text above 32,768 bytes, or drawing above 65,536 */
+    CV_TOO_LONG = 1,       /* text or drawing above 65,536 bytes */
     CV_MISPLACED = 2,      /* the token at this place (or the text's end) continues no text of the notation */
     CV_EXCESSIVE = 3,      /* a number is outside its range or a count above it */
     CV_CHECK_BROKEN = 4,   /* a model check is broken */
@@ -88,62 +88,62 @@ enum cv_number {
 };
 
 /* A message: its length, 0 to 4, and its values; what stands behind them is ignored, and 0 in an answer. */
-typedef struct { uint16_t length, values[4]; } cv_tuple;
+typedef struct { uint32_t length, values[4]; } cv_tuple;
 
 /* The name of a step: pool number, instance, element place from 0, phase, branch from 0, and the message consumed, else the empty one. */
-typedef struct { uint16_t pool, instance, element, phase, branch; cv_tuple given; } cv_name;
+typedef struct { uint32_t pool, instance, element, phase, branch; cv_tuple given; } cv_name;
 
 enum cv_traffic { CV_NOTHING = 0, CV_CONSUMED = 1, CV_SENT = 2 };
 
 /* beside: the lowest check broken, where the number is 4 */
-typedef struct { uint16_t number, beside; } cv_verdict;
+typedef struct { uint32_t number, beside; } cv_verdict;
 /* traffic, name and tuple: the message consumed or sent by an accepted step */
-typedef struct { uint16_t number, traffic, name; cv_tuple tuple; } cv_answer;
-typedef struct { uint16_t number; cv_name name; } cv_listed;
-/* steps taken, and 1 or 0 for whether one is still accepted */
-typedef struct { uint16_t number, steps, left; } cv_ran;
+typedef struct { uint32_t number, traffic, name; cv_tuple tuple; } cv_answer;
+typedef struct { uint32_t number; cv_name name; } cv_listed;
+/* steps taken, 0 to 65,535 as the limit, and 1 or 0 for whether one is still accepted */
+typedef struct { uint32_t number; uint16_t steps; uint32_t left; } cv_ran;
 /* beside: the place where the number is 2, 3 or 20, the lowest check broken where it is 4 */
-typedef struct { uint16_t number; size_t beside; } cv_reading;
-typedef struct { uint16_t number; size_t length; } cv_written;
+typedef struct { uint32_t number; size_t beside; } cv_reading;
+typedef struct { uint32_t number; size_t length; } cv_written;
 /* the number of the first refusal, 0 where there was none, and how many items were accepted */
-typedef struct { uint16_t number; size_t accepted; } cv_polled;
+typedef struct { uint32_t number; size_t accepted; } cv_polled;
 
-CV_STATIC_ASSERT(sizeof(cv_tuple) == 10 && sizeof(cv_name) == 20, "cuttingvale.h: a tuple is 10 bytes, a name 20");
-CV_STATIC_ASSERT(sizeof(cv_verdict) == 4 && sizeof(cv_answer) == 16 && sizeof(cv_listed) == 22 && sizeof(cv_ran) == 6, "cuttingvale.h: answers of words");
+CV_STATIC_ASSERT(sizeof(cv_tuple) == 20 && sizeof(cv_name) == 40, "cuttingvale.h: a tuple is 20 bytes, a name 40");
+CV_STATIC_ASSERT(sizeof(cv_verdict) == 8 && sizeof(cv_answer) == 32 && sizeof(cv_listed) == 44 && sizeof(cv_ran) == 12, "cuttingvale.h: answers of words");
 CV_STATIC_ASSERT(sizeof(cv_reading) == 16 && sizeof(cv_written) == 16 && sizeof(cv_polled) == 16, "cuttingvale.h: for a 64-bit machine");
 
 /* Checks a table: 10 for a broken limit or an unused place not 0, then 4, else 0. */
-cv_verdict cv_check(const uint16_t *table, size_t table_words);
+cv_verdict cv_check(const uint32_t *table, size_t table_words);
 
 /* Makes the fresh state of a model: 10, and the state stays; else 0. */
-uint16_t cv_fresh(const uint16_t *table, size_t table_words, uint16_t *state, size_t state_words);
+uint32_t cv_fresh(const uint32_t *table, size_t table_words, uint32_t *state, size_t state_words);
 
 /* Takes a named step: 10 to 18, and the state stays; else 0, and what was consumed or sent. */
-cv_answer cv_step(const uint16_t *table, size_t table_words, uint16_t *state, size_t state_words, cv_name name);
+cv_answer cv_step(const uint32_t *table, size_t table_words, uint32_t *state, size_t state_words, cv_name name);
 
 /* Posts a message from outside: 10, 19 or 17, and the state stays; else 0, and it is queued. */
-uint16_t cv_post(const uint16_t *table, size_t table_words, uint16_t *state, size_t state_words, uint16_t name, cv_tuple values);
+uint32_t cv_post(const uint32_t *table, size_t table_words, uint32_t *state, size_t state_words, uint32_t name, cv_tuple values);
 
 /* The accepted step with an ordinal, from 0: 10, or 6 where there is none; else 0 and its name. */
-cv_listed cv_list(const uint16_t *table, size_t table_words, const uint16_t *state, size_t state_words, size_t ordinal);
+cv_listed cv_list(const uint32_t *table, size_t table_words, const uint32_t *state, size_t state_words, size_t ordinal);
 
 /* Takes the first listed step until none is accepted or the limit is used up: 10, and the state stays; else 0. */
-cv_ran cv_run(const uint16_t *table, size_t table_words, uint16_t *state, size_t state_words, uint16_t limit);
+cv_ran cv_run(const uint32_t *table, size_t table_words, uint32_t *state, size_t state_words, uint16_t limit);
 
 /* Reads a text into the table: 1 to 4 (10 for a wrong length of the table), and the table stays; else 0, and every word of it is the model's. */
-cv_reading cv_read(const uint8_t *text, size_t length, uint16_t *table, size_t table_words);
+cv_reading cv_read(const uint8_t *text, size_t length, uint32_t *table, size_t table_words);
 
 /* Reads a drawing, BPMN 2.0 XML, into the table: 1, 20, 21, 3 or 4 (10 for a wrong length of the table), and the table stays; else 0, and every word of it
    is the model's. */
-cv_reading cv_draw(const uint8_t *text, size_t length, uint16_t *table, size_t table_words);
+cv_reading cv_draw(const uint8_t *text, size_t length, uint32_t *table, size_t table_words);
 
 /* Writes a table's text, one line: 10, or 5 where the buffer is shorter than it, and the buffer stays; else 0 and its length, at most CV_TEXT_MOST. */
-cv_written cv_write(const uint16_t *table, size_t table_words, uint8_t *buffer, size_t length);
+cv_written cv_write(const uint32_t *table, size_t table_words, uint8_t *buffer, size_t length);
 
 /* A whole poll: takes up to CV_ITEMS named steps and posts one by one until the first refusal. 22 where count is above CV_ITEMS, then 10, with no items too, and nothing is
    done; else the accepted ones stay, the refused one changes nothing, and those behind it are not looked at. Table and state are checked once.
    items_words is CV_POLL_WORDS. */
-cv_polled cv_poll(const uint16_t *table, size_t table_words, uint16_t *state, size_t state_words, const uint16_t *items, size_t items_words, size_t count);
+cv_polled cv_poll(const uint32_t *table, size_t table_words, uint32_t *state, size_t state_words, const uint32_t *items, size_t items_words, size_t count);
 
 #ifdef __cplusplus
 }

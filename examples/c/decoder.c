@@ -8,14 +8,14 @@ static const char model[] =
     "miPool(1,startRcv(0:<?d0,?d1>,1)|taskSnd(1,1,a,true,{d2:=d1+40},1:<d0,d2>,2)|interRcv(2,2:<d0,?d3>,3)|"
     "xorSplit(3,{(4,d3=1),(5,default)})|interSnd(4,3:<d0,d2>,6)|interSnd(5,4:<d0>,7)|xorJoin({6,7},8)|end(8),4)";
 
-static uint16_t table[CV_TABLE_WORDS], state[CV_STATE_WORDS];
+static uint32_t table[CV_TABLE_WORDS], state[CV_STATE_WORDS];
 
 #define TABLE table, CV_TABLE_WORDS
 #define STATE state, CV_STATE_WORDS
 
-struct arrival { uint16_t name; cv_tuple values; };
+struct arrival { uint32_t name; cv_tuple values; };
 
-static void print_message(const char *word, uint16_t name, cv_tuple m) {
+static void print_message(const char *word, uint32_t name, cv_tuple m) {
     printf("%s %u:", word, name);
     for (unsigned k = 0; k < m.length; k++) printf(k ? ",%u" : "%u", m.values[k]);
     putchar('\n');
@@ -24,7 +24,7 @@ static void print_message(const char *word, uint16_t name, cv_tuple m) {
 static unsigned post(const struct arrival *arrivals, size_t n) {
     for (size_t k = 0; k < n; k++) {
         print_message("arrived", arrivals[k].name, arrivals[k].values);
-        uint16_t number = cv_post(TABLE, STATE, arrivals[k].name, arrivals[k].values);
+        uint32_t number = cv_post(TABLE, STATE, arrivals[k].name, arrivals[k].values);
         if (number) return number;
     }
     return CV_ACCEPTED;
@@ -50,7 +50,7 @@ static unsigned decode(const struct arrival *arrivals, size_t n) {
 }
 
 int main(void) {
-    static const struct arrival requests[] = {{0, {2, {17, 2}}}, {0, {2, {17, 2}}}}, answers[] = {{2, {2, {17, 1}}}, {2, {2, {17, 0}}}};
+    static const struct arrival requests[] = {{0, {2, {1234567, 2}}}, {0, {2, {1234567, 2}}}}, answers[] = {{2, {2, {1234567, 1}}}, {2, {2, {1234567, 0}}}};
     cv_reading read = cv_read((const uint8_t *)model, strlen(model), TABLE);
     if (read.number) return printf("refused %u at %zu\n", read.number, read.beside), 1;
     unsigned number = cv_fresh(TABLE, STATE);

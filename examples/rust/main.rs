@@ -4,60 +4,60 @@
 mod c {
     pub const TABLE_WORDS: usize = 33549;
     pub const STATE_WORDS: usize = 12308;
-    pub const NOT_LISTED: u16 = 6;
-    pub const CONSUMED: u16 = 1;
-    pub const SENT: u16 = 2;
+    pub const NOT_LISTED: u32 = 6;
+    pub const CONSUMED: u32 = 1;
+    pub const SENT: u32 = 2;
 
     #[repr(C)]
     #[derive(Clone, Copy)]
     pub struct Tuple {
-        pub length: u16,
-        pub values: [u16; 4],
+        pub length: u32,
+        pub values: [u32; 4],
     }
 
     #[repr(C)]
     #[derive(Clone, Copy)]
     pub struct Name {
-        pub pool: u16,
-        pub instance: u16,
-        pub element: u16,
-        pub phase: u16,
-        pub branch: u16,
+        pub pool: u32,
+        pub instance: u32,
+        pub element: u32,
+        pub phase: u32,
+        pub branch: u32,
         pub given: Tuple,
     }
 
     #[repr(C)]
     pub struct Answer {
-        pub number: u16,
-        pub traffic: u16,
-        pub name: u16,
+        pub number: u32,
+        pub traffic: u32,
+        pub name: u32,
         pub tuple: Tuple,
     }
 
     #[repr(C)]
     pub struct Listed {
-        pub number: u16,
+        pub number: u32,
         pub name: Name,
     }
 
     #[repr(C)]
     pub struct Reading {
-        pub number: u16,
+        pub number: u32,
         pub beside: usize,
     }
 
     #[link(name = "cuttingvale", kind = "static")]
     extern "C" {
-        pub fn cv_read(text: *const u8, length: usize, table: *mut u16, table_words: usize) -> Reading;
-        pub fn cv_fresh(table: *const u16, table_words: usize, state: *mut u16, state_words: usize) -> u16;
-        pub fn cv_post(table: *const u16, table_words: usize, state: *mut u16, state_words: usize, name: u16, values: Tuple) -> u16;
-        pub fn cv_list(table: *const u16, table_words: usize, state: *const u16, state_words: usize, ordinal: usize) -> Listed;
-        pub fn cv_step(table: *const u16, table_words: usize, state: *mut u16, state_words: usize, name: Name) -> Answer;
+        pub fn cv_read(text: *const u8, length: usize, table: *mut u32, table_words: usize) -> Reading;
+        pub fn cv_fresh(table: *const u32, table_words: usize, state: *mut u32, state_words: usize) -> u32;
+        pub fn cv_post(table: *const u32, table_words: usize, state: *mut u32, state_words: usize, name: u32, values: Tuple) -> u32;
+        pub fn cv_list(table: *const u32, table_words: usize, state: *const u32, state_words: usize, ordinal: usize) -> Listed;
+        pub fn cv_step(table: *const u32, table_words: usize, state: *mut u32, state_words: usize, name: Name) -> Answer;
     }
 }
 
 /// The number of document 01 that a call was refused with, and what stands beside it.
-pub struct Refused(u16, usize);
+pub struct Refused(u32, usize);
 
 impl std::fmt::Debug for Refused {
     fn fmt(&self, f: &mut std::fmt::Formatter) -> std::fmt::Result {
@@ -66,8 +66,8 @@ impl std::fmt::Debug for Refused {
 }
 
 struct Message {
-    name: u16,
-    values: Vec<u16>,
+    name: u32,
+    values: Vec<u32>,
 }
 
 enum Traffic {
@@ -78,11 +78,11 @@ enum Traffic {
 
 /// A model and its state: the blocks are lent to each call, whole, and to one call at a time.
 struct Engine {
-    table: Vec<u16>,
-    state: Vec<u16>,
+    table: Vec<u32>,
+    state: Vec<u32>,
 }
 
-fn accepted(number: u16) -> Result<(), Refused> {
+fn accepted(number: u32) -> Result<(), Refused> {
     if number == 0 { Ok(()) } else { Err(Refused(number, 0)) }
 }
 
@@ -97,13 +97,13 @@ impl Engine {
         Ok(e)
     }
 
-    fn instances(&self, pool: usize) -> u16 {
+    fn instances(&self, pool: usize) -> u32 {
         self.state[pool]
     }
 
     /// More than four values are refused with 19, as the engine does.
-    fn post(&mut self, name: u16, values: &[u16]) -> Result<(), Refused> {
-        let mut tuple = c::Tuple { length: values.len().min(u16::MAX as usize) as u16, values: [0; 4] };
+    fn post(&mut self, name: u32, values: &[u32]) -> Result<(), Refused> {
+        let mut tuple = c::Tuple { length: values.len().min(u32::MAX as usize) as u32, values: [0; 4] };
         for (place, value) in tuple.values.iter_mut().zip(values) {
             *place = *value;
         }
@@ -134,13 +134,13 @@ impl Engine {
 const MODEL: &str = "miPool(1,startRcv(0:<?d0,?d1>,1)|taskSnd(1,1,a,true,{d2:=d1+40},1:<d0,d2>,2)|interRcv(2,2:<d0,?d3>,3)|\
                      xorSplit(3,{(4,d3=1),(5,default)})|interSnd(4,3:<d0,d2>,6)|interSnd(5,4:<d0>,7)|xorJoin({6,7},8)|end(8),4)";
 
-fn shown(name: u16, values: &[u16]) -> String {
-    let joined: Vec<String> = values.iter().map(u16::to_string).collect();
+fn shown(name: u32, values: &[u32]) -> String {
+    let joined: Vec<String> = values.iter().map(u32::to_string).collect();
     format!("{}:{}", name, joined.join(","))
 }
 
 /// Posts what came in, then takes the first listed step until there is none.
-fn decode(engine: &mut Engine, arrivals: &[(u16, &[u16])]) -> Result<(), Refused> {
+fn decode(engine: &mut Engine, arrivals: &[(u32, &[u32])]) -> Result<(), Refused> {
     for (name, values) in arrivals {
         println!("arrived {}", shown(*name, values));
         engine.post(*name, values)?;
@@ -158,7 +158,7 @@ fn decode(engine: &mut Engine, arrivals: &[(u16, &[u16])]) -> Result<(), Refused
 
 pub fn main() -> Result<(), Refused> {
     let mut engine = Engine::read(MODEL)?;
-    decode(&mut engine, &[(0, &[17, 2]), (0, &[17, 2])])?;
+    decode(&mut engine, &[(0, &[1234567, 2]), (0, &[1234567, 2])])?;
     println!("two equal requests, {} instances", engine.instances(0));
-    decode(&mut engine, &[(2, &[17, 1]), (2, &[17, 0])])
+    decode(&mut engine, &[(2, &[1234567, 1]), (2, &[1234567, 0])])
 }

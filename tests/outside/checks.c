@@ -189,7 +189,7 @@ static bool instance_fits(const word *h, const word *most) {
     for (unsigned d = 0; d < FIELDS; d++) {
         word defined = h[DEFINED + d];
         over |= defined & (word)~1u;
-        over |= h[FIELD_VALUES + d] & (word)(defined ? 0 : GREATEST);
+        over |= h[FIELD_VALUES + d] & (defined ? 0 : GREATEST);
     }
     return over == 0;
 }
@@ -238,7 +238,7 @@ ref_verdict ref_check(const word *t) {
     return (ref_verdict){k ? 4 : 0, k};
 }
 
-uint16_t ref_fresh(const word *t, word *z) {
+word ref_fresh(const word *t, word *z) {
     if (!valid(t)) return 10;
     memset(z, 0, REF_STATE_WORDS * sizeof *z);
     for (unsigned p = 0; p < t[0]; p++) {

@@ -15,7 +15,7 @@
 enum { TEXT_ROOM = REF_TEXT_MOST + 64, DRAWING_ROOM = 80000 };
 
 /* Each library has blocks of its own, which end where no page can be read. */
-struct blocks { uint16_t *table, *state; uint8_t *buffer; };
+struct blocks { word *table, *state; uint8_t *buffer; };
 
 static void *lend(size_t bytes) {
     size_t page = sysconf(_SC_PAGESIZE), room = (bytes + page - 1) / page * page;
@@ -28,7 +28,7 @@ static void *lend(size_t bytes) {
 }
 
 static struct blocks lend_all(void) {
-    return (struct blocks){lend(REF_TABLE_WORDS * sizeof(uint16_t)), lend(REF_STATE_WORDS * sizeof(uint16_t)), lend(TEXT_ROOM)};
+    return (struct blocks){lend(REF_TABLE_WORDS * sizeof(word)), lend(REF_STATE_WORDS * sizeof(word)), lend(TEXT_ROOM)};
 }
 
 static struct blocks ours, theirs;
@@ -50,7 +50,7 @@ static void same(const char *call, const char *what, size_t engine, size_t refer
     if (engine != reference) differ(call, what, (unsigned)engine, (unsigned)reference);
 }
 
-static void same_words(const char *call, const char *what, const uint16_t *a, const uint16_t *b, size_t n) {
+static void same_words(const char *call, const char *what, const word *a, const word *b, size_t n) {
     if (memcmp(a, b, n * sizeof *a) == 0) return;
     for (size_t k = 0; k < n; k++)
         if (a[k] != b[k]) {
@@ -70,11 +70,7 @@ static void same_tuple(const char *call, cv_tuple a, ref_tuple b) {
     for (unsigned j = 0; j < VALUES; j++) same(call, "value", a.values[j], b.values[j]);
 }
 
-static cv_tuple as_ours(ref_tuple g) {
-    cv_tuple c;
-    memcpy(&c, &g, sizeof c);
-    return c;
-}
+static cv_tuple as_ours(ref_tuple g) { return (cv_tuple){g.length, {g.values[0], g.values[1], g.values[2], g.values[3]}}; }
 
 static void same_name(const char *call, cv_name a, ref_name b) {
     same(call, "pool", a.pool, b.pool);
@@ -86,15 +82,19 @@ static void same_name(const char *call, cv_name a, ref_name b) {
 }
 
 /* the items of a poll, with 0 where a post has no use for a word */
-static uint16_t items[CV_POLL_WORDS];
+static word items[CV_POLL_WORDS];
 static unsigned polled[32];
 
 #define TABLE ours.table, CV_TABLE_WORDS
 #define STATE ours.state, CV_STATE_WORDS
 
+/* the text, where it ends at a page that cannot be read */
+static const uint8_t *lent(void) { return memcpy(lent_text + DRAWING_ROOM - text_length, text, text_length); }
+
 static unsigned read_both(void) {
-    cv_reading a = cv_read((const uint8_t *)text, text_length, TABLE);
-    ref_reading b = ref_read((const uint8_t *)text, text_length, theirs.table);
+    const uint8_t *lent_here = lent();
+    cv_reading a = cv_read(lent_here, text_length, TABLE);
+    ref_reading b = ref_read(lent_here, text_length, theirs.table);
     same("read", "number", a.number, b.number);
     same("read", "beside", a.beside, b.beside);
     same_blocks("read");
@@ -103,22 +103,21 @@ static unsigned read_both(void) {
 
 /* The number due is the generator's; what was drawn is also what its text gives. */
 static void draw_both(int due) {
-    static uint16_t table[REF_TABLE_WORDS];
+    static word table[REF_TABLE_WORDS];
     static uint8_t written[REF_TEXT_MOST];
-    uint8_t *lent = lent_text + DRAWING_ROOM - text_length;
-    memcpy(lent, text, text_length);
-    ref_reading b = ref_draw(lent, text_length, theirs.table);
+    const uint8_t *lent_here = lent();
+    ref_reading b = ref_draw(lent_here, text_length, theirs.table);
     given[b.number]++;
-    if (due >= 0 && due != b.number) {
+    if (due >= 0 && (unsigned)due != b.number) {
         printf("the generator counts on %d\n", due);
         differ("draw", "number", due, b.number);
     }
 #ifdef DRAWINGS
-    cv_reading a = cv_draw(lent, text_length, TABLE);
+    cv_reading a = cv_draw(lent_here, text_length, TABLE);
     same("draw", "number", a.number, b.number);
     same("draw", "beside", a.beside, b.beside);
 #else
-    if (!b.number) memcpy(ours.table, theirs.table, REF_TABLE_WORDS * sizeof(uint16_t));
+    if (!b.number) memcpy(ours.table, theirs.table, REF_TABLE_WORDS * sizeof(word));
 #endif
     same_blocks("draw");
     if (b.number) return;
@@ -142,9 +141,7 @@ static void fresh_both(void) {
 }
 
 static void step_both(ref_name n) {
-    cv_name m;
-    memcpy(&m, &n, sizeof m);
-    cv_answer a = cv_step(TABLE, STATE, m);
+    cv_answer a = cv_step(TABLE, STATE, (cv_name){n.pool, n.instance, n.element, n.phase, n.branch, as_ours(n.given)});
     ref_answer b = ref_step(theirs.table, theirs.state, n);
     same("step", "number", a.number, b.number);
     same("step", "traffic", a.traffic, b.traffic);
@@ -191,7 +188,7 @@ static void write_both(size_t length) {
 
 /* A wrong length or no block at all is 10, no text and no buffer are short ones, and nothing is touched. */
 static void wrong_lengths(struct random *r) {
-    size_t n = draw(r, 70000);
+    size_t n = draw(r, 140000);
     cv_name name = {0};
     cv_tuple none = {0};
     if (n == CV_TABLE_WORDS || n == CV_STATE_WORDS) return;
@@ -220,19 +217,23 @@ static void wrong_lengths(struct random *r) {
     same_blocks("a call with a wrong length or none");
 }
 
-/* The same word of both, changed: mostly to a small number, or by one bit, at a place that is in use. */
-static void damage(struct random *r, uint16_t *a, uint16_t *b, size_t n) {
-    size_t at = draw(r, n);
-    for (unsigned k = 0; k < 30 && !a[at]; k++) at = draw(r, n);
-    if (chance(r, 30)) at = draw(r, n);
-    uint16_t v = chance(r, 60) ? draw(r, 20) : chance(r, 50) ? a[at] ^ (1u << draw(r, 16)) : draw(r, 65536);
+/* The same word of both, one of n from a place on, changed: mostly to a small number, or by one bit, at a place that is in use. */
+static void damage(struct random *r, word *a, word *b, size_t n, size_t from) {
+    size_t at = from + draw(r, n);
+    for (unsigned k = 0; k < 30 && !a[at]; k++) at = from + draw(r, n);
+    if (chance(r, 30)) at = from + draw(r, n);
+    word v = chance(r, 60) ? draw(r, 20) : chance(r, 50) ? a[at] ^ (1u << draw(r, 32)) : chance(r, 50) ? some_end(r) : any_word(r);
     a[at] = b[at] = v;
 }
 
 static void damage_both(struct random *r, bool table) {
     for (unsigned k = 1 + draw(r, 2); k; k--) {
-        if (table) damage(r, ours.table, theirs.table, REF_TABLE_WORDS);
-        else damage(r, ours.state, theirs.state, REF_STATE_WORDS);
+        bool anywhere = chance(r, 40);
+        unsigned p = draw(r, 2), i = draw(r, 2), e = draw(r, 4);
+        if (table && anywhere) damage(r, ours.table, theirs.table, REF_TABLE_WORDS, 0);
+        else if (table) damage(r, ours.table, theirs.table, ELEMENT_WORDS, element_at(pool_at(ours.table, p), e) - ours.table);
+        else if (anywhere) damage(r, ours.state, theirs.state, REF_STATE_WORDS, 0);
+        else damage(r, ours.state, theirs.state, INSTANCE_WORDS, instance_at(ours.state, p, i) - ours.state);
     }
 }
 
@@ -240,10 +241,10 @@ static void damage_both(struct random *r, bool table) {
 static void fill_up(struct random *r) {
     for (unsigned p = 0; p < ours.table[0]; p++)
         for (unsigned i = 0; i < ours.state[p]; i++) {
-            const uint16_t *pool = pool_at(ours.table, p);
-            uint16_t *h = instance_at(ours.state, p, i);
+            const word *pool = pool_at(ours.table, p);
+            word *h = instance_at(ours.state, p, i);
             for (unsigned e = 0; e < pool[POOL_COUNT]; e++) {
-                const uint16_t *el = element_at(pool, e);
+                const word *el = element_at(pool, e);
                 for (unsigned j = 0; j < el[ENTRIES]; j++)
                     if (chance(r, 40)) h[el[ENTRIES + 1 + j] - 1] = chance(r, 50) ? 1 : 254 + draw(r, 2);
                 if (el[MODE] < NA_C) continue;
@@ -251,44 +252,55 @@ static void fill_up(struct random *r) {
                 if (el[KIND] != TASK && chance(r, 40)) h[READY + el[TASK_NUMBER] - 1] = chance(r, 50) ? 1 : 254 + draw(r, 2);
             }
             for (unsigned d = 0; d < 4; d++)
-                if (chance(r, 50)) h[DEFINED + d] = 1, h[FIELD_VALUES + d] = draw(r, 4);
+                if (chance(r, 50)) h[DEFINED + d] = 1, h[FIELD_VALUES + d] = chance(r, 90) ? draw(r, 4) : some_end(r);
         }
     for (unsigned m = 0; m < NAMES; m++) {
         if (!chance(r, 30)) continue;
-        uint16_t *q = queue_at(ours.state, m);
+        word *q = queue_at(ours.state, m);
         for (unsigned k = q[0], n = 62 + draw(r, 3); k < n; k++) {
             q[0] = k + 1;
-            q[1 + SLOT_WORDS * k] = draw(r, 3);
-            for (unsigned j = 0; j < q[1 + SLOT_WORDS * k]; j++) q[2 + SLOT_WORDS * k + j] = draw(r, 4);
+            q[1 + SLOT_WORDS * k] = draw(r, 5);
+            for (unsigned j = 0; j < q[1 + SLOT_WORDS * k]; j++) q[2 + SLOT_WORDS * k + j] = chance(r, 90) ? draw(r, 3) : some_end(r);
         }
     }
-    memcpy(theirs.state, ours.state, REF_STATE_WORDS * sizeof(uint16_t));
+    memcpy(theirs.state, ours.state, REF_STATE_WORDS * sizeof(word));
+}
+
+/* A queued message but for one value, or for its upper half alone. */
+static void nearly_queued(struct random *r, unsigned name, ref_tuple *g) {
+    const word *q = queue_at(theirs.state, name);
+    if (q[0] < 1 || q[0] > MESSAGES) return;
+    memcpy(g, q + 1 + SLOT_WORDS * draw(r, q[0]), sizeof *g);
+    if (g->length < 1 || g->length > VALUES) return;
+    word *v = &g->values[draw(r, g->length)];
+    *v = chance(r, 50) ? *v ^ 1u << (16 + draw(r, 16)) : draw(r, 4);
 }
 
 /* A message that some template of the model may take. */
 static unsigned likely_post(struct random *r, ref_tuple *g) {
     *g = some_tuple(r);
-    const uint16_t *pool = pool_at(theirs.table, draw(r, POOLS));
-    if (pool[POOL_COUNT] < 1 || pool[POOL_COUNT] > ELEMENTS || chance(r, 10)) return draw(r, chance(r, 90) ? NAMES : 300);
-    const uint16_t *el = element_at(pool, draw(r, pool[POOL_COUNT])), *m = message_at(el, draw(r, 2));
+    const word *pool = pool_at(theirs.table, draw(r, POOLS));
+    if (pool[POOL_COUNT] < 1 || pool[POOL_COUNT] > ELEMENTS || chance(r, 10)) return chance(r, 95) ? draw(r, chance(r, 90) ? NAMES : 300) : 65536 + draw(r, NAMES);
+    const word *el = element_at(pool, draw(r, pool[POOL_COUNT])), *m = message_at(el, draw(r, 2));
     if (g->length <= VALUES && m[1] <= VALUES && chance(r, 80)) g->length = m[1];
+    if (m[0] < NAMES && chance(r, 30)) nearly_queued(r, m[0], g);
     return m[0];
 }
 
 /* The items of a poll; a reference plays along on a state of its own, so that most of them are accepted. */
 static size_t some_items(struct random *r) {
-    static uint16_t state[REF_STATE_WORDS];
+    static word state[REF_STATE_WORDS];
     size_t count = chance(r, 90) ? draw(r, 10) : chance(r, 50) ? CV_ITEMS : CV_ITEMS + 1 + draw(r, 70000);
     memcpy(state, theirs.state, sizeof state);
     for (size_t k = 0; k < CV_ITEMS; k++) {
-        uint16_t *w = items + CV_ITEM_WORDS * k;
+        word *w = items + CV_ITEM_WORDS * k;
         ref_tuple g;
-        for (unsigned j = 0; j < CV_ITEM_WORDS; j++) w[j] = chance(r, 50) ? 0 : draw(r, 65536);
+        for (unsigned j = 0; j < CV_ITEM_WORDS; j++) w[j] = chance(r, 50) ? 0 : any_word(r);
         if (k >= count) continue;
         if (chance(r, 50)) w[0] = 1, w[1] = likely_post(r, &g);
         else {
             ref_name n = some_name(r, theirs.table, state);
-            uint16_t words[] = {chance(r, 90) ? 0 : 2 + draw(r, 65534), n.pool, n.instance, n.element, n.phase, n.branch};
+            word words[] = {chance(r, 90) ? 0 : chance(r, 50) ? 65537 : 2 + draw(r, 65534), n.pool, n.instance, n.element, n.phase, n.branch};
             memcpy(w, words, sizeof words);
             g = n.given;
         }
@@ -322,9 +334,19 @@ static void one_call(struct random *r) {
     else wrong_lengths(r);
 }
 
+/* blanks up to about the longest text, or what was the longest at 16 bits */
+static size_t lengthened(struct random *r, size_t n) {
+    size_t end = (chance(r, 70) ? REF_TEXT_MOST : REF_TEXT_MOST / 2) - 1 + draw(r, 4), at = chance(r, 50) ? n : draw(r, n + 1);
+    if (end < n) return n;
+    memmove(text + at + end - n, text + at, n - at);
+    memset(text + at, ' ', end - n);
+    return end;
+}
+
 static void compare_case(struct random *r) {
     text_length = model_text(r, text);
     if (chance(r, 25)) text_length = spoiled_text(r, text, text_length);
+    if (chance(r, 3)) text_length = lengthened(r, text_length);
     if (read_both()) return;
     fresh_both();
     if (chance(r, 40)) fill_up(r);
@@ -333,7 +355,7 @@ static void compare_case(struct random *r) {
         if (chance(r, 6)) fill_up(r);
         if (!chance(r, 4)) continue;
         /* damaged, used, and put right again */
-        static uint16_t table[REF_TABLE_WORDS], state[REF_STATE_WORDS];
+        static word table[REF_TABLE_WORDS], state[REF_STATE_WORDS];
         memcpy(table, ours.table, sizeof table);
         memcpy(state, ours.state, sizeof state);
         damage_both(r, chance(r, 50));
@@ -405,7 +427,7 @@ static void print_tuple(ref_tuple g) {
     putchar('\n');
 }
 
-static void print_batch(const uint16_t *w, size_t count) {
+static void print_batch(const word *w, size_t count) {
     printf(count ? "batch " : "batch\n");
     for (size_t k = 0; k < count; k++, w += CV_ITEM_WORDS) {
         ref_tuple g;
@@ -419,7 +441,7 @@ static void print_batch(const uint16_t *w, size_t count) {
 
 /* A line for the consoles; the reference plays along, so that most steps named are accepted ones. */
 static void session_line(struct random *r) {
-    static uint16_t extra[CV_POLL_WORDS + CV_ITEM_WORDS];
+    static word extra[CV_POLL_WORDS + CV_ITEM_WORDS];
     unsigned which = draw(r, 100), name;
     ref_tuple g;
     if (which < 45) {

@@ -18,17 +18,20 @@ struct text { const char *s; size_t n; };
 
 static bool is(struct text w, const char *s) { return w.n == strlen(s) && memcmp(w.s, s, w.n) == 0; }
 
-/* a number 0 to 65,535 without leading zeros */
-static bool number_of(struct text w, word *out) {
-    unsigned v = 0;
-    if (w.n == 0 || w.n > 5 || (w.n > 1 && w.s[0] == '0')) return false;
+/* a number 0 to most without leading zeros */
+static bool up_to(struct text w, word most, word *out) {
+    uint64_t v = 0;
+    if (w.n == 0 || w.n > 10 || (w.n > 1 && w.s[0] == '0')) return false;
     for (size_t i = 0; i < w.n; i++) {
         if (w.s[i] < '0' || w.s[i] > '9') return false;
         v = v * 10 + (w.s[i] - '0');
     }
     *out = v;
-    return v <= GREATEST;
+    return v <= most;
 }
+
+static bool number_of(struct text w, word *out) { return up_to(w, NUMBER_MOST, out); }
+static bool value_of(struct text w, word *out) { return up_to(w, GREATEST, out); }
 
 /* `-`, or values joined by commas: the first four are kept, all are counted */
 static bool tuple_of(struct text w, ref_tuple *g) {
@@ -38,9 +41,9 @@ static bool tuple_of(struct text w, ref_tuple *g) {
         size_t to = from;
         word v;
         while (to < w.n && w.s[to] != ',') to++;
-        if (!number_of((struct text){w.s + from, to - from}, &v)) return false;
+        if (!value_of((struct text){w.s + from, to - from}, &v)) return false;
         if (g->length < VALUES) g->values[g->length] = v;
-        if (g->length < GREATEST) g->length++;
+        g->length++;
         if (to == w.n) return true;
         from = to;
     }
@@ -64,7 +67,7 @@ static void print_place(const ref_name *n) { printf("%u %u %u %u %u ", n->pool, 
 
 static void print_done(unsigned number) { number ? printf("refused %u\n", number) : printf("ok\n"); }
 
-static void do_run(word limit) {
+static void do_run(uint16_t limit) {
     static word before[REF_STATE_WORDS];
     memcpy(before, state, sizeof state);
     ref_ran r = ref_run(table, state, limit);
@@ -129,7 +132,7 @@ static void do_read(const char *text, size_t n, bool drawing) {
 }
 
 static void do_write(size_t room) {
-    static uint8_t text[GREATEST];
+    static uint8_t text[NUMBER_MOST];
     ref_written w = ref_write(table, text, room);
     if (w.number) print_done(w.number);
     fwrite(text, 1, w.length, stdout);
@@ -159,7 +162,7 @@ static void do_again(void) {
 /* word I of a block becomes V */
 static bool set_word(struct text *w, word *block, unsigned words, bool lent) {
     word v[2];
-    if (!number_of(w[1], &v[0]) || !number_of(w[2], &v[1]) || v[0] >= words) return false;
+    if (!number_of(w[1], &v[0]) || !value_of(w[2], &v[1]) || v[0] >= words) return false;
     if (!lent) return true;
     block[v[0]] = v[1];
     return puts("ok"), true;
@@ -230,7 +233,7 @@ static int command(struct text *w, unsigned n) {
         if (!number_of(w[1], v)) return 0;
         if (loaded) do_run(v[0]);
     } else if (n == 1 && is(w[0], "write")) {
-        if (loaded) do_write(GREATEST);
+        if (loaded) do_write(NUMBER_MOST);
     } else if (n == 2 && is(w[0], "write")) {
         if (!number_of(w[1], v)) return 0;
         if (loaded) do_write(v[0]);
@@ -291,10 +294,10 @@ static void do_line(const char *s, size_t n) {
 
 /* one drawing, whole: ok and its text, or what it is refused with */
 static int one_drawing(void) {
-    static char text[GREATEST + 16];
+    static char text[65536 + 16];
     size_t n = fread(text, 1, sizeof text, stdin);
     do_read(text, n, true);
-    if (loaded) do_write(GREATEST);
+    if (loaded) do_write(NUMBER_MOST);
     return 0;
 }
 

@@ -224,14 +224,14 @@ static bool value_at(struct walk *w, size_t at, struct span *value) {
     return true;
 }
 
-/* digits without a leading zero: above 65,535 as 65,536; -1 where they are none */
+/* digits without a leading zero: above the most instances as one above them; -1 where they are none */
 static int32_t numeral(const struct walk *w, struct span x) {
     int32_t v = 0;
     if (x.from == x.to || (w->s[x.from] == '0' && x.to - x.from > 1)) return -1;
     for (size_t k = x.from; k < x.to; k++) {
         if (!is_digit(w->s[k])) return -1;
         v = v * 10 + w->s[k] - '0';
-        if (v > GREATEST) v = GREATEST + 1;
+        if (v > INSTANCES) v = INSTANCES + 1;
     }
     return v;
 }

@@ -11,6 +11,13 @@ uint32_t draw(struct random *r, uint32_t below) {
 
 bool chance(struct random *r, unsigned percent) { return draw(r, 100) < percent; }
 
+word any_word(struct random *r) { return draw(r, 65536) << 16 | draw(r, 65536); }
+
+word some_end(struct random *r) {
+    static const word ends[] = {4294967295, 4294967294, 65535, 65536, 65534, 2147483648, 2147483647, 255, 1234567};
+    return chance(r, 60) ? ends[draw(r, sizeof ends / sizeof *ends)] : (1 + draw(r, 65535)) << 16 | draw(r, 4);
+}
+
 /* A pool under construction: edges still to be taken, edges still to be put, numbers still free. */
 struct draft {
     struct random *r;
@@ -37,19 +44,28 @@ static unsigned exit_edge(struct draft *d) {
     return d->open[d->opens++] = new_edge(d);
 }
 
-static unsigned small_value(struct draft *d) {
-    static const unsigned ends[] = {65535, 65534, 32768, 255};
-    return chance(d->r, 5) ? ends[draw(d->r, 4)] : draw(d->r, 4);
-}
+static word some_value(struct draft *d) { return chance(d->r, 8) ? some_end(d->r) : draw(d->r, 4); }
 
 static unsigned some_field(struct draft *d) { return chance(d->r, 5) ? draw(d->r, FIELDS) : draw(d->r, 4); }
 
 static void operand(struct draft *d) {
-    if (chance(d->r, 50)) print_number(d, small_value(d));
+    if (chance(d->r, 50)) print_number(d, some_value(d));
     else print(d, "d"), print_number(d, some_field(d));
 }
 
+/* sums and differences at the ends */
+static void sum(struct draft *d) {
+    static const char *const sums[] = {"4294967295+0", "4294967295+1", "1+4294967295", "4294967294+1", "2147483648+2147483648", "4294967295+4294967295", "65535+1", "65535+65535",
+                                       "65536-1", "0-1", "65536-65537", "4294967295-4294967295", "4294967294-4294967295", "d0+4294967295", "d1+65535", "d0+65536",
+                                       "d1-65536", "65536-d0", "4294967295-d1", "d2+4294967294"};
+    print(d, sums[draw(d->r, sizeof sums / sizeof *sums)]);
+}
+
 static void expression(struct draft *d) {
+    if (chance(d->r, 3)) {
+        sum(d);
+        return;
+    }
     operand(d);
     if (chance(d->r, 25)) print(d, chance(d->r, 50) ? "+" : "-"), operand(d);
 }
@@ -76,13 +92,15 @@ static unsigned send_name(struct draft *d) {
 }
 
 static void message(struct draft *d, bool receives) {
-    unsigned n = draw(d->r, chance(d->r, 80) ? 3 : 5), bound = 0;
+    unsigned n = draw(d->r, chance(d->r, 65) ? 3 : 5), bound = 0;
     print_number(d, receives ? receive_name(d) : send_name(d));
     print(d, ":<");
     for (unsigned j = 0; j < n; j++) {
         unsigned f = some_field(d);
         if (j) print(d, ",");
-        if (receives && chance(d->r, 60) && !(bound >> f & 1)) {
+        /* a long template binds most of its items, so that messages meet it */
+        while (n > 2 && bound >> f & 1) f = (f + 1) % FIELDS;
+        if (receives && chance(d->r, n > 2 ? 85 : 60) && !(bound >> f & 1)) {
             bound |= 1u << f;
             print(d, "?d"), print_number(d, f);
         } else expression(d);
@@ -227,7 +245,8 @@ size_t model_text(struct random *r, char *text) {
 }
 
 size_t spoiled_text(struct random *r, char *text, size_t n) {
-    static const char *const pieces[] = {"0", "d16", "d01", "49", "65536", "65535", "default", "true", ",", ")", "(", "}", "{", "|", "?", "<", ">", ":", ":=", "=", "+", "-", " ",
+    static const char *const pieces[] = {"0", "d16", "d01", "49", "65536", "65535", "4294967294", "4294967295", "4294967296", "4294967297", "42949672950", "18446744073709551616",
+                                         "18446744073709551617", "d4294967295", "d4294967296", "d65536", "65537", "04294967295", "default", "true", ",", ")", "(", "}", "{", "|", "?", "<", ">", ":", ":=", "=", "+", "-", " ",
                                          "\t", "\n", "\r", "start", "startRcv", "pool", "miPool", "na_c", "a", "end(1)", "17", "16", "99999999999999999999", "_", "1"};
     for (unsigned k = 1 + draw(r, 3); k && n; k--) {
         size_t at = draw(r, n), end = at;
@@ -259,11 +278,11 @@ size_t spoiled_text(struct random *r, char *text, size_t n) {
 ref_tuple some_tuple(struct random *r) {
     ref_tuple g = {.length = chance(r, 95) ? draw(r, 5) : draw(r, 9)};
     if (chance(r, 60)) g.length = draw(r, 3);
-    for (unsigned j = 0; j < VALUES; j++) g.values[j] = chance(r, 90) ? draw(r, 4) : draw(r, 65536);
+    for (unsigned j = 0; j < VALUES; j++) g.values[j] = chance(r, 90) ? draw(r, 4) : chance(r, 70) ? some_end(r) : any_word(r);
     return g;
 }
 
-ref_name some_name(struct random *r, const uint16_t *table, const uint16_t *state) {
+ref_name some_name(struct random *r, const word *table, const word *state) {
     if (chance(r, 70)) {
         ref_listed l = ref_list(table, state, draw(r, chance(r, 70) ? 3 : 20));
         if (l.number == 6) l = ref_list(table, state, 0);
@@ -274,17 +293,17 @@ ref_name some_name(struct random *r, const uint16_t *table, const uint16_t *stat
         }
     }
     unsigned pools = table[0] >= 1 && table[0] <= POOLS ? table[0] : POOLS, p = draw(r, pools);
-    const uint16_t *pool = pool_at(table, p);
+    const word *pool = pool_at(table, p);
     unsigned count = pool[POOL_COUNT] >= 1 && pool[POOL_COUNT] <= ELEMENTS ? pool[POOL_COUNT] : ELEMENTS, made = state[p];
     ref_name n = {.pool = pool[0], .element = draw(r, count)};
-    const uint16_t *el = element_at(pool, n.element);
+    const word *el = element_at(pool, n.element);
     n.instance = el[KIND] == START_RCV ? made : made ? draw(r, made) : 0;
     n.phase = el[MODE] >= NA_C ? 1 + draw(r, 3) : 0;
     unsigned branches = el[KIND] == XOR_JOIN ? el[ENTRIES] : el[KIND] == EVENT_BASED || el[KIND] == XOR_SPLIT ? el[EXITS] : 1;
     n.branch = draw(r, branches ? branches : 1);
     if (chance(r, 60)) n.given = some_tuple(r);
     if (el[KIND] != 0 && kinds[el[KIND] % KINDS].receives && chance(r, 50)) { /* one that is queued */
-        const uint16_t *q = queue_at((uint16_t *)state, message_at(el, n.branch % BRANCHES)[0] % NAMES);
+        const word *q = queue_at((word *)state, message_at(el, n.branch % BRANCHES)[0] % NAMES);
         if (q[0] >= 1 && q[0] <= MESSAGES) memcpy(&n.given, q + 1 + SLOT_WORDS * draw(r, q[0]), sizeof n.given);
     } else if (chance(r, 60)) n.given.length = 0;
     /* now and then something that is not there */
@@ -293,5 +312,6 @@ ref_name some_name(struct random *r, const uint16_t *table, const uint16_t *stat
     if (chance(r, 3)) n.element = draw(r, 40);
     if (chance(r, 3)) n.phase = draw(r, 5);
     if (chance(r, 3)) n.branch = draw(r, 9);
+    if (chance(r, 3)) *(word *[]){&n.pool, &n.instance, &n.element, &n.phase, &n.branch}[draw(r, 5)] += 65536;
     return n;
 }

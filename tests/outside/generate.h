@@ -8,6 +8,9 @@ struct random { uint64_t seed; };
 
 uint32_t draw(struct random *r, uint32_t below);
 bool chance(struct random *r, unsigned percent);
+/* a value near the ends of 8, 16 and 32 bits, or one that is small in its lower 16 bits alone */
+word some_end(struct random *r);
+word any_word(struct random *r);
 
 /* a model's text: mostly one that passes every check; returns its length, at most REF_TEXT_MOST */
 size_t model_text(struct random *r, char *text);
@@ -20,6 +23,6 @@ const char *worst_text(unsigned which, char *text, size_t *length);
 /* values that a template is likely to meet */
 ref_tuple some_tuple(struct random *r);
 /* the name of a step: an accepted one where there is one and chance wants it, else any */
-ref_name some_name(struct random *r, const uint16_t *table, const uint16_t *state);
+ref_name some_name(struct random *r, const word *table, const word *state);
 
 #endif

@@ -6,10 +6,14 @@
 #include <stdbool.h>
 #include <string.h>
 
-typedef uint16_t word;
+typedef ref_word word;
 
 enum { POOLS = 4, ELEMENTS = 32, BRANCHES = 8, FEWEST = 2, EDGES = 48, TASKS = 16, NAMES = 16, INSTANCES = 16, FIELDS = 16, VALUES = 4, ASSIGNMENTS = 4,
-       MESSAGES = 64, COUNT_MOST = 255, GREATEST = 65535 };
+       MESSAGES = 64, COUNT_MOST = 255 };
+
+/* the greatest value, and the greatest number that is none: of a step, of a run's limit */
+#define GREATEST 4294967295u
+#define NUMBER_MOST 65535u
 
 /* An expression, item or condition: form, then two operands of two words each: 0 and a number, or 1 and a field. */
 enum { EXPRESSION_WORDS = 5, LEFT = 1, RIGHT = 3 };
@@ -49,21 +53,20 @@ static inline word *instance_at(word *z, unsigned p, unsigned i) { return z + PO
 static inline word *queue_at(word *z, unsigned m) { return z + QUEUES + QUEUE_WORDS * m; }
 static inline unsigned used(unsigned column, unsigned n) { return column == MANY ? n : column; }
 
-static inline uint64_t four(const word *x) {
+static inline uint64_t two(const word *x) {
     uint64_t v;
     memcpy(&v, x, sizeof v);
     return v;
 }
 
-/* OR over words, four at a time, the last four by themselves: none is other than 0 */
+/* OR over words, two at a time, the last two by themselves: none is other than 0 */
 static inline bool all_zero(const word *x, size_t n) {
     const word *end = x + n;
     uint64_t any = 0;
-    if (n >= 4) {
-        for (; end - x >= 32; x += 32)
-            any |= four(x) | four(x + 4) | four(x + 8) | four(x + 12) | four(x + 16) | four(x + 20) | four(x + 24) | four(x + 28);
-        for (; end - x > 4; x += 4) any |= four(x);
-        any |= four(end - 4);
+    if (n >= 2) {
+        for (; end - x >= 16; x += 16) any |= two(x) | two(x + 2) | two(x + 4) | two(x + 6) | two(x + 8) | two(x + 10) | two(x + 12) | two(x + 14);
+        for (; end - x > 2; x += 2) any |= two(x);
+        any |= two(end - 2);
     } else
         for (; x < end; x++) any |= *x;
     return any == 0;

@@ -36,7 +36,7 @@ static int new_node(struct sketch *k, unsigned process, const char *tag) {
 }
 
 static int new_flow(struct sketch *k, int from, int to) {
-    static const char *const conditions[] = {"true", "d0=1", "d1<d2", " 7 < d15 ", "65535=0", "d3\t=\nd4", "0<1", "", " \n ", "true ", "d10=d11"};
+    static const char *const conditions[] = {"true", "d0=1", "d1<d2", " 7 < d15 ", "65535=0", "65536=0", "d0=4294967295", "4294967294<4294967295", "d3\t=\nd4", "0<1", "", " \n ", "true ", "d10=d11"};
     struct node *a = &k->nodes[from];
     int f = k->flow_count++;
     k->flows[f] = (struct flow){.from = from, .to = to, .process = a->process};
@@ -272,7 +272,7 @@ static int turned_inwards(struct sketch *k) {
 }
 
 static int spoil_pools(struct sketch *k, unsigned which) {
-    static const char *const outside[] = {"0", "17", "65536", "99999999999999999999"};
+    static const char *const outside[] = {"0", "17", "65536", "65537", "4294967297", "18446744073709551617", "99999999999999999999"};
     static const char *const no_number[] = {"01", "x", "", " 1", "1 ", "+1", "&#49;", "-1", "1.0", "00"};
     struct part *q = NULL;
     for (unsigned j = 0; j < k->part_count; j++)
@@ -303,7 +303,7 @@ static struct flow *some_flow(struct sketch *k, bool guarded) {
 }
 
 static int spoil_conditions(struct sketch *k, unsigned which) {
-    static const char *const outside[] = {"d16=1", "1=d99", "65536<d0", "d0<99999999999", "d256=d16"};
+    static const char *const outside[] = {"d16=1", "1=d99", "4294967296<d0", "d0=4294967297", "d0<42949672950", "18446744073709551616=d0", "d65536=1", "d4294967296=0", "d256=d16"};
     static const char *const no_condition[] = {"d0", "d0>1", "1+1=2", "d01=1", "00=1", "default=1", "tru", "True", "d0==1", "d0=1 d1", "1<2<3", "d=1", "\x01" "d0=1",
                                                 "d0=1\x80", "?d0=1"};
     struct flow *f = some_flow(k, which < 3 || which == 5);

@@ -46,13 +46,13 @@ static unsigned branch_count(const word *el, const struct move *m) {
     return m->takes == BRANCH ? el[ENTRIES] : m->puts == BRANCH ? el[EXITS] : 1;
 }
 
-/* A value is 0 to 65,535, or undefined: -1. */
-typedef int32_t value;
+/* A value is 0 to 4,294,967,295, or undefined: -1. Sums are worked out in 64 bits, so that none wraps. */
+typedef int64_t value;
 enum { UNDEFINED = -1 };
 
 static value operand(const word *x, const word *h) {
     if (x[0] == 0) return x[1];
-    return h[DEFINED + x[1]] ? h[FIELD_VALUES + x[1]] : UNDEFINED;
+    return h[DEFINED + x[1]] ? (value)h[FIELD_VALUES + x[1]] : UNDEFINED;
 }
 
 static value expression(const word *x, const word *h) {
@@ -133,7 +133,7 @@ static word *find_message(word *q, const ref_tuple *g) {
     memcpy(values, g->values, g->length * sizeof(word));
     for (unsigned k = 0; k < q[0]; k++) {
         word *slot = q + 1 + SLOT_WORDS * k;
-        if (slot[0] == g->length && four(slot + 1) == four(values)) return slot;
+        if (slot[0] == g->length && two(slot + 1) == two(values) && two(slot + 3) == two(values + 2)) return slot;
     }
     return NULL;
 }
@@ -254,7 +254,7 @@ static word post_on(word *z, word name, ref_tuple g) {
     return 0;
 }
 
-uint16_t ref_post(const word *t, word *z, word name, ref_tuple g) { return fitting(t, z) ? post_on(z, name, g) : 10; }
+word ref_post(const word *t, word *z, word name, ref_tuple g) { return fitting(t, z) ? post_on(z, name, g) : 10; }
 
 /* An element with no token on an entry and no count cannot move. */
 static bool idle(const word *el, const word *h) {
@@ -345,7 +345,7 @@ ref_listed ref_list(const word *t, const word *z, size_t k) {
     return r;
 }
 
-ref_ran ref_run(const word *t, word *z, word limit) {
+ref_ran ref_run(const word *t, word *z, uint16_t limit) {
     if (!fitting(t, z)) return (ref_ran){10, 0, 0};
     for (unsigned steps = 0;; steps++) {
         struct search s = {.t = t, .z = z, .left = 0};

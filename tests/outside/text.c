@@ -58,19 +58,19 @@ static bool at_bytes(const struct reader *r, const char *w, size_t n) { return r
 
 static inline bool at_word(const struct reader *r, const char *w) { return at_bytes(r, w, strlen(w)); }
 
-/* digits from a place of the token on: -1 where they are no number, above 65,535 as 65,536 */
-static int32_t numeral(const struct reader *r, size_t from) {
+/* digits from a place of the token on: -1 where they are no number, above the greatest value as one above it */
+static int64_t numeral(const struct reader *r, size_t from) {
     if (r->form != WORD || from >= r->next || (r->s[from] == '0' && r->next - from > 1)) return -1;
-    int32_t v = 0;
+    int64_t v = 0;
     for (; from < r->next; from++) {
         if (!is_digit(r->s[from])) return -1;
         v = v * 10 + (r->s[from] - '0');
-        if (v > GREATEST + 1) v = GREATEST + 1;
+        if (v > GREATEST) v = GREATEST + INT64_C(1);
     }
     return v;
 }
 
-static bool ranged(struct reader *r, int32_t v, int32_t least, int32_t most, word *out) {
+static bool ranged(struct reader *r, int64_t v, int64_t least, int64_t most, word *out) {
     if (v < 0) return refuse(r, 2);
     if (v < least || v > most) {
         if (!r->unranged) return refuse(r, 3);
@@ -80,7 +80,7 @@ static bool ranged(struct reader *r, int32_t v, int32_t least, int32_t most, wor
     return pass(r);
 }
 
-static bool number(struct reader *r, int32_t least, int32_t most, word *out) { return ranged(r, numeral(r, r->at), least, most, out); }
+static bool number(struct reader *r, int64_t least, int64_t most, word *out) { return ranged(r, numeral(r, r->at), least, most, out); }
 
 static bool at_d(const struct reader *r) { return r->form == WORD && r->s[r->at] == 'd'; }
 
@@ -268,8 +268,8 @@ static uint8_t *put_text(uint8_t *o, const char *w) {
     return o + n;
 }
 
-static uint8_t *put_number(uint8_t *o, unsigned v) {
-    uint8_t digits[5];
+static uint8_t *put_number(uint8_t *o, word v) {
+    uint8_t digits[10];
     unsigned n = 0;
     do digits[n++] = '0' + v % 10;
     while (v /= 10);

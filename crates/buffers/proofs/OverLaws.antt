@@ -199,15 +199,6 @@ from-over p (b ∷ w) out h l =
     let rest = from-over (next p) w (set out p b) (omega (arith, length-set out p b)) (next-within p l) in
     either p (length out) (λ i. inside p b w out rest i (omega arith)) (λ i. beyond p b w out rest i)
 
--- from the start on its place is its length, and it is a text over the buffer
-pub put-length : {w out now : List ℕ} {most r : ℕ} → Put w most 0 out r now → most ≤ lastPlace → r ≡ length w
-put-length {w} h l = h .place ∙ behind-adds 0 w (omega (arith, h .short)) ∙ omega arith
-
-pub put-over : {w out now : List ℕ} {most r : ℕ} → Put w most 0 out r now → length out ≤ lastPlace → most ≤ lastPlace → (r ≡ length w) × (now ≡ over w out) × (r ≤ most)
-put-over {w} {out} {now} {most} {r} h o l =
-    let e : r ≡ length w = put-length h l in
-    (e, h .text ∙ from-over 0 w out o (omega arith), omega (arith, e, h .short))
-
 -- the place behind a text, by its length
 behind-lesser : (p : ℕ) (w : List ℕ) → p ≤ lastPlace → behind p w ≡ lesser (p + length w) lastPlace
 unfolding behind lesser
@@ -216,13 +207,32 @@ behind-lesser p (b ∷ w) h =
     let rest : behind (next p) w ≡ lesser (next p + length w) lastPlace = behind-lesser (next p) w (next-within p h) in
     either p lastPlace (λ l. omega (arith, next-below p l)) (λ l. omega (arith, next-last p l))
 
+-- from the start on its place is its length, and it is a text over the buffer
+pub put-length : {w out now : List ℕ} {most r : ℕ} → Put w most 0 out r now → most ≤ lastPlace → r ≡ length w
+put-length {w} h l = h .place ∙ behind-adds 0 w (omega (arith, h .short)) ∙ omega arith
+
+pub lesser-is : (r n most : ℕ) → r ≡ lesser n lastPlace → n ≤ most → most ≤ lastPlace → r ≡ n
+unfolding lesser
+lesser-is r n most e h l = omega arith
+
+from-start : (w : List ℕ) → behind 0 w ≡ lesser (length w) lastPlace
+from-start w = behind-lesser 0 w (omega arith) ∙ ap (λ n. lesser n lastPlace) (let e : 0 + length w ≡ length w = omega arith in e)
+
+pub put-over : {w out now : List ℕ} {most r : ℕ} → Put w most 0 out r now → length out ≤ lastPlace → (r ≡ lesser (length w) lastPlace) × (now ≡ over w out)
+put-over {w} {out} {now} {most} {r} h o = (h .place ∙ from-start w, h .text ∙ from-over 0 w out o (omega arith))
+
+-- a place as far as there are places, and a text behind it
+twice : (k n : ℕ) → lesser (k + lesser n lastPlace) lastPlace ≡ lesser (k + n) lastPlace
+unfolding lesser
+twice k n = omega arith
+
 -- A writer that is lent the part of the buffer from the place reached, and writes from the part's start on.
-pub lent : {b o m : List ℕ} {most k f n r : ℕ} → f ≡ lesser k (length o) → Put b most 0 (take (length o - f) (drop f o)) n m → r ≡ lesser (k + n) lastPlace → k ≤ lastPlace → length o ≤ lastPlace → most ≤ lastPlace → Put b most k o r (putMid f (length o - f) o m)
-lent {b} {o} {m} {most} {k} {f} {n} {r} e h q k-in o-in l =
+pub lent : {b o m : List ℕ} {most k f n r : ℕ} → f ≡ lesser k (length o) → Put b most 0 (take (length o - f) (drop f o)) n m → r ≡ lesser (k + n) lastPlace → k ≤ lastPlace → length o ≤ lastPlace → Put b most k o r (putMid f (length o - f) o m)
+lent {b} {o} {m} {most} {k} {f} {n} {r} e h q k-in o-in =
     let part : length (take (length o - f) (drop f o)) ≤ lastPlace = omega (arith, ap length (tail-in o f), length-drop f o) in
-    let there = put-over h part l in
+    let there = put-over h part in
     record {
       short = h .short;
-      place = q ∙ ap (λ j. lesser (k + j) lastPlace) (there .0) ∙ sym (behind-lesser k b k-in);
+      place = q ∙ ap (λ j. lesser (k + j) lastPlace) (there .0) ∙ twice k (length b) ∙ sym (behind-lesser k b k-in);
       text = rest-back o k f e b m (there .1) ∙ sym (from-over k b o o-in k-in);
     }

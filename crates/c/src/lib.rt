@@ -17,6 +17,7 @@ use notation::Reading;
 use polling::ITEMS;
 use polling::POLL_WORDS;
 use polling::Polled;
+use running::Steps;
 use state::places::STATE_WORDS;
 use words::Word;
 use words::numbers::BAD;
@@ -175,7 +176,7 @@ pub extern "C" fn cv_run(
     tablelength: usize,
     state: &mut [Word; STATE_WORDS],
     statelength: usize,
-    limit: Word,
+    limit: Steps,
 ) -> Ran
     ensures { λ r. ⌜ record { number = r .number; steps = r .steps; left = r .left; state = now (state .exit) } ≡ ranBy (now (table .entry)) tablelength (now (state .entry)) statelength limit ⌝ }
 {

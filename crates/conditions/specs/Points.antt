@@ -53,7 +53,7 @@ points =
     strange "words are compared whole" "defaults" ∷
     strange "nothing behind them" "true 1" ∷
     within "two operands joined by `=`" "d0=1" plain ∷
-    within "or by `<`" "\t65535 &lt; d15 " (two below (number 65535) (field 15) 0) ∷
+    within "or by `<`" "\t4294967295 &lt; d15 " (two below (number 4294967295) (field 15) 0) ∷
     strange "no other sign" "d0>1" ∷
     strange "no sign" "d0 1" ∷
     strange "`==`" "d0==1" ∷
@@ -70,10 +70,11 @@ points =
     strange "no sign before it" "d0=-1" ∷
     strange "a word is the longest run" "d0=1_" ∷
     within "without ranges: `d16` at its first byte" "d16=1" (two equals nothing (number 1) 3) ∷
-    within "65,536" "d0 = 65536" (two equals (field 0) nothing 8) ∷
-    within "the leftmost" "d99=70000" (two equals nothing nothing 3) ∷
+    within "4,294,967,296" "d0 = 4294967296" (two equals (field 0) nothing 8) ∷
+    within "65,536 is within" "d0 = 65536" (two equals (field 0) (number 65536) 0) ∷
+    within "the leftmost" "d99=7000000000" (two equals nothing nothing 3) ∷
     within "a number of any length" "d0=11111111111111111111111111111111" (two equals (field 0) nothing 6) ∷
-    strange "but in our notation first" "d16=70000 x" ∷
+    strange "but in our notation first" "d16=7000000000 x" ∷
     strange "however long" "d0=1111111111111111111111111111111x" ∷
     within "references together with character data" "d&#48;=&#x31;" plain ∷
     within "CDATA too" "d<![CDATA[0]]>=1" plain ∷

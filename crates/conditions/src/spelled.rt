@@ -147,19 +147,19 @@ fn worth(b: u8) -> u8
 }
 
 // A value above the greatest word grows no more.
-fn grown(v: u32, b: u8) -> u32
+fn grown(v: u64, b: u8) -> u64
     ensures { λ r. ⌜ r ≡ grown v b ⌝ }
 {
-    if v <= GREATEST as u32 {
-        return v * 10 + worth(b) as u32;
+    if v <= GREATEST as u64 {
+        return v * 10 + worth(b) as u64;
     }
     v
 }
 
-fn value_of(v: u32) -> Number
+fn value_of(v: u64) -> Number
     ensures { λ r. ⌜ r ≡ valueFrom v [] ⌝ }
 {
-    if v <= GREATEST as u32 {
+    if v <= GREATEST as u64 {
         return Number::Value(v as Word);
     }
     Number::TooLarge
@@ -169,7 +169,7 @@ fn value_of(v: u32) -> Number
 fn digits(text: &[u8], s: Spot) -> Number
     ensures { λ r. ⌜ r ≡ valueFrom 0 (letters (said (now (text .entry)) s)) ⌝ }
 {
-    let mut v: u32 = 0;
+    let mut v: u64 = 0;
     let mut at = s;
     loop {
         let x = letter(text, at);

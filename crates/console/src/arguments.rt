@@ -61,7 +61,7 @@ fn word_of(line: &[u8], k: usize) -> &[u8] {
     piece(line, from, next_of(line, BLANK, from))
 }
 
-// A number, and whether the word was one.
+// A value, and whether the word was one.
 pub struct Argument {
     pub good: bool,
     pub value: Word,
@@ -81,8 +81,24 @@ fn as_argument(word: &[u8]) -> Argument {
     }
 }
 
+// The greatest number of a command that is no value.
+const NUMBER_MOST: Word = 65535;
+
+fn is_number(a: Argument) -> bool {
+    a.good && a.value <= NUMBER_MOST
+}
+
 // Word k of a line as a number, 0 where it is none.
-pub(super) fn number_at(line: &[u8], k: usize) -> Word {
+pub(super) fn number_at(line: &[u8], k: usize) -> u16 {
+    let n = as_argument(word_of(line, k)).value;
+    if n <= NUMBER_MOST {
+        return n as u16;
+    }
+    0
+}
+
+// Word k of a line as a value.
+pub(super) fn value_of(line: &[u8], k: usize) -> Word {
     as_argument(word_of(line, k)).value
 }
 
@@ -150,9 +166,12 @@ pub(super) fn values_at(line: &[u8], k: usize) -> Tuple {
     as_given(word_of(line, k)).tuple
 }
 
-// Whether a word is an argument of a shape: `n` a number, `v` values.
+// Whether a word is an argument of a shape: `n` a number, `w` a value, as a word of a block is, `v` values.
 fn is_shaped(word: &[u8], shape: u8) -> bool {
     if shape == b'n' {
+        return is_number(as_argument(word));
+    }
+    if shape == b'w' {
         return as_argument(word).good;
     }
     as_given(word).good

@@ -60,18 +60,18 @@ fn put_values(items: &mut [Word], item: usize, g: Tuple) {
 fn put_post(items: &mut [Word], item: usize, line: &[u8]) {
     if item < POLL_WORDS {
         put(items, item, A_POST);
-        put(items, item + POOL_OR_NAME, number_at(line, 1));
+        put(items, item + POOL_OR_NAME, number_at(line, 1) as Word);
         put_values(items, item, values_at(line, 2));
     }
 }
 
 fn put_step(items: &mut [Word], item: usize, line: &[u8]) {
     if item < POLL_WORDS {
-        put(items, item + POOL_OR_NAME, number_at(line, 1));
-        put(items, item + INSTANCE, number_at(line, 2));
-        put(items, item + ELEMENT, number_at(line, 3));
-        put(items, item + PHASE, number_at(line, 4));
-        put(items, item + BRANCH, number_at(line, 5));
+        put(items, item + POOL_OR_NAME, number_at(line, 1) as Word);
+        put(items, item + INSTANCE, number_at(line, 2) as Word);
+        put(items, item + ELEMENT, number_at(line, 3) as Word);
+        put(items, item + PHASE, number_at(line, 4) as Word);
+        put(items, item + BRANCH, number_at(line, 5) as Word);
         put_values(items, item, values_at(line, 6));
     }
 }

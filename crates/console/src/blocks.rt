@@ -1,6 +1,7 @@
 // The commands on a table and a state as blocks of words: set word by word, checked, written and read again.
 use super::arguments::is_command;
 use super::arguments::number_at;
+use super::arguments::value_of;
 use super::output::no_model;
 use super::output::tell_done;
 use super::output::tell_refused;
@@ -27,14 +28,14 @@ pub(super) fn do_clear(t: &mut [Word; TABLE_WORDS]) -> bool {
 
 // Whether a line sets a word of a block of so many.
 pub(super) fn is_setting(line: &[u8], keyword: &[u8], words: usize) -> bool {
-    if !is_command(line, keyword, b"nn") {
+    if !is_command(line, keyword, b"nw") {
         return false;
     }
     (number_at(line, 1) as usize) < words
 }
 
 fn set(line: &[u8], s: &mut [Word]) {
-    put(s, number_at(line, 1) as usize, number_at(line, 2));
+    put(s, number_at(line, 1) as usize, value_of(line, 2));
     tell(b"ok\n");
 }
 

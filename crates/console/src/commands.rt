@@ -29,8 +29,8 @@ use printing::tell;
 use printing::tell_run;
 use printing::tell_unread;
 use state::places::STATE_WORDS;
-use words::GREATEST;
 use words::Word;
+use words::counts::TEXT_MOST;
 
 // read, draw
 
@@ -89,11 +89,11 @@ fn tell_answer(a: Answer) {
 
 fn name_of(line: &[u8]) -> Name {
     Name {
-        pool: number_at(line, 1),
-        instance: number_at(line, 2),
-        element: number_at(line, 3),
-        phase: number_at(line, 4),
-        branch: number_at(line, 5),
+        pool: number_at(line, 1) as Word,
+        instance: number_at(line, 2) as Word,
+        element: number_at(line, 3) as Word,
+        phase: number_at(line, 4) as Word,
+        branch: number_at(line, 5) as Word,
         given: values_at(line, 6),
     }
 }
@@ -111,7 +111,7 @@ fn do_post(line: &[u8], loaded: bool, t: &[Word; TABLE_WORDS], z: &mut [Word; ST
         no_model();
         return;
     }
-    tell_done(engine::post(t, z, number_at(line, 1), values_at(line, 2)));
+    tell_done(engine::post(t, z, number_at(line, 1) as Word, values_at(line, 2)));
 }
 
 fn do_list(line: &[u8], loaded: bool, t: &[Word; TABLE_WORDS], z: &[Word; STATE_WORDS]) {
@@ -166,30 +166,30 @@ fn write_from(t: &[Word; TABLE_WORDS], from: usize, out: &mut [u8]) -> Written {
 }
 
 // The buffer lent has so many bytes.
-fn do_write(room: Word, loaded: bool, t: &[Word; TABLE_WORDS]) {
+fn do_write(room: usize, loaded: bool, t: &[Word; TABLE_WORDS]) {
     if !loaded {
         no_model();
         return;
     }
-    let mut out = [0u8; GREATEST as usize];
-    let from = (GREATEST - room) as usize;
+    let mut out = [0u8; TEXT_MOST];
+    let from = TEXT_MOST - least(room, TEXT_MOST);
     let r = write_from(t, from, &mut out);
     if r.number != 0 {
         tell_refused(r.number);
         return;
     }
-    let buffer = piece(&out, from, GREATEST as usize);
+    let buffer = piece(&out, from, TEXT_MOST);
     tell(piece(buffer, 0, r.length));
 }
 
 // The commands on a table that stays; the last of them that a line can be.
 fn on_table(line: &[u8], loaded: bool, t: &[Word; TABLE_WORDS]) {
     if is_command(line, b"write", b"") {
-        do_write(GREATEST, loaded, t);
+        do_write(TEXT_MOST, loaded, t);
         return;
     }
     if is_command(line, b"write", b"n") {
-        do_write(number_at(line, 1), loaded, t);
+        do_write(number_at(line, 1) as usize, loaded, t);
         return;
     }
     if is_command(line, b"check", b"") {

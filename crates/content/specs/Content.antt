@@ -41,7 +41,7 @@ poolIf owned t w n k = if isPool owned w k then poolDrawn owned t w n k ∷ [] e
 unfoldable pub content : List ℕ → List ℕ → ℕ → List Pool
 content t w n = joined (poolIf (hasParticipants w n) t w n) n
 
--- A node whose element is not within the limits: never where nothing is amiss or beyond.
+-- A node whose element is not within the limits: a case that should not come up where nothing is amiss or beyond, and that is refused if it does.
 unfoldable pub isUnfit : List ℕ → List ℕ → ℕ → ℕ → Bool
 isUnfit t w n k = isElement (within w k) w k && not (elementFits (elementDrawn t w n k))
 

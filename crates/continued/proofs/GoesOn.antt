@@ -162,7 +162,7 @@ exceeds t p e = go (refusal t excessive p e)
 pub three-right : (t : List ℕ) (p : ℕ) → model t .end ≡ Refused excessive p → Excessive t p
 three-right t p e = record { cause = exceeds t p e; with = λ u agree. place-right t u excessive p e agree }
 
--- WHAT READING INTO A TABLE ANSWERS: 2 and 3 with their place are these refusals; a text of at most 32,768 bytes that is read whole is answered 0 or 4.
+-- WHAT READING INTO A TABLE ANSWERS: 2 and 3 with their place are these refusals; a text of at most 65,536 bytes that is read whole is answered 0 or 4.
 neither : (n : ℕ) (c : Bool) (x y : ReadInto) → (x .number ≡ n → ⊥) → (y .number ≡ n → ⊥) → (if c then x else y) .number ≡ n → ⊥
 unfolding if_then_else_
 neither n true x y f g h = f h

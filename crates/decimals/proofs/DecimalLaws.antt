@@ -10,10 +10,10 @@ use borrow.Author.Tests.{lt-ltb, le-ltb, le-leb, ltb-true, ltb-false}
 use lib.ListN.{length, take, drop, getD, set, length-append, length-set, length-drop, drop-of-length-le, List·getD-append}
 use lib.Seq.{take-all}
 use Rattle.words.specs.Each.{each}
-use Rattle.words.specs.Words.{greatest}
+use Rattle.words.specs.Words.{greatest, digits}
 use Rattle.words.proofs.EachLaws.{each-append}
 use Rattle.words.proofs.PickLaws.{pick-yes, pick-no}
-use Rattle.decimals.specs.Decimals.{digits, digit, shownFrom, shown, isDigit, foldDigits}
+use Rattle.decimals.specs.Decimals.{digit, shownFrom, shown, isDigit, foldDigits}
 
 -- the two forms
 pub shown-one : (k n : ℕ) → n < 10 → shownFrom (suc k) n ≡ digit n ∷ []
@@ -53,7 +53,7 @@ from-some k n =
 
 pub shown-some : (n : ℕ) → 1 ≤ length (shown n)
 unfolding shown
-shown-some n = from-some 4 n
+shown-some n = from-some (digits - 1) n
 
 -- its bytes
 digit-is : (d : ℕ) → d < 10 → isDigit (digit d) ≡ true
@@ -98,11 +98,11 @@ from-spells (suc k) n h = go (from-spells k (n / 10) (omega (arith, pow-suc 10 (
 -- the digits of a word spell it
 pub shown-spells : (n : ℕ) → n ≤ greatest → foldDigits 0 (shown n) ≡ n
 unfolding shown
-shown-spells n h = from-spells 4 n (omega arith)
+shown-spells n h = from-spells (digits - 1) n (omega arith)
 
 pub shown-zero : shown 0 ≡ 48 ∷ []
 unfolding shown
-shown-zero = shown-one 4 0 (omega arith)
+shown-zero = shown-one (digits - 1) 0 (omega arith)
 
 -- no leading zero: a text that begins with 48 is that of 0
 from-first : (k n : ℕ) → n < 10 ^ suc k → getD (shownFrom (suc k) n) 0 0 ≡ 48 → n ≡ 0
@@ -116,7 +116,7 @@ from-first (suc k) n h e = go (from-first k (n / 10) (omega (arith, pow-suc 10 (
 
 pub shown-first : (n : ℕ) → n ≤ greatest → getD (shown n) 0 0 ≡ 48 → n ≡ 0
 unfolding shown
-shown-first n h = from-first 4 n (omega arith)
+shown-first n h = from-first (digits - 1) n (omega arith)
 
 -- The loop that makes the digits backwards: those from place from + 1 on stand there, and those of what is left are to come.
 pub record Backwards (n : ℕ) (scratch : List ℕ) (from left : ℕ) : Type 0 where
@@ -130,11 +130,11 @@ drop-set [] i d h = absurd (not-suc-le-zero h)
 drop-set (x ∷ s) zero d h = refl
 drop-set (x ∷ s) (suc i) d h = drop-set s i d (le-of-suc-le-suc h)
 
-pub backwards-start : (n : ℕ) → n ≤ greatest → (s : List ℕ) → length s ≡ digits → Backwards n s 4 n
+pub backwards-start : (n : ℕ) → n ≤ greatest → (s : List ℕ) → length s ≡ digits → Backwards n s (digits - 1) n
 unfolding shown
 backwards-start n h s e =
-    let end : length s ≤ 5 = omega arith in
-    record { size = e; place = omega arith; small = omega arith; text = rw (drop-of-length-le s end) (append-nil (shownFrom 5 n)) }
+    let end : length s ≤ digits = omega arith in
+    record { size = e; place = omega arith; small = omega arith; text = rw (drop-of-length-le s end) (append-nil (shownFrom digits n)) }
 
 module _ {n from left : ℕ} {s : List ℕ} (b : Backwards n s from left) where
   pub backwards-on : 10 ≤ left → 1 ≤ from

@@ -1,13 +1,10 @@
--- "Numbers are decimal without leading zeros, 0 to 65,535."
+-- "Numbers are decimal without leading zeros, 0 to 4,294,967,295."
 use Prim.Native.Nat.{ℕ, zero, suc, _+_, _*_, _-_, _/_, _%_}
 use mathlib.Core.List.{List, [], _∷_, _++_}
 use mathlib.Core.Bool.{Bool, _&&_}
 use lib.Dec.{ltb, leb}
 use Rattle.words.specs.Pick.{if_then_else_}
-
--- the digits of the greatest word
-abbrev pub digits : ℕ
-digits = 5
+use Rattle.words.specs.Words.{digits}
 
 -- the byte of a digit
 abbrev pub digit : ℕ → ℕ

@@ -1,11 +1,10 @@
 // The text of a number: decimal, without leading zeros.
 ghost use Rattle.buffers.specs.Buffers.{Put};
-ghost use Rattle.decimals.specs.Decimals.{digits, shown};
+ghost use Rattle.words.specs.Words.{digits};
+ghost use Rattle.decimals.specs.Decimals.{shown};
 use buffers::put_bytes;
+use words::DIGITS;
 use words::Word;
-
-// The digits of `words::GREATEST`.
-pub const DIGITS: usize = 5;
 
 // A number from a place on, as far as the buffer goes, and the place behind it. The digits are made backwards in a scratch array.
 pub fn put_number(out: &mut [u8], from: usize, n: Word) -> usize

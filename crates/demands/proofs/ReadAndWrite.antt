@@ -72,7 +72,7 @@ taken-either text t =
     (λ z. inr (record { refused = λ k. omega (arith, k); among-them = refl; table = refl }))
     (λ z. judged-either text t (model text .end) refl (model-told text))
 
--- READ: "1: text above 32,768 bytes", then 2 or 3 with its place, then 4 with the lowest check broken, else 0
+-- READ: "1: text above 65,536 bytes", then 2 or 3 with its place, then 4 with the lowest check broken, else 0
 module _ (text t : List ℕ) where
   pub read-above : textMost < length text → readInto text t ≡ record { number = 1; beside = 0; table = t }
   unfolding readInto

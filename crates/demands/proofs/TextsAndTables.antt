@@ -32,7 +32,7 @@ pub written-whole : (t out : List ℕ) → valid t ≡ true → length (shownTab
 unfolding writtenTo written
 written-whole t out v l = chosen (valid t) _ _ v ∙ passed (ltb (length out) (length (shownTable t))) _ _ (le-ltb (length out) (length (shownTable t)) l)
 
--- so into one of 32,768 bytes
+-- so into one of 65,536 bytes
 pub write-fits : (t out : List ℕ) → valid t ≡ true → textMost ≤ length out → writtenTo t out .number ≡ 0
 write-fits t out v l = ap (λ (w : WrittenTo). w .number) (written-whole t out v (omega (arith, short t (valid-fits t v) (valid-sound t v), l)))
 
@@ -64,7 +64,7 @@ module _ (t : List ℕ) (words : Table t) (v : valid t ≡ true) where
   read-what-was-written out t₀ n =
       ap (λ (text : List ℕ). readInto text t₀) (text-written t out n) ∙ read-back t t₀ (words .small) (valid-fits t v) (valid-sound t v) (words .long) (short t (valid-fits t v) (valid-sound t v))
 
-  -- into a buffer that is long enough, which one of 32,768 bytes is
+  -- into a buffer that is long enough, which one of 65,536 bytes is
   pub write-what-was-read : (out t₀ out₂ : List ℕ) → writtenTo t out .number ≡ 0 → writtenTo t out .length ≤ length out₂
       → (writtenTo (readInto (textIn (writtenTo t out)) t₀ .table) out₂ .number ≡ 0)
       × (textIn (writtenTo (readInto (textIn (writtenTo t out)) t₀ .table) out₂) ≡ textIn (writtenTo t out))

@@ -45,7 +45,7 @@ answer number beside = record { number = number; beside = beside }
 unfoldable pub checkedAs : ℕ → Reading
 checkedAs k = answer (if eqb k 0 then 0 else checkBroken) k
 
--- 3 at a node whose element is not within the limits: there is none where nothing is beyond them
+-- 3 at a node whose element is not within the limits: a case that should not come up where nothing is beyond them, and that is refused if it does
 unfoldable pub fittedBy : List ℕ → List ℕ → ℕ → Reading
 fittedBy text w n =
     if ltb (firstUnfit text w n) n then answer excessive (place w (firstUnfit text w n))

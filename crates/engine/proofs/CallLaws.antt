@@ -40,8 +40,8 @@ use Rattle.listed.proofs.RunIs.{settled-step, run-is}
 use Rattle.lengths.proofs.Short.{short}
 use Rattle.engine.specs.Engine.{valid, fitting, lentNumber, Stepped, leaving, stepped, Left, postedTo, listedAt, RanTo, ended, ranTo, WrittenTo, written, writtenTo}
 use Rattle.shown.specs.Shown.{shownTable}
-use Rattle.buffers.specs.Buffers.{over}
-use Rattle.buffers.proofs.OverLaws.{over-all}
+use Rattle.buffers.specs.Buffers.{over, lesser, lastPlace}
+use Rattle.buffers.proofs.OverLaws.{over-all, lesser-is}
 
 -- what a fitting table and state are
 module _ (t z : List ℕ) (h : fitting t z ≡ true) where
@@ -172,10 +172,18 @@ module _ (t out : List ℕ) where
       let v : y ≡ shownTable t ++ drop (length (shownTable t)) out = w ∙ over-all (shownTable t) out k in
       rw (h, le-ltb (length out) (length (shownTable t)) k) (λ i. record { number = 0; length = l i; buffer = v i })
 
--- a buffer of 32,768 bytes has room for the text of every valid table
-pub room-always : (t : List ℕ) (n : ℕ) → valid t ≡ true → textMost ≤ n → true ≡ leb (length (shownTable t)) n
+-- the text of a valid table is short
+valid-short : (t : List ℕ) → valid t ≡ true → length (shownTable t) ≤ textMost
 unfolding valid
-room-always t n v l =
+valid-short t v =
     let fits = and-left (tableFits t) (eqb (lowest (modelOf t)) 0) v in
     let sound = eqb-true (lowest (modelOf t)) 0 (and-right (tableFits t) (eqb (lowest (modelOf t)) 0) v) in
-    sym (le-leb (length (shownTable t)) n (omega (arith, short t fits sound)))
+    short t fits sound
+
+-- so that its length is what the writer returns
+pub measured : (t : List ℕ) (r : ℕ) → valid t ≡ true → r ≡ lesser (length (shownTable t)) lastPlace → r ≡ length (shownTable t)
+measured t r v e = lesser-is r (length (shownTable t)) textMost e (valid-short t v) (omega arith)
+
+-- and a buffer of 65,536 bytes has room for it
+pub room-always : (t : List ℕ) (n : ℕ) → valid t ≡ true → textMost ≤ n → true ≡ leb (length (shownTable t)) n
+room-always t n v l = sym (le-leb (length (shownTable t)) n (omega (arith, valid-short t v)))

@@ -10,6 +10,7 @@ ghost use Rattle.polling.specs.Poll.{Polling};
 ghost use Rattle.naming.specs.Names.{blank};
 ghost use Rattle.notation.specs.Notation.{readInto};
 ghost use Rattle.drawings.specs.Drawings.{drawInto};
+ghost use Rattle.buffers.specs.Buffers.{lesser, lastPlace};
 ghost use Rattle.shown.specs.Shown.{shownTable};
 use effects::refuse;
 use listing::Listed;
@@ -21,6 +22,7 @@ use model::places::TABLE_WORDS;
 use notation::Reading;
 use polling::POLL_WORDS;
 use polling::Polled;
+use running::Steps;
 use state::places::STATE_WORDS;
 use words::Word;
 use words::counts::TEXT_MOST;
@@ -145,12 +147,12 @@ pub fn list(t: &[Word; TABLE_WORDS], z: &[Word; STATE_WORDS], k: usize) -> Liste
 #[repr(C)]
 pub struct Ran {
     pub number: Word,
-    pub steps: Word,
+    pub steps: Steps,
     pub left: Word,
 }
 
 // Takes the first listed step until none is accepted or the limit is used up: 10 where the table or the state is bad, and the state stays; else 0.
-pub fn run(t: &[Word; TABLE_WORDS], z: &mut [Word; STATE_WORDS], limit: Word) -> Ran
+pub fn run(t: &[Word; TABLE_WORDS], z: &mut [Word; STATE_WORDS], limit: Steps) -> Ran
     ensures { λ r. ⌜ record { number = r .number; steps = r .steps; left = r .left; state = now (z .exit) } ≡ ranTo (now (t .entry)) (now (z .entry)) limit ⌝ }
 {
     let number = lent_number(t, z);
@@ -192,7 +194,7 @@ pub struct Written {
 
 // The length of a table's text: writing into an empty buffer measures it.
 fn text_length(t: &[Word]) -> usize
-    ensures { λ r. ⌜ r ≡ length (shownTable (now (t .entry))) ⌝ }
+    ensures { λ r. ⌜ r ≡ lesser (length (shownTable (now (t .entry)))) lastPlace ⌝ }
 {
     let mut none = [0u8; 1];
     writer::put_table(t, &mut none)

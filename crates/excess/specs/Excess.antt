@@ -54,7 +54,7 @@ isLimit v = leb 1 v && leb v instances
 unfoldable pub isMaximumBeyond : List ℕ → List ℕ → ℕ → Bool
 isMaximumBeyond t w k = ofSort participantMultiplicity w k && (not (eqb (source w (within w k)) 0) && not (isLimit (maximumOf t w k)))
 
--- "`d16`, 65,536 in a condition that stands in the table: the token's first byte"; "the default flow's condition is no 3" (R29)
+-- "`d16`, 4,294,967,296 in a condition that stands in the table: the token's first byte"; "the default flow's condition is no 3" (R29)
 unfoldable pub isGuarded : List ℕ → List ℕ → ℕ → ℕ → Bool
 isGuarded t w n j = isSplit w (source w j) && not (eqb (defaultOf t w n (source w j)) j)
 

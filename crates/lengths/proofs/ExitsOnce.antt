@@ -4,18 +4,19 @@ use mathlib.Core.Path.{_≡_, refl}
 use mathlib.Core.Bool.{true, _&&_}
 use mathlib.Core.List.{List}
 use native.Mathlib.Omega.{arith}
-use lib.Dec.{eqb}
-use borrow.Author.Tests.{eqb-true, eqb-false}
+use lib.Dec.{eqb, leb}
+use borrow.Author.Tests.{eqb-true, eqb-false, leb-true}
 use Rattle.words.specs.Each.{total}
 use Rattle.words.specs.Pick.{if_then_else_}
 use Rattle.words.specs.Sum.{sum, hit}
-use Rattle.words.specs.Counts.{edges}
+use Rattle.words.specs.Counts.{edges, tasks}
 use Rattle.words.proofs.AllLaws.{all-at, and-left, and-right}
 use Rattle.words.proofs.EachLaws.{total-tab}
+use Rattle.kinds.specs.Kinds.{start, startRcv}
 use Rattle.model.specs.Table.{poolCount, elementCount, elementAt, entryCount, exitCount, entryAt, exitAt}
-use Rattle.occurrences.specs.Occurrences.{asExit, asEntry, asFirst}
+use Rattle.occurrences.specs.Occurrences.{ofKind, asExit, asEntry, asFirst, asTask}
 use Rattle.limits.specs.Limits.{tableFits}
-use Rattle.checks.specs.Checks.{edgeRight, check4, lowest}
+use Rattle.checks.specs.Checks.{edgeRight, check2, check4, check5, lowest}
 use Rattle.lowest.specs.Model.{poolAt, modelOf}
 use Rattle.steps.proofs.Choices.{by-test, by-choice, passed-true}
 use Rattle.steps.proofs.Elements.{element-fits, entry-within, exit-within}
@@ -23,18 +24,18 @@ use Rattle.steps.proofs.NoSaturation.{ExitsApart}
 use Rattle.listed.proofs.ChecksHold.{pool-checked}
 use Rattle.listed.proofs.Counting.{sum-at, sum-two, hit-same}
 
--- an edge that is right stands at most once as an exit and at most once as an entry
-edge-once : (x n f : ℕ) → edgeRight x n f ≡ true → (x ≤ 1) × (n ≤ 1)
+-- an edge that is right stands at most once as an exit and at most once as an entry, and where it is an exit it is an entry
+edge-once : (x n f : ℕ) → edgeRight x n f ≡ true → (x ≤ 1) × (n ≤ 1) × (x ≤ n)
 unfolding edgeRight
 edge-once x n f h =
     by-test (eqb (x + n) 0)
-    (λ e. let z = eqb-true (x + n) 0 e in (omega arith, omega arith))
+    (λ e. let z = eqb-true (x + n) 0 e in (omega arith, omega arith, omega arith))
     (λ e.
     let r = passed-true (eqb (x + n) 0) true (eqb n 1 && eqb x (if eqb f 0 then 1 else 0)) h e in
     let i = eqb-true n 1 (and-left (eqb n 1) (eqb x (if eqb f 0 then 1 else 0)) r) in
     let o = eqb-true x (if eqb f 0 then 1 else 0) (and-right (eqb n 1) (eqb x (if eqb f 0 then 1 else 0)) r) in
     let w : (if eqb f 0 then 1 else 0) ≤ 1 = by-choice (λ (y : ℕ). y ≤ 1) (eqb f 0) 1 0 (λ q. omega arith) (λ q. omega arith) in
-    (omega arith, omega arith))
+    (omega arith, omega arith, omega arith))
 
 -- EDGES MET AT MOST ONCE: c rows, row e has n e places, g e j is the edge at place j of row e
 module _ (g : ℕ → ℕ → ℕ) (n : ℕ → ℕ) (c : ℕ) (few : (x : ℕ) → 1 ≤ x → x ≤ edges → sum (λ e. sum (λ j. hit (g e j) x) (n e)) c ≤ 1) (inside : (e : ℕ) → e < c → (j : ℕ) → j < n e → (1 ≤ g e j) × (g e j ≤ edges)) where
@@ -67,7 +68,7 @@ module _ (t : List ℕ) (fits : tableFits t ≡ true) (sound : lowest (modelOf t
   abbrev el : ℕ → List ℕ
   el e = elementAt t p e
 
-  edges-right : (k : ℕ) → k < edges → (total (asExit (k + 1)) (poolAt t p .elements) ≤ 1) × (total (asEntry (k + 1)) (poolAt t p .elements) ≤ 1)
+  edges-right : (k : ℕ) → k < edges → (total (asExit (k + 1)) (poolAt t p .elements) ≤ 1) × (total (asEntry (k + 1)) (poolAt t p .elements) ≤ 1) × (total (asExit (k + 1)) (poolAt t p .elements) ≤ total (asEntry (k + 1)) (poolAt t p .elements))
   unfolding check4
   edges-right k l =
       edge-once (total (asExit (k + 1)) (poolAt t p .elements)) (total (asEntry (k + 1)) (poolAt t p .elements)) (total (asFirst (k + 1)) (poolAt t p .elements))
@@ -90,6 +91,32 @@ module _ (t : List ℕ) (fits : tableFits t ≡ true) (sound : lowest (modelOf t
       let q : k + 1 ≡ suc k = omega arith in
       let h = edges-right k b .1 in
       rw q at (rw (total-tab (asEntry (k + 1)) (elementAt t p) (elementCount t p)) at h)
+
+  -- AN EXIT IS AN ENTRY
+  pub exits-enter : (k : ℕ) → k < edges → sum (λ e. asExit (k + 1) (el e)) (elementCount t p) ≤ sum (λ e. asEntry (k + 1) (el e)) (elementCount t p)
+  unfolding poolAt
+  exits-enter k l =
+      omega (arith, edges-right k l .2, total-tab (asExit (k + 1)) (elementAt t p) (elementCount t p), total-tab (asEntry (k + 1)) (elementAt t p) (elementCount t p))
+
+  -- EACH TASK AT MOST ONCE, AND ONE START
+  pub tasks-once : (k : ℕ) → k < tasks → sum (λ e. asTask (k + 1) (el e)) (elementCount t p) ≤ 1
+  unfolding poolAt check5
+  tasks-once k l =
+      omega (
+        arith,
+        leb-true (total (asTask (k + 1)) (poolAt t p .elements)) 1 (all-at (λ k. leb (total (asTask (k + 1)) (poolAt t p .elements)) 1) tasks (pool-checked t sound p there .fifth) k l),
+        total-tab (asTask (k + 1)) (elementAt t p) (elementCount t p),
+      )
+
+  pub start-once : sum (λ e. ofKind start (el e)) (elementCount t p) + sum (λ e. ofKind startRcv (el e)) (elementCount t p) ≡ 1
+  unfolding poolAt check2
+  start-once =
+      omega (
+        arith,
+        eqb-true (total (ofKind start) (poolAt t p .elements) + total (ofKind startRcv) (poolAt t p .elements)) 1 (pool-checked t sound p there .second),
+        total-tab (ofKind start) (elementAt t p) (elementCount t p),
+        total-tab (ofKind startRcv) (elementAt t p) (elementCount t p),
+      )
 
   -- every exit and every entry is an edge
   pub exit-edge : (e : ℕ) → e < elementCount t p → (j : ℕ) → j < exitCount (el e) → (1 ≤ exitAt (el e) j) × (exitAt (el e) j ≤ edges)

@@ -7,13 +7,13 @@ use native.Mathlib.Omega.{arith}
 use borrow.Author.Tests.{lt-ltb}
 use Rattle.words.specs.Sum.{sum, hit, oneIf}
 use Rattle.words.specs.Counts.{edges}
-use Rattle.words.proofs.SumLaws.{sum-le, sum-ext, sum-swap, sum-met}
+use Rattle.words.proofs.SumLaws.{sum-le, sum-ext, sum-mono, sum-swap, sum-met}
 use Rattle.model.specs.Table.{poolCount, elementCount, elementAt, entryCount, exitCount, entryAt, exitAt}
 use Rattle.occurrences.specs.Occurrences.{asExit, asEntry}
 use Rattle.limits.specs.Limits.{tableFits}
 use Rattle.checks.specs.Checks.{lowest}
 use Rattle.lowest.specs.Model.{modelOf}
-use Rattle.lengths.proofs.ExitsOnce.{exits-once, entries-once, exit-edge, entry-edge}
+use Rattle.lengths.proofs.ExitsOnce.{exits-once, entries-once, exits-enter, exit-edge, entry-edge}
 
 -- a sum of ones
 sum-ones : (f : ℕ → ℕ) (n : ℕ) → ((k : ℕ) → k < n → f k ≡ 1) → sum f n ≡ n
@@ -30,12 +30,15 @@ module _ (g : ℕ → ℕ → ℕ) (n : ℕ → ℕ) (c : ℕ) (few : (x : ℕ) 
       ∙ sum-ones (λ j. sum (λ x. hit (g e j) (x + 1)) edges) (n e)
       (λ j r. let w = inside e l j r in sum-met (g e j) edges (w .1) ∙ ap oneIf (lt-ltb 0 (g e j) (w .0)))
 
+  rows-counted : sum (λ x. sum (λ e. sum (λ j. hit (g e j) (x + 1)) (n e)) c) edges ≡ sum n c
+  rows-counted =
+      sym (sum-swap (λ e x. sum (λ j. hit (g e j) (x + 1)) (n e)) c edges)
+      ∙ sum-ext (λ e. sum (λ x. sum (λ j. hit (g e j) (x + 1)) (n e)) edges) n c row-counted
+
   rows-few : sum n c ≤ edges
   rows-few =
-      let rows : sum (λ e. sum (λ x. sum (λ j. hit (g e j) (x + 1)) (n e)) edges) c ≡ sum n c = sum-ext (λ e. sum (λ x. sum (λ j. hit (g e j) (x + 1)) (n e)) edges) n c row-counted in
-      let swapped = sum-swap (λ e x. sum (λ j. hit (g e j) (x + 1)) (n e)) c edges in
       let each-once = sum-le (λ x. sum (λ e. sum (λ j. hit (g e j) (x + 1)) (n e)) c) 1 edges (λ x r. few (x + 1) (omega arith) (omega arith)) in
-      omega arith
+      omega (arith, rows-counted)
 
 module _ (t : List ℕ) (fits : tableFits t ≡ true) (sound : lowest (modelOf t) ≡ 0) (p : ℕ) (there : p < poolCount t) where
   -- AT MOST 48 EXITS
@@ -49,3 +52,14 @@ module _ (t : List ℕ) (fits : tableFits t ≡ true) (sound : lowest (modelOf t
   unfolding asEntry
   few-entries =
       rows-few (λ e. entryAt (elementAt t p e)) (λ e. entryCount (elementAt t p e)) (elementCount t p) (entries-once t fits sound p there) (entry-edge t fits sound p there)
+
+  -- NO MORE EXITS THAN ENTRIES
+  pub exits-within : sum (λ e. exitCount (elementAt t p e)) (elementCount t p) ≤ sum (λ e. entryCount (elementAt t p e)) (elementCount t p)
+  unfolding asExit asEntry
+  exits-within =
+      omega (
+        arith,
+        rows-counted (λ e. exitAt (elementAt t p e)) (λ e. exitCount (elementAt t p e)) (elementCount t p) (exits-once t fits sound p there) (exit-edge t fits sound p there),
+        rows-counted (λ e. entryAt (elementAt t p e)) (λ e. entryCount (elementAt t p e)) (elementCount t p) (entries-once t fits sound p there) (entry-edge t fits sound p there),
+        sum-mono (λ x. sum (λ e. asExit (x + 1) (elementAt t p e)) (elementCount t p)) (λ x. sum (λ e. asEntry (x + 1) (elementAt t p e)) (elementCount t p)) edges (exits-enter t fits sound p there),
+      )

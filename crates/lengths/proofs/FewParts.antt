@@ -1,27 +1,27 @@
 -- How many items, assignments, entries and exits an element within the limits has. Assumes nothing.
 use Prim.Native.Nat.{ℕ, _+_, _-_, _*_, _≤_, _<_}
-use mathlib.Core.Path.{_≡_, refl, sym, _∙_, ap}
-use mathlib.Core.Bool.{Bool, true, _&&_}
+use mathlib.Core.Path.{_≡_, refl, sym, _∙_, ap, subst}
+use mathlib.Core.Bool.{Bool, true, not, _&&_}
 use mathlib.Core.List.{List}
 use native.Mathlib.Omega.{arith}
 use lib.Dec.{eqb, leb, ltb}
 use lib.ListN.{drop}
-use lib.Seq.{getD-drop}
-use borrow.Author.Tests.{eqb-true, leb-true, ltb-true, ltb-false}
+use lib.Seq.{getD-drop, drop-drop}
+use borrow.Author.Tests.{eqb-true, eq-eqb, leb-true}
 use Rattle.words.specs.All.{all}
 use Rattle.words.specs.Each.{each}
 use Rattle.words.specs.Words.{at}
-use Rattle.words.specs.Counts.{fewest, branches, tasks, values, assignments}
+use Rattle.words.specs.Counts.{fewest, branches, tasks, names, values, assignments}
 use Rattle.words.proofs.AllLaws.{and-left, and-right, all-at}
 use Rattle.words.proofs.ListLaws.{each-at}
 use Rattle.kinds.specs.declared.Kind.{Kind}
 use Rattle.kinds.specs.Kinds.{one, many, noKind, kinds, kindOf, used}
 use Rattle.kinds.specs.Moves.{a, na-nc}
-use Rattle.model.specs.Places.{entriesPlace, exitsPlace, firstEdge, lengthIn, messageWords, messagePlace, lengthPlace}
-use Rattle.model.specs.Table.{kindIn, taskIn, modeIn, exitCount, messageLength, assignmentCount}
-use Rattle.limits.specs.Limits.{within, zeros, things, messageFits, countFits, edgeFits, edgesFit, taskFits, messagesFit, elementFits}
+use Rattle.model.specs.Places.{entriesPlace, exitsPlace, firstEdge, lengthIn, itemsIn, expressionWords, conditionPlace, messageWords, messagePlace, itemPlace, assignmentWords, assignmentPlace}
+use Rattle.model.specs.Table.{kindIn, taskIn, modeIn, entryCount, exitCount, conditionAt, messageLength, itemAt, assignmentCount, assignmentAt}
+use Rattle.limits.specs.Limits.{within, zeros, things, itemFits, conditionFits, messageFits, assignmentFits, countFits, edgeFits, edgesFit, taskFits, conditionsFit, messagesFit, assignmentsFit, partsFit, elementFits}
 use Rattle.steps.proofs.Choices.{by-test, chosen-true, passed-true}
-use Rattle.steps.proofs.Elements.{rowOf, count-used, FittingParts, fitting-parts, message-length}
+use Rattle.steps.proofs.Elements.{rowOf, count-used, FittingParts, fitting-parts}
 
 -- a fact of every row of the table of kinds
 pub every-kind : (f : Kind → Bool) → each f kinds ≡ true → f noKind ≡ true → (k : ℕ) → f (kindOf k) ≡ true
@@ -46,22 +46,31 @@ unfolding edgesFit
 edges-count column place el h =
     ap (countFits column) (sym (getD-drop place el 0 0)) ∙ and-left (countFits column (at (drop place el) 0)) (things (drop firstEdge (drop place el)) 1 branches (at (drop place el) 0) edgeFits) h
 
--- a word behind the things that are in use
-things-behind : (x : List ℕ) (w n k : ℕ) (right : List ℕ → Bool) → things x w n k right ≡ true → (i : ℕ) → i < w * (n - k) → at x (w * k + i) ≡ 0
-unfolding things zeros
-things-behind x w n k right h i l =
-    sym (getD-drop (w * k) x i 0)
-    ∙ eqb-true _ 0
-    (all-at (λ j. eqb (at (drop (w * k) x) j) 0) (w * (n - k)) (and-right (all (λ j. right (drop (w * j) x)) k) (zeros (drop (w * k) x) (w * (n - k))) h) i l)
+-- a thing of those that are in use, from a place on
+things-from : (x : List ℕ) (a w n k : ℕ) (right : List ℕ → Bool) → things (drop a x) w n k right ≡ true → (j : ℕ) → j < k → right (drop (a + w * j) x) ≡ true
+unfolding things
+things-from x a w n k right h j l =
+    subst (λ y. right y ≡ true) (drop-drop (w * j) a x)
+    (all-at (λ i. right (drop (w * i) (drop a x))) k (and-left (all (λ i. right (drop (w * i) (drop a x))) k) (zeros (drop (w * k) (drop a x)) (w * (n - k))) h) j l)
+
+pub both-true : (b c : Bool) → b ≡ true → c ≡ true → b && c ≡ true
+both-true b c e f = rw (e, f)
 
 -- AN ELEMENT
 module _ (el : List ℕ) (fits : elementFits el ≡ true) where
   parts : FittingParts el
   parts = fitting-parts el fits
 
+  -- the entries as its kind has them
+  pub entries-fit : countFits (rowOf el .entries) (at el entriesPlace) ≡ true
+  entries-fit = edges-count (rowOf el .entries) entriesPlace el (parts .entries)
+
   pub entries-few : at el entriesPlace ≤ branches
-  entries-few =
-      count-few (rowOf el .entries) (at el entriesPlace) (kind-few (kindIn el) .0) (edges-count (rowOf el .entries) entriesPlace el (parts .entries))
+  entries-few = count-few (rowOf el .entries) (at el entriesPlace) (kind-few (kindIn el) .0) entries-fit
+
+  pub entries-all : entryCount el ≡ at el entriesPlace
+  unfolding entryCount
+  entries-all = count-used (rowOf el .entries) (at el entriesPlace) entries-fit
 
   -- the exits as its kind has them
   pub exits-fit : countFits (rowOf el .exits) (at el exitsPlace) ≡ true
@@ -86,18 +95,45 @@ module _ (el : List ℕ) (fits : elementFits el ≡ true) where
       (λ e. leb-true (assignmentCount el) assignments (and-right ranged (leb (assignmentCount el) assignments) (chosen-true (eqb (rowOf el .task) one) some nothing h e)))
       (λ e. omega (arith, eqb-true (assignmentCount el) 0 (and-right bare (eqb (assignmentCount el) 0) (passed-true (eqb (rowOf el .task) one) some nothing h e))))
 
-  -- the message of a branch, in use or not
-  pub items-few : (b : ℕ) → b < branches → messageLength el b ≤ values
-  unfolding messagesFit
-  items-few b l =
-      let k = used (rowOf el .receives + rowOf el .sends) (at el exitsPlace) in
-      by-test (ltb b k)
-      (λ e. message-length el fits b (ltb-true b k e))
-      (λ e.
-      let r : k ≤ b = ltb-false b k e in
-      let h = parts .messages in
-      let i = messageWords * (b - k) + lengthIn in
-      let z : at (drop (messagePlace 0) el) (messageWords * k + i) ≡ 0 = things-behind (drop (messagePlace 0) el) messageWords branches k (messageFits (rowOf el .receives)) h i (omega (arith, l, r)) in
-      let e : messagePlace 0 + (messageWords * k + i) ≡ lengthPlace b = omega (arith, l, r) in
-      let q : messageLength el b ≡ 0 = ap (at el) (sym e) ∙ sym (getD-drop (messagePlace 0) el (messageWords * k + i) 0) ∙ z in
-      omega (arith, q))
+  -- its conditions, the items of its messages and its assignments
+  pub condition-fits : (b : ℕ) → b < used (rowOf el .conditions) (at el exitsPlace) → conditionFits (rowOf el .conditions) (conditionAt el b) ≡ true
+  unfolding elementFits partsFit conditionsFit
+  condition-fits b l =
+      let three : Bool = taskFits (rowOf el .task) el && edgesFit (rowOf el .entries) (drop entriesPlace el) && edgesFit (rowOf el .exits) (drop exitsPlace el) in
+      let conditions : Bool = conditionsFit (rowOf el .conditions) el in
+      let messages : Bool = messagesFit (rowOf el .receives) (rowOf el .sends) el in
+      let six : three && conditions && messages && assignmentsFit el ≡ true = and-right (not (eqb (rowOf el .letters) 0)) _ fits in
+      let h : conditions ≡ true = and-right three conditions (and-left (three && conditions) messages (and-left (three && conditions && messages) (assignmentsFit el) six)) in
+      let e : conditionPlace 0 + expressionWords * b ≡ conditionPlace b = omega arith in
+      subst (λ k. conditionFits (rowOf el .conditions) (drop k el) ≡ true) e
+      (things-from el (conditionPlace 0) expressionWords branches (used (rowOf el .conditions) (at el exitsPlace)) (conditionFits (rowOf el .conditions)) h b l)
+
+  pub item-fits : (b : ℕ) → b < used (rowOf el .receives + rowOf el .sends) (at el exitsPlace) → (j : ℕ) → j < messageLength el b → itemFits (rowOf el .receives) (itemAt el b j) ≡ true
+  unfolding messagesFit messageFits
+  item-fits b l j r =
+      let x : List ℕ = drop (messagePlace b) el in
+      let e : messagePlace 0 + messageWords * b ≡ messagePlace b = omega arith in
+      let named : Bool = ltb (at x 0) names && leb (at x lengthIn) values in
+      let m : messageFits (rowOf el .receives) x ≡ true = subst (λ k. messageFits (rowOf el .receives) (drop k el) ≡ true) e
+      (things-from el (messagePlace 0) messageWords branches (used (rowOf el .receives + rowOf el .sends) (at el exitsPlace)) (messageFits (rowOf el .receives)) (parts .messages) b l) in
+      let long : at x lengthIn ≡ messageLength el b = getD-drop (messagePlace b) el lengthIn 0 in
+      let h = things-from x itemsIn expressionWords values (at x lengthIn) (itemFits (rowOf el .receives)) (and-right named _ m) j (omega (arith, long)) in
+      let f : messagePlace b + (itemsIn + expressionWords * j) ≡ itemPlace b j = omega arith in
+      subst (λ y. itemFits (rowOf el .receives) y ≡ true) (drop-drop (itemsIn + expressionWords * j) (messagePlace b) el ∙ ap (λ k. drop k el) f) h
+
+  pub assignment-fits : (j : ℕ) → j < assignmentCount el → assignmentFits (assignmentAt el j) ≡ true
+  unfolding assignmentsFit
+  assignment-fits j l =
+      let e : assignmentPlace 0 + assignmentWords * j ≡ assignmentPlace j = omega arith in
+      subst (λ k. assignmentFits (drop k el) ≡ true) e
+      (things-from el (assignmentPlace 0) assignmentWords assignments (assignmentCount el) assignmentFits (parts .assignments) j l)
+
+  -- a task has a number
+  pub task-some : rowOf el .task ≡ one → 1 ≤ taskIn el
+  unfolding taskFits
+  task-some e =
+      let ranged : Bool = within 1 tasks (taskIn el) in
+      let moded : Bool = within a na-nc (modeIn el) in
+      let some : Bool = ranged && moded && leb (assignmentCount el) assignments in
+      let h : some ≡ true = chosen-true (eqb (rowOf el .task) one) some _ (parts .task) (eq-eqb (rowOf el .task) one e) in
+      leb-true 1 (taskIn el) (and-left (leb 1 (taskIn el)) (leb (taskIn el) tasks) (and-left ranged moded (and-left (ranged && moded) (leb (assignmentCount el) assignments) h)))

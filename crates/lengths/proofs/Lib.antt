@@ -1,7 +1,9 @@
 pub mod ExitsOnce
 pub mod FewExits
 pub mod Pieces
+pub mod Figures
 pub mod PartsShort
 pub mod FewParts
 pub mod ElementShort
+pub mod Longest
 pub mod Short

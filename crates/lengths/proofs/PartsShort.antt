@@ -1,195 +1,168 @@
--- The longest text of each part of an element, whatever its words are, by the counts of its items, assignments, entries and exits. Assumes nothing.
+-- The longest text of each part of an element within the limits, beside the figures of its edges and of its task's number. Assumes nothing.
 use Prim.Native.Char.{code}
-use Prim.Native.Nat.{ℕ, _+_, _*_, _≤_, _<_}
-use mathlib.Core.List.{List, _∷_, _++_}
+use Prim.Native.Nat.{ℕ, _+_, _-_, _*_, _≤_, _<_}
+use mathlib.Core.Path.{_≡_}
+use mathlib.Core.Bool.{Bool, true, false, _&&_, false≢true}
+use mathlib.Core.List.{List, _∷_}
 use native.Mathlib.Omega.{arith}
-use lib.Dec.{eqb}
+use lib.Dec.{eqb, ltb}
 use lib.ListN.{length, drop, length-append}
+use borrow.Author.Tests.{eqb-true, ne-eqb, ltb-true}
+use Rattle.words.specs.Pick.{if_then_else_}
+use Rattle.words.specs.Sum.{sum}
 use Rattle.words.specs.Text.{bytes}
-use Rattle.words.specs.Words.{at}
-use Rattle.words.specs.Counts.{values, assignments}
+use Rattle.words.specs.Words.{at, digits}
+use Rattle.words.specs.Counts.{fields}
+use Rattle.words.proofs.AllLaws.{and-left, and-right}
+use Rattle.words.proofs.SumLaws.{sum-add, sum-le}
+use Rattle.kinds.specs.Kinds.{none, many}
 use Rattle.kinds.specs.Moves.{a, na-c}
-use Rattle.model.specs.Places.{aField, operandNumber, formPlace, leftPlace, rightPlace, plus, minus, binding, always, default, equals, entriesPlace, exitsPlace, assignedIn}
-use Rattle.model.specs.Table.{taskIn, modeIn, entryAt, exitAt, conditionAt, messageName, messageLength, itemAt, assignmentCount, assignmentAt}
-use Rattle.decimals.specs.Decimals.{digits, shown}
+use Rattle.model.specs.Places.{aField, operandNumber, operandWords, formPlace, leftPlace, rightPlace, single, plus, minus, binding, always, default, equals, below, assignedIn}
+use Rattle.limits.specs.Limits.{within, zeros, operandFits, expressionFits, bindFits, itemFits, conditionFits, assignmentFits}
+use Rattle.decimals.specs.Decimals.{shown}
 use Rattle.decimals.proofs.DecimalLaws.{shown-short}
-use Rattle.shown.specs.Shown.{commas, between, shownField, shownOperand, shownPair, shownExpression, shownItem, shownCondition, shownTuple, shownMessage, shownEntries, shownExits, shownGuarded, shownGuardedList, shownReceiving, shownReceivingList, shownMode, shownAssignment, shownAssignments, shownTask}
-use Rattle.lengths.proofs.Pieces.{both-short, between-long, separated-short}
+use Rattle.shown.specs.Shown.{commas, between, shownField, shownOperand, shownPair, shownExpression, shownItem, shownCondition, shownMode, shownAssignment}
+use Rattle.steps.proofs.Choices.{by-test, by-choice, chosen-true, passed-true}
+use Rattle.lengths.proofs.Pieces.{both-short, between-long, separated-some, separated-short}
+use Rattle.lengths.proofs.Figures.{two-figures}
 
--- the most bytes of an operand; of two with a sign between them, and so of an expression, an item and a condition
-abbrev pub operandMost : ℕ
-operandMost = 1 + digits
+-- the most bytes of a field; of two operands with a sign between them, and so of an expression, an item and a condition
+abbrev fieldMost : ℕ
+fieldMost = 3
 
 abbrev pub pairMost : ℕ
-pairMost = operandMost + 1 + operandMost
+pairMost = digits + 1 + digits
 
--- of a message, its name, `:` and items between signs
-abbrev pub tupleMost : ℕ
-tupleMost = values * (pairMost + 1) + 2
-
-abbrev pub messageMost : ℕ
-messageMost = digits + 1 + tupleMost
-
--- of assignments, each a field, `:=` and an expression
 abbrev pub modeMost : ℕ
 modeMost = 5
 
+-- of an assignment: a field, `:=` and an expression
 abbrev pub assignmentMost : ℕ
-assignmentMost = operandMost + 2 + pairMost
+assignmentMost = fieldMost + 2 + pairMost
 
-abbrev pub assignmentsMost : ℕ
-assignmentsMost = assignments * (assignmentMost + 1) + 2
-
--- of a task's number, mode, guard and assignments
-abbrev pub taskMost : ℕ
-taskMost = digits + 1 + modeMost + 1 + pairMost + 1 + assignmentsMost
-
--- of n edges, of a branch with a condition, and of one with a message
-abbrev pub edgesMost : ℕ → ℕ
-edgesMost n = n * (digits + 1) + 2
-
-abbrev pub guardedMost : ℕ
-guardedMost = digits + 1 + pairMost + 2
-
-abbrev pub receivingMost : ℕ
-receivingMost = messageMost + 1 + digits + 2
-
-field-short : (d : ℕ) → length (shownField d) ≤ operandMost
+field-short : (d : ℕ) → d < fields → length (shownField d) ≤ fieldMost
 unfolding shownField
-field-short d = omega (arith, shown-short d)
+field-short d h = omega (arith, two-figures d (omega arith))
 
-operand-short : (x : List ℕ) → length (shownOperand x) ≤ operandMost
+operand-field : (x : List ℕ) → operandFits x ≡ true → at x 0 ≡ aField → at x operandNumber < fields
+unfolding operandFits
+operand-field x fits e =
+    let off : eqb (at x 0) 0 ≡ false = ne-eqb (at x 0) 0 (λ z. omega arith) in
+    ltb-true (at x operandNumber) fields
+    (and-right (eqb (at x 0) aField) (ltb (at x operandNumber) fields) (passed-true (eqb (at x 0) 0) true (eqb (at x 0) aField && ltb (at x operandNumber) fields) fits off))
+
+operand-short : (x : List ℕ) → operandFits x ≡ true → length (shownOperand x) ≤ digits
 unfolding shownOperand
-operand-short x =
-    both-short (eqb (at x 0) aField) (shownField (at x operandNumber)) (shown (at x operandNumber)) operandMost
-    (field-short (at x operandNumber))
-    (omega (arith, shown-short (at x operandNumber)))
+operand-short x fits =
+    by-choice (λ (w : List ℕ). length w ≤ digits) (eqb (at x 0) aField) (shownField (at x operandNumber)) (shown (at x operandNumber))
+    (λ e. omega (arith, field-short (at x operandNumber) (operand-field x fits (eqb-true (at x 0) aField e))))
+    (λ e. shown-short (at x operandNumber))
 
-pair-short : (s : ℕ) (x : List ℕ) → length (shownPair s x) ≤ pairMost
+pair-short : (s : ℕ) (x : List ℕ) → operandFits (drop leftPlace x) ≡ true → operandFits (drop rightPlace x) ≡ true → length (shownPair s x) ≤ pairMost
 unfolding shownPair
-pair-short s x =
+pair-short s x l r =
     omega (
       arith,
       length-append (shownOperand (drop leftPlace x)) (s ∷ shownOperand (drop rightPlace x)),
-      operand-short (drop leftPlace x),
-      operand-short (drop rightPlace x),
+      operand-short (drop leftPlace x) l,
+      operand-short (drop rightPlace x) r,
     )
 
-expression-short : (x : List ℕ) → length (shownExpression x) ≤ pairMost
-unfolding shownExpression
-expression-short x =
-    both-short (eqb (at x formPlace) plus) (shownPair (code "+") x) _ pairMost (pair-short (code "+") x)
-    (both-short (eqb (at x formPlace) minus) (shownPair (code "-") x) (shownOperand (drop leftPlace x)) pairMost (pair-short (code "-") x)
-    (omega (arith, operand-short (drop leftPlace x))))
+-- AN EXPRESSION: its operands fit
+module _ (x : List ℕ) (fits : expressionFits x ≡ true) where
+  abbrev lone : Bool
+  lone = operandFits (drop leftPlace x) && zeros (drop rightPlace x) operandWords
 
-item-short : (x : List ℕ) → length (shownItem x) ≤ pairMost
-unfolding shownItem
-item-short x =
-    both-short (eqb (at x formPlace) binding) (code "?" ∷ shownField (at x (leftPlace + operandNumber))) (shownExpression x) pairMost
-    (omega (arith, field-short (at x (leftPlace + operandNumber))))
-    (expression-short x)
+  abbrev formed : Bool
+  formed = within plus minus (at x formPlace)
 
-condition-short : (x : List ℕ) → length (shownCondition x) ≤ pairMost
-unfolding shownCondition
-condition-short x =
-    both-short (eqb (at x formPlace) always) (bytes "true") _ pairMost (omega arith)
-    (both-short (eqb (at x formPlace) default) (bytes "default") _ pairMost (omega arith)
-    (both-short (eqb (at x formPlace) equals) (shownPair (code "=") x) (shownPair (code "<") x) pairMost (pair-short (code "=") x) (pair-short (code "<") x)))
+  abbrev two : Bool
+  two = formed && operandFits (drop leftPlace x) && operandFits (drop rightPlace x)
 
-mode-short : (m : ℕ) → length (shownMode m) ≤ modeMost
+  both-fit : (at x formPlace ≡ single → ⊥) → (operandFits (drop leftPlace x) ≡ true) × (operandFits (drop rightPlace x) ≡ true)
+  unfolding expressionFits
+  both-fit n =
+      let h : two ≡ true = passed-true (eqb (at x formPlace) single) lone two fits (ne-eqb (at x formPlace) single n) in
+      (and-right formed (operandFits (drop leftPlace x)) (and-left (formed && operandFits (drop leftPlace x)) (operandFits (drop rightPlace x)) h), and-right (formed && operandFits (drop leftPlace x)) (operandFits (drop rightPlace x)) h)
+
+  left-fits : operandFits (drop leftPlace x) ≡ true
+  unfolding expressionFits
+  left-fits =
+      by-test (eqb (at x formPlace) single)
+      (λ e. and-left (operandFits (drop leftPlace x)) (zeros (drop rightPlace x) operandWords) (chosen-true (eqb (at x formPlace) single) lone two fits e))
+      (λ e. let h : two ≡ true = passed-true (eqb (at x formPlace) single) lone two fits e in and-right formed (operandFits (drop leftPlace x)) (and-left (formed && operandFits (drop leftPlace x)) (operandFits (drop rightPlace x)) h))
+
+  pub expression-short : length (shownExpression x) ≤ pairMost
+  unfolding shownExpression
+  expression-short =
+      by-choice (λ (w : List ℕ). length w ≤ pairMost) (eqb (at x formPlace) plus) (shownPair (code "+") x) _
+      (λ e. let f = eqb-true (at x formPlace) plus e in let b = both-fit (λ z. omega arith) in pair-short (code "+") x (b .0) (b .1))
+      (λ o.
+      by-choice (λ (w : List ℕ). length w ≤ pairMost) (eqb (at x formPlace) minus) (shownPair (code "-") x) (shownOperand (drop leftPlace x))
+      (λ e. let f = eqb-true (at x formPlace) minus e in let b = both-fit (λ z. omega arith) in pair-short (code "-") x (b .0) (b .1))
+      (λ e. omega (arith, operand-short (drop leftPlace x) left-fits)))
+
+pub item-short : (receives : ℕ) (x : List ℕ) → itemFits receives x ≡ true → length (shownItem x) ≤ pairMost
+unfolding shownItem itemFits bindFits
+item-short receives x fits =
+    let bound : Bool = if eqb receives none then false else bindFits x in
+    by-choice (λ (w : List ℕ). length w ≤ pairMost) (eqb (at x formPlace) binding) (code "?" ∷ shownField (at x (leftPlace + operandNumber))) (shownExpression x)
+    (λ e.
+    let h : bound ≡ true = chosen-true (eqb (at x formPlace) binding) bound (expressionFits x) fits e in
+    let g : bindFits x ≡ true = by-test (eqb receives none)
+    (λ y. absurd (false≢true (chosen-true (eqb receives none) false (bindFits x) h y)))
+    (λ y. passed-true (eqb receives none) false (bindFits x) h y) in
+    let small = ltb-true (at x (leftPlace + operandNumber)) fields
+    (and-right (eqb (at x leftPlace) aField) (ltb (at x (leftPlace + operandNumber)) fields)
+    (and-left (eqb (at x leftPlace) aField && ltb (at x (leftPlace + operandNumber)) fields) (zeros (drop rightPlace x) operandWords) g)) in
+    omega (arith, field-short (at x (leftPlace + operandNumber)) small))
+    (λ e. expression-short x (passed-true (eqb (at x formPlace) binding) bound (expressionFits x) fits e))
+
+pub condition-short : (conditions : ℕ) (x : List ℕ) → conditionFits conditions x ≡ true → length (shownCondition x) ≤ pairMost
+unfolding shownCondition conditionFits
+condition-short conditions x fits =
+    let blank : Bool = zeros (drop leftPlace x) (operandWords + operandWords) in
+    let formed : Bool = within equals below (at x formPlace) in
+    let left : Bool = operandFits (drop leftPlace x) in
+    let right : Bool = operandFits (drop rightPlace x) in
+    let compared : Bool = formed && left && right in
+    let others : Bool = if eqb (at x formPlace) default then eqb conditions many && blank else compared in
+    by-choice (λ (w : List ℕ). length w ≤ pairMost) (eqb (at x formPlace) always) (bytes "true") _ (λ e. omega arith)
+    (λ o.
+    let h : others ≡ true = passed-true (eqb (at x formPlace) always) blank others fits o in
+    by-choice (λ (w : List ℕ). length w ≤ pairMost) (eqb (at x formPlace) default) (bytes "default") _ (λ e. omega arith)
+    (λ e.
+    let g : compared ≡ true = passed-true (eqb (at x formPlace) default) (eqb conditions many && blank) compared h e in
+    let l : left ≡ true = and-right formed left (and-left (formed && left) right g) in
+    let r : right ≡ true = and-right (formed && left) right g in
+    both-short (eqb (at x formPlace) equals) (shownPair (code "=") x) (shownPair (code "<") x) pairMost (pair-short (code "=") x l r) (pair-short (code "<") x l r)))
+
+pub mode-short : (m : ℕ) → length (shownMode m) ≤ modeMost
 unfolding shownMode
 mode-short m =
     both-short (eqb m a) (bytes "a") _ modeMost (omega arith) (both-short (eqb m na-c) (bytes "na_c") (bytes "na_nc") modeMost (omega arith) (omega arith))
 
-assignment-short : (x : List ℕ) → length (shownAssignment x) ≤ assignmentMost
-unfolding shownAssignment
-assignment-short x =
+pub assignment-short : (x : List ℕ) → assignmentFits x ≡ true → length (shownAssignment x) ≤ assignmentMost
+unfolding shownAssignment assignmentFits
+assignment-short x fits =
     omega (
       arith,
       length-append (shownField (at x 0)) (code ":" ∷ code "=" ∷ shownExpression (drop assignedIn x)),
-      field-short (at x 0),
-      expression-short (drop assignedIn x),
+      field-short (at x 0) (ltb-true (at x 0) fields (and-left (ltb (at x 0) fields) (expressionFits (drop assignedIn x)) fits)),
+      expression-short (drop assignedIn x) (and-right (ltb (at x 0) fields) (expressionFits (drop assignedIn x)) fits),
     )
 
--- pieces between signs, with commas between them
-listed-short : (opener closer : ℕ) (f : ℕ → List ℕ) (most n : ℕ) → ((k : ℕ) → length (f k) ≤ most) → length (between opener closer (commas f n)) ≤ n * (most + 1) + 2
+-- n pieces between signs, with commas between them
+pub listed-short : (opener closer : ℕ) (f : ℕ → List ℕ) (most n : ℕ) → ((k : ℕ) → k < n → length (f k) ≤ most) → length (between opener closer (commas f n)) ≤ n * (most + 1) - 1 + 2
 listed-short opener closer f most n h =
-    omega (arith, between-long opener closer (commas f n), separated-short (code ",") f most n (λ k l. h k))
+    omega (arith, between-long opener closer (commas f n), separated-short (code ",") f most n h)
 
-module _ (el : List ℕ) where
-  pub entries-short : length (shownEntries el) ≤ edgesMost (at el entriesPlace)
-  unfolding shownEntries
-  entries-short = listed-short (code "{") (code "}") (λ j. shown (entryAt el j)) digits (at el entriesPlace) (λ j. shown-short (entryAt el j))
-
-  pub exits-short : length (shownExits el) ≤ edgesMost (at el exitsPlace)
-  unfolding shownExits
-  exits-short = listed-short (code "{") (code "}") (λ j. shown (exitAt el j)) digits (at el exitsPlace) (λ j. shown-short (exitAt el j))
-
-  guarded-short : (b : ℕ) → length (shownGuarded el b) ≤ guardedMost
-  unfolding shownGuarded
-  guarded-short b =
-      let inside : List ℕ = shown (exitAt el b) ++ (code "," ∷ shownCondition (conditionAt el b)) in
-      omega (
-        arith,
-        between-long (code "(") (code ")") inside,
-        length-append (shown (exitAt el b)) (code "," ∷ shownCondition (conditionAt el b)),
-        shown-short (exitAt el b),
-        condition-short (conditionAt el b),
-      )
-
-  pub guarded-list-short : length (shownGuardedList el) ≤ at el exitsPlace * (guardedMost + 1) + 2
-  unfolding shownGuardedList
-  guarded-list-short = listed-short (code "{") (code "}") (shownGuarded el) guardedMost (at el exitsPlace) guarded-short
-
-  -- a message of at most 4 values
-  module _ (b : ℕ) (few : messageLength el b ≤ values) where
-    tuple-short : length (shownTuple el b) ≤ tupleMost
-    unfolding shownTuple
-    tuple-short =
-        let h = listed-short (code "<") (code ">") (λ j. shownItem (itemAt el b j)) pairMost (messageLength el b) (λ j. item-short (itemAt el b j)) in
-        omega (arith, h, few)
-
-    pub message-short : length (shownMessage el b) ≤ messageMost
-    unfolding shownMessage
-    message-short =
-        omega (arith, length-append (shown (messageName el b)) (code ":" ∷ shownTuple el b), shown-short (messageName el b), tuple-short)
-
-    receiving-short : length (shownReceiving el b) ≤ receivingMost
-    unfolding shownReceiving
-    receiving-short =
-        let inside : List ℕ = shownMessage el b ++ (code "," ∷ shown (exitAt el b)) in
-        omega (
-          arith,
-          between-long (code "(") (code ")") inside,
-          length-append (shownMessage el b) (code "," ∷ shown (exitAt el b)),
-          message-short,
-          shown-short (exitAt el b),
-        )
-
-  pub receiving-list-short : ((b : ℕ) → b < at el exitsPlace → messageLength el b ≤ values) → length (shownReceivingList el) ≤ at el exitsPlace * (receivingMost + 1)
-  unfolding shownReceivingList
-  receiving-list-short few =
-      separated-short (code ",") (shownReceiving el) receivingMost (at el exitsPlace) (λ b l. receiving-short b (few b l))
-
-  -- a task of at most 4 assignments
-  assignments-short : assignmentCount el ≤ assignments → length (shownAssignments el) ≤ assignmentsMost
-  unfolding shownAssignments
-  assignments-short few =
-      let h = listed-short (code "{") (code "}") (λ j. shownAssignment (assignmentAt el j)) assignmentMost (assignmentCount el) (λ j. assignment-short (assignmentAt el j)) in
-      omega (arith, h, few)
-
-  pub task-short : assignmentCount el ≤ assignments → length (shownTask el) ≤ taskMost
-  unfolding shownTask
-  task-short few =
-      let guard : List ℕ = shownCondition (conditionAt el 0) ++ (code "," ∷ shownAssignments el) in
-      let mode : List ℕ = shownMode (modeIn el) ++ (code "," ∷ guard) in
-      omega (
-        arith,
-        length-append (shown (taskIn el)) (code "," ∷ mode),
-        length-append (shownMode (modeIn el)) (code "," ∷ guard),
-        length-append (shownCondition (conditionAt el 0)) (code "," ∷ shownAssignments el),
-        shown-short (taskIn el),
-        mode-short (modeIn el),
-        condition-short (conditionAt el 0),
-        assignments-short few,
-      )
+-- some of them, each beside the figures of a number
+pub figured-short : (f : ℕ → List ℕ) (w : ℕ → ℕ) (most n : ℕ) → 1 ≤ n → ((k : ℕ) → k < n → length (f k) ≤ most + w k) → length (commas f n) + 1 ≤ n * (most + 1) + sum w n
+figured-short f w most n some h =
+    omega (
+      arith,
+      separated-some (code ",") f (λ k. most + 1 + w k) n some (λ k l. omega (arith, h k l)),
+      sum-add (λ k. most + 1) w n,
+      sum-le (λ k. most + 1) (most + 1) n (λ k l. omega arith),
+    )

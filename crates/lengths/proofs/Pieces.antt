@@ -1,6 +1,6 @@
 -- Lengths of texts that are chosen, put between signs or put one behind the other. Assumes nothing.
-use Prim.Native.Nat.{ℕ, zero, suc, _+_, _*_, _≤_, _<_}
-use mathlib.Core.Path.{_≡_}
+use Prim.Native.Nat.{ℕ, zero, suc, _+_, _*_, _-_, _≤_, _<_}
+use mathlib.Core.Path.{_≡_, refl}
 use mathlib.Core.Bool.{Bool, true, false}
 use mathlib.Core.List.{List, [], _∷_, _++_}
 use native.Mathlib.Omega.{arith}
@@ -12,12 +12,7 @@ use Rattle.words.specs.Sum.{sum}
 use Rattle.words.proofs.SumLaws.{sum-le}
 use Rattle.shown.specs.Shown.{lead, separated, between}
 
--- a choice, each text by its own bound, or both by one
-pub each-short : (b : Bool) (x y : List ℕ) (m n : ℕ) → length x ≤ m → length y ≤ n → length (if b then x else y) ≤ (if b then m else n)
-unfolding if_then_else_
-each-short true x y m n h l = h
-each-short false x y m n h l = l
-
+-- a choice
 pub both-short : (b : Bool) (x y : List ℕ) (most : ℕ) → length x ≤ most → length y ≤ most → length (if b then x else y) ≤ most
 unfolding if_then_else_
 both-short true x y most h l = h
@@ -45,13 +40,31 @@ pub lead-short : (s k : ℕ) → length (lead s k) ≤ 1
 unfolding lead
 lead-short s k = both-short (eqb k 0) [] (s ∷ []) 1 (omega arith) (omega arith)
 
-pub separated-sum : (s : ℕ) (f : ℕ → List ℕ) (most : ℕ → ℕ) (n : ℕ) → ((k : ℕ) → k < n → length (f k) + 1 ≤ most k) → length (separated s f n) ≤ sum most n
-unfolding separated
-separated-sum s f most n h =
-    joined-short (λ k. lead s k ++ f k) most n (λ k l. omega (arith, length-append (lead s k) (f k), lead-short s k, h k l))
+lead-none : (s : ℕ) → length (lead s 0) ≡ 0
+unfolding lead if_then_else_
+lead-none s = refl
 
-pub separated-short : (s : ℕ) (f : ℕ → List ℕ) (most n : ℕ) → ((k : ℕ) → k < n → length (f k) ≤ most) → length (separated s f n) ≤ n * (most + 1)
-separated-short s f most n h =
-    let each-one = sum-le (λ k. most + 1) (most + 1) n (λ k l. omega arith) in
-    let together = separated-sum s f (λ k. most + 1) n (λ k l. omega (arith, h k l)) in
+signed-sum : (s : ℕ) (f : ℕ → List ℕ) (most : ℕ → ℕ) (n : ℕ) → ((k : ℕ) → k < suc n → length (f k) + 1 ≤ most k) → length (joined (λ k. lead s k ++ f k) (suc n)) + 1 ≤ sum most (suc n)
+unfolding joined sum
+signed-sum s f most zero h = omega (arith, length-append (lead s 0) (f 0), lead-none s, h 0 (omega arith))
+signed-sum s f most (suc n) h =
+    omega (
+      arith,
+      length-append (joined (λ k. lead s k ++ f k) (suc n)) (lead s (suc n) ++ f (suc n)),
+      length-append (lead s (suc n)) (f (suc n)),
+      lead-short s (suc n),
+      signed-sum s f most n (λ k l. h k (omega arith)),
+      h (suc n) (omega arith),
+    )
+
+-- each piece with its sign, but for the first
+pub separated-some : (s : ℕ) (f : ℕ → List ℕ) (most : ℕ → ℕ) (n : ℕ) → 1 ≤ n → ((k : ℕ) → k < n → length (f k) + 1 ≤ most k) → length (separated s f n) + 1 ≤ sum most n
+separated-some s f most zero some h = absurd (omega arith)
+separated-some s f most (suc n) some h = unfold separated in signed-sum s f most n h
+
+pub separated-short : (s : ℕ) (f : ℕ → List ℕ) (most n : ℕ) → ((k : ℕ) → k < n → length (f k) ≤ most) → length (separated s f n) ≤ n * (most + 1) - 1
+separated-short s f most zero h = unfold separated joined in omega arith
+separated-short s f most (suc n) h =
+    let each-one = sum-le (λ k. most + 1) (most + 1) (suc n) (λ k l. omega arith) in
+    let together = separated-some s f (λ k. most + 1) (suc n) (omega arith) (λ k l. omega (arith, h k l)) in
     omega arith

@@ -53,7 +53,7 @@ pub fn less(n: Word, k: usize) -> Word
 }
 
 // Whether the words behind the first k of `most` things, each of `width` words, are 0.
-pub fn zeros_behind(x: &[Word], width: Word, most: Word, k: u32) -> bool
+pub fn zeros_behind(x: &[Word], width: Word, most: Word, k: Word) -> bool
     ensures { λ r. ⌜ r ≡ zeros (drop (width * k) (now (x .entry))) (width * (most - k)) ⌝ }
 {
     let rest = less(most, k as usize);

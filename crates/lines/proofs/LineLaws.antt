@@ -1,29 +1,28 @@
 -- Laws of lines: rows in a loop, and the greatest lengths. Assumes nothing.
-use mathlib.Core.Path.{_≡_, refl, sym, ap, _∙_}
+use mathlib.Core.Path.{_≡_, refl, sym, ap}
 use mathlib.Core.List.{List, [], _∷_, _++_}
 use mathlib.Core.Bool.{Bool, true, false}
-use Prim.Native.Nat.{ℕ, zero, suc, _+_, _-_, _<_, _≤_}
-use native.Mathlib.Nat.{le-antisymm}
-use native.Mathlib.Omega.{arith, min-cases}
+use Prim.Native.Nat.{ℕ, zero, suc, _+_, _-_, _≤_}
+use native.Mathlib.Omega.{arith}
 use lib.Dec.{eqb}
 use lib.ListN.{length, length-append}
 use borrow.Author.Tests.{eq-eqb, ne-eqb}
 use Rattle.words.specs.Counts.{values}
 use Rattle.words.specs.Pick.{if_then_else_}
 use Rattle.words.specs.Text.{bytes}
-use Rattle.words.specs.Words.{at}
+use Rattle.words.specs.Words.{at, digits}
 use Rattle.words.proofs.PickLaws.{pick-yes, pick-no}
 use Rattle.words.specs.Each.{joined}
 use Rattle.buffers.specs.Buffers.{lesser, Put}
 use Rattle.buffers.proofs.OverLaws.{put-as, put-short, pieces-none, pieces-more, pieces-done}
-use Rattle.decimals.specs.Decimals.{digits, shown, shownFrom}
+use Rattle.decimals.specs.Decimals.{shown}
 use Rattle.decimals.proofs.DecimalLaws.{shown-short}
 use Rattle.meaning.specs.declared.Name.{Name}
 use Rattle.meaning.specs.declared.Answer.{Answer}
 use Rattle.meaning.specs.declared.Tuple.{Tuple}
 use Rattle.meaning.specs.declared.Traffic.{Traffic}
 use Rattle.meaning.specs.declared.Traffic.the-variants.{Nothing, Consumed, Sent}
-use Rattle.lines.specs.Lines.{marked, row, valuesLine, tupleLine, messageLine, signed, trafficLine, placeLine, stepLine, nameLine, rowMost, valuesMost, trafficMost, placeMost, stepMost, nameMost, lastBeside}
+use Rattle.lines.specs.Lines.{marked, row, valuesLine, tupleLine, messageLine, signed, trafficLine, placeLine, stepLine, nameLine, rowMost, valuesMost, trafficMost, placeMost, stepMost, nameMost}
 
 -- a number of a row, by the test
 pub marked-one : (mark : List ℕ) (j x : ℕ) → j ≡ 0 → shown x ≡ marked mark j x
@@ -123,15 +122,3 @@ tuple-some g e = pick-no _ _ _ _ (ne-eqb (g .length) 0 e) refl
 pub traffic-is : (a : Answer) (t : Traffic) → a .traffic ≡ t → signed t (messageLine a) ≡ trafficLine a
 unfolding trafficLine
 traffic-is a t e = ap (λ x. signed x (messageLine a)) (sym e)
-
--- what stands beside a number, where a word holds it and where it is beyond
-pub beside-beyond : (b : ℕ) → 65535 < b → bytes "65536" ≡ shown (lesser b lastBeside)
-unfolding lesser shown shownFrom if_then_else_
-beside-beyond b h =
-    min-cases b lastBeside (bytes "65536" ≡ shown (lesser b lastBeside))
-    (λ l m. sym (ap shown (m ∙ le-antisymm l h)))
-    (λ l m. sym (ap shown m))
-
-pub beside-held : (b : ℕ) → b ≤ 65535 → shown b ≡ shown (lesser b lastBeside)
-unfolding lesser
-beside-held b h = min-cases b lastBeside (shown b ≡ shown (lesser b lastBeside)) (λ l m. sym (ap shown m)) (λ l m. ap shown (le-antisymm (omega (arith, h)) (omega (arith, h, l))))

@@ -5,10 +5,10 @@ use lib.Dec.{eqb}
 use Rattle.words.specs.Counts.{values}
 use Rattle.words.specs.Pick.{if_then_else_}
 use Rattle.words.specs.Text.{bytes}
-use Rattle.words.specs.Words.{at}
+use Rattle.words.specs.Words.{at, digits}
 use Rattle.words.specs.Each.{joined}
 use Rattle.buffers.specs.Buffers.{lesser}
-use Rattle.decimals.specs.Decimals.{digits, shown}
+use Rattle.decimals.specs.Decimals.{shown}
 use Rattle.meaning.specs.declared.Name.{Name}
 use Rattle.meaning.specs.declared.Answer.{Answer}
 use Rattle.meaning.specs.declared.Tuple.{Tuple}
@@ -85,7 +85,3 @@ unreadLine number beside = bytes "refused " ++ shown number ++ bytes " " ++ show
 
 abbrev pub unreadMost : ℕ
 unreadMost = 8 + digits + 1 + digits + 1
-
--- what is said beside a number, at most: the end of the longest drawing
-abbrev pub lastBeside : ℕ
-lastBeside = 65536

@@ -2,18 +2,19 @@
 // behind its text.
 ghost use mathlib.Core.List.{[], _∷_, _++_};
 ghost use Prim.Native.Nat.{_+_};
+ghost use Rattle.words.specs.Words.{greatest, digits};
 ghost use Rattle.buffers.specs.Buffers.{Put, lesser};
-ghost use Rattle.decimals.specs.Decimals.{digits, shown};
-ghost use Rattle.lines.specs.Lines.{marked, row, valuesLine, tupleLine, messageLine, trafficLine, placeLine, stepLine, nameLine, rowMost, valuesMost, trafficMost, placeMost, stepMost, nameMost, unreadLine, unreadMost, lastBeside};
+ghost use Rattle.decimals.specs.Decimals.{shown};
+ghost use Rattle.lines.specs.Lines.{marked, row, valuesLine, tupleLine, messageLine, trafficLine, placeLine, stepLine, nameLine, rowMost, valuesMost, trafficMost, placeMost, stepMost, nameMost, unreadLine, unreadMost};
 use buffers::least;
 use buffers::put_byte;
 use buffers::put_bytes;
-use decimals::DIGITS;
 use decimals::put_number;
 use meaning::Answer;
 use meaning::Name;
 use meaning::Traffic;
 use meaning::Tuple;
+use words::DIGITS;
 use words::GREATEST;
 use words::Word;
 use words::counts::VALUES;
@@ -135,19 +136,17 @@ pub fn put_name(out: &mut [u8], from: usize, n: Name) -> usize
 
 pub const UNREAD_LINE: usize = 8 + DIGITS + 1 + DIGITS + 1;
 
-// What stands beside a number: the greatest place, the end of the longest drawing, is one more than a word holds.
+// What stands beside a number, as far as a word holds it.
 fn put_beside(out: &mut [u8], from: usize, beside: usize) -> usize
-    ensures { λ r. ⌜ Put (shown (lesser beside lastBeside)) digits from (now (out .entry)) r (now (out .exit)) ⌝ }
+    ensures { λ r. ⌜ Put (shown (lesser beside greatest)) digits from (now (out .entry)) r (now (out .exit)) ⌝ }
 {
-    if beside > GREATEST as usize {
-        return put_bytes(out, from, b"65536");
-    }
-    put_number(out, from, beside as Word)
+    let held = least(beside, GREATEST as usize);
+    put_number(out, from, held as Word)
 }
 
 // A refused text: the number, and what stands beside it.
 pub fn put_unread(out: &mut [u8], from: usize, number: Word, beside: usize) -> usize
-    ensures { λ r. ⌜ Put (unreadLine number (lesser beside lastBeside)) unreadMost from (now (out .entry)) r (now (out .exit)) ⌝ }
+    ensures { λ r. ⌜ Put (unreadLine number (lesser beside greatest)) unreadMost from (now (out .entry)) r (now (out .exit)) ⌝ }
 {
     let word = put_bytes(out, from, b"refused ");
     let told = put_number(out, word, number);

@@ -172,8 +172,9 @@ s shown-by x being n = record { says = s; comes = x; due = n }
 
 abbrev pub points : List Point
 points =
-    "65,535+0 is 65,535" shown-by field (assigning-d0 (form plus (number greatest) (number 0))) 0 being greatest ∷
-    "65,535+1 is undefined" shown-by answered (assigning-d0 (form plus (number greatest) (number 1))) being 13 ∷
+    "4,294,967,295+0 is 4,294,967,295" shown-by field (assigning-d0 (form plus (number greatest) (number 0))) 0 being greatest ∷
+    "4,294,967,295+1 is undefined" shown-by answered (assigning-d0 (form plus (number greatest) (number 1))) being 13 ∷
+    "65,535+1 is 65,536" shown-by field (assigning-d0 (form plus (number 65535) (number 1))) 0 being 65536 ∷
     "0-1 is undefined" shown-by answered (assigning-d0 (form minus (number 0) (number 1))) being 13 ∷
     "Undefined = undefined does not hold" shown-by answered (guarded (form equals (d 0) (d 1))) being 13 ∷
     "Undefined = undefined does not fail either" shown-by answered (splitting-undefined 1) being 13 ∷

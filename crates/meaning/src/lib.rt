@@ -4,7 +4,7 @@ ghost use Rattle.meaning.specs.Tuples.{empty};
 use words::Word;
 use words::counts::VALUES;
 
-// "A field is 0 to 65,535 or undefined."
+// "A field is 0 to 4,294,967,295 or undefined."
 pub enum Value {
     Undefined,
     Number(Word),

@@ -12,7 +12,7 @@ unfoldable pub use Rattle.bounds.specs.Bounds.{oneTooMany}
 pub use Rattle.passes.specs.Model.{Got, plain, multiple, noPool, unread}
 unfoldable pub use Rattle.passes.specs.Model.{putBefore, barred, elementAlone, elementsAt, poolWord, opening, closing, closed, insidePool, poolOfWord, pool, startsPool, poolsAt, model, flat, filled, poolTable, tableOf}
 
--- READING a text into a lent table t: "1: text above 32,768 bytes"; 2 and 3 with their place; "4 with the lowest check broken"; else 0, and every word is the model's
+-- READING a text into a lent table t: "1: text above 65,536 bytes"; 2 and 3 with their place; "4 with the lowest check broken"; else 0, and every word is the model's
 pub record ReadInto : Type 0 where
   pub number : ℕ
   pub beside : ℕ

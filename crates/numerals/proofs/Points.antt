@@ -10,8 +10,11 @@ use Rattle.numerals.specs.Numerals.{valueFrom, leadingZero, numberOf, sa
 
 pub record Numbers : Type 0 where
   pub zero : numberOf (bytes "0") ≡ Value 0
-  pub greatest : numberOf (bytes "65535") ≡ Value 65535
-  pub above : numberOf (bytes "65536") ≡ TooLarge
+  pub inner : numberOf (bytes "65536") ≡ Value 65536
+  pub greatest : numberOf (bytes "4294967295") ≡ Value 4294967295
+  pub above : numberOf (bytes "4294967296") ≡ TooLarge
+  pub no-wrap : numberOf (bytes "4294967297") ≡ TooLarge
+  pub no-wider-wrap : numberOf (bytes "18446744073709551617") ≡ TooLarge
   pub far-above : numberOf (bytes "99999999999999999999999999") ≡ TooLarge
   pub leading-zeros : numberOf (bytes "007") ≡ NotANumber
   pub two-zeros : numberOf (bytes "00") ≡ NotANumber
@@ -23,8 +26,11 @@ pub numbers : Numbers
 unfolding if_then_else_ between isDigit valueFrom leadingZero numberOf
 numbers = record {
   zero = refl;
+  inner = refl;
   greatest = refl;
   above = refl;
+  no-wrap = refl;
+  no-wider-wrap = refl;
   far-above = refl;
   leading-zeros = refl;
   two-zeros = refl;
@@ -34,13 +40,15 @@ numbers = record {
 }
 
 pub record Operands : Type 0 where
-  pub number : operandOf (bytes "65535") ≡ Constant 65535
-  pub number-above : operandOf (bytes "65536") ≡ OutOfRange
+  pub inner : operandOf (bytes "65536") ≡ Constant 65536
+  pub number : operandOf (bytes "4294967295") ≡ Constant 4294967295
+  pub number-above : operandOf (bytes "4294967296") ≡ OutOfRange
   pub leading-zeros : operandOf (bytes "007") ≡ NotAnOperand
   pub first-field : operandOf (bytes "d0") ≡ Field 0
   pub last-field : operandOf (bytes "d15") ≡ Field 15
   pub field-above : operandOf (bytes "d16") ≡ OutOfRange
   pub no-wrap : operandOf (bytes "d256") ≡ OutOfRange
+  pub greatest-field : operandOf (bytes "d4294967295") ≡ OutOfRange
   pub far-above : operandOf (bytes "d99999999999") ≡ OutOfRange
   pub field-zero : operandOf (bytes "d01") ≡ NotAnOperand
   pub letter-alone : operandOf (bytes "d") ≡ NotAnOperand
@@ -51,6 +59,7 @@ pub record Operands : Type 0 where
 pub operands : Operands
 unfolding if_then_else_ between isDigit valueFrom leadingZero numberOf asNumber asField operandOf
 operands = record {
+  inner = refl;
   number = refl;
   number-above = refl;
   leading-zeros = refl;
@@ -58,6 +67,7 @@ operands = record {
   last-field = refl;
   field-above = refl;
   no-wrap = refl;
+  greatest-field = refl;
   far-above = refl;
   field-zero = refl;
   letter-alone = refl;

@@ -1,4 +1,4 @@
--- "Numbers are decimal without leading zeros, 0 to 65,535. A keyword is compared whole, as fixed bytes, letter case included." "An operand is a
+-- "Numbers are decimal without leading zeros, 0 to 4,294,967,295. A keyword is compared whole, as fixed bytes, letter case included." "An operand is a
 -- number or a field `d0` to `d15`." A number of any length above its range is still a number.
 use Prim.Native.Char.{code}
 use Prim.Native.Nat.{ℕ, _+_, _-_, _*_}

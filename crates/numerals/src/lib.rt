@@ -113,17 +113,17 @@ fn as_field(n: Number) -> Operand
 
 // Digits of a text: what they come to, and the place behind them.
 pub struct Decimal {
-    pub value: u32,
+    pub value: u64,
     pub end: usize,
 }
 
 // A value and one digit more; above the greatest word it grows no more.
-fn grown(v: u32, d: u8) -> u32
+fn grown(v: u64, d: u8) -> u64
     requires { ⌜ isDigit d ≡ true ⌝ }
     ensures { λ r. ⌜ r ≡ grown v d ⌝ }
 {
-    if v <= GREATEST as u32 {
-        return v * 10 + (d - b'0') as u32;
+    if v <= GREATEST as u64 {
+        return v * 10 + (d - b'0') as u64;
     }
     v
 }
@@ -132,7 +132,7 @@ fn grown(v: u32, d: u8) -> u32
 fn digits_at(text: &[u8], from: usize) -> Decimal
     ensures { λ r. ⌜ r ≡ digitsFrom 0 (drop from (now (text .entry))) from ⌝ }
 {
-    let mut v: u32 = 0;
+    let mut v: u64 = 0;
     let mut i = from;
     while i < text.len() {
         let d = text[i];
@@ -146,7 +146,7 @@ fn digits_at(text: &[u8], from: usize) -> Decimal
 }
 
 // A word of digits alone, which come to v, as a number.
-fn number_by(word: &[u8], v: u32) -> Number
+fn number_by(word: &[u8], v: u64) -> Number
     ensures { λ r. ⌜ r ≡ numberBy v (now (word .entry)) ⌝ }
 {
     if word.len() == 0 {
@@ -155,7 +155,7 @@ fn number_by(word: &[u8], v: u32) -> Number
     if leading_zero(word) {
         return Number::NotANumber;
     }
-    if v <= GREATEST as u32 {
+    if v <= GREATEST as u64 {
         return Number::Value(v as Word);
     }
     Number::TooLarge

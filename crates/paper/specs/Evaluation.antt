@@ -1,4 +1,4 @@
--- eval, upd and match of figure 6 and appendix B. What a value, a sum, a difference and a truth are is document 01's: "A sum above 65,535 or a
+-- eval, upd and match of figure 6 and appendix B. What a value, a sum, a difference and a truth are is document 01's: "A sum above 4,294,967,295 or a
 -- difference below 0 is undefined, and so is all that uses an undefined operand; such a condition holds neither true nor false."
 use Prim.Native.Nat.{ℕ}
 use mathlib.Core.Path.{_≡_}

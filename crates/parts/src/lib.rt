@@ -34,19 +34,22 @@ use words::counts::NAMES;
 use words::counts::TASKS;
 use words::put;
 
+// The most branches, as a branch is numbered.
+const BRANCHES_MOST: u8 = BRANCHES as u8;
+
 // A list in a text: what its items are, the signs around it, how many it may have, where their count is stored, and the branch they belong to.
 pub struct Series {
     pub item: u8,
     pub opener: u8,
     pub closer: u8,
     pub least: Word,
-    pub most: Word,
+    pub most: u8,
     pub count: u32,
-    pub branch: Word,
+    pub branch: u8,
 }
 
 // The message of branch b: its name and its items.
-fn message(text: &[u8], at: usize, x: &mut [Word], item: u8, b: Word) -> Read
+fn message(text: &[u8], at: usize, x: &mut [Word], item: u8, b: u8) -> Read
     ensures { λ r. ⌜ record { end = r; words = now (x .exit) } ≡ message item b (now (text .entry)) at (now (x .entry)) ⌝ }
 {
     let r = number_in(
@@ -68,7 +71,7 @@ fn message(text: &[u8], at: usize, x: &mut [Word], item: u8, b: Word) -> Read
 }
 
 // Behind the message of a branch that receives.
-fn receiving_exit(text: &[u8], at: usize, x: &mut [Word], b: Word) -> Read
+fn receiving_exit(text: &[u8], at: usize, x: &mut [Word], b: u8) -> Read
     ensures { λ r. ⌜ record { end = r; words = now (x .exit) } ≡ receivingExit b (now (text .entry)) at (now (x .entry)) ⌝ }
 {
     let r = sign_at(text, at, b',');
@@ -90,7 +93,7 @@ fn receiving_exit(text: &[u8], at: usize, x: &mut [Word], b: Word) -> Read
 }
 
 // The branch b of an eventBased.
-fn receiving(text: &[u8], at: usize, x: &mut [Word], b: Word) -> Read
+fn receiving(text: &[u8], at: usize, x: &mut [Word], b: u8) -> Read
     ensures { λ r. ⌜ record { end = r; words = now (x .exit) } ≡ receiving b (now (text .entry)) at (now (x .entry)) ⌝ }
 {
     let r = sign_at(text, at, b'(');
@@ -109,8 +112,8 @@ fn receiving_branches(text: &[u8], start: usize, x: &mut [Word]) -> Read
     ensures { λ r. ⌜ record { end = r; words = now (x .exit) } ≡ receivingBranches (now (text .entry)) start (now (x .entry)) ⌝ }
 {
     let mut at = start;
-    let mut k: Word = 0;
-    while k < BRANCHES {
+    let mut k: u8 = 0;
+    while k < BRANCHES_MOST {
         let r = receiving(text, at, x, k);
         let Read::At(q) = r else {
             return r;
@@ -118,7 +121,7 @@ fn receiving_branches(text: &[u8], start: usize, x: &mut [Word]) -> Read
         k += 1;
         let more = sign_at(text, q, b',');
         let Read::At(next) = more else {
-            return counted(text, q, x, FEWEST, EXITS as u32, k);
+            return counted(text, q, x, FEWEST, EXITS as u32, k as Word);
         };
         at = next;
     }
@@ -126,7 +129,7 @@ fn receiving_branches(text: &[u8], start: usize, x: &mut [Word]) -> Read
 }
 
 // The one entry or exit of an element, in the list at the place `list`.
-fn one_edge(text: &[u8], at: usize, x: &mut [Word], list: Word) -> Read
+fn one_edge(text: &[u8], at: usize, x: &mut [Word], list: u8) -> Read
     ensures { λ r. ⌜ record { end = r; words = now (x .exit) } ≡ oneEdge list (now (text .entry)) at (now (x .entry)) ⌝ }
 {
     let r = number_in(text, at, x, 1, EDGES, list as u32 + FIRST_EDGE as u32 + 0);
@@ -180,16 +183,16 @@ pub fn part_of(text: &[u8], at: usize, x: &mut [Word], c: u8) -> Read
     ensures { λ r. ⌜ record { end = r; words = now (x .exit) } ≡ partOf c (now (text .entry)) at (now (x .entry)) ⌝ }
 {
     if c == b'E' {
-        return one_edge(text, at, x, ENTRIES as Word);
+        return one_edge(text, at, x, ENTRIES as u8);
     }
     if c == b'X' {
-        return one_edge(text, at, x, EXITS as Word);
+        return one_edge(text, at, x, EXITS as u8);
     }
     if c == b'F' {
-        return series(text, at, x, edge_list(ENTRIES as Word));
+        return series(text, at, x, edge_list(ENTRIES as u8));
     }
     if c == b'Y' {
-        return series(text, at, x, edge_list(EXITS as Word));
+        return series(text, at, x, edge_list(EXITS as u8));
     }
     if c == b'N' {
         return task_part(text, at, x);

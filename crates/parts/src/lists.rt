@@ -35,7 +35,7 @@ use words::counts::VALUES;
 use words::put;
 
 // A list of edges, its count at the place `list`.
-pub fn edge_list(list: Word) -> Series
+pub fn edge_list(list: u8) -> Series
     ensures { λ r. ⌜ (r ≡ edgeList list) × (r .count ≤ farthest) ⌝ }
 {
     Series {
@@ -43,7 +43,7 @@ pub fn edge_list(list: Word) -> Series
         opener: b'{',
         closer: b'}',
         least: FEWEST,
-        most: BRANCHES,
+        most: BRANCHES as u8,
         count: list as u32,
         branch: 0,
     }
@@ -57,7 +57,7 @@ pub fn guarded_list() -> Series
         opener: b'{',
         closer: b'}',
         least: FEWEST,
-        most: BRANCHES,
+        most: BRANCHES as u8,
         count: EXITS as u32,
         branch: 0,
     }
@@ -71,14 +71,14 @@ pub fn assignment_list() -> Series
         opener: b'{',
         closer: b'}',
         least: 0,
-        most: ASSIGNMENTS,
+        most: ASSIGNMENTS as u8,
         count: ASSIGNMENT_COUNT as u32,
         branch: 0,
     }
 }
 
 // The items of the message of branch b.
-pub fn tuple(item: u8, b: Word) -> Series
+pub fn tuple(item: u8, b: u8) -> Series
     ensures { λ r. ⌜ (r ≡ tuple item b) × (r .count ≤ farthest) ⌝ }
 {
     Series {
@@ -86,14 +86,14 @@ pub fn tuple(item: u8, b: Word) -> Series
         opener: b'<',
         closer: b'>',
         least: 0,
-        most: VALUES,
+        most: VALUES as u8,
         count: MESSAGES as u32 + MESSAGE_WORDS as u32 * (b as u32) + MESSAGE_LENGTH as u32,
         branch: b,
     }
 }
 
 // Item k of a list.
-fn item_of(text: &[u8], at: usize, x: &mut [Word], s: Series, k: Word) -> Read
+fn item_of(text: &[u8], at: usize, x: &mut [Word], s: Series, k: u8) -> Read
     requires { ⌜ s .count ≤ farthest ⌝ }
     ensures { λ r. ⌜ record { end = r; words = now (x .exit) } ≡ itemOf s k (now (text .entry)) at (now (x .entry)) ⌝ }
 {
@@ -125,7 +125,7 @@ fn items(text: &[u8], start: usize, x: &mut [Word], s: Series) -> Read
     ensures { λ r. ⌜ record { end = r; words = now (x .exit) } ≡ items s (now (text .entry)) start (now (x .entry)) ⌝ }
 {
     let mut at = start;
-    let mut k: Word = 0;
+    let mut k: u8 = 0;
     while k < s.most {
         let r = item_of(text, at, x, s, k);
         let Read::At(q) = r else {
@@ -134,7 +134,7 @@ fn items(text: &[u8], start: usize, x: &mut [Word], s: Series) -> Read
         k += 1;
         let more = sign_at(text, q, b',');
         let Read::At(next) = more else {
-            return counted(text, q, x, s.least, s.count, k);
+            return counted(text, q, x, s.least, s.count, k as Word);
         };
         at = next;
     }

@@ -108,7 +108,10 @@ points =
     "edge 0 is 3" shown-by refused "pool(1,start(0,2))" 3 13 ∷
     "edge 49 is 3, whatever follows" shown-by refused "pool(1,start(1,49;;" 3 15 ∷
     "numbers have no leading zeros: `01` is 2" shown-by refused "pool(1,start(01,2))" 2 13 ∷
-    "65,536 is 3" shown-by refused "pool(1,task(2,1,a,65536=1" 3 18 ∷
+    "4,294,967,296 is 3" shown-by refused "pool(1,task(2,1,a,4294967296=1" 3 18 ∷
+    "4,294,967,295 is read, and 65,536" shown-by read "pool(1,start(1,2)|task(2,1,a,4294967295=65536,{},3)|end(3))" ∷
+    "`d4294967295` is 3 at the d" shown-by refused "pool(1,task(2,1,a,d4294967295=1" 3 18 ∷
+    "an edge's range stays: 65,536 is 3" shown-by refused "pool(1,start(1,65536" 3 15 ∷
     "a number of any length above its range is 3" shown-by refused "pool(1,task(2,1,a,99999999999999999999=1" 3 18 ∷
     "task 17 is 3" shown-by refused "pool(1,task(2,17," 3 14 ∷
     "message name 16 is 3" shown-by refused "pool(1,endSnd(2,16:" 3 16 ∷
@@ -136,7 +139,7 @@ points =
     "where no keyword stands, 2" shown-by ((bytes "pool(1," ++ repeated "end(1)|" elements ++ bytes "ends(1)") gives 2 beside 231) ∷
     "the fifth pool is 3 at its keyword" shown-by ((repeated "pool(1,end(1))|" pools ++ bytes "miPool") gives 3 beside 60) ∷
     "the text ends there: 2 at its length" shown-by ((repeated "pool(1,end(1))|" pools) gives 2 beside 60) ∷
-    "a text above 32,768 bytes is 1" shown-by ((replicate (textMost + 1) 32) gives 1 beside 0) ∷
+    "a text above 65,536 bytes is 1" shown-by ((replicate (textMost + 1) 32) gives 1 beside 0) ∷
     "the lowest check broken is over the whole model: 2 of the second pool before 5 of the first" shown-by refused "pool(1,start(1,2)|task(2,1,a,true,{},3)|task(3,1,a,true,{},4)|end(4))|pool(2,end(1))" 4 2 ∷
     "equal messages appear once, at the oldest" shown-by listed-as (listed (pool 1 0 1 (words "interRcv(1,0:<?d0>,2)")) (made 1 (tokens 1 1)) (queue (one 7 ∷ one 7 ∷ one 8 ∷ []))) (step 0 0 0 0 (one 7) ∷ step 0 0 0 0 (one 8) ∷ []) ∷
     "a startRcv step stands under its unmade instance, behind those of the made ones" shown-by listed-as (listed (pool 1 2 2 (words "startRcv(0:<>,1)" ++ words "end(1)")) (made 1 (tokens 1 1)) (queue (empty ∷ []))) (step 0 1 0 0 empty ∷ step 1 0 0 0 empty ∷ []) ∷

@@ -41,7 +41,8 @@ pub record Numbers : Type 0 where
   pub no-field : field 3 (bytes "?7>") 1 none ≡ refused 2 1 none
   pub operand-number : operand 2 (bytes "7=") 0 none ≡ passed 1 (0 ∷ 0 ∷ 0 ∷ 7 ∷ [])
   pub operand-field : operand 2 (bytes "d7=") 0 none ≡ passed 2 (0 ∷ 0 ∷ 1 ∷ 7 ∷ [])
-  pub operand-above : operand 2 (bytes "65536=") 0 none ≡ refused 3 0 none
+  pub operand-last : operand 2 (bytes "4294967295=") 0 none ≡ passed 10 (0 ∷ 0 ∷ 0 ∷ 4294967295 ∷ [])
+  pub operand-above : operand 2 (bytes "4294967296=") 0 none ≡ refused 3 0 none
   pub no-operand : operand 2 (bytes "true=") 0 none ≡ refused 2 0 none
 
 pub numbers : Numbers
@@ -60,6 +61,7 @@ numbers = record {
   no-field = refl;
   operand-number = refl;
   operand-field = refl;
+  operand-last = refl;
   operand-above = refl;
   no-operand = refl;
 }

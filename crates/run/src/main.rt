@@ -3,11 +3,16 @@ use libc::STDIN_FILENO;
 use model::places::TABLE_WORDS;
 use printing::tell_run;
 use printing::tell_unread;
+use running::Steps;
 use state::places::STATE_WORDS;
 use words::Word;
+use words::counts::TEXT_MOST;
 
 // The most steps of the run.
-const STEPS: Word = 100;
+const STEPS: Steps = 100;
+
+// One byte more than the longest text: what fills it is refused for its length.
+const ROOM: usize = TEXT_MOST + 1;
 
 fn run(text: &[u8], t: &mut [Word; TABLE_WORDS], z: &mut [Word; STATE_WORDS]) {
     let r = engine::read(text, t);
@@ -22,8 +27,7 @@ fn run(text: &[u8], t: &mut [Word; TABLE_WORDS], z: &mut [Word; STATE_WORDS]) {
 fn main() {
     let mut t: [Word; TABLE_WORDS] = [0; TABLE_WORDS];
     let mut z: [Word; STATE_WORDS] = [0; STATE_WORDS];
-    // Longer than the longest text: a text that fills it is refused for its length.
-    let mut text = io::large_buffer();
+    let mut text: [u8; ROOM] = [0; ROOM];
     let n = io::read_full(STDIN_FILENO, &mut text);
     run(&text[..n], &mut t, &mut z);
 }

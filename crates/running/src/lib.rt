@@ -10,9 +10,12 @@ use rules::step_on;
 use state::places::STATE_WORDS;
 use words::Word;
 
+// The run's limit and its count of steps: no values, so of a width of their own.
+pub type Steps = u16;
+
 // The number of steps taken, and 1 or 0 for whether one is still accepted.
 pub struct Ran {
-    pub steps: Word,
+    pub steps: Steps,
     pub left: Word,
 }
 
@@ -28,10 +31,10 @@ fn whether_left(t: &[Word; TABLE_WORDS], z: &[Word; STATE_WORDS]) -> Word
 }
 
 // Takes the first listed step until none is accepted or the limit is used up.
-pub fn run_on(t: &[Word; TABLE_WORDS], z: &mut [Word; STATE_WORDS], limit: Word) -> Ran
+pub fn run_on(t: &[Word; TABLE_WORDS], z: &mut [Word; STATE_WORDS], limit: Steps) -> Ran
     ensures { λ r. ⌜ record { steps = r .steps; left = r .left; instances = instancesOf (now (z .exit)); queues = queuesOf (now (z .exit)) } ≡ ranBy (scanned (now (t .entry))) (settled (now (t .entry))) limit (instancesOf (now (z .entry))) (queuesOf (now (z .entry))) ⌝ }
 {
-    let mut steps: Word = 0;
+    let mut steps: Steps = 0;
     while steps < limit {
         let first = list_on(t, z, 0);
         if first.number != 0 {

@@ -1,8 +1,7 @@
--- The greatest length of each text. A count is a word, whatever stands in the table: so no sum of lengths passes the greatest `usize`.
+-- The greatest length of each text, whatever stands in the table: a count is a word.
 use Prim.Native.Nat.{ℕ, _+_, _*_}
 use Rattle.words.specs.Counts.{pools}
-use Rattle.words.specs.Words.{greatest}
-use Rattle.decimals.specs.Decimals.{digits}
+use Rattle.words.specs.Words.{greatest, digits}
 
 -- as many pieces of k bytes, each with its sign, as a word counts
 abbrev listMost : ℕ → ℕ
@@ -98,6 +97,3 @@ poolMost = poolWordMost + enclosedMost
 
 abbrev pub poolsMost : ℕ
 poolsMost = pools * (1 + poolMost)
-
-abbrev pub tableMost : ℕ
-tableMost = poolsMost + 1

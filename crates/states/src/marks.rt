@@ -51,12 +51,12 @@ fn mark_exits(w: &mut [Word], el: &[Word])
     mark_edges(w, el, EXITS as Word, exit_count(el));
 }
 
-// Whether an element neither receives nor sends: u32, for a sum of two words.
+// Whether an element neither receives nor sends: u64, for a sum of two words.
 fn is_silent(el: &[Word]) -> bool
     ensures { λ r. ⌜ r ≡ eqb (kindOf (kindIn (now (el .entry))) .receives + kindOf (kindIn (now (el .entry))) .sends) 0 ⌝ }
 {
     let kind = kind_in(el);
-    (receives_of(kind) as u32) + (sends_of(kind) as u32) == 0
+    (receives_of(kind) as u64) + (sends_of(kind) as u64) == 0
 }
 
 fn mark_counts(w: &mut [Word], el: &[Word])

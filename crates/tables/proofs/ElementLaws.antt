@@ -2,11 +2,13 @@
 use mathlib.Core.Path.{_≡_, _∙_, sym, ap}
 use mathlib.Core.Bool.{Bool, true, false, not}
 use mathlib.Core.List.{List}
-use Prim.Native.Nat.{ℕ}
+use Prim.Native.Nat.{ℕ, _≤_}
+use native.Mathlib.Omega.{arith}
 use lib.Dec.{eqb}
 use Rattle.words.proofs.AllLaws.{eq-eqb-by, ne-eqb-by}
 use Rattle.words.proofs.PickLaws.{and-yes, and-no}
-use Rattle.kinds.specs.Kinds.{kindOf}
+use Rattle.kinds.specs.Kinds.{many, kindOf}
+use Rattle.kinds.proofs.TableLaws.{receives-few, sends-few}
 use Rattle.model.specs.Table.{kindIn}
 use Rattle.limits.specs.Limits.{partsFit, elementFits}
 
@@ -21,3 +23,7 @@ module _ (el : List ℕ) (k n : ℕ) (is : k ≡ kindIn el) (row : n ≡ kindOf 
   pub element-yes : (b : Bool) → (n ≡ 0 → ⊥) → b ≡ partsFit (kindOf k) el → b ≡ elementFits el
   unfolding elementFits
   element-yes b e h = and-yes _ (partsFit (kindOf (kindIn el)) el) b (ap not (ne-eqb-by n _ 0 lettered e)) (rw is at h)
+
+-- what a kind receives and sends is few, by what calls gave
+pub few : (k r s : ℕ) → r ≡ kindOf k .receives → s ≡ kindOf k .sends → (r ≤ many) × (s ≤ many)
+few k r s p q = (omega (arith, p, receives-few k), omega (arith, q, sends-few k))

@@ -1,10 +1,10 @@
 // Whether an element is within the limits: a kind, and what its row of the table of kinds says.
 ghost use mathlib.Core.Path.{_≡_};
 ghost use lib.ListN.{drop};
-ghost use Prim.Native.Nat.{_+_};
+ghost use Prim.Native.Nat.{_+_, _≤_};
 ghost use Rattle.words.specs.Words.{at};
 ghost use Rattle.words.specs.Counts.{branches, assignments};
-ghost use Rattle.kinds.specs.Kinds.{kindOf, used};
+ghost use Rattle.kinds.specs.Kinds.{many, kindOf, used};
 ghost use Rattle.model.specs.Places.{entriesPlace, exitsPlace, expressionWords, messageWords, assignmentWords};
 ghost use Rattle.limits.specs.Limits.{things, conditionFits, messageFits, assignmentFits, countFits, edgeFits, edgesFit, taskFits, conditionsFit, messagesFit, assignmentsFit, partsFit, elementFits};
 use super::parts::assignment_fits;
@@ -71,7 +71,7 @@ fn edge_things(x: &[Word], k: Word) -> bool
         }
         j += 1;
     }
-    zeros_behind(x, EDGE_WORDS, BRANCHES, k as u32)
+    zeros_behind(x, EDGE_WORDS, BRANCHES, k)
 }
 
 // The edges of a list.
@@ -134,7 +134,7 @@ fn condition_things(conditions: Word, x: &[Word], k: Word) -> bool
         }
         j += 1;
     }
-    zeros_behind(x, EXPRESSION_WORDS as Word, BRANCHES, k as u32)
+    zeros_behind(x, EXPRESSION_WORDS as Word, BRANCHES, k)
 }
 
 fn conditions_fit(kind: Word, el: &[Word]) -> bool
@@ -148,21 +148,22 @@ fn conditions_fit(kind: Word, el: &[Word]) -> bool
     )
 }
 
-// How many messages there are, received or sent: u32, for a sum of two words.
-fn message_count(receives: Word, sends: Word, n: Word) -> u32
+// How many messages there are, received or sent.
+fn message_count(receives: Word, sends: Word, n: Word) -> Word
+    requires { ⌜ (receives ≤ many) × (sends ≤ many) ⌝ }
     ensures { λ r. ⌜ r ≡ used (receives + sends) n ⌝ }
 {
-    let both = (receives as u32) + (sends as u32);
-    if both == (MANY as u32) {
-        return n as u32;
+    let both = receives + sends;
+    if both == MANY {
+        return n;
     }
     both
 }
 
-fn message_things(receives: Word, x: &[Word], k: u32) -> bool
+fn message_things(receives: Word, x: &[Word], k: Word) -> bool
     ensures { λ r. ⌜ r ≡ things (now (x .entry)) messageWords branches k (messageFits receives) ⌝ }
 {
-    let mut j: u32 = 0;
+    let mut j: Word = 0;
     while j < k {
         if !message_fits(receives, tail(x, MESSAGE_WORDS * (j as usize))) {
             return false;
@@ -193,7 +194,7 @@ fn assignment_things(x: &[Word], k: Word) -> bool
         }
         j += 1;
     }
-    zeros_behind(x, ASSIGNMENT_WORDS as Word, ASSIGNMENTS, k as u32)
+    zeros_behind(x, ASSIGNMENT_WORDS as Word, ASSIGNMENTS, k)
 }
 
 fn assignments_fit(el: &[Word]) -> bool

@@ -54,7 +54,7 @@ fn element_things(x: &[Word], k: Word) -> bool
         }
         j += 1;
     }
-    zeros_behind(x, ELEMENT_WORDS as Word, ELEMENTS, k as u32)
+    zeros_behind(x, ELEMENT_WORDS as Word, ELEMENTS, k)
 }
 
 // The elements of a pool.

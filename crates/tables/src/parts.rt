@@ -149,7 +149,7 @@ fn item_things(receives: Word, x: &[Word], k: Word) -> bool
         }
         j += 1;
     }
-    zeros_behind(x, EXPRESSION_WORDS as Word, VALUES, k as u32)
+    zeros_behind(x, EXPRESSION_WORDS as Word, VALUES, k)
 }
 
 pub fn message_fits(receives: Word, x: &[Word]) -> bool

@@ -10,7 +10,7 @@ use Rattle.numerals.specs.Numerals.{sameBytes}
 use Rattle.reading.specs.Reading.{Reader, passed, placeOf, behind, letters, _then_, sign, operand}
 use Rattle.terms.specs.Terms.{store, comparison, condition}
 
--- No place of an element lies beyond it, whatever words number the branch and the item; and what stands behind it still has a place that fits.
+-- No place of an element lies beyond it, whatever bytes number the branch and the item; and what stands behind it still has a place that fits.
 abbrev pub farthest : ℕ
 farthest = 16777216
 

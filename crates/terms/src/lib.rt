@@ -107,7 +107,7 @@ fn template_item(text: &[u8], at: usize, x: &mut [Word], place: u32) -> Read
 }
 
 // The place of item k of the message of branch b.
-fn item_place(b: Word, k: Word) -> u32
+fn item_place(b: u8, k: u8) -> u32
     ensures { λ r. ⌜ (r ≡ itemPlace b k) × (r ≤ farthest) ⌝ }
 {
     MESSAGES as u32
@@ -117,14 +117,14 @@ fn item_place(b: Word, k: Word) -> u32
 }
 
 // Item k of the message of branch b.
-pub fn item_of_message(text: &[u8], at: usize, x: &mut [Word], b: Word, k: Word) -> Read
+pub fn item_of_message(text: &[u8], at: usize, x: &mut [Word], b: u8, k: u8) -> Read
     ensures { λ r. ⌜ record { end = r; words = now (x .exit) } ≡ expression (itemPlace b k) (now (text .entry)) at (now (x .entry)) ⌝ }
 {
     expression(text, at, x, item_place(b, k))
 }
 
 // Item k of the template of branch b.
-pub fn item_of_template(text: &[u8], at: usize, x: &mut [Word], b: Word, k: Word) -> Read
+pub fn item_of_template(text: &[u8], at: usize, x: &mut [Word], b: u8, k: u8) -> Read
     ensures { λ r. ⌜ record { end = r; words = now (x .exit) } ≡ templateItem (itemPlace b k) (now (text .entry)) at (now (x .entry)) ⌝ }
 {
     template_item(text, at, x, item_place(b, k))
@@ -218,7 +218,7 @@ fn condition(text: &[u8], at: usize, x: &mut [Word], defaults: bool, place: u32)
 }
 
 // The condition of branch b.
-pub fn condition_of(text: &[u8], at: usize, x: &mut [Word], defaults: bool, b: Word) -> Read
+pub fn condition_of(text: &[u8], at: usize, x: &mut [Word], defaults: bool, b: u8) -> Read
     ensures { λ r. ⌜ record { end = r; words = now (x .exit) } ≡ condition defaults (conditionPlace b) (now (text .entry)) at (now (x .entry)) ⌝ }
 {
     condition(
@@ -231,7 +231,7 @@ pub fn condition_of(text: &[u8], at: usize, x: &mut [Word], defaults: bool, b: W
 }
 
 // Assignment j.
-pub fn assignment(text: &[u8], at: usize, x: &mut [Word], j: Word) -> Read
+pub fn assignment(text: &[u8], at: usize, x: &mut [Word], j: u8) -> Read
     ensures { λ r. ⌜ record { end = r; words = now (x .exit) } ≡ assignment j (now (text .entry)) at (now (x .entry)) ⌝ }
 {
     let place = FIRST_ASSIGNMENT as u32 + ASSIGNMENT_WORDS as u32 * (j as u32);
@@ -247,7 +247,7 @@ pub fn assignment(text: &[u8], at: usize, x: &mut [Word], j: Word) -> Read
 }
 
 // Behind the edge of a guarded branch.
-fn guard(text: &[u8], at: usize, x: &mut [Word], b: Word) -> Read
+fn guard(text: &[u8], at: usize, x: &mut [Word], b: u8) -> Read
     ensures { λ r. ⌜ record { end = r; words = now (x .exit) } ≡ guard b (now (text .entry)) at (now (x .entry)) ⌝ }
 {
     let r = sign_at(text, at, b',');
@@ -262,7 +262,7 @@ fn guard(text: &[u8], at: usize, x: &mut [Word], b: Word) -> Read
 }
 
 // The guarded branch b of an xorSplit.
-pub fn guarded(text: &[u8], at: usize, x: &mut [Word], b: Word) -> Read
+pub fn guarded(text: &[u8], at: usize, x: &mut [Word], b: u8) -> Read
     ensures { λ r. ⌜ record { end = r; words = now (x .exit) } ≡ guarded b (now (text .entry)) at (now (x .entry)) ⌝ }
 {
     let r = sign_at(text, at, b'(');

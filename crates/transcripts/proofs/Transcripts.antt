@@ -74,7 +74,7 @@ module _ (text t : List ℕ) (h : drawInto text t .number ≡ 0) where
   pub draw-then-fresh : (z : List ℕ) → freshened (drawInto text t .table) z .number ≡ 0
   draw-then-fresh z = fresh-number (drawInto text t .table) z ∙ chosen (valid (drawInto text t .table)) 0 10 (draw-valid .0)
 
-  -- its text is written into every buffer of 32,768 bytes
+  -- its text is written into every buffer of 65,536 bytes
   pub draw-then-write : (out : List ℕ) → textMost ≤ length out → writtenTo (drawInto text t .table) out .number ≡ 0
   draw-then-write out l = write-fits (drawInto text t .table) out (draw-valid .0) l
 

@@ -15,7 +15,7 @@ use Rattle.words.specs.Counts.{fields}
 use Rattle.words.specs.Each.{each}
 use Rattle.words.specs.Pick.{if_then_else_}
 use Rattle.words.specs.Text.{bytes}
-use Rattle.words.specs.Words.{at, part, greatest}
+use Rattle.words.specs.Words.{at, part, greatest, digits}
 use Rattle.words.proofs.AllLaws.{and-left, and-right}
 use Rattle.words.proofs.PickLaws.{pick-yes, pick-no, and-true}
 use Rattle.model.specs.Places.{elementWords, modePlace, operandNumber}
@@ -66,7 +66,7 @@ from-spelled (suc k) n h = go (decLt n 10) (from-spelled k (n / 10) (omega (arit
 
 pub shown-spelled : (n : ℕ) → n ≤ greatest → Spelled n (shown n)
 unfolding shown
-shown-spelled n h = from-spelled 4 n (omega arith)
+shown-spelled n h = from-spelled (digits - 1) n (omega arith)
 
 -- A WORD IN THE TEXT
 stops-at : (rest : List ℕ) → stops rest ≡ true → isWord (at rest 0) ≡ false

@@ -32,7 +32,7 @@ abbrev stored : List ℕ → ℕ → List ℕ → List ℕ
 stored x p [] = x
 stored x p (v ∷ vs) = stored (set x p v) (p + 1) vs
 
--- taskRcv(7,16,na_c,n=d15,{d0:=d1+65535},15:<?d3>,48)
+-- taskRcv(7,16,na_c,n=d15,{d0:=d1+4294967295},15:<?d3>,48)
 abbrev sample : ℕ → List ℕ
 sample n =
     stored (stored (stored (stored (stored (stored (replicate elementWords 0) kindPlace (taskRcv ∷ 16 ∷ na-c ∷ [])) entriesPlace (1 ∷ 7 ∷ [])) exitsPlace (1 ∷ 48 ∷ []))
@@ -57,19 +57,19 @@ sample-trip =
     row : code "N" ≡ at (kindOf taskRcv .parts) 1
     row = unfold kindOf in refl
 
-pub sample-text : shownPart (code "N") (sample 7) ≡ bytes "16,na_c,7=d15,{d0:=d1+65535}"
+pub sample-text : shownPart (code "N") (sample 7) ≡ bytes "16,na_c,7=d15,{d0:=d1+4294967295}"
 unfolding if_then_else_ joined shownFrom shown lead separated shownField shownOperand shownPair shownExpression shownCondition shownMode shownAssignment shownAssignments shownTask shownPart
 sample-text = refl
 
 -- a number above the words: within the limits as they stand, but refused where it stands in its own text
-pub large-fits : elementFits (sample 65536) ≡ true
+pub large-fits : elementFits (sample 4294967296) ≡ true
 unfolding all if_then_else_ kindOf used zeros things operandFits expressionFits bindFits itemFits conditionFits messageFits assignmentFits countFits edgeFits edgesFit taskFits conditionsFit messagesFit assignmentsFit partsFit elementFits
 large-fits = refl
 
-pub large-text : shownPart (code "N") (sample 65536) ≡ bytes "16,na_c,65536=d15,{d0:=d1+65535}"
+pub large-text : shownPart (code "N") (sample 4294967296) ≡ bytes "16,na_c,4294967296=d15,{d0:=d1+4294967295}"
 unfolding if_then_else_ joined shownFrom shown lead separated shownField shownOperand shownPair shownExpression shownCondition shownMode shownAssignment shownAssignments shownTask shownPart
 large-text = refl
 
-pub large-refused : partOf (code "N") (bytes "16,na_c,65536=d15,{d0:=d1+65535},") 0 (replicate elementWords 0) .end ≡ Refused 3 8
+pub large-refused : partOf (code "N") (bytes "16,na_c,4294967296=d15,{d0:=d1+4294967295},") 0 (replicate elementWords 0) .end ≡ Refused 3 8
 unfolding if_then_else_ among between isBlank isWord isLetter isDigit isSign past tokenOf tokenHere tokenAt ifWord ifSign ifAssign valueFrom leadingZero numberOf sameBytes asNumber asField operandOf ifAt onward _then_ signAt assignAt keepNumber number fieldOf field keepOperand operand modeNamed keepMode mode condition taskPart partOf
 large-refused = refl

@@ -3,7 +3,7 @@ use Prim.Native.Nat.{ℕ}
 
 -- bytes of a text
 abbrev pub textMost : ℕ
-textMost = 32768
+textMost = 65536
 
 -- pools of a model
 abbrev pub pools : ℕ

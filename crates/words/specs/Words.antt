@@ -5,7 +5,11 @@ use lib.ListN.{getD, take, drop}
 
 -- the greatest value of a word
 abbrev pub greatest : ℕ
-greatest = 65535
+greatest = 4294967295
+
+-- and its digits
+abbrev pub digits : ℕ
+digits = 10
 
 -- the word at place i
 abbrev pub at : List ℕ → ℕ → ℕ

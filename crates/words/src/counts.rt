@@ -1,7 +1,7 @@
 // "Greatest counts" of document 01, each once. Whatever is counted from 0 has its count here: names 0 to 15 are 16.
 use super::Word;
 
-pub const TEXT_MOST: usize = 32768;
+pub const TEXT_MOST: usize = 65536;
 
 pub const POOLS: Word = 4;
 

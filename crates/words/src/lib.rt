@@ -7,11 +7,14 @@ ghost use Rattle.words.specs.Words.{at};
 pub mod counts;
 pub mod numbers;
 
-// What tables and states are made of; a value is a word.
-pub type Word = u16;
+// What tables and states are made of; a value is a word. Another width is a change of these three, and of their two in Words.antt.
+pub type Word = u32;
 
 // The greatest value of a word.
-pub const GREATEST: Word = 65535;
+pub const GREATEST: Word = 4294967295;
+
+// And its digits.
+pub const DIGITS: usize = 10;
 
 pub fn word(s: &[Word], i: usize) -> Word
     ensures { λ r. ⌜ r ≡ at (now (s .entry)) i ⌝ }

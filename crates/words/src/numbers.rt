@@ -4,7 +4,7 @@ use super::Word;
 // accepted
 pub const ACCEPTED: Word = 0;
 
-// text above 32,768 bytes
+// text or drawing above 65,536 bytes
 pub const TOO_LONG: Word = 1;
 
 // the token at this place (or the text's end) continues no text of the notation
@@ -60,3 +60,9 @@ pub const NOT_RUN: Word = 21;
 
 // poll: more than 64 items
 pub const TOO_MANY: Word = 22;
+
+// judge: not such a log, or longer
+pub const NOT_A_LOG: Word = 23;
+
+// judge: the event at fault
+pub const AT_FAULT: Word = 24;

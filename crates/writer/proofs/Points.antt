@@ -63,10 +63,10 @@ abbrev forms : List (List ℕ)
 forms =
     shownElement (element andSplit [] (1 ∷ []) (2 ∷ 3 ∷ []) [] [] [])
     ∷ shownElement (element xorSplit [] (1 ∷ []) (2 ∷ 3 ∷ []) (expression default (number 0) (number 0) ++ expression below (number 0) (field 15)) [] [])
-    ∷ shownElement (element eventBased [] (1 ∷ []) (2 ∷ 3 ∷ []) [] (message 0 0 [] ++ message 15 2 (expression minus (field 1) (number 65535) ++ expression binding (field 2) (number 0))) [])
+    ∷ shownElement (element eventBased [] (1 ∷ []) (2 ∷ 3 ∷ []) [] (message 0 0 [] ++ message 15 2 (expression minus (field 1) (number 4294967295) ++ expression binding (field 2) (number 0))) [])
     ∷ shownElement (element task (16 ∷ na-c ∷ []) (47 ∷ []) (48 ∷ []) truth [] [])
     ∷ []
 
-pub forms-text : forms ≡ bytes "andSplit(1,{2,3})" ∷ bytes "xorSplit(1,{(2,default),(3,0<d15)})" ∷ bytes "eventBased(1,(0:<>,2),(15:<d1-65535,?d2>,3))" ∷ bytes "task(47,16,na_c,true,{},48)" ∷ []
+pub forms-text : forms ≡ bytes "andSplit(1,{2,3})" ∷ bytes "xorSplit(1,{(2,default),(3,0<d15)})" ∷ bytes "eventBased(1,(0:<>,2),(15:<d1-4294967295,?d2>,3))" ∷ bytes "task(47,16,na_c,true,{},48)" ∷ []
 unfolding lead separated joined if_then_else_ kindOf shown shownFrom shownField shownOperand shownPair shownExpression shownItem shownCondition shownTuple shownMessage shownExits shownGuarded shownGuardedList shownReceiving shownReceivingList shownMode shownAssignment shownAssignments shownTask shownPart shownParts shownElement
 forms-text = refl

@@ -1,14 +1,14 @@
 // The text of a table: its pools and their elements, as the table of kinds has their parts. Each writer writes from a place on, as far
 // as the lent buffer goes, and returns the place behind its text; each element's writer is lent the part of the buffer from the place reached.
 ghost use mathlib.Core.Path.{_≡_};
-ghost use Prim.Native.Nat.{_+_, _≤_};
+ghost use Prim.Native.Nat.{_+_};
 ghost use lib.ListN.{length};
 ghost use Rattle.words.specs.Words.{at};
 ghost use Rattle.kinds.specs.Kinds.{keywordOf};
 ghost use Rattle.model.specs.Places.{limitPlace};
-ghost use Rattle.buffers.specs.Buffers.{over, Put};
+ghost use Rattle.buffers.specs.Buffers.{over, lesser, lastPlace, Put};
 ghost use Rattle.shown.specs.Shown.{shownPart, shownElement, shownElements, shownLimit, shownPool, shownPools, shownTable};
-ghost use Rattle.shown.specs.Lengths.{partMost, partsMost, keywordMost, elementMost, elementsMost, limitMost, contentsMost, numberedMost, enclosedMost, poolWordMost, poolMost, poolsMost, tableMost};
+ghost use Rattle.shown.specs.Lengths.{partMost, partsMost, keywordMost, elementMost, elementsMost, limitMost, contentsMost, numberedMost, enclosedMost, poolWordMost, poolMost, poolsMost};
 ghost use Rattle.writer.specs.Pieces.{signed, parts, contents, numbered, enclosed, poolWord, nextPool};
 use buffers::further;
 use buffers::least;
@@ -215,9 +215,9 @@ fn put_pools(out: &mut [u8], from: usize, t: &[Word]) -> usize
     end
 }
 
-// The text of a table, and its length.
+// The text of a table, and its length as far as there are places: the words may count more than any memory holds.
 pub fn put_table(t: &[Word], out: &mut [u8]) -> usize
-    ensures { λ r. ⌜ (r ≡ length (shownTable (now (t .entry)))) × (now (out .exit) ≡ over (shownTable (now (t .entry))) (now (out .entry))) × (r ≤ tableMost) ⌝ }
+    ensures { λ r. ⌜ (r ≡ lesser (length (shownTable (now (t .entry)))) lastPlace) × (now (out .exit) ≡ over (shownTable (now (t .entry))) (now (out .entry))) ⌝ }
 {
     let end = put_pools(out, 0, t);
     put_byte(out, end, b'\n')

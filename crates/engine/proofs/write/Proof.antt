@@ -1,4 +1,4 @@
-use Rattle.engine.proofs.CallLaws.{write-bad, write-short, write-done}
+use Rattle.engine.proofs.CallLaws.{write-bad, write-short, write-done, measured}
 use Rattle.words.proofs.PickLaws.{flag-yes, flag-no}
 use borrow.Author.Needs.{needs}
 use Rattle.engine.proofs.write.Statement.{statement}
@@ -18,7 +18,7 @@ returns-2 c = write-short _ _ (flag-yes _ _ (c .before .before .before .is-valid
 
 -- src/lib.rt:205:1
 returns-3 : tie.Need-returns-3
-returns-3 c = write-done _ _ _ _ (flag-yes _ _ (c .before .before .before .before .before .before .before .before .is-valid .ensures) (c .before .before .before .before .before .before .before .if1 .left)) (flag-yes _ _ (c .before .before .before .before .before .before .has-room .ensures) (c .before .before .before .before .before .if2 .left)) (c .before .before .put-table .ensures .0) (c .before .before .put-table .ensures .1)
+returns-3 c = write-done _ _ _ _ (flag-yes _ _ (c .before .before .before .before .before .before .before .before .is-valid .ensures) (c .before .before .before .before .before .before .before .if1 .left)) (flag-yes _ _ (c .before .before .before .before .before .before .has-room .ensures) (c .before .before .before .before .before .if2 .left)) (measured _ _ (flag-yes _ _ (c .before .before .before .before .before .before .before .before .is-valid .ensures) (c .before .before .before .before .before .before .before .if1 .left)) (c .before .before .put-table .ensures .0)) (c .before .before .put-table .ensures .1)
 
 pub write-spec : {M : Type 1} → statement M
 write-spec =

@@ -36,6 +36,7 @@ receiving-branches-spec =
     (λ c. search needs)
     (λ c. search needs)
     (λ c. search needs)
+    (λ c. search needs)
     (λ c κs. search needs)
     (λ c. search needs)
     (λ c. items-end _ _ _ _ _ _ _ _ _ _ _ (c .before .before .before .before .before .before .before .before .before .before .before .before .before .before .before .loop .inv .2) _ _ (c .before .before .before .before .before .before .before .before .before .before .before .before .before .before .loop-test .taken) (c .before .before .before .before .before .before .before .before .before .before .before .before .receiving .ensures) _ (c .before .before .before .before .before .before .before .before .r .given .1) _ (c .before .before .before .before .before .before .sign-at .ensures) _ _ _ (c .before .before .before .before .enum-told2 .given .1) (c .before .before .counted .ensures))

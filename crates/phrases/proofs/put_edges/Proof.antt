@@ -1,11 +1,11 @@
 use Prim.Native.Nat.{_-_, _≤_, _*_, _+_}
 use Rattle.buffers.proofs.OverLaws.{put-as, put-long}
 use Rattle.buffers.specs.Buffers.{Put}
-use Rattle.decimals.specs.Decimals.{shown, digits}
+use Rattle.decimals.specs.Decimals.{shown}
 use Rattle.model.specs.Places.{edgePlace}
 use Rattle.shown.proofs.PieceLaws.{list-none, list-more, list-done}
 use Rattle.shown.specs.Shown.{commas, separated}
-use Rattle.words.specs.Words.{at}
+use Rattle.words.specs.Words.{at, digits}
 use mathlib.Core.Path.{ap}
 use native.Mathlib.Omega.{arith}
 use borrow.Author.Needs.{needs}

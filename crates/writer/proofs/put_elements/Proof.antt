@@ -6,9 +6,8 @@ use Rattle.model.specs.Table.{elementAt}
 use Rattle.shown.proofs.PieceLaws.{list-none, list-more, list-done}
 use Rattle.shown.specs.Lengths.{elementMost}
 use Rattle.shown.specs.Shown.{shownElement, shownElements, separated}
-use borrow.Author.Tests.{leb-true}
 use lib.ListN.{length}
-use mathlib.Core.Path.{refl, ap}
+use mathlib.Core.Path.{ap}
 use native.Mathlib.Omega.{arith}
 use borrow.Author.Needs.{needs}
 use Rattle.writer.proofs.put_elements.Statement.{statement}
@@ -24,7 +23,7 @@ loop-holds : tie.Need-loop-holds Inv-loop μ-loop
 loop-holds c = (omega arith, list-none _ _ (1 + elementMost) _ _, omega arith)
 
 loop-again : tie.Need-loop-again Inv-loop μ-loop
-loop-again c = (omega arith, list-more _ _ _ _ (ap shownElement (c .before .before .before .before .element-at .ensures)) (c .before .before .before .before .before .before .before .before .before .before .before .before .loop .inv .1) (c .before .before .before .before .before .before .before .before .before .put-lead .ensures) (lent (c .before .before .before .before .before .before .least .ensures .0) (c .before .before .before .put-element .ensures) (c .further .ensures) (omega arith) (omega (arith, put-long (c .before .before .before .before .before .before .before .before .before .put-lead .ensures), put-long (c .before .before .before .before .before .before .before .before .before .before .before .before .loop .inv .1), c .before .before .before .before .before .before .before .before .before .before .before .before .loop .inv .2)) (leb-true _ _ refl)), c .before .before .before .before .before .before .before .before .before .before .before .before .loop .inv .2)
+loop-again c = (omega arith, list-more _ _ _ _ (ap shownElement (c .before .before .before .before .element-at .ensures)) (c .before .before .before .before .before .before .before .before .before .before .before .before .loop .inv .1) (c .before .before .before .before .before .before .before .before .before .put-lead .ensures) (lent (c .before .before .before .before .before .before .least .ensures .0) (c .before .before .before .put-element .ensures) (c .further .ensures) (omega arith) (omega (arith, put-long (c .before .before .before .before .before .before .before .before .before .put-lead .ensures), put-long (c .before .before .before .before .before .before .before .before .before .before .before .before .loop .inv .1), c .before .before .before .before .before .before .before .before .before .before .before .before .loop .inv .2))), c .before .before .before .before .before .before .before .before .before .before .before .before .loop .inv .2)
 
 same-length : tie.Need-same-length Inv-loop μ-loop
 same-length c = put-long (c .before .loop .inv .1)

@@ -1,7 +1,5 @@
 use Rattle.buffers.proofs.OverLaws.{after, put-over}
 use Rattle.shown.specs.Shown.{shownTable}
-use borrow.Author.Tests.{leb-true}
-use mathlib.Core.Path.{refl}
 use native.Mathlib.Omega.{arith}
 use borrow.Author.Needs.{needs}
 use Rattle.writer.proofs.put_table.Statement.{statement}
@@ -9,7 +7,7 @@ use Rattle.writer.proofs.put_table.Tie as tie
 
 returns : tie.Need-returns
 unfolding shownTable
-returns c = put-over (after (c .before .before .before .before .before .before .put-pools .ensures) (c .before .before .put-byte .ensures)) (omega arith) (leb-true _ _ refl)
+returns c = put-over (after (c .before .before .before .before .before .before .put-pools .ensures) (c .before .before .put-byte .ensures)) (omega arith)
 
 pub put-table-spec : {M : Type 1} → statement M
 put-table-spec =

@@ -31,6 +31,7 @@ items-spec =
     (λ c κs. search needs)
     (λ c. search needs)
     (λ c. search needs)
+    (λ c. search needs)
     (λ c κs. search needs)
     (λ c. search needs)
     (λ c. items-end _ _ _ _ _ _ _ _ _ _ _ (c .before .before .before .before .before .before .before .before .before .before .before .before .before .before .before .before .loop .inv .2) _ _ (c .before .before .before .before .before .before .before .before .before .before .before .before .before .before .if1 .taken) (c .before .before .before .before .before .before .before .before .before .before .before .before .item-of .ensures) _ (c .before .before .before .before .before .before .before .before .r .given .1) _ (c .before .before .before .before .before .before .sign-at .ensures) _ _ _ (c .before .before .before .before .enum-told2 .given .1) (c .before .before .counted .ensures))

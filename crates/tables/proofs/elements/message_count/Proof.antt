@@ -14,5 +14,4 @@ message-count-spec =
     (tie.spec
     (λ c. search L)
     (λ c. search L)
-    (λ c. search L)
     (λ c. search L))

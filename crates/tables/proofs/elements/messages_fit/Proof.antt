@@ -1,5 +1,6 @@
 use borrow.Author.Needs.{needs}
 use Rattle.limits.specs.Limits.{messagesFit}
+use Rattle.tables.proofs.ElementLaws.{few}
 use Rattle.tables.proofs.elements.messages_fit.Statement.{statement}
 use Rattle.tables.proofs.elements.messages_fit.Tie as tie
 
@@ -14,6 +15,6 @@ messages-fit-spec =
     (λ c κs. search L)
     (λ c κs. search L)
     (λ c κs. search L)
-    (λ c κs. search L)
+    (λ c κs. few _ _ _ (c .before .before .before .receives-of .ensures) (c .before .sends-of .ensures))  -- message-count-requires
     (λ c κs. search L)
     (λ c. rw (c .before .before .before .before .tail .ensures, (rw (c .before .before .before .sends-of .ensures, c .before .before .word .ensures) at (c .before .message-count .ensures)), c .before .before .before .before .before .receives-of .ensures) at (c .message-things .ensures)))
