@@ -64,6 +64,9 @@ meaning() { # NUMBER
         echo "an element we don't run or, behind an event gateway, no catch event, a condition on another flow or not in our notation, a gateway that doesn't\
  either split or join, another node without just its kind's entries and exits, or a sender or receiver without exactly one message flow"
         ;;
+    22) echo "a batch of more than 64 items" ;;
+    23) echo "not such a log or longer" ;;
+    24) echo "event at fault" ;;
     *) echo "a number that these words do not have" ;;
     esac
 }
@@ -95,6 +98,41 @@ explain() { # NUMBER BESIDE FILE NAME
     *) echo "$4: $(meaning "$1") ($1)" ;;
     esac
     [ "$1" != 3 ] || echo "the ranges: $ranges"
+}
+
+# A refused log in words: the place of 23, or the event of 24, its line and what is said of it.
+# shellcheck disable=SC2154
+explain_log() { # NUMBER BESIDE OWN FILE NAME
+    case $1 in
+    23)
+        if [ $(($(wc -c <"$4"))) -gt 65536 ]; then
+            echo "$5: log above 65,536 bytes (23)"
+        else
+            # a carriage return is a line end here, and nothing to be shown
+            tr '\r' ' ' <"$4" >"$4.plain"
+            at_place "$2" "$4.plain" "$5" "not such a log: what stands here continues none (23)"
+            quoted "$2" "$4"
+        fi
+        ;;
+    24) echo "$5, event $2 (from 0), '$(tr '\0' '?' <"$4" | LC_ALL=C awk -v event="$2" -f "$root/bin/events.awk")': $(fault "$3")" ;;
+    esac
+}
+
+# What is amiss with the value whose opening quote stands at a place of a log.
+quoted() { # PLACE FILE
+    case $(tail -c "+$(($1 + 1))" "$2" | head -c 13 | tr '\0' '?') in
+    [\"\']concept:name) echo "the event has a concept:name already" ;;
+    [\"\']*) echo "a line is five numbers and '-', '!3:7' or '?3:7', with one blank between, or 'post 3:7'" ;;
+    esac
+}
+
+# What is said of an event at fault, by its own number.
+fault() { # NUMBER
+    if [ "$1" -eq 0 ]; then
+        echo "accepted, but what the line says was sent or consumed is not true (24 with 0)"
+    else
+        echo "$(meaning "$1") (24 with $1)"
+    fi
 }
 
 # A refusal with a place: line and column, the words, and the text around it with a caret.

@@ -23,6 +23,7 @@ extern "C" {
 #define CV_STATE_WORDS 12308
 #define CV_TEXT_MOST 65536
 #define CV_DRAWING_MOST 65536
+#define CV_LOG_MOST 65536
 #define CV_ITEMS 64
 #define CV_ITEM_WORDS 11
 #define CV_POLL_WORDS 704
@@ -84,7 +85,9 @@ enum cv_number {
     CV_NOT_RUN = 21,       /* an element we don't run or, behind an event gateway, no catch event, a condition on another flow or not in our notation, a gateway
                               that doesn't either split or join, another node without just its kind's entries and exits, or a sender or receiver without
                               exactly one message flow */
-    CV_TOO_MANY = 22       /* poll: more than 64 items */
+    CV_TOO_MANY = 22,      /* poll: more than 64 items */
+    CV_NOT_A_LOG = 23,     /* not such a log or longer */
+    CV_AT_FAULT = 24       /* event at fault */
 };
 
 /* A message: its length, 0 to 4, and its values; what stands behind them is ignored, and 0 in an answer. */
@@ -107,10 +110,12 @@ typedef struct { uint32_t number; size_t beside; } cv_reading;
 typedef struct { uint32_t number; size_t length; } cv_written;
 /* the number of the first refusal, 0 where there was none, and how many items were accepted */
 typedef struct { uint32_t number; size_t accepted; } cv_polled;
+/* beside: the place where the number is 23, the event's ordinal from 0 where it is 24; own: the step's or post's own number, 0 where only the line is untrue */
+typedef struct { uint32_t number; size_t beside; uint32_t own; } cv_judged;
 
 CV_STATIC_ASSERT(sizeof(cv_tuple) == 20 && sizeof(cv_name) == 40, "cuttingvale.h: a tuple is 20 bytes, a name 40");
 CV_STATIC_ASSERT(sizeof(cv_verdict) == 8 && sizeof(cv_answer) == 32 && sizeof(cv_listed) == 44 && sizeof(cv_ran) == 12, "cuttingvale.h: answers of words");
-CV_STATIC_ASSERT(sizeof(cv_reading) == 16 && sizeof(cv_written) == 16 && sizeof(cv_polled) == 16, "cuttingvale.h: for a 64-bit machine");
+CV_STATIC_ASSERT(sizeof(cv_reading) == 16 && sizeof(cv_written) == 16 && sizeof(cv_polled) == 16 && sizeof(cv_judged) == 24, "cuttingvale.h: for a 64-bit machine");
 
 /* Checks a table: 10 for a broken limit or an unused place not 0, then 4, else 0. */
 cv_verdict cv_check(const uint32_t *table, size_t table_words);
@@ -144,6 +149,10 @@ cv_written cv_write(const uint32_t *table, size_t table_words, uint8_t *buffer, 
    done; else the accepted ones stay, the refused one changes nothing, and those behind it are not looked at. Table and state are checked once.
    items_words is CV_POLL_WORDS. */
 cv_polled cv_poll(const uint32_t *table, size_t table_words, uint32_t *state, size_t state_words, const uint32_t *items, size_t items_words, size_t count);
+
+/* Judges the run that an XES log of at most CV_LOG_MOST bytes tells: 10; 23 with the place where it is no such log, 0 where it is longer; 24 with the first event at fault; else 0,
+   and every step and post of it is accepted in turn from the fresh state, and what each line says was sent or consumed is true. The state it works on, CV_STATE_WORDS words, is its own. */
+cv_judged cv_judge(const uint32_t *table, size_t table_words, const uint8_t *log, size_t length);
 
 #ifdef __cplusplus
 }

@@ -2,7 +2,8 @@
    compare calls CASES SEED              prints how many calls agreed, or the first difference with what led to it, and ends with 1
    compare drawings CASES SEED           the same for drawings; before the engine has that call, the reference alone against what the generator knows
    compare drawing CASE                  prints the drawing of a case
-   compare worst                         drawings that hold as much of one thing as fits: compared, and timed
+   compare logs CASES SEED               the same for logs, four for each model, and a beginning of each
+   compare worst                         drawings and logs that hold as much of one thing as fits: compared, and timed
    compare sessions FIRST COUNT SEED     prints sessions for the two consoles, one after the other */
 #include "cuttingvale.h"
 #include "generate.h"
@@ -36,7 +37,7 @@ static char text[DRAWING_ROOM];
 static uint8_t *lent_text; /* ends where no page can be read */
 static size_t text_length;
 static uint64_t calls, seed_of_case;
-static unsigned given[32];
+static unsigned given[32], owned[32], known;
 
 static void differ(const char *call, const char *what, unsigned engine, unsigned reference) {
     printf("difference in %s, case %llu: %s: engine %u, reference %u\n", call, (unsigned long long)seed_of_case, what, engine, reference);
@@ -127,6 +128,37 @@ static void draw_both(int due) {
     same_words("draw", "table of its text", ours.table, table, REF_TABLE_WORDS);
 }
 
+/* What is known of the answer is the generator's. */
+static ref_judged judge_both(log_due due) {
+    const uint8_t *log = lent();
+    ref_judged b = ref_judge(theirs.table, log, text_length);
+    given[b.number]++;
+    if (b.number == 24) owned[b.own]++;
+    if (due.number >= 0 && (due.number != (int)b.number || due.beside != b.beside || due.own != b.own)) {
+        printf("the generator counts on %d %zu %u; the reference says %u %zu %u\n", due.number, due.beside, due.own, b.number, b.beside, b.own);
+        differ("judge", "answer", due.number, b.number);
+    }
+    known += due.number >= 0;
+#ifdef LOGS
+    cv_judged a = cv_judge(TABLE, log, text_length);
+    same("judge", "number", a.number, b.number);
+    same("judge", "beside", a.beside, b.beside);
+    same("judge", "own", a.own, b.own);
+    if (memcmp(log, text, text_length)) differ("judge", "log", 0, 0);
+#endif
+    same_blocks("judge");
+    return b;
+}
+
+/* A beginning of a text up to where it is at fault, or of one that is not, is 23 at its own end, or a log itself. */
+static void judge_beginning(struct random *r, ref_judged whole) {
+    size_t right = whole.number == 23 ? whole.beside : text_length;
+    if (whole.number == 10 || text_length > 65536) return;
+    text_length = draw(r, right + 1);
+    ref_judged b = judge_both((log_due){-1, 0, 0});
+    if (b.number == 23) same("judge", "the place of what was cut off", b.beside, text_length);
+}
+
 static void check_both(void) {
     cv_verdict a = cv_check(TABLE);
     ref_verdict b = ref_check(theirs.table);
@@ -213,16 +245,22 @@ static void wrong_lengths(struct random *r) {
     same("draw", "no text", cv_draw(NULL, 0, TABLE).number, 20);
     calls += 2;
 #endif
+#ifdef LOGS
+    same("judge", "wrong length", cv_judge(ours.table, n, (const uint8_t *)text, text_length).number, 10);
+    same("judge", "no table", cv_judge(NULL, 0, NULL, 0).number, 10);
+    same("judge", "no log", cv_judge(TABLE, NULL, 0).number, ref_judge(theirs.table, NULL, 0).number);
+    calls += 3;
+#endif
     calls += 15;
     same_blocks("a call with a wrong length or none");
 }
 
-/* The same word of both, one of n from a place on, changed: mostly to a small number, or by one bit, at a place that is in use. */
+/* The same word of both, one of n from a place on, changed: mostly to a small number, or in its upper half alone, at a place that is in use. */
 static void damage(struct random *r, word *a, word *b, size_t n, size_t from) {
     size_t at = from + draw(r, n);
     for (unsigned k = 0; k < 30 && !a[at]; k++) at = from + draw(r, n);
-    if (chance(r, 30)) at = from + draw(r, n);
-    word v = chance(r, 60) ? draw(r, 20) : chance(r, 50) ? a[at] ^ (1u << draw(r, 32)) : chance(r, 50) ? some_end(r) : any_word(r);
+    if (chance(r, 40)) at = from + draw(r, n);
+    word v = chance(r, 45) ? draw(r, 20) : chance(r, 70) ? a[at] ^ 1u << (chance(r, 75) ? 16 + draw(r, 16) : draw(r, 16)) : chance(r, 50) ? some_end(r) : any_word(r);
     a[at] = b[at] = v;
 }
 
@@ -372,6 +410,12 @@ static void drawing_case(struct random *r) {
     draw_both(due);
 }
 
+static void print_numbers(const char *before, const unsigned *counts) {
+    printf("%s", before);
+    for (unsigned k = 0; k < 32; k++)
+        if (counts[k]) printf(" %u:%u", k, counts[k]);
+}
+
 static int compare_drawings(uint64_t cases, uint64_t seed) {
     for (uint64_t k = 0; k < cases; k++) {
         seed_of_case = seed + k;
@@ -379,34 +423,86 @@ static int compare_drawings(uint64_t cases, uint64_t seed) {
         drawing_case(&r);
     }
 #ifdef DRAWINGS
-    printf("%llu drawings, no difference; numbers:", (unsigned long long)cases);
+    printf("%llu drawings, no difference; ", (unsigned long long)cases);
 #else
-    printf("%llu drawings, read by the reference alone, as the engine does not read them; numbers:", (unsigned long long)cases);
+    printf("%llu drawings, read by the reference alone, as the engine does not read them; ", (unsigned long long)cases);
 #endif
-    for (unsigned k = 0; k < 32; k++)
-        if (given[k]) printf(" %u:%u", k, given[k]);
+    print_numbers("numbers:", given);
+    putchar('\n');
+    return 0;
+}
+
+/* a model, and logs for it; now and then the table is damaged */
+static void log_case(struct random *r) {
+    log_due due;
+    bool fills = chance(r, 1);
+    text_length = fills ? (size_t)sprintf(text, "%s", worst_model) : model_text(r, text); /* an edge fills up in a loop */
+    ref_reading read = ref_read((const uint8_t *)text, text_length, theirs.table);
+    if (read.number) return;
+    memcpy(ours.table, theirs.table, REF_TABLE_WORDS * sizeof *ours.table);
+    for (unsigned k = 0; k < 4; k++) {
+        text_length = log_text(r, theirs.table, fills, text, sizeof text, &due);
+        judge_beginning(r, judge_both(due));
+    }
+    if (chance(r, 95)) return;
+    damage_both(r, true);
+    judge_both((log_due){-1, 0, 0});
+}
+
+static int compare_logs(uint64_t cases, uint64_t seed) {
+    for (uint64_t k = 0; k < cases; k++) {
+        seed_of_case = seed + k;
+        struct random r = {seed_of_case};
+        log_case(&r);
+    }
+    printf("%llu logs", (unsigned long long)calls);
+#ifndef LOGS
+    printf(", judged by the reference alone, as the engine does not judge them");
+#endif
+    printf(", no difference; the answer of %u was known; ", known);
+    print_numbers("numbers:", given);
+    print_numbers("; of 24's events:", owned);
     putchar('\n');
     return 0;
 }
 
 static unsigned since(clock_t start) { return (unsigned)((clock() - start) * 1000.0 / CLOCKS_PER_SEC); }
 
+static void time_drawing(const char *name) {
+    clock_t start = clock();
+    ref_reading b = ref_draw((const uint8_t *)text, text_length, theirs.table);
+    printf("%-34s %5zu bytes, %2u %5zu, reference %5u ms", name, text_length, b.number, b.beside, since(start));
+#ifdef DRAWINGS
+    start = clock();
+    cv_reading a = cv_draw((const uint8_t *)text, text_length, TABLE);
+    printf(", engine %5u ms", since(start));
+    same("draw", "number", a.number, b.number);
+    same("draw", "beside", a.beside, b.beside);
+#endif
+    putchar('\n');
+}
+
+static void time_log(const char *name) {
+    clock_t start = clock();
+    ref_judged b = ref_judge(theirs.table, (const uint8_t *)text, text_length);
+    printf("%-34s %5zu bytes, %2u %5zu %2u, reference %5u ms", name, text_length, b.number, b.beside, b.own, since(start));
+#ifdef LOGS
+    start = clock();
+    cv_judged a = cv_judge(TABLE, (const uint8_t *)text, text_length);
+    printf(", engine %5u ms", since(start));
+    same("judge", "number", a.number, b.number);
+    same("judge", "beside", a.beside, b.beside);
+    same("judge", "own", a.own, b.own);
+#endif
+    putchar('\n');
+}
+
 static int time_worst(void) {
     const char *name;
-    for (unsigned k = 0; (name = worst_text(k, text, &text_length)); k++) {
-        clock_t start = clock();
-        ref_reading b = ref_draw((const uint8_t *)text, text_length, theirs.table);
-        printf("%-34s %5zu bytes, %2u %5zu, reference %5u ms", name, text_length, b.number, b.beside, since(start));
-#ifdef DRAWINGS
-        start = clock();
-        cv_reading a = cv_draw((const uint8_t *)text, text_length, TABLE);
-        printf(", engine %5u ms", since(start));
-        same("draw", "number", a.number, b.number);
-        same("draw", "beside", a.beside, b.beside);
-#endif
-        putchar('\n');
-        fflush(stdout);
-    }
+    for (unsigned k = 0; (name = worst_text(k, text, &text_length)); k++) time_drawing(name), fflush(stdout);
+    ref_read((const uint8_t *)worst_model, strlen(worst_model), theirs.table);
+    memcpy(ours.table, theirs.table, REF_TABLE_WORDS * sizeof *ours.table);
+    for (unsigned k = 0; (name = worst_log(k, text, &text_length)); k++) time_log(name), fflush(stdout);
     return 0;
 }
 
@@ -439,6 +535,22 @@ static void print_batch(const word *w, size_t count) {
     }
 }
 
+/* Where the consoles judge logs, a line with one; else one with the state. */
+static void print_log(struct random *r) {
+    size_t n = 0;
+#ifdef LOGS
+    static char log[DRAWING_ROOM];
+    log_due due;
+    if (ref_check(theirs.table).number == 0) n = log_text(r, theirs.table, false, log, sizeof log, &due);
+    for (size_t k = 0; k < n; k++)
+        if (log[k] == '\n') log[k] = ' ';
+    if (n) printf("judge %.*s\n", (int)n, log);
+#else
+    (void)r;
+#endif
+    if (!n) puts("state");
+}
+
 /* A line for the consoles; the reference plays along, so that most steps named are accepted ones. */
 static void session_line(struct random *r) {
     static word extra[CV_POLL_WORDS + CV_ITEM_WORDS];
@@ -466,6 +578,7 @@ static void session_line(struct random *r) {
         printf("run %u\n", limit);
         ref_run(theirs.table, theirs.state, limit);
     } else if (which < 91) puts("write");
+    else if (which < 94) print_log(r);
     else if (which < 98) puts("state");
     else if (which < 99) puts("fresh"), ref_fresh(theirs.table, theirs.state);
     else puts(chance(r, 50) ? "list 1 " : "stap");
@@ -509,12 +622,9 @@ static int compare_calls(uint64_t cases, uint64_t seed) {
         struct random r = {seed_of_case};
         compare_case(&r);
     }
-    printf("%llu calls in %llu cases, no difference; numbers of steps:", (unsigned long long)calls, (unsigned long long)cases);
-    for (unsigned k = 0; k < 32; k++)
-        if (given[k]) printf(" %u:%u", k, given[k]);
-    printf("; of polls:");
-    for (unsigned k = 0; k < 32; k++)
-        if (polled[k]) printf(" %u:%u", k, polled[k]);
+    printf("%llu calls in %llu cases, no difference; ", (unsigned long long)calls, (unsigned long long)cases);
+    print_numbers("numbers of steps:", given);
+    print_numbers("; of polls:", polled);
     putchar('\n');
     return 0;
 }
@@ -530,10 +640,11 @@ int main(int count, char **words) {
     lent_text = lend(DRAWING_ROOM);
     if (count == 4 && !strcmp(words[1], "calls")) return compare_calls(number(words[2]), seeded(words[3]));
     if (count == 4 && !strcmp(words[1], "drawings")) return compare_drawings(number(words[2]), seeded(words[3]));
+    if (count == 4 && !strcmp(words[1], "logs")) return compare_logs(number(words[2]), seeded(words[3]));
     if (count == 3 && !strcmp(words[1], "drawing")) return print_drawing(number(words[2]));
     if (count == 2 && !strcmp(words[1], "worst")) return time_worst();
     if (count != 5 || strcmp(words[1], "sessions")) {
-        fprintf(stderr, "usage: compare calls CASES SEED, compare drawings CASES SEED, compare drawing CASE, compare worst, or compare sessions FIRST COUNT SEED\n");
+        fprintf(stderr, "usage: compare calls CASES SEED, compare drawings CASES SEED, compare drawing CASE, compare logs CASES SEED, compare worst, or compare sessions FIRST COUNT SEED\n");
         return 2;
     }
     for (uint64_t k = number(words[2]), last = k + number(words[3]); k < last; k++) {

@@ -1,15 +1,18 @@
 /* The console's commands over the reference: a session through this and through the engine's console must print the same. With the word `drawing` it takes one
-   drawing, whole, instead. */
+   drawing, whole, instead; with `log` and the name of a model's file, one log. */
 #include "layout.h"
 #include <stdio.h>
 #include <stdlib.h>
 
-/* DRAWINGS: the engine's console has the command draw, and takes longer lines */
+/* DRAWINGS: the engine's console has the command draw, and takes longer lines; LOGS: it has the command judge */
 #ifdef DRAWINGS
 enum { LINE_MOST = 80000, ARGUMENTS = 8 };
 #else
 enum { LINE_MOST = 40000, ARGUMENTS = 8 };
 #endif
+
+/* a text, drawing or log has at most as many bytes */
+enum { WHOLE = 65536 };
 
 static word table[REF_TABLE_WORDS], state[REF_STATE_WORDS];
 static bool loaded;
@@ -129,6 +132,14 @@ static void do_read(const char *text, size_t n, bool drawing) {
     }
     loaded = true;
     print_done(ref_fresh(table, state));
+}
+
+static void do_judge(const char *text, size_t n) {
+    ref_judged j = ref_judge(table, (const uint8_t *)text, n);
+    if (!j.number) puts("lawful");
+    else if (j.number == 23) printf("refused 23 %zu\n", j.beside);
+    else if (j.number == 24) printf("refused 24 %zu %u\n", j.beside, j.own);
+    else print_done(j.number);
 }
 
 static void do_write(size_t room) {
@@ -287,6 +298,12 @@ static void do_line(const char *s, size_t n) {
         return;
     }
 #endif
+#ifdef LOGS
+    if (n >= 6 && memcmp(s, "judge ", 6) == 0) {
+        loaded ? do_judge(s + 6, n - 6) : (void)puts("no model");
+        return;
+    }
+#endif
     bool batch = n >= 6 && memcmp(s, "batch ", 6) == 0, empty = n == 5 && memcmp(s, "batch", 5) == 0;
     if (batch || empty ? !do_batch(s + 6, batch ? n - 6 : 0, empty) : !command(w, words_of(s, n, w))) puts("bad line");
     else if (!loaded) puts("no model");
@@ -301,8 +318,22 @@ static int one_drawing(void) {
     return 0;
 }
 
+/* one log, whole, under the model of a file: what the console answers */
+static int one_log(const char *model) {
+    static char text[WHOLE + 1];
+    FILE *file = fopen(model, "rb");
+    if (!file) return perror(model), 2;
+    size_t n = fread(text, 1, sizeof text, file);
+    fclose(file);
+    ref_reading r = ref_read((const uint8_t *)text, n, table);
+    if (r.number) return printf("refused %u %zu\n", r.number, r.beside), 0;
+    do_judge(text, fread(text, 1, sizeof text, stdin));
+    return 0;
+}
+
 int main(int count, char **words) {
     if (count == 2 && !strcmp(words[1], "drawing")) return one_drawing();
+    if (count == 3 && !strcmp(words[1], "log")) return one_log(words[2]);
     char *line = NULL;
     size_t room = 0;
     for (ssize_t n; (n = getline(&line, &room, stdin)) >= 0;) do_line(line, n && line[n - 1] == '\n' ? (size_t)n - 1 : (size_t)n);

@@ -1,8 +1,9 @@
 /* Drawings: a text of BPMN 2.0 XML read into a table, as document 02's first request says. First one walk over the XML from left to right, which notes what
    is drawn and stops at the first place at fault (20); then what is drawn wrong (21), what is too large (3), and the table with its checks (4). */
 #include "layout.h"
+#include "xml.h"
 
-enum { DRAWING_MOST = 65536, DEEPEST = 16, ITEMS = 10000, ATTRIBUTES = 14000 };
+enum { ITEMS = 10000 };
 
 /* What an element is where it stands: UNKNOWN is one that is not run, PASSED one that says nothing about the run. */
 enum role { UNKNOWN, PASSED, DEFINITIONS, COLLABORATION, PARTICIPANT, MULTIPLICITY, MESSAGE_FLOW, PROCESS, SEQUENCE_FLOW, CONDITION_TEXT, MESSAGE_EVENT,
@@ -32,8 +33,6 @@ static const char *const passed_over[] = {
 static const char *const fixed[][2] = {{"instantiate", "false"}, {"isForCompensation", "false"}, {"isCollection", "false"}, {"eventGatewayType", "Exclusive"},
                                        {"startQuantity", "1"}, {"completionQuantity", "1"}};
 
-struct span { size_t from, to; bool there; };
-
 /* A participant, process, node, sequence or message flow, in the order they stand. */
 struct item {
     enum role role;
@@ -50,182 +49,17 @@ struct item {
     size_t excess;
 };
 
-struct attribute { struct span name, value; };
-
 struct walk {
-    const uint8_t *s;
-    size_t n, at, place, first; /* first: where a declaration may stand */
+    struct xml xml;
     bool amiss;
-    unsigned count, collaborations, attribute_count;
+    unsigned count, collaborations;
     struct item items[ITEMS];
-    struct attribute attributes[ATTRIBUTES];
-    uint8_t characters[DRAWING_MOST + 1];
-    size_t places[DRAWING_MOST + 1], character_count;
+    uint8_t characters[XML_MOST + 1];
+    size_t places[XML_MOST + 1], character_count;
 };
 
-static bool fault(struct walk *w, size_t place) {
-    w->place = place;
-    return false;
-}
-
-static bool cut(struct walk *w) { return fault(w, w->n); }
-
-static bool is_blank(uint8_t b) { return b == ' ' || b == '\t' || b == '\r' || b == '\n'; }
-static bool is_control(uint8_t b) { return b < 32 && !is_blank(b); }
-static bool is_letter(uint8_t b) { return (b >= 'a' && b <= 'z') || (b >= 'A' && b <= 'Z') || b == '_' || b == ':' || b >= 128; }
-static bool is_digit(uint8_t b) { return b >= '0' && b <= '9'; }
-static bool in_name(uint8_t b) { return is_letter(b) || is_digit(b) || b == '-' || b == '.'; }
-
-static size_t name_end(const struct walk *w, size_t at) {
-    while (at < w->n && in_name(w->s[at])) at++;
-    return at;
-}
-
-static bool is(const struct walk *w, struct span x, const char *word) {
-    return x.there && x.to - x.from == strlen(word) && memcmp(w->s + x.from, word, x.to - x.from) == 0;
-}
-
-static bool equal(const struct walk *w, struct span x, struct span y) {
-    return x.there && y.there && x.to - x.from == y.to - y.from && memcmp(w->s + x.from, w->s + y.from, x.to - x.from) == 0;
-}
-
-/* what stands behind the last colon */
-static struct span behind_colon(const struct walk *w, struct span x) {
-    for (size_t k = x.from; k < x.to; k++)
-        if (w->s[k] == ':') x.from = k + 1;
-    return x;
-}
-
-/* THE XML. What stands at a `<`: a token that the end cuts off is not judged. */
-enum opening { CUT_OFF, WRONG, COMMENT, CDATA, INSTRUCTION, START_TAG, END_TAG };
-
-static enum opening opening_at(const struct walk *w, size_t at, struct span *name) {
-    static const char *const openings[] = {"--", "[CDATA["};
-    size_t left = w->n - at - 1;
-    if (left == 0) return CUT_OFF;
-    uint8_t b = w->s[at + 1];
-    if (b == '!') {
-        for (unsigned k = 0; k < 2; k++) {
-            size_t all = strlen(openings[k]), seen = all < left - 1 ? all : left - 1;
-            if (memcmp(w->s + at + 2, openings[k], seen) == 0) return seen < all ? CUT_OFF : k ? CDATA : COMMENT;
-        }
-        return WRONG;
-    }
-    size_t from = at + 1 + (b == '?' || b == '/');
-    if (from == w->n) return CUT_OFF;
-    if (!is_letter(w->s[from])) return WRONG;
-    *name = (struct span){from, name_end(w, from), true};
-    if (name->to == w->n) return CUT_OFF;
-    return b == '?' ? INSTRUCTION : b == '/' ? END_TAG : START_TAG;
-}
-
-/* a token from `at` that the byte at k does not continue: at the token, but a byte below 32 is at fault where it stands */
-static bool broken(struct walk *w, size_t at, size_t k) { return fault(w, is_control(w->s[k]) ? k : at); }
-
-/* up to the two or three bytes that close a comment, instruction or CDATA section; `--` closes a comment or is wrong there */
-static bool until(struct walk *w, size_t at, const char *close) {
-    size_t m = strlen(close);
-    for (;; at++) {
-        if (at == w->n) return cut(w);
-        if (is_control(w->s[at])) return fault(w, at);
-        if (w->n - at >= m && memcmp(w->s + at, close, m) == 0) break;
-        if (m == 3 && close[0] == '-' && w->n - at >= 3 && memcmp(w->s + at, "--", 2) == 0) return broken(w, at, at + 2);
-    }
-    w->at = at + m;
-    return true;
-}
-
-static bool instruction(struct walk *w, struct span target) {
-    const uint8_t *s = w->s + target.from;
-    if (target.to - target.from == 3 && (s[0] | 32) == 'x' && (s[1] | 32) == 'm' && (s[2] | 32) == 'l')
-        if (!is(w, target, "xml") || w->at != w->first) return fault(w, w->at);
-    if (w->s[target.to] == '?') {
-        if (target.to + 1 == w->n) return cut(w);
-        if (w->s[target.to + 1] != '>') return broken(w, target.to, target.to + 1);
-    } else if (!is_blank(w->s[target.to])) return fault(w, target.to);
-    return until(w, target.to, "?>");
-}
-
-static bool allowed(uint32_t c) {
-    return c == 9 || c == 10 || c == 13 || (c >= 0x20 && c <= 0xd7ff) || (c >= 0xe000 && c <= 0xfffd) || (c >= 0x10000 && c <= 0x10ffff);
-}
-
-/* the first byte that continues no opening at a `<` */
-static size_t stop_of(const struct walk *w, size_t at) {
-    size_t best = at + 1 + (w->s[at + 1] == '?' || w->s[at + 1] == '/' || w->s[at + 1] == '!');
-    static const char *const openings[] = {"<!--", "<![CDATA["};
-    for (unsigned k = 0; k < 2; k++) {
-        size_t same = 0;
-        while (at + same < w->n && openings[k][same] && w->s[at + same] == (uint8_t)openings[k][same]) same++;
-        if (at + same > best) best = at + same;
-    }
-    return best;
-}
-
-static bool numbered(struct walk *w, size_t at, uint32_t *code) {
-    size_t k = at + 2, begin;
-    unsigned base = 10;
-    uint32_t c = 0;
-    if (k < w->n && w->s[k] == 'x') base = 16, k++;
-    for (begin = k; k < w->n; k++) {
-        uint8_t b = w->s[k], l = b | 32;
-        if (is_digit(b)) c = c * base + b - '0';
-        else if (base == 16 && l >= 'a' && l <= 'f') c = c * base + l - 'a' + 10;
-        else break;
-        if (c > 0x110000) c = 0x110000;
-    }
-    if (k == w->n) return cut(w);
-    if (w->s[k] != ';' || k == begin) return broken(w, at, k);
-    if (!allowed(c)) return fault(w, at);
-    *code = c;
-    w->at = k + 1;
-    return true;
-}
-
-static bool reference(struct walk *w, size_t at, uint32_t *code) {
-    static const struct { const char *name; uint8_t code; } known[] = {{"lt", '<'}, {"gt", '>'}, {"amp", '&'}, {"quot", '"'}, {"apos", '\''}};
-    if (at + 1 == w->n) return cut(w);
-    if (w->s[at + 1] == '#') return numbered(w, at, code);
-    if (!is_letter(w->s[at + 1])) return broken(w, at, at + 1);
-    struct span name = {at + 1, name_end(w, at + 1), true};
-    if (name.to == w->n) return cut(w);
-    if (w->s[name.to] != ';') return broken(w, at, name.to);
-    for (unsigned k = 0; k < 5; k++)
-        if (is(w, name, known[k].name)) {
-            *code = known[k].code;
-            w->at = name.to + 1;
-            return true;
-        }
-    return fault(w, at);
-}
-
-static size_t over_blanks(const struct walk *w, size_t at) {
-    while (at < w->n && is_blank(w->s[at])) at++;
-    return at;
-}
-
-/* a value from its quote on */
-static bool value_at(struct walk *w, size_t at, struct span *value) {
-    uint8_t quote = w->s[at];
-    uint32_t code;
-    *value = (struct span){at + 1, 0, true};
-    for (at++;;) {
-        if (at == w->n) return cut(w);
-        uint8_t b = w->s[at];
-        if (b == quote) break;
-        if (b == '<' || is_control(b)) return fault(w, at);
-        if (b == '&') {
-            if (!reference(w, at, &code)) return false;
-            at = w->at;
-        } else at++;
-    }
-    value->to = at;
-    w->at = at + 1;
-    return true;
-}
-
 /* digits without a leading zero: above the most instances as one above them; -1 where they are none */
-static int32_t numeral(const struct walk *w, struct span x) {
+static int32_t numeral(const struct xml *w, struct span x) {
     int32_t v = 0;
     if (x.from == x.to || (w->s[x.from] == '0' && x.to - x.from > 1)) return -1;
     for (size_t k = x.from; k < x.to; k++) {
@@ -236,52 +70,8 @@ static int32_t numeral(const struct walk *w, struct span x) {
     return v;
 }
 
-static bool attribute(struct walk *w, enum role role) {
-    struct attribute *a = &w->attributes[w->attribute_count];
-    a->name = (struct span){w->at, name_end(w, w->at), true};
-    if (a->name.to == w->n) return cut(w);
-    for (unsigned k = 0; k < w->attribute_count; k++)
-        if (equal(w, w->attributes[k].name, a->name)) return fault(w, w->at);
-    size_t at = over_blanks(w, a->name.to);
-    if (at == w->n) return cut(w);
-    if (w->s[at] != '=') return fault(w, at);
-    at = over_blanks(w, at + 1);
-    if (at == w->n) return cut(w);
-    if (w->s[at] != '"' && w->s[at] != '\'') return fault(w, at);
-    if (!value_at(w, at, &a->value)) return false;
-    if (role == MULTIPLICITY && is(w, a->name, "maximum") && numeral(w, a->value) < 0) return fault(w, a->value.from);
-    w->attribute_count++;
-    return true;
-}
-
-/* a start tag behind its name: its attributes, and whether it is empty */
-static bool tag(struct walk *w, size_t from, enum role role, bool *empty) {
-    w->attribute_count = 0;
-    for (w->at = from;;) {
-        size_t at = over_blanks(w, w->at);
-        bool apart = at > w->at;
-        if (at == w->n) return cut(w);
-        uint8_t b = w->s[at];
-        *empty = b == '/';
-        if (*empty && at + 1 == w->n) return cut(w);
-        if (*empty && w->s[at + 1] != '>') return broken(w, at, at + 1);
-        if (*empty || b == '>') {
-            w->at = at + 1 + *empty;
-            return true;
-        }
-        if (!apart || !is_letter(b)) return fault(w, at);
-        w->at = at;
-        if (!attribute(w, role)) return false;
-    }
-}
-
-static bool end_tag(struct walk *w, struct span begun, struct span name) {
-    if (!equal(w, begun, name)) return fault(w, w->at);
-    size_t at = over_blanks(w, name.to);
-    if (at == w->n) return cut(w);
-    if (w->s[at] != '>') return fault(w, at);
-    w->at = at + 1;
-    return true;
+static bool maximum_counts(struct xml *w, const struct attribute *a) {
+    return !is(w, a->name, "maximum") || numeral(w, a->value) >= 0 || fault(w, a->value.from);
 }
 
 /* WHAT IS DRAWN. */
@@ -291,29 +81,23 @@ static bool is_item(enum role r) { return r == PARTICIPANT || r == MESSAGE_FLOW 
 static bool is_read_into(enum role r) { return r == DEFINITIONS || r == COLLABORATION || is_item(r); }
 
 static enum role role_of(const struct walk *w, struct span name, enum role inside) {
-    struct span local = behind_colon(w, name);
+    struct span local = behind_colon(&w->xml, name);
     unsigned within = is_event(inside) ? ANY_EVENT : inside;
     for (unsigned k = 0; k < sizeof passed_over / sizeof *passed_over; k++)
-        if (is(w, local, passed_over[k])) return PASSED;
+        if (is(&w->xml, local, passed_over[k])) return PASSED;
     for (unsigned k = 0; k < sizeof roles / sizeof *roles; k++)
-        if (roles[k].inside == within && is(w, local, roles[k].name)) return roles[k].role;
+        if (roles[k].inside == within && is(&w->xml, local, roles[k].name)) return roles[k].role;
     return UNKNOWN;
-}
-
-static struct span value_of(const struct walk *w, const char *name) {
-    for (unsigned k = 0; k < w->attribute_count; k++)
-        if (is(w, w->attributes[k].name, name)) return w->attributes[k].value;
-    return (struct span){0, 0, false};
 }
 
 static void note_item(struct walk *w, enum role role, size_t place, unsigned owner) {
     struct item *x = &w->items[w->count++];
     *x = (struct item){.role = role, .owner = owner, .place = place, .from = -1, .to = -1, .pool = -1};
-    x->id = value_of(w, "id");
-    x->source = value_of(w, "sourceRef");
-    x->target = value_of(w, "targetRef");
-    x->process = value_of(w, "processRef");
-    x->fallback = value_of(w, "default");
+    x->id = value_of(&w->xml, "id");
+    x->source = value_of(&w->xml, "sourceRef");
+    x->target = value_of(&w->xml, "targetRef");
+    x->process = value_of(&w->xml, "processRef");
+    x->fallback = value_of(&w->xml, "default");
 }
 
 /* what a start tag says, an item of its own or a part of the one it stands in */
@@ -321,20 +105,20 @@ static void note(struct walk *w, enum role role, enum role inside, size_t place,
     struct item *x = &w->items[owner];
     if (inside == PROCESS)
         for (unsigned k = 0; k < sizeof fixed / sizeof *fixed; k++) {
-            struct span v = value_of(w, fixed[k][0]);
-            if (v.there && !is(w, v, fixed[k][1])) w->amiss = true;
+            struct span v = value_of(&w->xml, fixed[k][0]);
+            if (v.there && !is(&w->xml, v, fixed[k][1])) w->amiss = true;
         }
     if (is_item(role)) note_item(w, role, place, owner);
     else if (role == COLLABORATION) w->collaborations++;
     else if (role == UNKNOWN) w->amiss = true;
     else if (role == MESSAGE_EVENT) x->messages++;
     else if (role == TERMINATE_EVENT) x->terminates++;
-    else if (role == MULTIPLICITY) x->many++, x->maximum = value_of(w, "maximum");
+    else if (role == MULTIPLICITY) x->many++, x->maximum = value_of(&w->xml, "maximum");
     else if (role == CONDITION_TEXT) x->expressions++, x->text = (struct span){w->character_count, w->character_count, true};
 }
 
 static void character(struct walk *w, size_t place, uint32_t code) {
-    w->characters[w->character_count] = code == '\r' && w->s[place] == '\r' ? '\n' : code < 128 ? code : 128;
+    w->characters[w->character_count] = code == '\r' && w->xml.s[place] == '\r' ? '\n' : code < 128 ? code : 128;
     w->places[w->character_count++] = place;
 }
 
@@ -342,12 +126,12 @@ static bool content(struct walk *w, struct span name, enum role role, unsigned o
 
 /* an element: depth is how deep its parent is in what is skipped, 0 where that is read into */
 static bool element(struct walk *w, struct span name, enum role inside, unsigned owner, unsigned depth) {
-    size_t place = w->at;
+    size_t place = w->xml.at;
     bool empty;
     enum role role = depth ? PASSED : role_of(w, name, inside);
-    if (depth == DEEPEST) return fault(w, place);
+    if (depth == DEEPEST) return fault(&w->xml, place);
     if (inside == CONDITION_TEXT) w->amiss = true;
-    if (!tag(w, name.to, role, &empty)) return false;
+    if (!tag(&w->xml, name.to, role == MULTIPLICITY ? maximum_counts : NULL, &empty)) return false;
     if (!depth) note(w, role, inside, place, owner);
     if (empty) return true;
     if (is_item(role)) owner = w->count - 1;
@@ -357,17 +141,17 @@ static bool element(struct walk *w, struct span name, enum role inside, unsigned
 /* a comment, instruction, CDATA section, tag at a `<` of some content */
 static bool markup(struct walk *w, struct span name, enum role role, unsigned owner, unsigned depth, bool *ended) {
     struct span found = {0, 0, false};
-    size_t at = w->at;
-    switch (opening_at(w, at, &found)) {
-    case CUT_OFF: return cut(w);
-    case WRONG: return broken(w, at, stop_of(w, at));
-    case COMMENT: return until(w, at + 4, "-->");
-    case INSTRUCTION: return instruction(w, found);
-    case END_TAG: return *ended = true, end_tag(w, name, found);
+    size_t at = w->xml.at;
+    switch (opening_at(&w->xml, at, &found)) {
+    case CUT_OFF: return cut(&w->xml);
+    case WRONG: return broken(&w->xml, at, stop_of(&w->xml, at));
+    case COMMENT: return until(&w->xml, at + 4, "-->");
+    case INSTRUCTION: return instruction(&w->xml, found);
+    case END_TAG: return *ended = true, end_tag(&w->xml, name, found);
     case START_TAG: return element(w, found, role, owner, depth);
     case CDATA:
-        if (!until(w, at + 9, "]]>")) return false;
-        for (size_t k = at + 9; role == CONDITION_TEXT && k < w->at - 3; k++) character(w, k, w->s[k]);
+        if (!until(&w->xml, at + 9, "]]>")) return false;
+        for (size_t k = at + 9; role == CONDITION_TEXT && k < w->xml.at - 3; k++) character(w, k, w->xml.s[k]);
     }
     return true;
 }
@@ -375,72 +159,41 @@ static bool markup(struct walk *w, struct span name, enum role role, unsigned ow
 /* what stands between an element's tags, and its end tag; of a conditionExpression the characters are kept */
 static bool content(struct walk *w, struct span name, enum role role, unsigned owner, unsigned depth) {
     for (bool ended = false; !ended;) {
-        size_t at = w->at;
-        if (at == w->n) return cut(w);
-        uint32_t b = w->s[at];
+        size_t at = w->xml.at;
+        if (at == w->xml.n) return cut(&w->xml);
+        uint32_t b = w->xml.s[at];
         if (b == '<') {
             if (!markup(w, name, role, owner, depth, &ended)) return false;
             continue;
         }
-        if (is_control(b) || (w->n - at >= 3 && memcmp(w->s + at, "]]>", 3) == 0)) return fault(w, at);
-        w->at++;
-        if (b == '&' && !reference(w, at, &b)) return false;
+        if (ends_text(&w->xml, at)) return fault(&w->xml, at);
+        w->xml.at++;
+        if (b == '&' && !reference(&w->xml, at, &b)) return false;
         if (role == CONDITION_TEXT) character(w, at, b);
     }
     if (role == CONDITION_TEXT) w->items[owner].text.to = w->character_count;
     return true;
 }
 
-/* what stands before the root, up to its tag, or behind it, up to the end */
-static bool around(struct walk *w, bool before, struct span *name) {
-    for (;;) {
-        size_t at = w->at = over_blanks(w, w->at);
-        struct span found = {0, 0, false};
-        if (at == w->n) return before ? cut(w) : true;
-        if (w->s[at] != '<') return fault(w, at);
-        switch (opening_at(w, at, &found)) {
-        case CUT_OFF: return cut(w);
-        case COMMENT:
-            if (!until(w, at + 4, "-->")) return false;
-            break;
-        case INSTRUCTION:
-            if (!instruction(w, found)) return false;
-            break;
-        case START_TAG:
-            *name = found;
-            if (before && is(w, behind_colon(w, found), "definitions")) return true;
-            return fault(w, at);
-        case WRONG: return broken(w, at, stop_of(w, at));
-        default: return fault(w, at);
-        }
-    }
-}
-
-static bool walked(struct walk *w) {
-    static const uint8_t mark[] = {0xef, 0xbb, 0xbf};
+static bool walked(struct walk *w, const uint8_t *text, size_t length) {
     struct span name;
     bool empty;
-    size_t seen = w->n < 3 ? w->n : 3;
-    if (seen && memcmp(w->s, mark, seen) == 0) {
-        if (seen < 3) return cut(w);
-        w->first = w->at = 3;
-    }
-    if (!around(w, true, &name) || !tag(w, name.to, DEFINITIONS, &empty)) return false;
-    return (empty || content(w, name, DEFINITIONS, 0, 0)) && around(w, false, &name);
+    if (!begun(&w->xml, text, length) || !around(&w->xml, "definitions", &name) || !tag(&w->xml, name.to, NULL, &empty)) return false;
+    return (empty || content(w, name, DEFINITIONS, 0, 0)) && around(&w->xml, NULL, &name);
 }
 
 /* 21: WHAT IS DRAWN WRONG. */
 static bool ids_differ(const struct walk *w) {
     for (unsigned k = 0; k < w->count; k++)
         for (unsigned j = 0; j < k && w->items[k].id.there; j++)
-            if (equal(w, w->items[j].id, w->items[k].id)) return false;
+            if (equal(&w->xml, w->items[j].id, w->items[k].id)) return false;
     return true;
 }
 
 static int named(const struct walk *w, struct span reference) {
-    struct span id = behind_colon(w, reference);
+    struct span id = behind_colon(&w->xml, reference);
     for (unsigned k = 0; k < w->count; k++)
-        if (equal(w, w->items[k].id, id)) return k;
+        if (equal(&w->xml, w->items[k].id, id)) return k;
     return -1;
 }
 
@@ -603,7 +356,7 @@ static void number_process(struct walk *w, unsigned process, size_t *leftmost) {
     }
 }
 
-static int32_t limit_of_pool(const struct walk *w, const struct item *x) { return !x->many ? 0 : x->maximum.there ? numeral(w, x->maximum) : 1; }
+static int32_t limit_of_pool(const struct walk *w, const struct item *x) { return !x->many ? 0 : x->maximum.there ? numeral(&w->xml, x->maximum) : 1; }
 
 static void number_others(struct walk *w, size_t *leftmost) {
     bool participants = false;
@@ -700,11 +453,10 @@ static void fill(const struct walk *w, word *t) {
 ref_reading ref_draw(const uint8_t *text, size_t length, word *t) {
     static struct walk w;
     static word drawn[REF_TABLE_WORDS];
-    if (length > DRAWING_MOST) return (ref_reading){1, 0};
-    w.s = text, w.n = length;
-    w.at = w.place = w.first = w.character_count = 0;
+    if (length > XML_MOST) return (ref_reading){1, 0};
+    w.character_count = 0;
     w.amiss = false, w.count = w.collaborations = 0;
-    if (!walked(&w)) return (ref_reading){20, w.place};
+    if (!walked(&w, text, length)) return (ref_reading){20, w.xml.place};
     if (!stands(&w)) return (ref_reading){21, 0};
     size_t leftmost = SIZE_MAX;
     for (unsigned k = 0; k < w.count; k++)

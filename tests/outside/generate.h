@@ -20,6 +20,13 @@ size_t spoiled_text(struct random *r, char *text, size_t n);
 size_t drawing_text(struct random *r, char *text, size_t room, int *due);
 /* a drawing that holds as much of one thing as fits, by its ordinal: returns what of, or NULL where there are no more */
 const char *worst_text(unsigned which, char *text, size_t *length);
+/* the same for logs, under one model */
+const char *worst_log(unsigned which, char *text, size_t *length);
+extern const char worst_model[];
+/* what is known of a log's answer: its number, -1 where that is not known, and what stands beside it */
+typedef struct { int number; size_t beside; unsigned own; } log_due;
+/* a log, for a table that passes every check, into a buffer of 80,000 bytes or more: returns its length; filling: the first listed step, again and again */
+size_t log_text(struct random *r, const word *table, bool filling, char *text, size_t room, log_due *due);
 /* values that a template is likely to meet */
 ref_tuple some_tuple(struct random *r);
 /* the name of a step: an accepted one where there is one and chance wants it, else any */

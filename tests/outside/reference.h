@@ -19,6 +19,8 @@ typedef struct { ref_word number; uint16_t steps; ref_word left; } ref_ran;
 typedef struct { ref_word number; size_t beside; } ref_reading;
 typedef struct { ref_word number; size_t length; } ref_written;
 typedef struct { ref_word number; size_t accepted; } ref_polled;
+/* beside: the place of 23, the event's ordinal of 24; own: the number of that event's step or post */
+typedef struct { ref_word number; size_t beside; ref_word own; } ref_judged;
 
 ref_verdict ref_check(const ref_word *table);
 ref_word ref_fresh(const ref_word *table, ref_word *state);
@@ -32,5 +34,7 @@ ref_reading ref_draw(const uint8_t *text, size_t length, ref_word *table);
 ref_written ref_write(const ref_word *table, uint8_t *buffer, size_t length);
 /* an item: 1 for a post, else a step; pool or name, instance, element, phase, branch, length, 4 values */
 ref_polled ref_poll(const ref_word *table, ref_word *state, const ref_word *items, size_t count);
+/* document 02's fourth request: the text is a log, judged from the fresh state */
+ref_judged ref_judge(const ref_word *table, const uint8_t *text, size_t length);
 
 #endif

@@ -1,4 +1,4 @@
-/* Drawings of at most 65,536 bytes that hold as much as fits of one thing, to see how the time of reading them grows. */
+/* Drawings and logs of at most 65,536 bytes that hold as much as fits of one thing, to see how the time of reading them grows. */
 #include "generate.h"
 #include <stdio.h>
 
@@ -10,7 +10,9 @@ enum { MOST = 65536 };
 #define LONG_NAME "nnnnnnnnnnnnnnnnnnnnnnnnnnnnnnnnnnnnnnnnnnnnnnnnnnnnnnnnnnnnnnnnnnnnnnnnnnnnnnnnnnnnnnnnnnnnnnnnnnnnnnnnnnnnnnnnnnnn"
 
 /* A part for each number from 0, as many as fit, then a part again for each of them: %1$x is the number, %2$x the next; behind them, %1$x is how many. */
-static const struct { const char *name, *before, *each, *between, *again, *after; } shapes[] = {
+struct shape { const char *name, *before, *each, *between, *again, *after; };
+
+static const struct shape drawings[] = {
     {"attributes of one tag", "<definitions", " a%1$x=\"\"", "", "", "/>"},
     {"nodes without ids", BEGIN, "<task/>", "", "", END_OF_ALL},
     {"nodes with ids", BEGIN, "<task id=\"%1$x\"/>", "", "", END_OF_ALL},
@@ -40,22 +42,48 @@ static const struct { const char *name, *before, *each, *between, *again, *after
     {"references", BEGIN, "&lt;", "", "", END_OF_ALL},
 };
 
+/* a loop of two steps, which fills the edge beside it unless that is emptied */
+const char worst_model[] = "pool(1,start(1,2)|xorJoin({2,3},4)|andSplit(4,{3,5})|end(5))";
+
+#define EVENT(line) "<event><string key=\"concept:name\" value=\"" line "\"/></event>"
+#define TRACE "<log><trace>"
+#define END_OF_LOG "</trace></log>"
+
+static const struct shape logs[] = {
+    {"events, all of them lawful", TRACE EVENT("1 0 0 0 0 -") EVENT("1 0 1 0 0 -") EVENT("1 0 2 0 0 -"),
+     EVENT("1 0 3 0 0 -") EVENT("1 0 1 0 1 -") EVENT("1 0 2 0 0 -"), "", "", END_OF_LOG},
+    {"attributes of the log's tag", "<log", " a%1$x=\"\"", "", "", "><trace/></log>"},
+    {"attributes of an event's name", TRACE "<event><string key=\"concept:name\" value=\"post 0:\"", " a%1$x=\"\"", "", "", "/></event>" END_OF_LOG},
+    {"strings in an event", TRACE "<event><string key=\"concept:name\" value=\"post 0:\"/>", "<string key=\"concept:nam\"/>", "", "", "</event>" END_OF_LOG},
+    {"values in a line", TRACE "<event><string key=\"concept:name\" value=\"post 0:0", ",0", "", "", "\"/></event>" END_OF_LOG},
+    {"elements 16 deep in a trace", TRACE, "<a><a><a><a><a><a><a><a><a><a><a><a><a><a><a><a/></a></a></a></a></a></a></a></a></a></a></a></a></a></a></a>", "", "", END_OF_LOG},
+    {"comments in a trace", TRACE, "<!---->", "", "", END_OF_LOG},
+    {"text in what is skipped", "<log><a>", "]", "", "", "</a><trace/></log>"},
+};
+
 static size_t print(char *at, size_t room, const char *form, unsigned k) { return snprintf(at, room, form, k, k + 1); }
 
-const char *worst_text(unsigned which, char *text, size_t *length) {
-    if (which >= sizeof shapes / sizeof *shapes) return NULL;
+static const char *filled(const struct shape *shape, char *text, size_t *length) {
     char piece[1024];
     unsigned count = 0;
-    size_t n = print(text, MOST, shapes[which].before, 0), left = MOST - n - print(piece, sizeof piece, shapes[which].between, 0) - 1;
-    left -= print(piece, sizeof piece, shapes[which].after, MOST);
+    size_t n = print(text, MOST, shape->before, 0), left = MOST - n - print(piece, sizeof piece, shape->between, 0) - 1;
+    left -= print(piece, sizeof piece, shape->after, MOST);
     for (;; count++) {
-        size_t m = print(piece, sizeof piece, shapes[which].each, count), again = print(piece, sizeof piece, shapes[which].again, count);
+        size_t m = print(piece, sizeof piece, shape->each, count), again = print(piece, sizeof piece, shape->again, count);
         if (m + again > left) break;
         left -= m + again;
-        n += print(text + n, m + 1, shapes[which].each, count);
+        n += print(text + n, m + 1, shape->each, count);
     }
-    n += print(text + n, MOST, shapes[which].between, 0);
-    for (unsigned k = 0; k < count; k++) n += print(text + n, MOST, shapes[which].again, k);
-    *length = n + print(text + n, MOST, shapes[which].after, count);
-    return shapes[which].name;
+    n += print(text + n, MOST, shape->between, 0);
+    for (unsigned k = 0; k < count; k++) n += print(text + n, MOST, shape->again, k);
+    *length = n + print(text + n, MOST, shape->after, count);
+    return shape->name;
+}
+
+const char *worst_text(unsigned which, char *text, size_t *length) {
+    return which < sizeof drawings / sizeof *drawings ? filled(&drawings[which], text, length) : NULL;
+}
+
+const char *worst_log(unsigned which, char *text, size_t *length) {
+    return which < sizeof logs / sizeof *logs ? filled(&logs[which], text, length) : NULL;
 }

@@ -19,7 +19,8 @@ use Rattle.engine.specs.declared.Verdict.{Verdict}
 use Rattle.engine.specs.Engine.{verdictOf, Left, freshened, Stepped, stepped, postedTo, listedAt, RanTo, ranTo, WrittenTo, writtenTo}
 use Rattle.polling.specs.Items.{itemWords, itemsMost}
 use Rattle.polling.specs.Poll.{Polling}
-use Rattle.engine.specs.Calls.{polledTo}
+use Rattle.judging.specs.declared.Judged.{Judged}
+use Rattle.engine.specs.Calls.{polledTo, judgedTo}
 use Rattle.c.specs.declared.Taken.{Taken}
 
 -- n words of a table and m words of a state
@@ -84,3 +85,6 @@ lentWrong count = if ltb itemsMost count then 22 else 10
 
 unfoldable pub polledAt : List ℕ → ℕ → List ℕ → ℕ → List ℕ → ℕ → ℕ → Polling
 polledAt t n z m w k count = if areLent n m k then polledTo t z w count else record { number = lentWrong count; accepted = 0; state = z }
+
+unfoldable pub judgedBy : List ℕ → ℕ → List ℕ → Judged
+judgedBy t n log = if eqb n tableWords then judgedTo t log else record { number = 10; beside = 0; own = 0 }

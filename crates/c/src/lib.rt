@@ -3,10 +3,11 @@ ghost use mathlib.Core.Path.{_≡_};
 ghost use Rattle.meaning.specs.Tuples.{empty};
 ghost use Rattle.polling.specs.Poll.{Polling};
 ghost use Rattle.naming.specs.Names.{blank};
-ghost use Rattle.c.specs.Boundary.{areWhole, checkedBy, freshenedBy, trafficNumber, steppedBy, postedBy, listedBy, ranBy, readBy, drawnBy, writtenBy, lentWrong, areLent, polledAt};
+ghost use Rattle.c.specs.Boundary.{areWhole, checkedBy, freshenedBy, trafficNumber, steppedBy, postedBy, listedBy, ranBy, readBy, drawnBy, writtenBy, lentWrong, areLent, polledAt, judgedBy};
 use engine::Ran;
 use engine::Verdict;
 use engine::Written;
+use judging::Judged;
 use listing::Listed;
 use meaning::Name;
 use meaning::Traffic;
@@ -279,4 +280,18 @@ pub extern "C" fn cv_poll(
         };
     }
     engine::poll(table, state, items, count)
+}
+
+#[no_mangle]
+pub extern "C" fn cv_judge(table: &[Word; TABLE_WORDS], tablelength: usize, log: &[u8]) -> Judged
+    ensures { λ r. ⌜ r ≡ judgedBy (now (table .entry)) tablelength (now (log .entry)) ⌝ }
+{
+    if tablelength != TABLE_WORDS {
+        return Judged {
+            number: BAD,
+            beside: 0,
+            own: 0,
+        };
+    }
+    engine::judge(table, log)
 }

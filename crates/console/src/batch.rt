@@ -7,7 +7,6 @@ use super::output::bad_line;
 use super::output::no_model;
 use super::output::tell_number;
 use lexer::piece;
-use libc::STDOUT_FILENO;
 use meaning::Tuple;
 use model::places::TABLE_WORDS;
 use numerals::same;
@@ -24,6 +23,7 @@ use polling::POLL_WORDS;
 use polling::POOL_OR_NAME;
 use polling::Polled;
 use printing::tell;
+use printing::tell_count;
 use state::places::STATE_WORDS;
 use words::Word;
 use words::put;
@@ -142,7 +142,7 @@ fn fill_line(line: &[u8], items: &mut [Word; POLL_WORDS]) -> Filled {
 
 fn tell_polled(p: Polled) {
     tell(b"accepted ");
-    io::print_decimal(STDOUT_FILENO, p.accepted as u64);
+    tell_count(p.accepted);
     tell(b" refused ");
     tell_number(p.number);
     tell(b"\n");

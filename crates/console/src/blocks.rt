@@ -6,11 +6,11 @@ use super::output::no_model;
 use super::output::tell_done;
 use super::output::tell_refused;
 use lexer::piece;
-use libc::STDOUT_FILENO;
 use model::places::TABLE_WORDS;
 use notation::Reading;
 use numerals::same;
 use printing::tell;
+use printing::tell_count;
 use printing::tell_unread;
 use state::places::STATE_WORDS;
 use words::Word;
@@ -93,7 +93,7 @@ fn tell_again(length: usize, is_same_table: bool, is_same_text: bool) {
         return;
     }
     tell(b"same ");
-    io::print_decimal(STDOUT_FILENO, length as u64);
+    tell_count(length);
     tell(b"\n");
 }
 

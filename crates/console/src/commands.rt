@@ -26,6 +26,7 @@ use model::places::TABLE_WORDS;
 use notation::Reading;
 use numerals::same;
 use printing::tell;
+use printing::tell_judged;
 use printing::tell_run;
 use printing::tell_unread;
 use state::places::STATE_WORDS;
@@ -139,6 +140,23 @@ fn do_run(line: &[u8], loaded: bool, t: &[Word; TABLE_WORDS], z: &mut [Word; STA
     }
 }
 
+// judge
+
+// The bytes of `judge` and its blank.
+const JUDGE: usize = 6;
+
+fn is_judge(line: &[u8]) -> bool {
+    same(piece(line, 0, JUDGE), b"judge ")
+}
+
+fn do_judge(line: &[u8], loaded: bool, t: &[Word; TABLE_WORDS]) {
+    if !loaded {
+        no_model();
+        return;
+    }
+    tell_judged(engine::judge(t, piece(line, JUDGE, line.len())));
+}
+
 // fresh, state
 
 fn do_fresh(loaded: bool, t: &[Word; TABLE_WORDS], z: &mut [Word; STATE_WORDS]) {
@@ -240,6 +258,10 @@ fn on_model(line: &[u8], loaded: bool, t: &[Word; TABLE_WORDS], z: &mut [Word; S
     }
     if is_batch(line) {
         do_batch(line, loaded, t, z);
+        return;
+    }
+    if is_judge(line) {
+        do_judge(line, loaded, t);
         return;
     }
     on_state(line, loaded, t, z);

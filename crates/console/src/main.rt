@@ -7,6 +7,7 @@
 //   post M V           ok, or refused N
 //   list K             P I E F B V of the K-th accepted step, or refused N
 //   batch ITEM;ITEM;.. accepted N refused R of a poll; an item is a step or a post as above, `batch` alone has none
+//   judge TEXT         lawful, refused 23 PLACE or refused 24 ORDINAL NUMBER of a log, which is every byte behind the one blank
 //   run N              the line of each step, then: steps N left F; or refused N
 //   write              the text of the model, or refused N
 //   write N            the same, into a buffer of N bytes

@@ -1,12 +1,12 @@
 // What the console says beside what the programs share.
 use lexer::piece;
-use libc::STDOUT_FILENO;
 use lines::NAME_LINE;
 use lines::STEP_LINE;
 use meaning::Answer;
 use meaning::Name;
 use meaning::Tuple;
 use printing::tell;
+use printing::tell_count;
 use words::Word;
 
 pub(super) fn bad_line() {
@@ -18,7 +18,7 @@ pub(super) fn no_model() {
 }
 
 pub(super) fn tell_number(n: Word) {
-    io::print_decimal(STDOUT_FILENO, n as u64);
+    tell_count(n as usize);
 }
 
 pub(super) fn tell_refused(number: Word) {

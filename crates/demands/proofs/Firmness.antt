@@ -11,6 +11,7 @@ use Rattle.listing.specs.declared.Listed.{Listed}
 use Rattle.notation.specs.declared.Reading.{Reading}
 use Rattle.notation.specs.Notation.{ReadInto}
 use Rattle.polling.specs.declared.Polled.{Polled}
+use Rattle.judging.specs.declared.Judged.{Judged}
 use Rattle.polling.specs.Poll.{Polling}
 use Rattle.engine.specs.declared.Ran.{Ran}
 use Rattle.engine.specs.declared.Verdict.{Verdict}
@@ -27,6 +28,7 @@ use Rattle.engine.proofs.read.Reads as read
 use Rattle.engine.proofs.draw.Reads as draw
 use Rattle.engine.proofs.write.Reads as write
 use Rattle.engine.proofs.poll.Reads as poll
+use Rattle.engine.proofs.judge.Reads as judge
 use Rattle.demands.specs.Demands.{Allowed, AllAllowed}
 use Rattle.demands.proofs.Promises.{Lent, One, Two, Three}
 
@@ -80,6 +82,11 @@ module _ (κ : Two) where
       → (r₁ ≡ r₂) × (now out₁ ≡ now out₂)
   write-firm t out t₁ t₂ out₁ out₂ r₁ r₂ p₁ p₂ =
       let p = p₁ ∙ sym p₂ in (ap (λ (o : WrittenTo). record { number = o .number; length = o .length }) p, ap (λ (o : WrittenTo). o .buffer) p)
+
+  pub judge-firm : (t log t₁ t₂ log₁ log₂ : Lent) (r₁ r₂ : Judged)
+      → judge.Post κ (t, (log, tt)) r₁ (t₁, (log₁, tt)) → judge.Post κ (t, (log, tt)) r₂ (t₂, (log₂, tt))
+      → r₁ ≡ r₂
+  judge-firm t log t₁ t₂ log₁ log₂ r₁ r₂ p₁ p₂ = p₁ ∙ sym p₂
 
 pub poll-firm : (κ : Three) (t z w t₁ t₂ z₁ z₂ w₁ w₂ : Lent) (count count₁ count₂ : ℕ) (r₁ r₂ : Polled)
     → poll.Post κ (t, (z, (w, (count, tt)))) r₁ (t₁, (z₁, (w₁, (count₁, tt)))) → poll.Post κ (t, (z, (w, (count, tt)))) r₂ (t₂, (z₂, (w₂, (count₂, tt))))

@@ -20,3 +20,4 @@ pub mod TextsAndTables
 pub mod NeverTen
 pub mod PollSteps
 pub mod Polls
+pub mod Judgements

@@ -21,7 +21,7 @@ use Rattle.engine.specs.declared.Verdict.{Verdict}
 use Rattle.polling.specs.Items.{itemsMost, actsIn}
 use Rattle.polling.specs.Poll.{Polling, oneBefore, polledBy, polledFrom}
 use Rattle.engine.specs.Engine.{valid, fitting, lentNumber, stepped, postedTo, listedAt, ranTo, writtenTo}
-use Rattle.engine.specs.Calls.{Act, aStep, aPost, did, Valid, polledTo}
+use Rattle.engine.specs.Calls.{Act, aStep, aPost, did, Valid, polledTo, judgedTo}
 use Rattle.engine.proofs.KeepsValid.{did-valid}
 use Rattle.checked.proofs.KeepsFitting.{freshened-valid, run-valid}
 use Rattle.demands.specs.Demands.{Made, afresh, byAct, byRun, byPoll, NeverTen, acceptedSteps}
@@ -30,6 +30,7 @@ use Rattle.demands.proofs.StatesLeft.{step-number, post-number}
 use Rattle.demands.proofs.ListAndRun.{list-number, run-number-is}
 use Rattle.demands.proofs.PollSteps.{by-first, poll-valid}
 use Rattle.demands.proofs.Polls.{lent-zero}
+use Rattle.demands.proofs.Judgements.{judged-among}
 use Rattle.demands.proofs.ReadAndWrite.{written-number}
 use Rattle.demands.proofs.TextsAndTables.{read-valid, read-then-check, read-then-fresh}
 
@@ -100,6 +101,9 @@ poll-other t z v w count e =
     (λ b. polled-other t (actsIn w count) z v)
     (λ b. absurd (eqb-false (lentNumber t z) 0 b (lent-zero t z (v .fits)))))) e
 
+judge-other : (t log : List ℕ) → valid t ≡ true → judgedTo t log .number ≡ 10 → ⊥
+judge-other t log v e = other (judgedTo t log .number) (judged-among t log Other refl refl refl v) e
+
 write-other : (t out : List ℕ) → valid t ≡ true → writtenTo t out .number ≡ 10 → ⊥
 write-other t out v e =
     other (writtenTo t out .number)
@@ -121,4 +125,5 @@ never-ten text t₀ n z m =
       run = run-other t z s;
       write = λ out. write-other t out v;
       poll = poll-other t z s;
+      judge = λ log. judge-other t log v;
     }

@@ -10,6 +10,7 @@ use Rattle.meaning.specs.declared.Tuple.{Tuple}
 use Rattle.listing.specs.declared.Listed.{Listed}
 use Rattle.notation.specs.declared.Reading.{Reading}
 use Rattle.polling.specs.declared.Polled.{Polled}
+use Rattle.judging.specs.declared.Judged.{Judged}
 use Rattle.engine.specs.declared.Verdict.{Verdict}
 use Rattle.engine.specs.declared.Ran.{Ran}
 use Rattle.engine.specs.declared.Written.{Written}
@@ -24,7 +25,8 @@ use Rattle.engine.proofs.read.Reads as read
 use Rattle.engine.proofs.draw.Reads as draw
 use Rattle.engine.proofs.write.Reads as write
 use Rattle.engine.proofs.poll.Reads as poll
-use Rattle.demands.specs.Promises.{Checks, Freshens, Steps, Posts, Lists, Runs, Reads, Draws, Writes, Polls}
+use Rattle.engine.proofs.judge.Reads as judge
+use Rattle.demands.specs.Promises.{Checks, Freshens, Steps, Posts, Lists, Runs, Reads, Draws, Writes, Polls, Judges}
 use Rattle.demands.specs.Demands.{Allowed}
 
 -- a slice or an array that is lent, and the lifetimes of one, of two and of three
@@ -71,6 +73,9 @@ module _ (κ : Two) where
 
   pub write-promise : (t out t₁ out₁ : Lent) (r : Written) → write.Post κ (t, (out, tt)) r (t₁, (out₁, tt)) ≡ Writes (now t) (now out) r (now out₁)
   write-promise t out t₁ out₁ r = refl
+
+  pub judge-promise : (t log t₁ log₁ : Lent) (r : Judged) → judge.Post κ (t, (log, tt)) r (t₁, (log₁, tt)) ≡ Judges (now t) (now log) r
+  judge-promise t log t₁ log₁ r = refl
 
   -- so too what the demands say that a step and a post are allowed
   pub step-allowed : (t z t₁ z₁ : Lent) (n n₁ : Name) (k : ℕ)

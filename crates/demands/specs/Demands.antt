@@ -24,7 +24,7 @@ use Rattle.meaning.specs.Step.{siteOf, refusals, instancesAfter, queuesAfter}
 use Rattle.meaning.specs.Post.{postRefusals}
 use Rattle.listing.specs.Listing.{listed}
 use Rattle.engine.specs.Engine.{verdictOf, freshened, fitting, stepped, postedTo, listedAt, RanTo, ranTo, WrittenTo, writtenTo}
-use Rattle.engine.specs.Calls.{Act, aStep, aPost, did, after, polledTo}
+use Rattle.engine.specs.Calls.{Act, aStep, aPost, did, after, polledTo, judgedTo}
 use Rattle.demands.specs.Promises.{Steps, Posts}
 
 -- DEMAND 1. "Bad ones are refused with the number document 01 gives": 10 where table or state are bad, else that of the first condition that does
@@ -61,6 +61,13 @@ readNumbers = 0 ∷ 1 ∷ 2 ∷ 3 ∷ 4 ∷ []
 
 abbrev pub writeNumbers : List ℕ
 writeNumbers = 0 ∷ 5 ∷ 10 ∷ []
+
+abbrev pub judgeNumbers : List ℕ
+judgeNumbers = 0 ∷ 10 ∷ 23 ∷ 24 ∷ []
+
+-- beside 24: the step's or post's own, 0 where only the text is untrue
+abbrev pub ownNumbers : List ℕ
+ownNumbers = 0 ∷ 11 ∷ 12 ∷ 13 ∷ 14 ∷ 15 ∷ 16 ∷ 17 ∷ 18 ∷ 19 ∷ []
 
 -- DEMAND 2. "A step is accepted exactly when the rules permit it": table and state are right, and every condition of its list of refusals holds
 unfoldable pub allHold : List Refusal → Bool
@@ -154,6 +161,7 @@ pub record NeverTen (t z : List ℕ) : Type 0 where
   pub run : (limit : ℕ) → ranTo t z limit .number ≡ 10 → ⊥
   pub write : (out : List ℕ) → writtenTo t out .number ≡ 10 → ⊥
   pub poll : (w : List ℕ) (count : ℕ) → polledTo t z w count .number ≡ 10 → ⊥
+  pub judge : (log : List ℕ) → judgedTo t log .number ≡ 10 → ⊥
 
 -- how many steps are accepted
 unfoldable pub acceptedSteps : List ℕ → List ℕ → ℕ

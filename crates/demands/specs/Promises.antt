@@ -15,7 +15,8 @@ use Rattle.engine.specs.declared.Ran.{Ran}
 use Rattle.engine.specs.declared.Written.{Written}
 use Rattle.polling.specs.declared.Polled.{Polled}
 use Rattle.polling.specs.Poll.{Polling}
-use Rattle.engine.specs.Calls.{polledTo}
+use Rattle.judging.specs.declared.Judged.{Judged}
+use Rattle.engine.specs.Calls.{polledTo, judgedTo}
 use Rattle.engine.specs.Engine.{Left, Stepped, RanTo, WrittenTo, verdictOf, freshened, stepped, postedTo, listedAt, ranTo, writtenTo}
 
 abbrev pub Checks : List ℕ → Verdict → Type 0
@@ -47,3 +48,6 @@ Writes t out r y = _≡_ {A = WrittenTo} (record { number = r .number; length = 
 
 abbrev pub Polls : List ℕ → List ℕ → List ℕ → ℕ → Polled → List ℕ → Type 0
 Polls t z w count r y = _≡_ {A = Polling} (record { number = r .number; accepted = r .accepted; state = y }) (polledTo t z w count)
+
+abbrev pub Judges : List ℕ → List ℕ → Judged → Type 0
+Judges t log r = r ≡ judgedTo t log

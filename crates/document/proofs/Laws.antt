@@ -27,14 +27,14 @@ use Rattle.document.specs.declared.Outside.the-variants.{Element, On, No
 use Rattle.document.specs.Document.{otherBy, otherOf, opensData, tagFor, tagAt, outsideAt, further, outsideIn, outside}
 
 -- WHAT IS PASSED IS FURTHER ON
-abbrev Beyond : ℕ → Outside → Type 0
-Beyond p (Element q) = Unit {0}
+abbrev pub Beyond : ℕ → Outside → Type 0
+Beyond p (Element q) = p ≤ q
 Beyond p (On q) = p < q
 Beyond p Nothing = Unit {0}
 Beyond p (Fault q) = Unit {0}
 
 beyond-from : (p q : ℕ) (g : Outside) → p ≤ q → Beyond q g → Beyond p g
-beyond-from p q (Element x) h k = tt
+beyond-from p q (Element x) h k = omega (arith, h, k)
 beyond-from p q (On x) h k = omega (arith, h, k)
 beyond-from p q Nothing h k = tt
 beyond-from p q (Fault x) h k = tt
@@ -64,18 +64,18 @@ module _ (t : List ℕ) (p : ℕ) where
 
   tag-for : (o : Opener) → Beyond p (tagFor o t p)
   unfolding tagFor
-  tag-for Start = tt
+  tag-for Start = omega arith
   tag-for EndOpener = tt
   tag-for Other = beyond-if p (opensData t p) (Fault p) (otherOf (markup t p) p) tt other-beyond
 
-  at-beyond : Beyond p (outsideAt t p)
+  pub at-beyond : Beyond p (outsideAt t p)
   unfolding outsideAt tagAt
   at-beyond =
       beyond-if p (leb (length t) p) Nothing _ tt
       (beyond-if p (eqb (at t p) (code "<")) (tagAt t p) _ (tag-for (opener t p))
       (beyond-if p (eqb (at t p) (code "&")) (otherOf (markup t p) p) (Fault p) other-beyond tt))
 
-  ran : p ≤ run Blanks t p
+  pub ran : p ≤ run Blanks t p
   unfolding run
   ran = past-from (isOf Blanks) (drop p t) p
 
@@ -83,7 +83,7 @@ module _ (t : List ℕ) (p : ℕ) where
 step-beyond : (t : List ℕ) (p : ℕ) → Beyond p (outsideAt t (run Blanks t p))
 step-beyond t p = beyond-from p (run Blanks t p) (outsideAt t (run Blanks t p)) (ran t p) (at-beyond t (run Blanks t p))
 
-step-end : (t : List ℕ) (p : ℕ) → length t ≤ p → outsideAt t (run Blanks t p) ≡ Nothing
+pub step-end : (t : List ℕ) (p : ℕ) → length t ≤ p → outsideAt t (run Blanks t p) ≡ Nothing
 unfolding outsideAt if_then_else_
 step-end t p h = rw (le-leb (length t) (run Blanks t p) (omega (arith, h, ran t p)))
 

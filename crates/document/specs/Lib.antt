@@ -1,3 +1,4 @@
 pub mod Document
+pub mod Around
 pub mod Decoding
 pub mod Points

@@ -11,6 +11,7 @@ use xml::scanning::markup;
 use xml::spans::opener;
 use xml::spans::run;
 
+pub mod around;
 pub mod decoding;
 
 // What stands outside the root: an element at its `<`, something that is passed, nothing more, or a fault.
@@ -62,7 +63,8 @@ fn tag_at(text: &[u8], p: usize) -> Outside
     }
 }
 
-fn outside_at(text: &[u8], p: usize) -> Outside
+// What stands outside at a place, no blank first.
+pub fn outside_at(text: &[u8], p: usize) -> Outside
     ensures { λ r. ⌜ r ≡ outsideAt (now (text .entry)) p ⌝ }
 {
     if text.len() <= p {

@@ -1,20 +1,28 @@
--- A valid state is still valid after every step and every post, accepted or not. Assumes nothing.
+-- A fresh state of a valid table is valid, and a valid state still is after every step and every post, accepted or not. Assumes nothing.
 use Prim.Native.Nat.{ℕ, _+_}
-use mathlib.Core.Path.{_≡_, _∙_, ap₂}
+use mathlib.Core.Path.{_≡_, refl, _∙_, ap₂}
 use mathlib.Core.Bool.{true}
 use mathlib.Core.List.{List, [], _∷_, _++_}
-use lib.ListN.{length, length-append}
+use lib.Dec.{eqb}
+use lib.ListN.{length, set, replicate, length-append, length-set, length-replicate}
 use lib.Seq.{take-at, drop-at}
 use Rattle.words.proofs.AllLaws.{and-left}
+use Rattle.words.proofs.IterLaws.{iter-keeps}
 use Rattle.words.proofs.PickLaws.{and-true}
-use Rattle.state.specs.Places.{instancesWords}
+use Rattle.model.specs.Table.{poolCount}
+use Rattle.state.specs.Places.{instancesWords, stateWords, tokenPlace, madePlace, instancePlace}
 use Rattle.state.specs.Instances.{instancesOf, queuesOf}
 use Rattle.meaning.specs.declared.Name.{Name}
 use Rattle.meaning.specs.declared.Tuple.{Tuple}
 use Rattle.meaning.specs.Step.{step}
 use Rattle.meaning.specs.Post.{post}
-use Rattle.fits.specs.Fits.{stateFits}
-use Rattle.steps.proofs.Choices.{chosen}
+use Rattle.limits.specs.Limits.{tableFits}
+use Rattle.checks.specs.Checks.{lowest}
+use Rattle.lowest.specs.Model.{modelOf}
+use Rattle.fits.specs.Fits.{hasStart, stateFits}
+use Rattle.fits.specs.Fresh.{firstEdge, begun, fresh}
+use Rattle.fits.proofs.FreshFits.{fresh-fits}
+use Rattle.steps.proofs.Choices.{by-choice, chosen}
 use Rattle.steps.proofs.EveryStep.{Fitting, step-keeps-fits, post-keeps-state}
 use Rattle.listed.proofs.StartUnique.{starts-once}
 use Rattle.engine.specs.Engine.{valid, Left, fitting, leaving, stepped, postedTo}
@@ -46,7 +54,7 @@ module _ (t : List ℕ) where
     }
 
     -- AFTER A STEP
-    step-valid : (n : Name) → Valid t (stepped t z n .state)
+    pub step-valid : (n : Name) → Valid t (stepped t z n .state)
     unfolding stepped leaving
     step-valid n =
         rw (chosen (fitting t z) (leaving (step t (instancesOf z) (queuesOf z) n)) _ (valid-state .fits))
@@ -54,7 +62,7 @@ module _ (t : List ℕ) where
         (step-keeps-fits t (instancesOf z) (queuesOf z) (table-fits t z (valid-state .fits)) parts (starts-once t (checks-hold t z (valid-state .fits))) n))
 
     -- AFTER A POST
-    post-valid : (name : ℕ) (g : Tuple) → Valid t (postedTo t z name g .state)
+    pub post-valid : (name : ℕ) (g : Tuple) → Valid t (postedTo t z name g .state)
     unfolding postedTo
     post-valid name g =
         rw (chosen {A = Left} (fitting t z) (record { number = post (queuesOf z) name g .number; state = instancesOf z ++ post (queuesOf z) name g .queues }) _ (valid-state .fits))
@@ -71,3 +79,23 @@ module _ (t : List ℕ) where
   unfolding after
   after-valid [] z v = v
   after-valid (a ∷ rest) z v = after-valid rest (did t a z .state) (did-valid a z v)
+
+  begun-long : (p : ℕ) (z : List ℕ) → length (begun t p z) ≡ length z
+  unfolding begun
+  begun-long p z =
+      by-choice (λ (y : List ℕ). length y ≡ length z) (hasStart t p) (set (set z (madePlace p) 1) (instancePlace p 0 + tokenPlace (firstEdge t p)) 1) z
+      (λ e. length-set (set z (madePlace p) 1) (instancePlace p 0 + tokenPlace (firstEdge t p)) 1 ∙ length-set z (madePlace p) 1)
+      (λ e. refl)
+
+  fresh-long : length (fresh t) ≡ stateWords
+  unfolding fresh
+  fresh-long =
+      iter-keeps (begun t) (replicate stateWords 0) (λ z. length z ≡ stateWords) (poolCount t) (λ k z l e. begun-long k z ∙ e) (length-replicate {A = ℕ} stateWords 0)
+
+  -- A FRESH STATE
+  pub fresh-valid : valid t ≡ true → Valid t (fresh t)
+  unfolding fitting valid
+  fresh-valid v = record {
+    long = fresh-long;
+    fits = and-true (valid t) (stateFits t (instancesOf (fresh t)) (queuesOf (fresh t))) v (fresh-fits t (and-left (tableFits t) (eqb (lowest (modelOf t)) 0) v));
+  }

@@ -1,3 +1,4 @@
 pub mod CallLaws
 pub mod KeepsValid
 pub mod PollLaws
+pub mod JudgeLaws

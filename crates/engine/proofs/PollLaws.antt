@@ -7,11 +7,13 @@ use lib.ListN.{length}
 use Rattle.words.specs.Pick.{if_then_else_}
 use Rattle.state.specs.Places.{stateWords}
 use Rattle.state.specs.Instances.{instancesOf, queuesOf}
+use Rattle.meaning.specs.declared.Name.{Name}
+use Rattle.meaning.specs.declared.Tuple.{Tuple}
 use Rattle.meaning.specs.Post.{Posted}
 use Rattle.meaning.specs.Step.{Outcome}
 use Rattle.rules.specs.Settled.{Done, settled, posted}
 use Rattle.polling.specs.Items.{actsIn}
-use Rattle.polling.specs.Poll.{Polling, oneBefore, polledBy, polledFrom, settledAct}
+use Rattle.polling.specs.Poll.{Polling, oneBefore, polledBy, polledFrom, settledStep, settledPost, settledAct}
 use Rattle.polling.proofs.PollLaws.{same-poll}
 use Rattle.engine.specs.Engine.{Left, Stepped, lentNumber, stepped, postedTo}
 use Rattle.engine.specs.Calls.{Act, aStep, aPost, did, Valid, polledTo}
@@ -19,13 +21,21 @@ use Rattle.engine.proofs.CallLaws.{step-done, settled-post, lent-good}
 use Rattle.engine.proofs.KeepsValid.{did-valid}
 
 module _ (t : List ℕ) where
+  module _ (z : List ℕ) (v : Valid t z) where
+    pub same-step : (n : Name) → settledStep t z n ≡ stepped t z n
+    unfolding settledStep
+    same-step n =
+        let o : Outcome = settled t (instancesOf z) (queuesOf z) n in
+        step-done t z (v .long) (v .fits) n (o .answer) (o .instances ++ o .queues) (record { answer = refl; state = refl })
+
+    pub same-post : (name : ℕ) (g : Tuple) → settledPost z name g ≡ postedTo t z name g
+    unfolding settledPost postedTo if_then_else_
+    same-post name g = rw (v .fits, settled-post t z (v .long) (v .fits) name g)
+
   settled-did : (a : Act) (z : List ℕ) → Valid t z → settledAct t a z ≡ did t a z
-  unfolding settledAct did postedTo if_then_else_
-  settled-did (aStep n) z v =
-      let o : Outcome = settled t (instancesOf z) (queuesOf z) n in
-      ap (λ (x : Stepped). record { number = x .answer .number; state = x .state })
-      (step-done t z (v .long) (v .fits) n (o .answer) (o .instances ++ o .queues) (record { answer = refl; state = refl }))
-  settled-did (aPost name g) z v = rw (v .fits, settled-post t z (v .long) (v .fits) name g)
+  unfolding settledAct did
+  settled-did (aStep n) z v = ap (λ (x : Stepped). record { number = x .answer .number; state = x .state }) (same-step z v n)
+  settled-did (aPost name g) z v = same-post z v name g
 
   polled-did : (acts : List Act) (z : List ℕ) → Valid t z → polledBy (settledAct t) acts z ≡ polledBy (did t) acts z
   unfolding polledBy

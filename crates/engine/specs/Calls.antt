@@ -5,10 +5,14 @@ use mathlib.Core.Bool.{Bool, true, _&&_}
 use mathlib.Core.List.{List, [], _∷_}
 use lib.Dec.{eqb}
 use lib.ListN.{length}
+use Rattle.words.specs.Pick.{if_then_else_}
 use Rattle.state.specs.Places.{stateWords}
 use Rattle.meaning.specs.declared.Name.{Name}
 use Rattle.meaning.specs.declared.Tuple.{Tuple}
-use Rattle.engine.specs.Engine.{Left, fitting, lentNumber, stepped, postedTo}
+use Rattle.fits.specs.Fresh.{fresh}
+use Rattle.judging.specs.declared.Judged.{Judged}
+use Rattle.judging.specs.Judge.{answered, taken, judgedFrom}
+use Rattle.engine.specs.Engine.{valid, Left, fitting, lentNumber, stepped, postedTo}
 pub use Rattle.polling.specs.Items.{Act, aStep, aPost}
 use Rattle.polling.specs.Poll.{Polling, polledFrom}
 
@@ -39,3 +43,7 @@ pub record Valid (t z : List ℕ) : Type 0 where
 -- first refusal
 unfoldable pub polledTo : List ℕ → List ℕ → List ℕ → ℕ → Polling
 polledTo t z w count = polledFrom (did t) (lentNumber t z) w count z
+
+-- WHETHER A LOG'S RUN WAS LAWFUL: "every step and post is accepted in turn from the fresh state, and what each line says was sent or consumed is true"; 10 goes before 23 and 24
+unfoldable pub judgedTo : List ℕ → List ℕ → Judged
+judgedTo t log = if valid t then judgedFrom (taken (stepped t) (postedTo t)) log (fresh t) else answered 10 0 0

@@ -8,7 +8,6 @@ use Rattle.words.specs.Pick.{if_then_else_}
 use Rattle.state.specs.Instances.{instancesOf, queuesOf}
 use Rattle.meaning.specs.declared.Name.{Name}
 use Rattle.meaning.specs.declared.Tuple.{Tuple}
-use Rattle.meaning.specs.declared.Answer.{Answer}
 use Rattle.meaning.specs.declared.Traffic.the-variants.{Nothing}
 use Rattle.meaning.specs.Tuples.{empty}
 use Rattle.meaning.specs.Step.{Outcome, step}
@@ -23,7 +22,7 @@ use Rattle.naming.specs.Names.{blank}
 use Rattle.listing.specs.Listing.{listed, chosen}
 use Rattle.running.specs.Run.{Run, ran}
 use Rattle.shown.specs.Shown.{shownTable}
-pub use Rattle.polling.specs.Poll.{Left}
+pub use Rattle.polling.specs.Poll.{Left, Stepped}
 use Rattle.engine.specs.declared.Verdict.{Verdict}
 
 -- a table that breaks no limit and no check
@@ -47,11 +46,6 @@ fitting t z = valid t && stateFits t (instancesOf z) (queuesOf z)
 
 unfoldable pub lentNumber : List ℕ → List ℕ → ℕ
 lentNumber t z = if fitting t z then 0 else 10
-
--- an answer given back, and the state that is left
-pub record Stepped : Type 0 where
-  pub answer : Answer
-  pub state : List ℕ
 
 unfoldable pub leaving : Outcome → Stepped
 leaving o = record { answer = o .answer; state = o .instances ++ o .queues }

@@ -5,7 +5,7 @@ ghost use lib.Dec.{leb};
 ghost use lib.ListN.{length};
 ghost use Rattle.state.specs.Places.{stateWords};
 ghost use Rattle.engine.specs.Engine.{valid, verdictOf, Left, freshened, lentNumber, Stepped, stepped, postedTo, listedAt, RanTo, ranTo, WrittenTo, writtenTo};
-ghost use Rattle.engine.specs.Calls.{polledTo};
+ghost use Rattle.engine.specs.Calls.{polledTo, judgedTo};
 ghost use Rattle.polling.specs.Poll.{Polling};
 ghost use Rattle.naming.specs.Names.{blank};
 ghost use Rattle.notation.specs.Notation.{readInto};
@@ -13,6 +13,7 @@ ghost use Rattle.drawings.specs.Drawings.{drawInto};
 ghost use Rattle.buffers.specs.Buffers.{lesser, lastPlace};
 ghost use Rattle.shown.specs.Shown.{shownTable};
 use effects::refuse;
+use judging::Judged;
 use listing::Listed;
 use meaning::Answer;
 use meaning::Name;
@@ -246,4 +247,21 @@ pub fn poll(
 {
     let number = lent_number(t, z);
     polling::poll_on(t, z, items, count, number)
+}
+
+// Judges the run that a log tells: 10 where the table is bad; 23 with its place where it is no such log; 24 with the first event at fault and its number; else 0. The state
+// that it works on is its own.
+pub fn judge(t: &[Word; TABLE_WORDS], log: &[u8]) -> Judged
+    ensures { λ r. ⌜ r ≡ judgedTo (now (t .entry)) (now (log .entry)) ⌝ }
+{
+    if !is_valid(t) {
+        return Judged {
+            number: BAD,
+            beside: 0,
+            own: 0,
+        };
+    }
+    let mut z: [Word; STATE_WORDS] = [0; STATE_WORDS];
+    fresh::begin(t, &mut z);
+    judging::judge_on(t, &mut z, log)
 }

@@ -137,7 +137,7 @@ pub fn put_name(out: &mut [u8], from: usize, n: Name) -> usize
 pub const UNREAD_LINE: usize = 8 + DIGITS + 1 + DIGITS + 1;
 
 // What stands beside a number, as far as a word holds it.
-fn put_beside(out: &mut [u8], from: usize, beside: usize) -> usize
+pub fn put_beside(out: &mut [u8], from: usize, beside: usize) -> usize
     ensures { λ r. ⌜ Put (shown (lesser beside greatest)) digits from (now (out .entry)) r (now (out .exit)) ⌝ }
 {
     let held = least(beside, GREATEST as usize);

@@ -18,7 +18,23 @@ use Rattle.meaning.specs.declared.Answer.{Answer}
 use Rattle.meaning.specs.Post.{Posted}
 use Rattle.rules.specs.Settled.{settled, posted, Done}
 use Rattle.polling.specs.Items.{Act, aStep, aPost, itemWords, itemsMost, givenIn, nameIn, actIn, actsIn}
-use Rattle.polling.specs.Poll.{Left, Polling, oneBefore, polledBy, polledFrom, settledAct}
+use Rattle.polling.specs.Poll.{Left, Stepped, Polling, oneBefore, polledBy, polledFrom, settledStep, settledPost, settledAct}
+
+-- WHAT A CALL LEAVES, y, is what the step or the post does
+pub post-left : (z y : List ℕ) (name : ℕ) (g : Tuple) (r : ℕ)
+    → (_≡_ {A = Posted} (record { number = r; queues = queuesOf y }) (posted (queuesOf z) name g)) × (instancesOf y ≡ instancesOf z)
+    → _≡_ {A = Left} (record { number = r; state = y }) (settledPost z name g)
+unfolding settledPost
+post-left z y name g r d =
+    let n : r ≡ posted (queuesOf z) name g .number = ap (λ (o : Posted). o .number) (d .0) in
+    let k : y ≡ instancesOf z ++ posted (queuesOf z) name g .queues
+    = sym (take-append-drop instancesWords y) ∙ ap₂ _++_ (d .1) (ap (λ (o : Posted). o .queues) (d .0)) in
+    λ i. record { number = n i; state = k i }
+
+pub step-left : (t z y : List ℕ) (n : Name) (r : Answer) → Done (settled t (instancesOf z) (queuesOf z) n) r y
+    → _≡_ {A = Stepped} (record { answer = r; state = y }) (settledStep t z n)
+unfolding settledStep
+step-left t z y n r d = λ i. record { answer = d .answer i; state = d .state i }
 
 -- ONE ITEM, w its words and what stands behind them
 module _ (t z w y : List ℕ) (x : ℕ) (first : x ≡ at w 0) where
@@ -26,17 +42,14 @@ module _ (t z w y : List ℕ) (x : ℕ) (first : x ≡ at w 0) where
       → (_≡_ {A = Posted} (record { number = r; queues = queuesOf y }) (posted (queuesOf z) name g)) × (instancesOf y ≡ instancesOf z)
       → _≡_ {A = Left} (record { number = r; state = y }) (settledAct t (actIn w) z)
   unfolding settledAct actIn if_then_else_
-  post-taken name g r one e h d =
-      let n : r ≡ posted (queuesOf z) name g .number = ap (λ (o : Posted). o .number) (d .0) in
-      let k : y ≡ instancesOf z ++ posted (queuesOf z) name g .queues
-      = sym (take-append-drop instancesWords y) ∙ ap₂ _++_ (d .1) (ap (λ (o : Posted). o .queues) (d .0)) in
-      rw (eq-eqb (at w 0) 1 (sym first ∙ one), ← e, ← h) (λ i. record { number = n i; state = k i })
+  post-taken name g r one e h d = rw (eq-eqb (at w 0) 1 (sym first ∙ one), ← e, ← h) (post-left z y name g r d)
 
   pub step-taken : (n : Name) (r : Answer) → (x ≡ 1 → ⊥) → n ≡ nameIn w → Done (settled t (instancesOf z) (queuesOf z) n) r y
       → _≡_ {A = Left} (record { number = r .number; state = y }) (settledAct t (actIn w) z)
   unfolding settledAct actIn if_then_else_
   step-taken n r other e d =
-      rw (ne-eqb (at w 0) 1 (λ (h : at w 0 ≡ 1). other (first ∙ h)), ← e) (λ i. record { number = d .answer i .number; state = d .state i })
+      rw (ne-eqb (at w 0) 1 (λ (h : at w 0 ≡ 1). other (first ∙ h)), ← e)
+      (ap (λ (x : Stepped). record { number = x .answer .number; state = x .state }) (step-left t z y n r d))
 
 -- THE FIRST OF SOME ITEMS: k is the number that it gives, y the state that it leaves
 module _ (give : Act → List ℕ → Left) (a : Act) (rest : List Act) (z : List ℕ) (k : ℕ) (y : List ℕ) (e : _≡_ {A = Left} (record { number = k; state = y }) (give a z)) where

@@ -5,12 +5,20 @@ use mathlib.Core.List.{List, [], _∷_, _++_}
 use lib.Dec.{eqb, ltb}
 use Rattle.words.specs.Pick.{if_then_else_}
 use Rattle.state.specs.Instances.{instancesOf, queuesOf}
+use Rattle.meaning.specs.declared.Name.{Name}
+use Rattle.meaning.specs.declared.Tuple.{Tuple}
+use Rattle.meaning.specs.declared.Answer.{Answer}
 use Rattle.rules.specs.Settled.{settled, posted}
 use Rattle.polling.specs.Items.{Act, aStep, aPost, itemsMost, actsIn}
 
 -- a number given back, and the state that is left
 pub record Left : Type 0 where
   pub number : ℕ
+  pub state : List ℕ
+
+-- an answer given back, and the state that is left
+pub record Stepped : Type 0 where
+  pub answer : Answer
   pub state : List ℕ
 
 pub record Polling : Type 0 where
@@ -35,11 +43,17 @@ polledFrom give right w count z =
     else if eqb right 0 then polledBy give (actsIn w count) z
     else record { number = right; accepted = 0; state = z }
 
--- a step or a post as the code makes it
-unfoldable pub settledAct : List ℕ → Act → List ℕ → Left
-settledAct t (aStep n) z =
+-- a step and a post as the code makes them
+unfoldable pub settledStep : List ℕ → List ℕ → Name → Stepped
+settledStep t z n =
     record {
-      number = settled t (instancesOf z) (queuesOf z) n .answer .number;
+      answer = settled t (instancesOf z) (queuesOf z) n .answer;
       state = settled t (instancesOf z) (queuesOf z) n .instances ++ settled t (instancesOf z) (queuesOf z) n .queues;
     }
-settledAct t (aPost name g) z = record { number = posted (queuesOf z) name g .number; state = instancesOf z ++ posted (queuesOf z) name g .queues }
+
+unfoldable pub settledPost : List ℕ → ℕ → Tuple → Left
+settledPost z name g = record { number = posted (queuesOf z) name g .number; state = instancesOf z ++ posted (queuesOf z) name g .queues }
+
+unfoldable pub settledAct : List ℕ → Act → List ℕ → Left
+settledAct t (aStep n) z = record { number = settledStep t z n .answer .number; state = settledStep t z n .state }
+settledAct t (aPost name g) z = settledPost z name g

@@ -1,22 +1,33 @@
 // What the programs share of what they say on standard output. That a text is said is not part of a promise; what it is, and what becomes of the state, is.
 ghost use mathlib.Core.Path.{_≡_};
 ghost use lib.ListN.{length};
-ghost use Rattle.words.specs.Words.{greatest};
-ghost use Rattle.buffers.specs.Buffers.{lesser};
+ghost use Rattle.words.specs.Words.{greatest, digits};
+ghost use Rattle.buffers.specs.Buffers.{Put, lesser};
+ghost use Rattle.decimals.specs.Decimals.{shown};
 ghost use Rattle.lines.specs.Lines.{unreadLine};
 ghost use Rattle.engine.specs.Engine.{RanTo, ranTo};
+ghost use Prim.Native.Nat.{_+_};
+ghost use Rattle.printing.specs.Judged.{besideLine, unlawfulLine, judgedLine, judgedMost};
+use buffers::put_byte;
+use buffers::put_bytes;
+use decimals::put_number;
 use engine::Ran;
+use judging::Judged;
 use lexer::piece;
 use libc::STDOUT_FILENO;
 use lines::STEP_LINE;
 use lines::UNREAD_LINE;
+use lines::put_beside;
 use meaning::Answer;
 use meaning::Name;
 use model::places::TABLE_WORDS;
 use notation::Reading;
 use running::Steps;
 use state::places::STATE_WORDS;
+use words::DIGITS;
 use words::Word;
+use words::numbers::AT_FAULT;
+use words::numbers::BAD;
 
 // Says a text; gives back its length.
 pub fn tell(text: &[u8]) -> usize
@@ -26,12 +37,59 @@ pub fn tell(text: &[u8]) -> usize
     text.len()
 }
 
+// Says a number, as far as a word holds it; gives back its length.
+pub fn tell_count(n: usize) -> usize
+    ensures { λ r. ⌜ r ≡ length (shown (lesser n greatest)) ⌝ }
+{
+    let mut out = [0u8; DIGITS];
+    let k = put_beside(&mut out, 0, n);
+    tell(piece(&out, 0, k));
+    k
+}
+
 // Says the line of a refused text; gives back its length. A place above the greatest word, which no text that is read has, is said as that one.
 pub fn tell_unread(r: Reading) -> usize
     ensures { λ n. ⌜ n ≡ length (unreadLine (r .number) (lesser (r .beside) greatest)) ⌝ }
 {
     let mut out = [0u8; UNREAD_LINE];
     let n = lines::put_unread(&mut out, 0, r.number, r.beside);
+    tell(piece(&out, 0, n));
+    n
+}
+
+const JUDGED_LINE: usize = 8 + DIGITS + (1 + DIGITS) + (1 + DIGITS) + 1;
+
+// A number behind a blank, where one is said.
+fn put_next(out: &mut [u8], from: usize, told: bool, n: usize) -> usize
+    ensures { λ r. ⌜ Put (besideLine told (lesser n greatest)) (1 + digits) from (now (out .entry)) r (now (out .exit)) ⌝ }
+{
+    if !told {
+        return from;
+    }
+    let blank = put_byte(out, from, b' ');
+    put_beside(out, blank, n)
+}
+
+// 10 has nothing beside it, 23 its place, 24 the event's ordinal and its own number.
+fn put_unlawful(out: &mut [u8], r: Judged) -> usize
+    ensures { λ k. ⌜ Put (unlawfulLine (r .number) (lesser (r .beside) greatest) (lesser (r .own) greatest)) judgedMost 0 (now (out .entry)) k (now (out .exit)) ⌝ }
+{
+    let word = put_bytes(out, 0, b"refused ");
+    let told = put_number(out, word, r.number);
+    let place = put_next(out, told, r.number != BAD, r.beside);
+    let all = put_next(out, place, r.number == AT_FAULT, r.own as usize);
+    put_byte(out, all, b'\n')
+}
+
+// Says whether a log is lawful; gives back the length of the line.
+pub fn tell_judged(r: Judged) -> usize
+    ensures { λ k. ⌜ k ≡ length (judgedLine (r .number) (lesser (r .beside) greatest) (lesser (r .own) greatest)) ⌝ }
+{
+    if r.number == 0 {
+        return tell(b"lawful\n");
+    }
+    let mut out = [0u8; JUDGED_LINE];
+    let n = put_unlawful(&mut out, r);
     tell(piece(&out, 0, n));
     n
 }
@@ -66,9 +124,9 @@ fn tell_steps(t: &[Word; TABLE_WORDS], y: &mut [Word; STATE_WORDS], steps: Steps
 
 fn tell_end(steps: Steps, left: Word) {
     tell(b"steps ");
-    io::print_decimal(STDOUT_FILENO, steps as u64);
+    tell_count(steps as usize);
     tell(b" left ");
-    io::print_decimal(STDOUT_FILENO, left as u64);
+    tell_count(left as usize);
     tell(b"\n");
 }
 

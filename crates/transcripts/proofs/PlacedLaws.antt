@@ -11,6 +11,7 @@ use lib.Seq.{getD-set-same, getD-set-other}
 use borrow.Author.Tests.{eqb-true, eq-eqb, ltb-true, ltb-false}
 use Rattle.words.specs.Each.{each}
 use Rattle.words.specs.Pick.{if_then_else_}
+use Rattle.words.specs.Text.{bytes}
 use Rattle.words.specs.Words.{at, greatest}
 use Rattle.words.proofs.AllLaws.{and-left, and-right}
 use Rattle.words.proofs.IterLaws.{iter-keeps}
@@ -21,10 +22,11 @@ use Rattle.skipping.specs.declared.Part.the-variants.{Element, Close, On, Fault
 use Rattle.skipping.specs.declared.Tag.{Tag}
 use Rattle.skipping.specs.declared.Tag.the-variants.{Open, Empty, Fault as TagFault}
 use Rattle.skipping.specs.Skipping.{partAt}
+use Rattle.document.specs.Around.{rootAt, lastFrom}
 use Rattle.drawn.specs.Things.{nothing, definitions, participant, participantMultiplicity, process, stranger, room, blockWords, sortPlace, placePlace, withinPlace, sourcePlace, targetPlace, sort, within, narrow, oneMore, added}
 use Rattle.drawn.specs.Names.{Row, rows, unknown, rowOf, isEvent, family, namedIn, namedAt, drawsAnother, sortIn}
 use Rattle.walk.specs.declared.Outer.{Outer}
-use Rattle.walk.specs.Walk.{Walk, told, walked, entered, noted, counted, outer, Content, byTag, thingBy, byEnd, behind, byPart, contentBy, contentIn, contentAt, thingAt, rootAt, lastFrom, walk}
+use Rattle.walk.specs.Walk.{Walk, told, walked, entered, noted, counted, outer, Content, byTag, thingBy, byEnd, behind, byPart, contentBy, contentIn, contentAt, thingAt, walk}
 use Rattle.links.specs.Links.{joined, owned, linked, links}
 use Rattle.roles.specs.Roles.{settled, roles}
 use Rattle.drawings.specs.Drawings as drawings
@@ -291,13 +293,13 @@ root-kept t p w s = thing-kept t (contentIn (length t) t) (in-kept (length t) t)
 
 walk-sound : (t w : List ℕ) → Sound w 0 → Sound (walk t w .words) (walk t w .count)
 unfolding walk told
-walk-sound t w s = go (rootAt t)
+walk-sound t w s = go (rootAt (bytes "definitions") t)
   where
     last : (r : Walk) (e : Skipped) → Sound (r .words) (r .count) → Sound (byEnd e (λ q. record { end = lastFrom t q; count = r .count; words = r .words }) r .words) (byEnd e (λ q. record { end = lastFrom t q; count = r .count; words = r .words }) r .count)
     last r (Past q) k = unfold byEnd in k
     last r (Fault q) k = unfold byEnd in k
 
-    go : (e : Skipped) → Sound (byEnd e (λ p. behind (thingAt definitions t 0 p w 0) (λ q v n. told (walked (lastFrom t q) n) v)) (told (walked (rootAt t) 0) w) .words) (byEnd e (λ p. behind (thingAt definitions t 0 p w 0) (λ q v n. told (walked (lastFrom t q) n) v)) (told (walked (rootAt t) 0) w) .count)
+    go : (e : Skipped) → Sound (byEnd e (λ p. behind (thingAt definitions t 0 p w 0) (λ q v n. told (walked (lastFrom t q) n) v)) (told (walked (rootAt (bytes "definitions") t) 0) w) .words) (byEnd e (λ p. behind (thingAt definitions t 0 p w 0) (λ q v n. told (walked (lastFrom t q) n) v)) (told (walked (rootAt (bytes "definitions") t) 0) w) .count)
     go (Past p) = unfold byEnd behind in last (thingAt definitions t 0 p w 0) (thingAt definitions t 0 p w 0 .end) (root-kept t p w s .sound)
     go (Fault q) = unfold byEnd in s
 

@@ -8,6 +8,7 @@ use lib.Dec.{leb, eqb}
 use lib.ListN.{length}
 use borrow.Author.Tests.{le-leb, lt-leb}
 use Rattle.words.specs.Pick.{if_then_else_}
+use Rattle.words.specs.Text.{bytes}
 use Rattle.words.specs.Words.{part}
 use Rattle.numerals.specs.Numerals.{numberOf}
 use Rattle.xml.specs.declared.Attribute.{Attribute}
@@ -22,11 +23,12 @@ use Rattle.skipping.specs.declared.Tag.{Tag}
 use Rattle.skipping.specs.declared.Tag.the-variants.{Open, Empty, Fault as TagFault}
 use Rattle.skipping.specs.Skipping.{partAt, tagOf, skipped}
 use Rattle.skipping.proofs.Laws.{Further, Onward, Behind, Within, part-onward, tag-behind, tag-within, skipped-further}
+use Rattle.document.specs.Around.{rootAt, lastFrom}
 use Rattle.drawn.specs.Things.{definitions}
 use Rattle.drawn.specs.Names.{sortIn}
 use Rattle.walk.specs.declared.Walked.{Walked}
 use Rattle.walk.specs.declared.Outer.{Outer}
-use Rattle.walk.specs.Walk.{Walk, told, walked, isNumber, judged, multiplicityBy, multiplicity, isPassed, passed, tagFrom, entered, noted, counted, outer, Content, byTag, thingBy, byEnd, behind, byPart, contentBy, contentIn, contentAt, thingAt, rootAt, lastFrom, walk}
+use Rattle.walk.specs.Walk.{Walk, told, walked, isNumber, judged, multiplicityBy, multiplicity, isPassed, passed, tagFrom, entered, noted, counted, outer, Content, byTag, thingBy, byEnd, behind, byPart, contentBy, contentIn, contentAt, thingAt, walk}
 
 -- WHAT IS PASSED IS FURTHER ON
 further-from : (p q : ℕ) (r : Skipped) → p < q → Further q r → Further p r
@@ -231,7 +233,7 @@ module _ (s : ℕ) (t : List ℕ) (p : ℕ) (g : Tag) (eg : g ≡ entered s t p)
   open-within = open-right .1
 
 -- the whole walk, by what the calls gave
-module _ (t w : List ℕ) (root : Skipped) (er : root ≡ rootAt t) where
+module _ (t w : List ℕ) (root : Skipped) (er : root ≡ rootAt (bytes "definitions") t) where
   pub walk-rootless : (q : ℕ) → root ≡ Fault q → told (walked root 0) w ≡ walk t w
   unfolding walk byEnd
   walk-rootless q e = rw (← er, e)

@@ -16,9 +16,10 @@ use Rattle.xml.specs.Markup.{advance, scanFrom, scan, beginsAt, closesData, ope
 use Rattle.xml.specs.Spans.{isOf, run, after, hasSecond, nameFrom, nameAt, bytesOf, opensName, second, opener, behindColon, localFrom, localOf, isCalled, sameName, quoteAt, valueAt, valueOf, attribute}
 use Rattle.skipping.specs.Skipping.{partBy, partOf, partFor, partAt, tagBy, tagOf, behind as behindSkipped, byTag as byTagSkipped, elementBy, byPart as byPartSkipped, contentBy as contentSkippedBy, contentIn as contentSkippedIn, contentAt as contentSkipped, elementAt, skipped}
 use Rattle.document.specs.Document.{otherBy, otherOf, opensData, tagFor, tagAt, outsideAt, further, outsideIn, outside}
+use Rattle.document.specs.Around.{rootBy, rootAt, lastBy, lastFrom}
 use Rattle.drawn.specs.Things.{narrow, oneMore, added}
 use Rattle.drawn.specs.Names.{rows, rowFrom, rowNamed, rowOf, isFalse, isOne, differs, valueBytes, valueBehind, differsAt, differsFrom, drawsAnother, isEvent, family, namedIn, namedAt, sortIn}
-use Rattle.walk.specs.Walk.{Walk, told, isNumber, judged, multiplicityBy, multiplicity, isPassed, passed, tagFrom, entered, noted, counted, byTag, thingBy, byEnd, behind, byPart, contentBy, contentIn, contentAt, thingAt, rootBy, rootAt, lastBy, lastFrom, walk}
+use Rattle.walk.specs.Walk.{Walk, told, isNumber, judged, multiplicityBy, multiplicity, isPassed, passed, tagFrom, entered, noted, counted, byTag, thingBy, byEnd, behind, byPart, contentBy, contentIn, contentAt, thingAt, walk}
 use Rattle.walk.specs.Points.{Refusal, Drawing, times, refusals, drawings, filled}
 
 pub refusals-hold : map (λ (r : Refusal). walk (r .text) [] .end) refusals ≡ map (λ (r : Refusal). r .place) refusals

@@ -13,8 +13,7 @@ use Rattle.numerals.specs.Numerals.{numberOf}
 use Rattle.xml.specs.declared.Attribute.{Attribute}
 use Rattle.xml.specs.declared.Attribute.the-variants.{Is, Absent}
 use Rattle.xml.specs.Markup.{markup}
-use Rattle.xml.specs.Spans.{isCalled, attribute}
-use Rattle.xml.specs.Tokens.{first}
+use Rattle.xml.specs.Spans.{attribute}
 use Rattle.skipping.specs.declared.Skipped.{Skipped}
 use Rattle.skipping.specs.declared.Skipped.the-variants.{Past, Fault}
 use Rattle.skipping.specs.declared.Part.{Part}
@@ -22,9 +21,7 @@ use Rattle.skipping.specs.declared.Part.the-variants.{Element, Close, On, Fault
 use Rattle.skipping.specs.declared.Tag.{Tag}
 use Rattle.skipping.specs.declared.Tag.the-variants.{Open, Empty, Fault as TagFault}
 use Rattle.skipping.specs.Skipping.{partAt, tagOf, skipped}
-use Rattle.document.specs.declared.Outside.{Outside}
-use Rattle.document.specs.declared.Outside.the-variants.{Element as Root, On as Onward, Nothing, Fault as OutsideFault}
-use Rattle.document.specs.Document.{outside}
+use Rattle.document.specs.Around.{rootAt, lastFrom}
 use Rattle.drawn.specs.Things.{nothing, definitions, participantMultiplicity, conditionExpression, stranger, oneMore, added}
 use Rattle.drawn.specs.Names.{sortIn}
 use Rattle.walk.specs.declared.Walked.{Walked}
@@ -134,28 +131,8 @@ contentAt t o p w n = contentIn (length t) t o p w n
 unfoldable pub thingAt : ℕ → List ℕ → ℕ → ℕ → List ℕ → ℕ → Walk
 thingAt s t k p w n = thingBy (contentAt t) s t k p w n
 
--- "The root's name is `definitions`, else 20 at its `<`" (R9); without a root the text breaks off
-unfoldable pub rootBy : Outside → List ℕ → Skipped
-rootBy (Root p) t = if isCalled t p (bytes "definitions") then Past p else Fault p
-rootBy (Onward q) t = Fault q
-rootBy Nothing t = Fault (length t)
-rootBy (OutsideFault q) t = Fault q
-
-unfoldable pub rootAt : List ℕ → Skipped
-rootAt t = rootBy (outside t (first t)) t
-
--- behind the root there is no element
-unfoldable pub lastBy : Outside → List ℕ → Skipped
-lastBy (Root p) t = Fault p
-lastBy (Onward q) t = Fault q
-lastBy Nothing t = Past (length t)
-lastBy (OutsideFault q) t = Fault q
-
-unfoldable pub lastFrom : List ℕ → ℕ → Skipped
-lastFrom t q = lastBy (outside t q) t
-
 unfoldable pub walk : List ℕ → List ℕ → Walk
 walk t w =
-    byEnd (rootAt t)
+    byEnd (rootAt (bytes "definitions") t)
     (λ p. behind (thingAt definitions t 0 p w 0) (λ q v n. told (walked (lastFrom t q) n) v))
-    (told (walked (rootAt t) 0) w)
+    (told (walked (rootAt (bytes "definitions") t) 0) w)

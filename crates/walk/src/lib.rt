@@ -1,8 +1,8 @@
 // One walk through a drawing, from left to right: the first fault of its text, and what is drawn up to there.
 ghost use mathlib.Core.Path.{_≡_};
-ghost use Rattle.walk.specs.Walk.{told, tagFrom, noted, counted, entered, contentAt, thingAt, rootBy, lastBy, rootAt, lastFrom, walk};
-use document::Outside;
-use document::outside_from;
+ghost use Rattle.walk.specs.Walk.{told, tagFrom, noted, counted, entered, contentAt, thingAt, walk};
+use document::around::last_from;
+use document::around::root_at;
 use drawn::names::sort_in;
 use drawn::things::DEFINITIONS;
 use drawn::things::NOTHING;
@@ -16,8 +16,6 @@ use skipping::skip;
 use skipping::tag_of;
 use words::Word;
 use xml::scanning::markup;
-use xml::spans::is_called;
-use xml::tokens::first;
 
 pub mod passing;
 
@@ -142,50 +140,11 @@ pub fn walk_content(text: &[u8], o: Outer, p: usize, w: &mut [Word], n: Word) ->
     }
 }
 
-fn root_by(o: Outside, text: &[u8]) -> Skipped
-    ensures { λ r. ⌜ r ≡ rootBy o (now (text .entry)) ⌝ }
-{
-    match o {
-        Outside::Element(p) => {
-            if is_called(text, p, b"definitions") {
-                return Skipped::Past(p);
-            }
-            Skipped::Fault(p)
-        }
-        Outside::On(q) => Skipped::Fault(q),
-        Outside::Nothing => Skipped::Fault(text.len()),
-        Outside::Fault(q) => Skipped::Fault(q),
-    }
-}
-
-fn root_at(text: &[u8]) -> Skipped
-    ensures { λ r. ⌜ r ≡ rootAt (now (text .entry)) ⌝ }
-{
-    root_by(outside_from(text, first(text)), text)
-}
-
-fn last_by(o: Outside, text: &[u8]) -> Skipped
-    ensures { λ r. ⌜ r ≡ lastBy o (now (text .entry)) ⌝ }
-{
-    match o {
-        Outside::Element(p) => Skipped::Fault(p),
-        Outside::On(q) => Skipped::Fault(q),
-        Outside::Nothing => Skipped::Past(text.len()),
-        Outside::Fault(q) => Skipped::Fault(q),
-    }
-}
-
-fn last_from(text: &[u8], q: usize) -> Skipped
-    ensures { λ r. ⌜ r ≡ lastFrom (now (text .entry)) q ⌝ }
-{
-    last_by(outside_from(text, q), text)
-}
-
 // The things of a drawing into the words lent, and how many there are; or the first fault of its text.
 pub fn walk(text: &[u8], w: &mut [Word]) -> Walked
     ensures { λ r. ⌜ told r (now (w .exit)) ≡ walk (now (text .entry)) (now (w .entry)) ⌝ }
 {
-    let root = root_at(text);
+    let root = root_at(text, b"definitions");
     let Skipped::Past(p) = root else {
         return Walked {
             end: root,

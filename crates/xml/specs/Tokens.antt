@@ -108,9 +108,12 @@ isFound Nowhere = false
 unfoldable pub twice : List ℕ → ℕ → ℕ → Bool
 twice u start mark = isFound (found (part u 0 mark) (part u mark (length u)) start)
 
--- "a UTF-8 BOM may stand first" (R7)
+-- "a UTF-8 BOM may stand first" (R7); the end behind one that it cuts off (R4)
+abbrev pub byteOrderMark : List ℕ
+byteOrderMark = 239 ∷ 187 ∷ 191 ∷ []
+
 unfoldable pub first : List ℕ → ℕ
-first t = if sameBytes (part t 0 3) (239 ∷ 187 ∷ 191 ∷ []) then 3 else 0
+first t = if sameBytes (part t 0 3) (part byteOrderMark 0 (length t)) then length (part t 0 3) else 0
 
 unfoldable pub lower : ℕ → ℕ
 lower b = if ltb b (code "a") then b + 32 else b

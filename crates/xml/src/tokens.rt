@@ -199,8 +199,10 @@ fn twice(text: &[u8], start: usize, mark: usize) -> bool
 pub fn first(text: &[u8]) -> usize
     ensures { λ r. ⌜ r ≡ first (now (text .entry)) ⌝ }
 {
-    if same(piece(text, 0, 3), b"\xEF\xBB\xBF") {
-        return 3;
+    let begun = piece(text, 0, 3);
+    let mark = piece(b"\xEF\xBB\xBF", 0, text.len());
+    if same(begun, mark) {
+        return begun.len();
     }
     0
 }

@@ -7,6 +7,7 @@ pub walk-spec : {M : Type 1} → statement M
 walk-spec =
     tie.close
     (tie.spec
+    (λ c. search needs)
     (λ c κs. search needs)
     (λ c. search needs)
     (λ c. search needs)

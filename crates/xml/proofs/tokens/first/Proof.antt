@@ -13,5 +13,6 @@ first-spec =
     (λ c κs. search needs)
     (λ c. search needs)
     (λ c κs. search needs)
-    (λ c. rw (← c .before .before .before .piece .ensures, ← c .before .same .ensures) (pick-yes _ _ _ _ (c .if1 .taken) refl))
-    (λ c. rw (← c .before .before .before .piece .ensures, ← c .before .same .ensures) (pick-no _ _ _ _ (c .if1 .left) refl)))
+    (λ c κs. search needs)
+    (λ c. rw (← c .before .before .before .before .piece .ensures, ← c .before .before .piece2 .ensures, ← c .before .same .ensures) (pick-yes _ _ _ _ (c .if1 .taken) refl))
+    (λ c. rw (← c .before .before .before .before .piece .ensures, ← c .before .before .piece2 .ensures, ← c .before .same .ensures) (pick-no _ _ _ _ (c .if1 .left) refl)))

@@ -1,0 +1,48 @@
+// Reads from standard input a line with the length of a model's text, the text and behind it a log, and says whether the run that the log tells was lawful.
+use buffers::further;
+use lexer::piece;
+use libc::STDIN_FILENO;
+use model::places::TABLE_WORDS;
+use numerals::Number;
+use numerals::numeral_at;
+use printing::tell_judged;
+use printing::tell_unread;
+use words::DIGITS;
+use words::Word;
+use words::counts::TEXT_MOST;
+use xml::spans::after;
+
+// The longest log.
+const LOG_MOST: usize = 65536;
+
+// The line, and one byte more than the longest text and the longest log: what is longer is refused for its length.
+const ROOM: usize = DIGITS + 1 + TEXT_MOST + 1 + LOG_MOST + 1;
+
+fn judge(text: &[u8], log: &[u8], t: &mut [Word; TABLE_WORDS]) {
+    let r = engine::read(text, t);
+    if r.number != 0 {
+        tell_unread(r);
+        return;
+    }
+    tell_judged(engine::judge(t, log));
+}
+
+// A line that is no number says that the text is empty.
+fn length_in(n: Number) -> usize {
+    match n {
+        Number::Value(v) => v as usize,
+        Number::TooLarge => 0,
+        Number::NotANumber => 0,
+    }
+}
+
+fn main() {
+    let mut t: [Word; TABLE_WORDS] = [0; TABLE_WORDS];
+    let mut input: [u8; ROOM] = [0; ROOM];
+    let n = io::read_full(STDIN_FILENO, &mut input);
+    let line = numeral_at(&input, 0);
+    let number = line.number;
+    let from = after(&input, line.next);
+    let to = further(from, length_in(number));
+    judge(piece(&input, from, to), piece(&input, to, n), &mut t);
+}

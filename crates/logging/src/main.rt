@@ -1,0 +1,85 @@
+// Reads a model's text from standard input, runs it and writes the run as an XES log.
+use lexer::piece;
+use libc::STDIN_FILENO;
+use meaning::Answer;
+use meaning::Name;
+use model::places::TABLE_WORDS;
+use printing::tell;
+use printing::tell_unread;
+use running::Steps;
+use state::places::STATE_WORDS;
+use words::Word;
+use words::counts::TEXT_MOST;
+use xes::EVENT;
+use xes::FOOTER;
+use xes::HEADER;
+
+// The most steps of the run, as the program `run` has it.
+const STEPS: Steps = 100;
+
+// One byte more than the longest text: what fills it is refused for its length.
+const ROOM: usize = TEXT_MOST + 1;
+
+fn tell_header() {
+    let mut out = [0u8; HEADER];
+    let n = xes::put_header(&mut out, 0);
+    tell(piece(&out, 0, n));
+}
+
+fn tell_event(n: Name, a: Answer) {
+    let mut out = [0u8; EVENT];
+    let k = xes::put_event(&mut out, 0, n, a);
+    tell(piece(&out, 0, k));
+}
+
+fn tell_footer() {
+    let mut out = [0u8; FOOTER];
+    let n = xes::put_footer(&mut out, 0);
+    tell(piece(&out, 0, n));
+}
+
+// Takes the first listed step and says its event.
+fn log_once(t: &[Word; TABLE_WORDS], z: &mut [Word; STATE_WORDS]) {
+    let r = engine::list(t, z, 0);
+    if r.number != 0 {
+        return;
+    }
+    let name = r.name;
+    let a = engine::step(t, z, name);
+    tell_event(name, a);
+}
+
+fn log_steps(t: &[Word; TABLE_WORDS], z: &mut [Word; STATE_WORDS], steps: Steps) {
+    let mut n: Steps = 0;
+    while n < steps {
+        log_once(t, z);
+        n += 1;
+    }
+}
+
+// A run on a copy of the state says how many steps there are; they are then taken again, one by one.
+fn log_run(t: &[Word; TABLE_WORDS], z: &mut [Word; STATE_WORDS]) {
+    let mut y: [Word; STATE_WORDS] = *z;
+    let r = engine::run(t, &mut y, STEPS);
+    tell_header();
+    log_steps(t, z, r.steps);
+    tell_footer();
+}
+
+fn log(text: &[u8], t: &mut [Word; TABLE_WORDS], z: &mut [Word; STATE_WORDS]) {
+    let r = engine::read(text, t);
+    if r.number != 0 {
+        tell_unread(r);
+        return;
+    }
+    engine::fresh(t, z);
+    log_run(t, z);
+}
+
+fn main() {
+    let mut t: [Word; TABLE_WORDS] = [0; TABLE_WORDS];
+    let mut z: [Word; STATE_WORDS] = [0; STATE_WORDS];
+    let mut text: [u8; ROOM] = [0; ROOM];
+    let n = io::read_full(STDIN_FILENO, &mut text);
+    log(&text[..n], &mut t, &mut z);
+}

@@ -1,0 +1,4 @@
+pub mod Inside
+pub mod Cursors
+pub mod Logs
+pub mod Points
