@@ -1,14 +1,14 @@
--- Laws of the text of a number: its length, its bytes, the number that it spells, and the loop that makes it backwards. Assumes nothing.
-use mathlib.Core.Path.{_≡_, refl, sym, ap, _∙_}
-use mathlib.Core.List.{List, [], _∷_, _++_, append-assoc, append-nil}
+-- Laws of the text of a number: its length, its bytes, the number that it spells, and each of its digits. Assumes nothing.
+use mathlib.Core.Path.{_≡_, refl, sym, ap, subst, _∙_}
+use mathlib.Core.List.{List, [], _∷_, _++_}
 use mathlib.Core.Bool.{Bool, true, false}
 use Prim.Native.Nat.{ℕ, zero, suc, _+_, _*_, _-_, _/_, _%_, _^_, _<_, _≤_}
-use native.Mathlib.Nat.{pow-suc, not-suc-le-zero, le-of-suc-le-suc}
+use native.Mathlib.Nat.{pow-suc, pow-succ', div-div-eq-div-mul}
 use native.Mathlib.Omega.{arith}
 use lib.Dec.{ltb}
 use borrow.Author.Tests.{lt-ltb, le-ltb, le-leb, ltb-true, ltb-false}
-use lib.ListN.{length, take, drop, getD, set, length-append, length-set, length-drop, drop-of-length-le, List·getD-append}
-use lib.Seq.{take-all}
+use lib.ListN.{length, getD, length-append, List·getD-append}
+use lib.Seq.{getD-at}
 use Rattle.words.specs.Each.{each}
 use Rattle.words.specs.Words.{greatest, digits}
 use Rattle.words.proofs.EachLaws.{each-append}
@@ -24,13 +24,13 @@ pub shown-more : (k n : ℕ) → 10 ≤ n → shownFrom (suc k) n ≡ shownFrom 
 unfolding shownFrom
 shown-more k n h = sym (pick-no _ _ _ _ (le-ltb n 10 h) refl)
 
--- cases of a number
-cases : {P : Type 0} (n : ℕ) → (n < 10 → P) → (10 ≤ n → P) → P
-cases {P} n f g = go (ltb n 10) refl
+-- cases of two numbers
+either : {P : Type 0} (a b : ℕ) → (a < b → P) → (b ≤ a → P) → P
+either {P} a b f g = go (ltb a b) refl
   where
-    go : (b : Bool) → ltb n 10 ≡ b → P
-    go true e = f (ltb-true n 10 e)
-    go false e = g (ltb-false n 10 e)
+    go : (t : Bool) → ltb a b ≡ t → P
+    go true e = f (ltb-true a b e)
+    go false e = g (ltb-false a b e)
 
 -- its length
 from-short : (k n : ℕ) → length (shownFrom k n) ≤ k
@@ -39,7 +39,7 @@ from-short (suc k) n = go (from-short k (n / 10))
   where
     go : length (shownFrom k (n / 10)) ≤ k → length (shownFrom (suc k) n) ≤ suc k
     go ih =
-        cases n (λ h. omega (arith, ap length (shown-one k n h)))
+        either n 10 (λ h. omega (arith, ap length (shown-one k n h)))
         (λ h. omega (arith, ap length (shown-more k n h), length-append (shownFrom k (n / 10)) (digit (n % 10) ∷ [])))
 
 pub shown-short : (n : ℕ) → length (shown n) ≤ digits
@@ -48,7 +48,7 @@ shown-short n = from-short digits n
 
 from-some : (k n : ℕ) → 1 ≤ length (shownFrom (suc k) n)
 from-some k n =
-    cases n (λ h. omega (arith, ap length (shown-one k n h)))
+    either n 10 (λ h. omega (arith, ap length (shown-one k n h)))
     (λ h. omega (arith, ap length (shown-more k n h), length-append (shownFrom k (n / 10)) (digit (n % 10) ∷ [])))
 
 pub shown-some : (n : ℕ) → 1 ≤ length (shown n)
@@ -69,7 +69,7 @@ from-digits (suc k) n = go (from-digits k (n / 10))
   where
     go : each isDigit (shownFrom k (n / 10)) ≡ true → each isDigit (shownFrom (suc k) n) ≡ true
     go ih =
-        cases n (λ h. ap (each isDigit) (shown-one k n h) ∙ one-digit n h)
+        either n 10 (λ h. ap (each isDigit) (shown-one k n h) ∙ one-digit n h)
         (λ h. ap (each isDigit) (shown-more k n h) ∙ each-append isDigit (shownFrom k (n / 10)) (digit (n % 10) ∷ []) ∙ rw (ih) (one-digit (n % 10) (omega arith)))
 
 pub shown-digits : (n : ℕ) → each isDigit (shown n) ≡ true
@@ -92,7 +92,7 @@ from-spells (suc k) n h = go (from-spells k (n / 10) (omega (arith, pow-suc 10 (
   where
     go : foldDigits 0 (shownFrom (suc k) (n / 10)) ≡ n / 10 → foldDigits 0 (shownFrom (suc (suc k)) n) ≡ n
     go ih =
-        cases n (λ l. ap (foldDigits 0) (shown-one (suc k) n l) ∙ fold-one 0 n ∙ omega arith)
+        either n 10 (λ l. ap (foldDigits 0) (shown-one (suc k) n l) ∙ fold-one 0 n ∙ omega arith)
         (λ l. ap (foldDigits 0) (shown-more (suc k) n l) ∙ fold-append 0 (shownFrom (suc k) (n / 10)) (digit (n % 10) ∷ []) ∙ fold-one (foldDigits 0 (shownFrom (suc k) (n / 10))) (n % 10) ∙ omega arith)
 
 -- the digits of a word spell it
@@ -111,65 +111,50 @@ from-first (suc k) n h e = go (from-first k (n / 10) (omega (arith, pow-suc 10 (
   where
     go : (getD (shownFrom (suc k) (n / 10)) 0 0 ≡ 48 → n / 10 ≡ 0) → n ≡ 0
     go ih =
-        cases n (λ l. omega (arith, ap (λ w. getD w 0 0) (shown-one (suc k) n l)))
+        either n 10 (λ l. omega (arith, ap (λ w. getD w 0 0) (shown-one (suc k) n l)))
         (λ l. absurd (omega (arith, ih (sym (List·getD-append (shownFrom (suc k) (n / 10)) (digit (n % 10) ∷ []) 0 0 (from-some k (n / 10))) ∙ sym (ap (λ w. getD w 0 0) (shown-more (suc k) n l)) ∙ e))))
 
 pub shown-first : (n : ℕ) → n ≤ greatest → getD (shown n) 0 0 ≡ 48 → n ≡ 0
 unfolding shown
 shown-first n h = from-first (digits - 1) n (omega arith)
 
--- The loop that makes the digits backwards: those from place from + 1 on stand there, and those of what is left are to come.
-pub record Backwards (n : ℕ) (scratch : List ℕ) (from left : ℕ) : Type 0 where
-  pub size : length scratch ≡ digits
-  pub place : from < digits
-  pub small : left < 10 ^ suc from
-  pub text : shownFrom (suc from) left ++ drop (suc from) scratch ≡ shown n
+-- the digit at place i, from the left, is what n has of the power of ten with as many zeros as digits follow
+abbrev pub IsAt : ℕ → ℕ → List ℕ → Type 0
+IsAt n i w = getD w i 0 ≡ digit (n / 10 ^ (length w - 1 - i) % 10)
 
-drop-set : (s : List ℕ) (i d : ℕ) → i < length s → drop i (set s i d) ≡ d ∷ drop (suc i) s
-drop-set [] i d h = absurd (not-suc-le-zero h)
-drop-set (x ∷ s) zero d h = refl
-drop-set (x ∷ s) (suc i) d h = drop-set s i d (le-of-suc-le-suc h)
+is-alone : (n : ℕ) → n < 10 → (i : ℕ) → i < 1 → IsAt n i (digit n ∷ [])
+is-alone n l zero h = omega arith
+is-alone n l (suc i) h = absurd (omega arith)
 
-pub backwards-start : (n : ℕ) → n ≤ greatest → (s : List ℕ) → length s ≡ digits → Backwards n s (digits - 1) n
+module _ (w : List ℕ) (n i : ℕ) where
+  is-before : i < length w → IsAt (n / 10) i w → IsAt n i (w ++ (digit (n % 10) ∷ []))
+  is-before h ih =
+      let e : suc (length w - 1 - i) ≡ length (w ++ (digit (n % 10) ∷ [])) - 1 - i = omega (arith, length-append w (digit (n % 10) ∷ [])) in
+      List·getD-append w (digit (n % 10) ∷ []) 0 i h
+      ∙ ih
+      ∙ ap (λ q. digit (q % 10)) (div-div-eq-div-mul n 10 (10 ^ (length w - 1 - i)) ∙ ap (λ p. n / p) (sym (pow-succ' 10 (length w - 1 - i)) ∙ ap (λ m. 10 ^ m) e))
+
+  is-last : length w ≡ i → IsAt n i (w ++ (digit (n % 10) ∷ []))
+  is-last h =
+      let e : 0 ≡ length (w ++ (digit (n % 10) ∷ [])) - 1 - i = omega (arith, length-append w (digit (n % 10) ∷ [])) in
+      let one : n % 10 ≡ n / 10 ^ 0 % 10 = omega arith in
+      getD-at w (digit (n % 10)) [] 0 i h ∙ ap digit one ∙ ap (λ m. digit (n / 10 ^ m % 10)) e
+
+  is-either : (i < length w → IsAt (n / 10) i w) → i < length (w ++ (digit (n % 10) ∷ [])) → IsAt n i (w ++ (digit (n % 10) ∷ []))
+  is-either ih h = either i (length w) (λ l. is-before l (ih l)) (λ l. is-last (omega (arith, length-append w (digit (n % 10) ∷ []))))
+
+from-place : (k n i : ℕ) → i < length (shownFrom k n) → IsAt n i (shownFrom k n)
+from-place zero n i h = absurd (unfold shownFrom in omega arith)
+from-place (suc k) n i h = go (from-place k (n / 10) i) h
+  where
+    Is : List ℕ → Type 0
+    Is w = i < length w → IsAt n i w
+
+    go : (i < length (shownFrom k (n / 10)) → IsAt (n / 10) i (shownFrom k (n / 10))) → Is (shownFrom (suc k) n)
+    go ih =
+        either n 10 (λ l. subst Is (sym (shown-one k n l)) (is-alone n l i))
+        (λ l. subst Is (sym (shown-more k n l)) (is-either (shownFrom k (n / 10)) n i ih))
+
+pub shown-place : (n i : ℕ) → i < length (shown n) → IsAt n i (shown n)
 unfolding shown
-backwards-start n h s e =
-    let end : length s ≤ digits = omega arith in
-    record { size = e; place = omega arith; small = omega arith; text = rw (drop-of-length-le s end) (append-nil (shownFrom digits n)) }
-
-module _ {n from left : ℕ} {s : List ℕ} (b : Backwards n s from left) where
-  pub backwards-on : 10 ≤ left → 1 ≤ from
-  backwards-on h = go from (b .small)
-    where
-      go : (k : ℕ) → left < 10 ^ suc k → 1 ≤ k
-      go zero l = absurd (omega arith)
-      go (suc k) l = omega arith
-
-  pub backwards-turn : 10 ≤ left → Backwards n (set s from (digit (left % 10))) (from - 1) (left / 10)
-  backwards-turn h = go from b (backwards-on h)
-    where
-      go : (k : ℕ) → Backwards n s k left → 1 ≤ k → Backwards n (set s k (digit (left % 10))) (k - 1) (left / 10)
-      go zero c l = absurd (omega arith)
-      go (suc k) c l =
-          let e : suc k - 1 ≡ k = omega arith in
-          rw e (record {
-            size = length-set s (suc k) (digit (left % 10)) ∙ c .size;
-            place = omega (arith, c .place);
-            small = omega (arith, c .small, pow-suc 10 (suc k));
-            text =
-                ap (λ l. shownFrom (suc k) (left / 10) ++ l) (drop-set s (suc k) (digit (left % 10)) (omega (arith, c .size, c .place)))
-                ∙ sym (append-assoc (shownFrom (suc k) (left / 10)) (digit (left % 10) ∷ []) (drop (suc (suc k)) s))
-                ∙ ap (λ l. l ++ drop (suc (suc k)) s) (sym (shown-more (suc k) left h))
-                ∙ c .text;
-          })
-
-  backwards-end : left < 10 → drop from (set s from (digit left)) ≡ shown n
-  backwards-end h = drop-set s from (digit left) (omega (arith, b .size, b .place)) ∙ ap (λ l. l ++ drop (suc from) s) (sym (shown-one from left h)) ∙ b .text
-
-  -- the part that is lent
-  pub backwards-lent : left < 10 → take (digits - from) (drop from (set s from (digit left))) ≡ shown n
-  backwards-lent h =
-      let all : length (drop from (set s from (digit left))) ≤ digits - from = omega (arith, length-drop from (set s from (digit left)), length-set s from (digit left), b .size) in
-      take-all (digits - from) (drop from (set s from (digit left))) all ∙ backwards-end h
-
-  pub backwards-full : (d : ℕ) → digits ≤ length (set s from d)
-  backwards-full d = omega (arith, length-set s from d, b .size)
+shown-place n i = from-place digits n i

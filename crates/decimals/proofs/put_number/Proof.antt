@@ -1,21 +1,17 @@
-use mathlib.Core.Path.{refl}
-use Rattle.buffers.proofs.OverLaws.{put-exact}
-use Rattle.decimals.proofs.DecimalLaws.{Backwards, backwards-start, backwards-on, backwards-turn, backwards-lent, backwards-full, shown-short}
+use Rattle.buffers.proofs.OverLaws.{put-long}
+use Rattle.decimals.proofs.PutLaws.{Placed, placed-start, placed-turn, placed-end}
 use borrow.Author.Needs.{needs}
 use Rattle.decimals.proofs.put_number.Statement.{statement}
 use Rattle.decimals.proofs.put_number.Tie as tie
 
 abbrev Inv-loop : tie.InvT-loop
-Inv-loop out from n scratch₀ first₀ left₀ scratch first left = Backwards n scratch first left
+Inv-loop out₀ from n to₀ power₀ out to power = Placed n from out₀ to power out
 
 abbrev μ-loop : tie.MeasureT-loop
-μ-loop out from n scratch₀ first₀ left₀ scratch first left = left
+μ-loop out₀ from n to₀ power₀ out to power = power
 
-loop-holds : tie.Need-loop-holds Inv-loop μ-loop
-loop-holds c = backwards-start _ (search needs) _ refl
-
-returns : tie.Need-returns Inv-loop μ-loop
-returns c = put-exact _ (backwards-lent (c .before .before .before .before .before .before .before .loop .inv) (c .before .before .before .before .before .before .loop-test .left)) (shown-short _) (c .before .before .put-bytes .ensures)
+loop-again : tie.Need-loop-again Inv-loop μ-loop
+loop-again c = placed-turn (c .before .before .before .before .before .loop .inv) (c .before .before .before .before .loop-test .taken) (c .before .before .put-byte .ensures)
 
 pub put-number-spec : {M : Type 1} → statement M
 put-number-spec =
@@ -23,20 +19,13 @@ put-number-spec =
     (tie.spec
     Inv-loop
     μ-loop
-    (λ c. search needs)
-    loop-holds
-    (λ c. search needs)
-    (λ c. search needs)
-    (λ c. search needs)
-    (λ c. backwards-on (c .before .loop .inv) (c .loop-test .taken))
-    (λ c. search needs)
-    (λ c. backwards-turn (c .before .loop .inv) (c .loop-test .taken))
+    (λ c κs. search needs)
+    (λ c. placed-start (c .first-power .ensures))
     (λ c. search needs)
     (λ c. search needs)
     (λ c. search needs)
-    (λ c. search needs)
-    (λ c. search needs)
-    (λ c. backwards-full (c .before .before .before .loop .inv) _)
     (λ c κs. search needs)
     (λ c. search needs)
-    returns)
+    loop-again
+    (λ c. put-long (c .before .loop .inv .text))
+    (λ c. placed-end (c .before .loop .inv) (c .loop-test .left)))
