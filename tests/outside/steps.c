@@ -74,11 +74,12 @@ static enum truth condition(const word *x, const word *h) {
     return (x[0] == EQUALS ? a == b : a < b) ? IS_TRUE : IS_FALSE;
 }
 
+/* The first true one, nothing undefined before it; the default where all others are false. */
 static bool condition_holds(const word *el, const word *h, unsigned b) {
-    if (condition_at(el, b)[0] != DEFAULT) return condition(condition_at(el, b), h) == IS_TRUE;
-    for (unsigned j = 0; j < el[EXITS]; j++)
-        if (j != b && condition(condition_at(el, j), h) != IS_FALSE) return false;
-    return true;
+    bool fallback = condition_at(el, b)[0] == DEFAULT;
+    for (unsigned j = 0; j < (fallback ? el[EXITS] : b); j++)
+        if (condition_at(el, j)[0] != DEFAULT && condition(condition_at(el, j), h) != IS_FALSE) return false;
+    return fallback || condition(condition_at(el, b), h) == IS_TRUE;
 }
 
 static bool same_tuple(const ref_tuple *a, const ref_tuple *b) {

@@ -5,6 +5,7 @@ use mathlib.Core.Path.{_≡_, refl, sym, _∙_, ap, subst}
 use mathlib.Core.Bool.{true, false, not, _&&_, false≢true}
 use mathlib.Core.List.{List, [], _∷_}
 use mathlib.Core.Logic.{_⊎_, inl, inr, ⊎-elim}
+use native.Mathlib.Nat.{not-suc-le-zero}
 use native.Mathlib.Omega.{arith}
 use lib.Dec.{eqb}
 use lib.ListN.{length, getD}
@@ -61,10 +62,11 @@ partsAt el m b = record {
   message = messageOf el b;
 }
 
--- the branch's condition is true, or it is the default and every other is false
+-- the branch's condition is true and every earlier one other than default is false, or it is the default and every other is false
 abbrev pub Grants : List ℕ → ℕ → Local → Type 0
 Grants el b L =
-    (truth (L .σd) (condAt (conditionAt el b)) ≡ True)
+    ((truth (L .σd) (condAt (conditionAt el b)) ≡ True)
+    × ((j : ℕ) → j < b → (condAt (conditionAt el j) ≡ default → ⊥) → truth (L .σd) (condAt (conditionAt el j)) ≡ False))
     ⊎ ((condAt (conditionAt el b) ≡ default) × ((j : ℕ) → j < exitCount el → (j ≡ b → ⊥) → truth (L .σd) (condAt (conditionAt el j)) ≡ False))
 
 module _ (el : List ℕ) (fits : elementFits el ≡ true) (L : Local) where
@@ -132,11 +134,11 @@ module _ (el : List ℕ) (fits : elementFits el ≡ true) (L : Local) where
       let o : kindOf (kindIn el) .conditions ≡ one = ap (λ y. kindOf y .conditions) e ∙ c in
       let l : 0 < used (kindOf (kindIn el) .conditions) (at el exitsPlace) = subst (λ y. 0 < used y (at el exitsPlace)) (sym o) (unfold if_then_else_ in omega arith) in
       let f : conditionFits one (conditionAt el 0) ≡ true = subst (λ y. conditionFits y (conditionAt el 0) ≡ true) o (condition-fits el fits 0 l) in
-      ⊎-elim (λ h. h) (λ d. absurd (guard-plain (conditionAt el 0) f (d .0))) g
+      ⊎-elim (λ h. h .0) (λ d. absurd (guard-plain (conditionAt el 0) f (d .0))) g
 
   guard-by : truth (L .σd) (guardOf el) ≡ True → Grants el 0 L
   unfolding guardOf
-  guard-by h = inl h
+  guard-by h = inl (h, (λ j l d. absurd (not-suc-le-zero l)))
 
   start-law : Law (row 0)
   unfolding touched first if_then_else_ branchCount ofEachKind kindOf used width span
@@ -326,7 +328,9 @@ module _ (el : List ℕ) (fits : elementFits el ≡ true) (L : Local) where
   )
 
   abbrev Picked : ℕ → Choice → Type 0
-  Picked b g = (truth (L .σd) (g .condition) ≡ True) ⊎ ((g .condition ≡ default) × ((j : ℕ) (c : Choice) → Stands c j (span (choiceOf el) 0 (exitCount el)) → (j ≡ b → ⊥) → truth (L .σd) (c .condition) ≡ False))
+  Picked b g =
+      ((truth (L .σd) (g .condition) ≡ True) × ((j : ℕ) (c : Choice) → Stands c j (span (choiceOf el) 0 (exitCount el)) → j < b → (c .condition ≡ default → ⊥) → truth (L .σd) (c .condition) ≡ False))
+      ⊎ ((g .condition ≡ default) × ((j : ℕ) (c : Choice) → Stands c j (span (choiceOf el) 0 (exitCount el)) → (j ≡ b → ⊥) → truth (L .σd) (c .condition) ≡ False))
 
   xor-split-law : Law (row 11)
   unfolding choiceOf touched first if_then_else_ branchCount ofEachKind kindOf used width
@@ -343,7 +347,13 @@ module _ (el : List ℕ) (fits : elementFits el ≡ true) (L : Local) where
     where
       chooses : (b : ℕ) → Grants el b L → Picked b (choiceOf el b)
       chooses b g =
-          ⊎-elim (λ h. inl h)
+          ⊎-elim
+          (λ h. inl (
+            h .0,
+            (λ j c s e ne.
+                let z = zero-stands (choiceOf el) c (exitCount el) j s .1 in
+                subst (λ (y : Choice). truth (L .σd) (y .condition) ≡ False) (sym z) (h .1 j e (λ v. ne (ap (λ (y : Choice). y .condition) z ∙ v)))),
+          ))
           (λ d. inr (
             d .0,
             (λ j c s ne.
@@ -353,8 +363,13 @@ module _ (el : List ℕ) (fits : elementFits el ≡ true) (L : Local) where
 
       grants : (b : ℕ) (g : Choice) → Stands g b (span (choiceOf el) 0 (exitCount el)) → Picked b g → Grants el b L
       grants b g s p =
-          let z : g ≡ choiceOf el b = zero-stands (choiceOf el) g (exitCount el) b s .1 in
-          ⊎-elim (λ h. inl (subst (λ (y : Choice). truth (L .σd) (y .condition) ≡ True) z h))
+          let w = zero-stands (choiceOf el) g (exitCount el) b s in
+          let z : g ≡ choiceOf el b = w .1 in
+          ⊎-elim
+          (λ h. inl (
+            subst (λ (y : Choice). truth (L .σd) (y .condition) ≡ True) z (h .0),
+            (λ j r ne. h .1 j (choiceOf el j) (stands-from-zero (choiceOf el) (exitCount el) j (omega (arith, r, w .0))) r ne),
+          ))
           (λ d. inr (subst (λ (y : Choice). y .condition ≡ default) z (d .0), (λ j r ne. d .1 j (choiceOf el j) (stands-from-zero (choiceOf el) (exitCount el) j r) ne))) p
 
   -- EVERY ROW

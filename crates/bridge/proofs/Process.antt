@@ -9,6 +9,7 @@ use native.Mathlib.Omega.{arith}
 use lib.Dec.{eqb}
 use lib.ListN.{length}
 use borrow.Author.Tests.{eqb-true, eqb-false, eq-eqb, ne-eqb, ltb-true, lt-ltb}
+use Rattle.words.specs.All.{all}
 use Rattle.words.specs.Pick.{if_then_else_}
 use Rattle.words.specs.Words.{at}
 use Rattle.words.specs.Counts.{edges, tasks, countMost}
@@ -18,7 +19,7 @@ use Rattle.kinds.specs.declared.moves.Move.{Move}
 use Rattle.kinds.specs.Kinds.{kindOf, used}
 use Rattle.kinds.specs.Moves.{branch, on, up, down, clearing}
 use Rattle.kinds.specs.Moves as Row
-use Rattle.model.specs.Places.{formPlace, exitsPlace}
+use Rattle.model.specs.Places.{exitsPlace}
 use Rattle.model.specs.Places as Places
 use Rattle.model.specs.Table.{kindIn, taskIn, modeIn, entryCount, exitCount, entryAt, exitAt, conditionAt}
 use Rattle.state.specs.Places.{tokenPlace, instanceWords}
@@ -26,7 +27,7 @@ use Rattle.state.specs.Instances.{tokens, activeCount, readyCount}
 use Rattle.limits.specs.Limits.{conditionFits, elementFits}
 use Rattle.meaning.specs.declared.Value.{Value}
 use Rattle.meaning.specs.Values.{isTrue, isFalse}
-use Rattle.meaning.specs.Conditions.{conditionOf, otherFalse, holds}
+use Rattle.meaning.specs.Conditions.{conditionOf, defaultAt, leftOut, otherFalse, holds}
 use Rattle.meaning.specs.Requirements.{touched, first, hasToken, hasTokens, canLower, isAlone, countsPermit, granted, hasRoom, hasRooms, canRaise, roomy}
 use Rattle.meaning.specs.Changes.{taken, activeChanged, readyChanged, puts, cleared, moved}
 use Rattle.steps.proofs.Choices.{by-test, chosen, passed, chosen-true, passed-true}
@@ -166,34 +167,66 @@ module _ (el : List ℕ) (m : Move) (b : ℕ) (site : Site el m b) (h : List ℕ
     truth-at : (j : ℕ) → j < exitCount el → truth (L .σd) (condAt (conditionAt el j)) ≡ conditionOf (conditionAt el j) h
     truth-at j l = truth-is h (kindOf (kindIn el) .conditions) (conditionAt el j) (fits-at j l)
 
-    abbrev isDefault : Bool
-    isDefault = eqb (at (conditionAt el b) formPlace) Places.default
+    abbrev few-exits : b < exitCount el
+    few-exits = site .asks-few ask
+
+    default-there : (j : ℕ) → defaultAt el j ≡ true → condAt (conditionAt el j) ≡ default
+    unfolding defaultAt
+    default-there j e = is-default (conditionAt el j) (eqb-true _ Places.default e)
+
+    default-back : (j : ℕ) → j < exitCount el → condAt (conditionAt el j) ≡ default → defaultAt el j ≡ true
+    unfolding defaultAt
+    default-back j l e = eq-eqb _ Places.default (default-is (conditionAt el j) (kindOf (kindIn el) .conditions) (fits-at j l) e)
+
+    -- what b does not look at
+    out-itself : defaultAt el b ≡ true → (j : ℕ) → leftOut el b j ≡ eqb j b
+    unfolding leftOut
+    out-itself d j = chosen (defaultAt el b) (eqb j b) (defaultAt el j) d
+
+    out-default : defaultAt el b ≡ false → (j : ℕ) → leftOut el b j ≡ defaultAt el j
+    unfolding leftOut
+    out-default d j = passed (defaultAt el b) (eqb j b) (defaultAt el j) d
 
     holds-to : holds el h b ≡ true → Grants el b L
     unfolding holds otherFalse
     holds-to p =
-        by-test isDefault
+        by-test (defaultAt el b)
         (λ d. inr (
-          is-default (conditionAt el b) (eqb-true _ Places.default d),
+          default-there b d,
           (λ j l ne.
-              truth-at j l ∙ false-is (conditionOf (conditionAt el j) h) (passed-true (eqb j b) true _ (all-at (otherFalse el h b) (exitCount el) (chosen-true isDefault _ _ p d) j l) (ne-eqb j b ne))),
+              truth-at j l ∙ false-is (conditionOf (conditionAt el j) h) (passed-true (leftOut el b j) true _ (all-at (otherFalse el h b) (exitCount el) (chosen-true (defaultAt el b) _ _ p d) j l) (out-itself d j ∙ ne-eqb j b ne))),
         ))
-        (λ d. inl (truth-at b (site .asks-few ask) ∙ true-is (conditionOf (conditionAt el b) h) (passed-true isDefault _ _ p d)))
+        (λ d.
+        let w = passed-true (defaultAt el b) _ _ p d in
+        inl (
+          truth-at b few-exits ∙ true-is (conditionOf (conditionAt el b) h) (and-left (isTrue (conditionOf (conditionAt el b) h)) (all (otherFalse el h b) b) w),
+          (λ j l ne.
+              truth-at j (omega (arith, l, few-exits))
+              ∙ false-is (conditionOf (conditionAt el j) h)
+              (passed-true (leftOut el b j) true _ (all-at (otherFalse el h b) b (and-right (isTrue (conditionOf (conditionAt el b) h)) (all (otherFalse el h b) b) w) j l)
+              (out-default d j ∙ by-test (defaultAt el j) (λ y. absurd (ne (default-there j y))) (λ y. y)))),
+        ))
 
     to-holds : Grants el b L → holds el h b ≡ true
     unfolding holds otherFalse truth isTrue isFalse
     to-holds g =
         ⊎-elim
         (λ t.
-        by-test isDefault
-        (λ d. absurd (false≢true (ap isTrue (sym (ap (truth (L .σd)) (is-default (conditionAt el b) (eqb-true _ Places.default d))) ∙ t))))
-        (λ d. passed isDefault _ _ d ∙ ap isTrue (sym (truth-at b (site .asks-few ask)) ∙ t)))
+        by-test (defaultAt el b)
+        (λ d. absurd (false≢true (ap isTrue (sym (ap (truth (L .σd)) (default-there b d)) ∙ t .0))))
+        (λ d.
+        passed (defaultAt el b) _ _ d
+        ∙ and-true (isTrue (conditionOf (conditionAt el b) h)) (all (otherFalse el h b) b) (ap isTrue (sym (truth-at b few-exits) ∙ t .0))
+        (all-of (otherFalse el h b) b (λ j l.
+        let r : j < exitCount el = omega (arith, l, few-exits) in
+        by-test (defaultAt el j) (λ y. chosen (leftOut el b j) true _ (out-default d j ∙ y))
+        (λ y. passed (leftOut el b j) true _ (out-default d j ∙ y) ∙ ap isFalse (sym (truth-at j r) ∙ t .1 j l (λ z. false≢true (sym y ∙ default-back j r z))))))))
         (λ t.
-        let d = default-is (conditionAt el b) (kindOf (kindIn el) .conditions) (fits-at b (site .asks-few ask)) (t .0) in
-        chosen isDefault _ _ (eq-eqb _ Places.default d)
+        let d = default-back b few-exits (t .0) in
+        chosen (defaultAt el b) _ _ d
         ∙ all-of (otherFalse el h b) (exitCount el) (λ j l.
-        by-test (eqb j b) (λ y. chosen (eqb j b) true _ y)
-        (λ y. passed (eqb j b) true _ y ∙ ap isFalse (sym (truth-at j l) ∙ t .1 j l (eqb-false j b y)))))
+        by-test (eqb j b) (λ y. chosen (leftOut el b j) true _ (out-itself d j ∙ y))
+        (λ y. passed (leftOut el b j) true _ (out-itself d j ∙ y) ∙ ap isFalse (sym (truth-at j l) ∙ t .1 j l (eqb-false j b y)))))
         g
 
   pub grants-there : granted el h m b ≡ true → eqb (m .asks) on ≡ true → Grants el b L

@@ -261,17 +261,19 @@ module _ (e e′ n b : ℕ) (N : Mode) (A : Assignments) (m : ℕ) (ts : List It
 
   -- P-XorSplit1 and P-XorSplit2: what the branch's condition grants
   abbrev Chosen : Choice → List Choice → Type 0
-  Chosen g cs = (truth (L .σd) (g .condition) ≡ True) ⊎ ((g .condition ≡ default) × ((j : ℕ) (c : Choice) → Stands c j cs → (j ≡ b → ⊥) → truth (L .σd) (c .condition) ≡ False))
+  Chosen g cs =
+      ((truth (L .σd) (g .condition) ≡ True) × ((j : ℕ) (c : Choice) → Stands c j cs → j < b → (c .condition ≡ default → ⊥) → truth (L .σd) (c .condition) ≡ False))
+      ⊎ ((g .condition ≡ default) × ((j : ℕ) (c : Choice) → Stands c j cs → (j ≡ b → ⊥) → truth (L .σd) (c .condition) ≡ False))
 
   pub xor-split-to : {l : Label} {σ : Local} {cs : List Choice} (g : Choice) → Stands g b cs → (G → Chosen g cs) → Goes (row 11) (branching (e ∷ []) (g .exit ∷ []) m ts) G L l σ → Moves (xorSplit e cs) 0 b L l σ
   unfolding if_then_else_ incs decs changed
   xor-split-to g s chosen x =
       arrive (x .says .0) (x .gives ∙ ap (effect (row 11) (branching (e ∷ []) (g .exit ∷ []) m ts) L) (none-only (x .says .1)))
-      (⊎-elim (λ h. P-XorSplit1 s (only (x .fires .taking)) h (only (x .fires .putting))) (λ h. P-XorSplit2 s (h .0) (only (x .fires .taking)) (h .1) (only (x .fires .putting))) (chosen (x .fires .grants refl)))
+      (⊎-elim (λ h. P-XorSplit1 s (only (x .fires .taking)) (h .0) (h .1) (only (x .fires .putting))) (λ h. P-XorSplit2 s (h .0) (only (x .fires .taking)) (h .1) (only (x .fires .putting))) (chosen (x .fires .grants refl)))
 
   pub xor-split-from : {l : Label} {σ : Local} {cs : List Choice} → ((g : Choice) → Stands g b cs → Chosen g cs → G) → Moves (xorSplit e cs) 0 b L l σ → (g : Choice) × Stands g b cs × Goes (row 11) (branching (e ∷ []) (g .exit ∷ []) m ts) G L l σ
   unfolding if_then_else_ incs decs changed
-  xor-split-from grant (P-XorSplit1 {g = g} s t h r) =
-      (g, s, record { left = L .σd; fires = plain refl refl refl refl refl (more t none) (λ z. grant g s (inl h)) (more r none); says = (refl, Updates.none); gives = refl })
+  xor-split-from grant (P-XorSplit1 {g = g} s t h o r) =
+      (g, s, record { left = L .σd; fires = plain refl refl refl refl refl (more t none) (λ z. grant g s (inl (h, o))) (more r none); says = (refl, Updates.none); gives = refl })
   xor-split-from grant (P-XorSplit2 {g = g} s d t h r) =
       (g, s, record { left = L .σd; fires = plain refl refl refl refl refl (more t none) (λ z. grant g s (inr (d, h))) (more r none); says = (refl, Updates.none); gives = refl })

@@ -3,6 +3,7 @@ pub mod SecondDemand
 pub mod PaperRules
 pub mod ThirdDemand
 pub mod ListAndRun
+pub mod OneBranch
 pub mod Promises
 pub mod Firmness
 pub mod FurtherMessages

@@ -1,11 +1,8 @@
 // Conditions: a guard, a branch's condition, and the default.
 ghost use mathlib.Core.Path.{_≡_};
-ghost use lib.Dec.{eqb};
 ghost use Rattle.words.specs.All.{all};
-ghost use Rattle.words.specs.Words.{at};
-ghost use Rattle.model.specs.Places.{formPlace, default};
 ghost use Rattle.model.specs.Table.{conditionAt};
-ghost use Rattle.meaning.specs.Conditions.{conditionOf, otherFalse, holds};
+ghost use Rattle.meaning.specs.Conditions.{conditionOf, defaultAt, leftOut, otherFalse, holds};
 use super::operand;
 use meaning::Truth;
 use model::condition_at;
@@ -44,10 +41,26 @@ fn condition_of(el: &[Word], h: &[Word], b: Word) -> Truth
     condition(condition_at(el, b), h)
 }
 
+fn is_default(el: &[Word], b: Word) -> bool
+    ensures { λ r. ⌜ r ≡ defaultAt (now (el .entry)) b ⌝ }
+{
+    let x = condition_at(el, b);
+    word(x, FORM) == DEFAULT
+}
+
+fn is_left_out(el: &[Word], b: Word, j: Word) -> bool
+    ensures { λ r. ⌜ r ≡ leftOut (now (el .entry)) b j ⌝ }
+{
+    if is_default(el, b) {
+        return j == b;
+    }
+    is_default(el, j)
+}
+
 fn other_false(el: &[Word], h: &[Word], b: Word, j: Word) -> bool
     ensures { λ r. ⌜ r ≡ otherFalse (now (el .entry)) (now (h .entry)) b j ⌝ }
 {
-    if j == b {
+    if is_left_out(el, b, j) {
         return true;
     }
     values::is_false(condition_of(el, h, j))
@@ -66,19 +79,15 @@ fn others_false(el: &[Word], h: &[Word], b: Word, n: Word) -> bool
     true
 }
 
-fn is_default(el: &[Word], b: Word) -> bool
-    ensures { λ r. ⌜ r ≡ eqb (at (conditionAt (now (el .entry)) b) formPlace) default ⌝ }
-{
-    let x = condition_at(el, b);
-    word(x, FORM) == DEFAULT
-}
-
-// Whether the condition of branch b is true; where it is the default, whether all others are false.
+// Whether the condition of branch b is true and those of the earlier ones are false; where it is the default, whether all others are false.
 pub fn does_hold(el: &[Word], h: &[Word], b: Word) -> bool
     ensures { λ r. ⌜ r ≡ holds (now (el .entry)) (now (h .entry)) b ⌝ }
 {
     if is_default(el, b) {
         return others_false(el, h, b, exit_count(el));
     }
-    values::is_true(condition_of(el, h, b))
+    if !values::is_true(condition_of(el, h, b)) {
+        return false;
+    }
+    others_false(el, h, b, b)
 }

@@ -11,4 +11,5 @@ pub mod SameValues
 pub mod ListedAll
 pub mod ListedOnce
 pub mod ListedTidy
+pub mod OneBranch
 pub mod RunLaws

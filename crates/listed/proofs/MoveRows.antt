@@ -14,8 +14,8 @@ use Rattle.words.proofs.AllLaws.{and-right}
 use Rattle.words.proofs.ListLaws.{each-at}
 use Rattle.words.proofs.SeekLaws.{sought}
 use Rattle.kinds.specs.declared.moves.Move.{Move}
-use Rattle.kinds.specs.Kinds.{startRcv, kindOf}
-use Rattle.kinds.specs.Moves.{phases, every, branch, down, making, moves, noMove, rules, modeOf, isRule, ruleOf, moveOf}
+use Rattle.kinds.specs.Kinds.{startRcv, xorSplit, kindOf}
+use Rattle.kinds.specs.Moves.{phases, every, branch, on, down, making, moves, noMove, rules, modeOf, isRule, ruleOf, moveOf}
 use Rattle.steps.proofs.Choices.{chosen-true, passed-true}
 
 module _ (k m p : ℕ) where
@@ -24,7 +24,7 @@ module _ (k m p : ℕ) where
   every-row f e o = each-at f moves noMove e o (ruleOf k m p)
 
   -- the row found is of the phase
-  row-phase : (moveOf k m p .kind ≡ 0 → ⊥) → moveOf k m p .phase ≡ p
+  pub row-phase : (moveOf k m p .kind ≡ 0 → ⊥) → moveOf k m p .phase ≡ p
   unfolding moveOf ruleOf isRule
   row-phase there =
       let s = sought (isRule k m p) rules in
@@ -42,6 +42,15 @@ module _ (k m p : ℕ) where
   startRcv-makes e =
       let h = every-row (λ r. if eqb (r .kind) startRcv then eqb (r .also) making else true) refl refl in
       eqb-true _ making (chosen-true _ _ true h (eq-eqb _ startRcv e))
+
+  -- an xorSplit asks its branch's condition, puts there, receives nothing and has no phases
+  of-split : (cell : Move → ℕ) (x : ℕ) → each (λ r. if eqb (r .kind) xorSplit then eqb (cell r) x else true) moves ≡ true
+      → (if eqb (noMove .kind) xorSplit then eqb (cell noMove) x else true) ≡ true → moveOf k m p .kind ≡ xorSplit → cell (moveOf k m p) ≡ x
+  of-split cell x e o s = eqb-true _ x (chosen-true _ _ true (every-row (λ r. if eqb (r .kind) xorSplit then eqb (cell r) x else true) e o) (eq-eqb _ xorSplit s))
+
+  pub split-row : moveOf k m p .kind ≡ xorSplit → (moveOf k m p .puts ≡ branch) × (moveOf k m p .asks ≡ on) × (moveOf k m p .receives ≡ 0) × (moveOf k m p .phase ≡ 0)
+  unfolding each if_then_else_
+  split-row s = (of-split (λ r. r .puts) branch refl refl s, of-split (λ r. r .asks) on refl refl s, of-split (λ r. r .receives) 0 refl refl s, of-split (λ r. r .phase) 0 refl refl s)
 
   -- what takes from every entry is of a kind that has entries
   pub takes-entries : moveOf k m p .takes ≡ every → 0 < kindOf (moveOf k m p .kind) .entries

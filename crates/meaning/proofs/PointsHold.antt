@@ -1,4 +1,4 @@
--- Every starred point of document 01 holds of the definitions: one claim, computed. Assumes nothing.
+-- Every point holds of the definitions: one claim, computed. Assumes nothing.
 use mathlib.Core.Path.{_≡_, refl}
 use Rattle.words.specs.All.{all}
 use Rattle.words.specs.Each.{tab}
@@ -14,7 +14,7 @@ use Rattle.meaning.specs.Tuples.{valueOf, sameTuple}
 use Rattle.meaning.specs.Messages.{has, without, times}
 use Rattle.meaning.specs.Queues.{messagesOf, messageWord, messagesWord, queueWord, withMessages}
 use Rattle.meaning.specs.Expressions.{fieldOf, operandOf, expressionOf}
-use Rattle.meaning.specs.Conditions.{conditionOf, otherFalse, holds}
+use Rattle.meaning.specs.Conditions.{conditionOf, defaultAt, leftOut, otherFalse, holds}
 use Rattle.meaning.specs.Templates.{binds, itemValue, gathered, evaluated, bindOne, bound}
 use Rattle.meaning.specs.Assignments.{assignedValue, assignOne, assigned}
 use Rattle.meaning.specs.Requirements.{touched, first, branchCount, instanceNamed, hasToken, hasTokens, canLower, isAlone, countsPermit, granted, belowLimit, hasRoom, hasRooms, canRaise, roomy}
@@ -22,8 +22,12 @@ use Rattle.meaning.specs.Changes.{expected, received, worked, messageSen
 use Rattle.meaning.specs.Refusals.{firstRefusal}
 use Rattle.meaning.specs.Step.{elementNamed, moveNamed, instanceOf, before, siteOf, exists, template, work, sent, defined, matches, afterTaking, queued, space, refusalsAt, refusals, instanceAfter, madeAfter, instancesAfter, queuesAfter, traffic, step}
 use Rattle.meaning.specs.Post.{postRefusals, post}
-use Rattle.meaning.specs.Points.{points, Hold}
+use Rattle.meaning.specs.Points.{points, Hold, choices, Chosen}
 
 pub points-hold : Hold points
-unfolding all tab iter if_then_else_ seek writes kindOf used modeOf isRule ruleOf moveOf numbered poolOf limitOf entryCount exitCount sumOf differenceOf equalOf lessOf isTrue isFalse isDefined numberIn valueOf sameTuple has without times messagesOf messageWord messagesWord queueWord withMessages fieldOf operandOf expressionOf conditionOf otherFalse holds binds itemValue gathered evaluated bindOne bound assignedValue assignOne assigned touched first branchCount instanceNamed hasToken hasTokens canLower isAlone countsPermit granted belowLimit hasRoom hasRooms canRaise roomy expected received worked messageSent takeOne taken more countChanged activeChanged readyChanged putOne puts cleared moved firstRefusal elementNamed moveNamed instanceOf before siteOf exists template work sent defined matches afterTaking queued space refusalsAt refusals instanceAfter madeAfter instancesAfter queuesAfter traffic step postRefusals post
+unfolding all tab iter if_then_else_ seek writes kindOf used modeOf isRule ruleOf moveOf numbered poolOf limitOf entryCount exitCount sumOf differenceOf equalOf lessOf isTrue isFalse isDefined numberIn valueOf sameTuple has without times messagesOf messageWord messagesWord queueWord withMessages fieldOf operandOf expressionOf conditionOf defaultAt leftOut otherFalse holds binds itemValue gathered evaluated bindOne bound assignedValue assignOne assigned touched first branchCount instanceNamed hasToken hasTokens canLower isAlone countsPermit granted belowLimit hasRoom hasRooms canRaise roomy expected received worked messageSent takeOne taken more countChanged activeChanged readyChanged putOne puts cleared moved firstRefusal elementNamed moveNamed instanceOf before siteOf exists template work sent defined matches afterTaking queued space refusalsAt refusals instanceAfter madeAfter instancesAfter queuesAfter traffic step postRefusals post
 points-hold = (refl, (refl, (refl, (refl, (refl, (refl, (refl, (refl, (refl, (refl, (refl, (refl, (refl, (refl, (refl, (refl, (refl, (refl, (refl, (refl, (refl, (refl, (refl, (refl, (refl, (refl, (refl, (refl, (refl, (refl, (refl, tt)))))))))))))))))))))))))))))))
+
+pub choices-hold : Chosen choices
+unfolding all tab if_then_else_ used kindOf exitCount equalOf lessOf isTrue isFalse fieldOf operandOf conditionOf defaultAt leftOut otherFalse holds
+choices-hold = (refl, (refl, (refl, (refl, (refl, (refl, (refl, (refl, (refl, tt)))))))))

@@ -1,6 +1,6 @@
 -- "C is `true`, or two operands joined by `=` or `<`; in xorSplit also `default`." w is the words of a condition, el an element's, h an instance's.
 use Prim.Native.Nat.{ℕ}
-use mathlib.Core.Bool.{Bool, true}
+use mathlib.Core.Bool.{Bool, true, _&&_}
 use mathlib.Core.List.{List}
 use lib.Dec.{eqb}
 use Rattle.words.specs.All.{all}
@@ -21,10 +21,19 @@ conditionOf w h =
     else if eqb (at w formPlace) below then lessOf (operandOf w h leftPlace) (operandOf w h rightPlace)
     else Neither
 
--- "xorSplit: any branch whose condition is true; default when all others are false." A guard is the condition of branch 0.
+-- "A branch is permitted when its condition is true and all earlier ones other than default are false. An undefined earlier one blocks it. Default is as before":
+-- "default when all others are false." A guard is the condition of branch 0, which has no earlier ones.
+unfoldable pub defaultAt : List ℕ → ℕ → Bool
+defaultAt el b = eqb (at (conditionAt el b) formPlace) default
+
+-- what b does not look at: the default, or itself where it is the default
+unfoldable pub leftOut : List ℕ → ℕ → ℕ → Bool
+leftOut el b j = if defaultAt el b then eqb j b else defaultAt el j
+
 unfoldable pub otherFalse : List ℕ → List ℕ → ℕ → ℕ → Bool
-otherFalse el h b j = if eqb j b then true else isFalse (conditionOf (conditionAt el j) h)
+otherFalse el h b j = if leftOut el b j then true else isFalse (conditionOf (conditionAt el j) h)
 
 unfoldable pub holds : List ℕ → List ℕ → ℕ → Bool
 holds el h b =
-    if eqb (at (conditionAt el b) formPlace) default then all (otherFalse el h b) (exitCount el) else isTrue (conditionOf (conditionAt el b) h)
+    if defaultAt el b then all (otherFalse el h b) (exitCount el)
+    else isTrue (conditionOf (conditionAt el b) h) && all (otherFalse el h b) b

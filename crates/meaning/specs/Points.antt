@@ -1,15 +1,18 @@
 -- The starred points of document 01 ('Points to try'): one table. Each row says in the document's words what is tried, and tries it by a step on a
 -- small table and state: pool 1 with one element, its instance 0, messages under name 0. Rows behind them try what else is easily got wrong.
+-- A second table has the branches of document 02's wish 6.
 use Prim.Native.Nat.{ℕ, _+_, _-_, _*_}
 use Prim.Native.String.{String}
 use mathlib.Core.Path.{_≡_}
+use mathlib.Core.Bool.{Bool, true, false}
 use mathlib.Core.List.{List, [], _∷_, _++_}
 use lib.ListN.{length, replicate}
+use Rattle.words.specs.Each.{tab}
 use Rattle.words.specs.Words.{greatest}
 use Rattle.words.specs.Counts.{branches, values, pools}
 use Rattle.kinds.specs.Kinds.{startRcv, terminate, interRcv, xorSplit, task}
 use Rattle.kinds.specs.Moves.{o, a, na-c, na-nc}
-use Rattle.model.specs.Places.{aField, single, plus, minus, binding, always, default, equals, expressionWords, messageWords}
+use Rattle.model.specs.Places.{aField, single, plus, minus, binding, always, default, equals, below, expressionWords, messageWords}
 use Rattle.state.specs.Places.{instanceWords, instancePlace, queueWords}
 use Rattle.state.specs.Instances.{madeCount, instanceAt, tokens, activeCount, readyCount, withTokens, withActive, withReady, withField}
 use Rattle.meaning.specs.declared.Tuple.{Tuple}
@@ -19,6 +22,7 @@ use Rattle.meaning.specs.Tuples.{empty}
 use Rattle.meaning.specs.Messages.{times}
 use Rattle.meaning.specs.Queues.{messagesOf}
 use Rattle.meaning.specs.Expressions.{fieldOf}
+use Rattle.meaning.specs.Conditions.{holds}
 use Rattle.meaning.specs.Post.{post}
 use Rattle.meaning.specs.Step.{Outcome, step}
 
@@ -209,3 +213,43 @@ points =
 abbrev pub Hold : List Point → Type 0
 Hold [] = Unit {0}
 Hold (p ∷ ps) = (p .comes ≡ p .due) × Hold ps
+
+-- THE BRANCHES PERMITTED of xorSplit(1,{(2,C),(3,C),..}) with d0 = 1 and d9 undefined: document 02, wish 6
+abbrev conditions : List (List ℕ) → List ℕ
+conditions [] = []
+conditions (c ∷ cs) = c ++ conditions cs
+
+abbrev splitBy : List (List ℕ) → List ℕ
+splitBy cs = element xorSplit 0 o (1 ∷ []) (tab (λ j. 2 + j) (length cs)) (conditions cs) [] 0 []
+
+pub record Choice : Type 0 where
+  pub says : String
+  pub permits : List Bool
+  pub due : List Bool
+
+infix 70 _choosing_being_
+abbrev _choosing_being_ : String → List (List ℕ) → List Bool → Choice
+s choosing cs being bs = record { says = s; permits = tab (holds (splitBy cs) (withField fresh 0 1)) (length cs); due = bs }
+
+infix 70 _is_
+abbrev _is_ : ℕ → ℕ → List ℕ
+k is x = form equals (d k) (number x)
+
+abbrev otherwise : List ℕ
+otherwise = form default [] []
+
+abbrev pub choices : List Choice
+choices =
+    "true, true: 0" choosing (true-condition ∷ true-condition ∷ []) being (true ∷ false ∷ []) ∷
+    "d0=2, d0=1, true: 1" choosing (0 is 2 ∷ 0 is 1 ∷ true-condition ∷ []) being (false ∷ true ∷ false ∷ []) ∷
+    "d9=1, d0=1: none" choosing (9 is 1 ∷ 0 is 1 ∷ []) being (false ∷ false ∷ []) ∷
+    "d0=1, d9=1: 0" choosing (0 is 1 ∷ 9 is 1 ∷ []) being (true ∷ false ∷ []) ∷
+    "default, d0=1, d0<2: 1" choosing (otherwise ∷ 0 is 1 ∷ form below (d 0) (number 2) ∷ []) being (false ∷ true ∷ false ∷ []) ∷
+    "d0=2, default, d0=1: 2" choosing (0 is 2 ∷ otherwise ∷ 0 is 1 ∷ []) being (false ∷ false ∷ true ∷ []) ∷
+    "d0=2, d0=3, default: 2" choosing (0 is 2 ∷ 0 is 3 ∷ otherwise ∷ []) being (false ∷ false ∷ true ∷ []) ∷
+    "default, d9=3, d0=1: none" choosing (otherwise ∷ 9 is 3 ∷ 0 is 1 ∷ []) being (false ∷ false ∷ false ∷ []) ∷
+    "d0=2, default, d9=1, true: none" choosing (0 is 2 ∷ otherwise ∷ 9 is 1 ∷ true-condition ∷ []) being (false ∷ false ∷ false ∷ false ∷ []) ∷ []
+
+abbrev pub Chosen : List Choice → Type 0
+Chosen [] = Unit {0}
+Chosen (x ∷ xs) = (x .permits ≡ x .due) × Chosen xs

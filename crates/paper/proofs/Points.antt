@@ -1,6 +1,6 @@
--- Points of the rules at named values: where a token goes, what shuts the default out, what na_nc asks, what a message taken leaves. Assumes nothing.
+-- Points of the rules at named values: where a token goes, what shuts the default and a later branch out, what na_nc asks, what a message taken leaves. Assumes nothing.
 use Prim.Native.Nat.{ℕ}
-use mathlib.Core.Path.{_≡_, refl, ap, subst}
+use mathlib.Core.Path.{_≡_, refl, sym, ap, subst}
 use mathlib.Core.Bool.{false≢true}
 use mathlib.Core.List.{List, [], _∷_}
 use native.Mathlib.Omega.{arith}
@@ -42,8 +42,21 @@ second (there s) = first s
 
 pub default-shut : {l : Label} {σ : Local} → Moves (xorSplit 1 choices) 0 1 marked l σ → ⊥
 unfolding truth operand equalOf
-default-shut (P-XorSplit1 s t h r) = not-true (subst (λ (g : Choice). truth unset (g .condition) ≡ True) (second s) h)
+default-shut (P-XorSplit1 s t h o r) = not-true (subst (λ (g : Choice). truth unset (g .condition) ≡ True) (second s) h)
 default-shut (P-XorSplit2 s d t h r) = not-false (h 0 (record { exit = 2; condition = equal (field 0) (number 1) }) here (λ z. omega arith))
+
+-- `true, true`: not the second
+abbrev both : List Choice
+both = record { exit = 2; condition = always } ∷ record { exit = 3; condition = always } ∷ []
+
+not-default : always ≡ default → ⊥
+unfolding truth
+not-default e = not-true (sym (ap (truth unset) e))
+
+pub later-shut : {l : Label} {σ : Local} → Moves (xorSplit 1 both) 0 1 marked l σ → ⊥
+unfolding truth isTrue
+later-shut (P-XorSplit1 s t h o r) = false≢true (ap isTrue (sym (o 0 (record { exit = 2; condition = always }) here (omega arith) not-default)))
+later-shut (P-XorSplit2 s d t h r) = not-default (subst (λ (g : Choice). g .condition ≡ default) (second s) d)
 
 -- "na_nc needs both counts 0": task 1 is ready
 pub na-nc-shut : {l : Label} {σ : Local} → Moves (task 1 1 na-nc always ε 2) 1 0 marked l σ → ⊥

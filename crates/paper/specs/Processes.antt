@@ -57,7 +57,9 @@ pub data Moves : Element → ℕ → ℕ → Local → Label → Local → Type 
   P-AndSplit : {e : ℕ} {E : List ℕ} {σ : Local} → 0 < σ .σe e → Each (room (dec (σ .σe) e)) E
       → Moves (andSplit e E) 0 0 σ (τ Internal.ε) (σ edges: incs (dec (σ .σe) e) E)
   -- xorSplit(e,{(e′,exp)} ∪ G) —ε→ ⟨inc(dec(σe,e),e′)⟩   σe(e) > 0, eval(exp,σd,true)
-  P-XorSplit1 : {e b : ℕ} {G : List Choice} {g : Choice} {σ : Local} → Stands g b G → 0 < σ .σe e → truth (σ .σd) (g .condition) ≡ True → room (dec (σ .σe) e) (g .exit)
+  -- (document 02, wish 6: "and all earlier ones other than default are false")
+  P-XorSplit1 : {e b : ℕ} {G : List Choice} {g : Choice} {σ : Local} → Stands g b G → 0 < σ .σe e → truth (σ .σd) (g .condition) ≡ True
+      → ((j : ℕ) (c : Choice) → Stands c j G → j < b → (c .condition ≡ default → ⊥) → truth (σ .σd) (c .condition) ≡ False) → room (dec (σ .σe) e) (g .exit)
       → Moves (xorSplit e G) 0 b σ (τ Internal.ε) (σ edges: inc (dec (σ .σe) e) (g .exit))
   -- xorSplit(e,{(e′,default)} ∪ G) —ε→ ⟨inc(dec(σe,e),e′)⟩   σe(e) > 0, ∀(ej,expj) ∈ G . eval(expj,σd,false)
   P-XorSplit2 : {e b : ℕ} {G : List Choice} {g : Choice} {σ : Local} → Stands g b G → g .condition ≡ default → 0 < σ .σe e

@@ -1,4 +1,4 @@
-use Rattle.words.proofs.PickLaws.{flag-is, pick-no, pick-yes}
+use Rattle.words.proofs.PickLaws.{and-no, and-yes, flag-is, flag-no, flag-yes, pick-no, pick-yes}
 use Rattle.meaning.specs.Conditions.{holds}
 use borrow.Author.Needs.{needs}
 use Rattle.expressions.proofs.conditions.does_hold.Statement.{statement}
@@ -17,4 +17,6 @@ does-hold-spec =
     (λ c. pick-yes _ _ _ _ (flag-is _ _ _ (c .before .before .before .is-default .ensures) (c .before .before .if1 .taken)) (rw (c .before .exit-count .ensures) at (c .others-false .ensures)))  -- returns
     (λ c κs. search L)
     (λ c κs. search L)
-    (λ c. pick-no _ _ _ _ (flag-is _ _ _ (c .before .before .before .is-default .ensures) (c .before .before .if1 .left)) (rw (c .before .condition-of .ensures) at (c .is-true .ensures))))  -- returns-2
+    (λ c. pick-no _ _ _ _ (flag-is _ _ _ (c .before .before .before .before .is-default .ensures) (c .before .before .before .if1 .left)) (and-no _ _ (flag-no _ _ (rw (c .before .before .condition-of .ensures) at (c .before .is-true .ensures)) (c .if2 .taken))))  -- returns-2
+    (λ c κs. search L)
+    (λ c. pick-no _ _ _ _ (flag-is _ _ _ (c .before .before .before .before .before .is-default .ensures) (c .before .before .before .before .if1 .left)) (and-yes _ _ _ (flag-yes _ _ (rw (c .before .before .before .condition-of .ensures) at (c .before .before .is-true .ensures)) (c .before .if2 .left)) (c .others-false2 .ensures))))  -- returns-3

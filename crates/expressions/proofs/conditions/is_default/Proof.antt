@@ -1,3 +1,4 @@
+use Rattle.meaning.specs.Conditions.{defaultAt}
 use borrow.Author.Needs.{needs}
 use Rattle.expressions.proofs.conditions.is_default.Statement.{statement}
 use Rattle.expressions.proofs.conditions.is_default.Tie as tie
@@ -5,6 +6,7 @@ use Rattle.expressions.proofs.conditions.is_default.Tie as tie
 ruleset L = (needs)
 
 pub is-default-spec : {M : Type 1} → statement M
+unfolding defaultAt
 is-default-spec =
     tie.close
     (tie.spec

@@ -1,6 +1,5 @@
 use mathlib.Core.Path.{refl}
-use borrow.Author.Tests.{eq-eqb, ne-eqb}
-use Rattle.words.proofs.PickLaws.{pick-no, pick-yes}
+use Rattle.words.proofs.PickLaws.{flag-is, pick-no, pick-yes}
 use Rattle.meaning.specs.Conditions.{otherFalse}
 use borrow.Author.Needs.{needs}
 use Rattle.expressions.proofs.conditions.other_false.Statement.{statement}
@@ -13,7 +12,8 @@ unfolding otherFalse
 other-false-spec =
     tie.close
     (tie.spec
-    (λ c. pick-yes _ _ _ _ (eq-eqb _ _ (c .if1 .taken)) refl)  -- returns
+    (λ c κs. search L)
+    (λ c. pick-yes _ _ _ _ (flag-is _ _ _ (c .before .is-left-out .ensures) (c .if1 .taken)) refl)  -- returns
     (λ c κs. search L)
     (λ c κs. search L)
-    (λ c. pick-no _ _ _ _ (ne-eqb _ _ (c .before .before .if1 .left)) (rw (c .before .condition-of .ensures) at (c .is-false .ensures))))  -- returns-2
+    (λ c. pick-no _ _ _ _ (flag-is _ _ _ (c .before .before .before .is-left-out .ensures) (c .before .before .if1 .left)) (rw (c .before .condition-of .ensures) at (c .is-false .ensures))))  -- returns-2
