@@ -4,6 +4,8 @@ pub mod StepEntries
 pub mod LineEntries
 pub mod TakenSteps
 pub mod SameSteps
+pub mod WordLaws
+pub mod WordSteps
 pub mod ToldLawful
 pub mod OwnLog
 pub mod LogLaws

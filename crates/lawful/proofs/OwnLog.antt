@@ -1,23 +1,26 @@
 -- THE LOG OF A RUN'S OWN LINES IS LAWFUL: of calls that were accepted from the fresh state, and of the run behind them. t is a valid table, b a log that has those lines. Assumes nothing.
-use Prim.Native.Nat.{ℕ}
+use Prim.Native.Nat.{ℕ, zero, suc, _≤_}
 use mathlib.Core.Path.{_≡_, _∙_, refl, ap}
 use mathlib.Core.Bool.{true}
 use mathlib.Core.List.{List, [], _∷_, _++_}
 use lib.Dec.{eqb}
+use Rattle.words.specs.Words.{at, greatest}
 use Rattle.words.specs.Pick.{if_then_else_}
 use Rattle.words.proofs.AllLaws.{and-left, and-right}
 use Rattle.words.proofs.PickLaws.{and-true}
 use Rattle.fits.specs.Fresh.{fresh}
 use Rattle.skipping.specs.declared.Skipped.the-variants.{Past}
+use Rattle.steps.proofs.Choices.{by-choice}
 use Rattle.logs.specs.Logs.{scan, linesOf}
 use Rattle.judging.specs.Judge.{taken, lawful, judgedBy, judgedEnd, judgedFrom}
-use Rattle.engine.specs.Engine.{valid, stepped, postedTo}
-use Rattle.engine.specs.Calls.{Act, did, allAccepted, after, Valid, judgedTo}
+use Rattle.engine.specs.Engine.{valid, stepped, postedTo, listedAt}
+use Rattle.engine.specs.Calls.{Act, aStep, aPost, did, allAccepted, after, Valid, judgedTo}
 use Rattle.engine.proofs.KeepsValid.{after-valid, fresh-valid}
 use Rattle.demands.specs.Demands.{runSteps}
 use Rattle.demands.proofs.RunSteps.{run-accepted}
-use Rattle.lawful.specs.Told.{told, AllWords}
+use Rattle.lawful.specs.Told.{told, AllPosted, AllWords}
 use Rattle.lawful.proofs.ToldLawful.{told-lawful}
+use Rattle.lawful.proofs.WordSteps.{fresh-worded, whole-words, words-hold}
 
 module _ (t : List ℕ) where
   -- calls, and others behind them
@@ -28,22 +31,41 @@ module _ (t : List ℕ) where
       and-true (eqb (did t x z .number) 0) (allAccepted t (xs ++ ys) (did t x z .state)) (and-left (eqb (did t x z .number) 0) (allAccepted t xs (did t x z .state)) a)
       (both-accepted xs ys (did t x z .state) (and-right (eqb (did t x z .number) 0) (allAccepted t xs (did t x z .state)) a) b)
 
-  module _ (right : valid t ≡ true) where
-    -- a text that is a log is judged by its lines
-    pub log-judged : (b : List ℕ) (q : ℕ) → scan b .end ≡ Past q → judgedTo t b ≡ judgedBy (taken (stepped t) (postedTo t)) (linesOf b) 0 (fresh t)
-    unfolding judgedTo judgedFrom judgedEnd if_then_else_
-    log-judged b q e = rw (right, e) refl
+  both-posted : (xs ys : List Act) → AllPosted xs → AllPosted ys → AllPosted (xs ++ ys)
+  unfolding AllPosted
+  both-posted [] ys a b = b
+  both-posted (aStep n ∷ xs) ys a b = both-posted xs ys a b
+  both-posted (aPost name g ∷ xs) ys a b = (a .0, both-posted xs ys (a .1) b)
+
+  -- a run posts nothing
+  run-posted : (limit : ℕ) (z : List ℕ) → AllPosted (runSteps t limit z)
+  unfolding runSteps AllPosted
+  run-posted zero z = tt
+  run-posted (suc limit) z =
+      by-choice AllPosted (eqb (listedAt t z 0 .number) 0) (aStep (listedAt t z 0 .name) ∷ runSteps t limit (did t (aStep (listedAt t z 0 .name)) z .state)) []
+      (λ e. run-posted limit (did t (aStep (listedAt t z 0 .name)) z .state))
+      (λ e. tt)
+
+  -- a text that is a log is judged by its lines
+  pub log-judged : valid t ≡ true → (b : List ℕ) (q : ℕ) → scan b .end ≡ Past q → judgedTo t b ≡ judgedBy (taken (stepped t) (postedTo t)) (linesOf b) 0 (fresh t)
+  unfolding judgedTo judgedFrom judgedEnd if_then_else_
+  log-judged right b q e = rw (right, e) refl
+
+  -- small is what the type of a lent table says
+  module _ (right : valid t ≡ true) (small : (i : ℕ) → at t i ≤ greatest) where
+    pub fresh-words : (acts : List Act) → allAccepted t acts (fresh t) ≡ true → AllPosted acts → AllWords t acts (fresh t)
+    fresh-words acts h posted = words-hold t small acts (fresh t) (fresh-valid t right) (whole-words (fresh t) (fresh-worded t)) h posted
 
     -- calls that were accepted from the fresh state
-    pub told-log : (acts : List Act) → allAccepted t acts (fresh t) ≡ true → AllWords t acts (fresh t)
+    pub told-log : (acts : List Act) → allAccepted t acts (fresh t) ≡ true → AllPosted acts
         → (b : List ℕ) (q : ℕ) → scan b .end ≡ Past q → linesOf b ≡ told t acts (fresh t) → judgedTo t b ≡ lawful
-    told-log acts h words b q e lines =
-        log-judged b q e
+    told-log acts h posted b q e lines =
+        log-judged right b q e
         ∙ ap (λ (ws : List (List ℕ)). judgedBy (taken (stepped t) (postedTo t)) ws 0 (fresh t)) lines
-        ∙ told-lawful t acts 0 (fresh t) (fresh-valid t right) h words
+        ∙ told-lawful t acts 0 (fresh t) (fresh-valid t right) h (fresh-words acts h posted)
 
     -- "a log made of a run's own lines .. is lawful (for every model, state reached from fresh, and limit)"
-    module _ (acts : List Act) (accepted : allAccepted t acts (fresh t) ≡ true) (limit : ℕ) where
+    module _ (acts : List Act) (accepted : allAccepted t acts (fresh t) ≡ true) (posted : AllPosted acts) (limit : ℕ) where
       abbrev whole : List Act
       whole = acts ++ runSteps t limit (after t acts (fresh t))
 
@@ -53,5 +75,8 @@ module _ (t : List ℕ) where
       pub whole-accepted : allAccepted t whole (fresh t) ≡ true
       whole-accepted = both-accepted acts (runSteps t limit (after t acts (fresh t))) (fresh t) accepted (run-accepted t limit (after t acts (fresh t)) reached)
 
-      pub own-log-lawful : AllWords t whole (fresh t) → (b : List ℕ) (q : ℕ) → scan b .end ≡ Past q → linesOf b ≡ told t whole (fresh t) → judgedTo t b ≡ lawful
-      own-log-lawful words b q e lines = told-log whole whole-accepted words b q e lines
+      pub whole-posted : AllPosted whole
+      whole-posted = both-posted acts (runSteps t limit (after t acts (fresh t))) posted (run-posted limit (after t acts (fresh t)))
+
+      pub own-log-lawful : (b : List ℕ) (q : ℕ) → scan b .end ≡ Past q → linesOf b ≡ told t whole (fresh t) → judgedTo t b ≡ lawful
+      own-log-lawful b q e lines = told-log whole whole-accepted whole-posted b q e lines

@@ -6,6 +6,7 @@ use mathlib.Core.List.{List, [], _∷_, _++_}
 use lib.Dec.{eqb}
 use lib.ListN.{length}
 use borrow.Author.Tests.{eqb-true}
+use Rattle.words.specs.Words.{at, greatest}
 use Rattle.words.proofs.AllLaws.{and-left, and-right}
 use Rattle.fits.specs.Fresh.{fresh}
 use Rattle.logs.specs.Logs.{logMost}
@@ -15,13 +16,13 @@ use Rattle.engine.specs.Engine.{valid, stepped}
 use Rattle.engine.specs.Calls.{Act, aStep, aPost, did, allAccepted, after, Valid, judgedTo}
 use Rattle.engine.proofs.KeepsValid.{did-valid, fresh-valid}
 use Rattle.demands.specs.Demands.{runSteps}
-use Rattle.lawful.specs.Told.{postLine, lineTold, told, AllWords}
+use Rattle.lawful.specs.Told.{postLine, lineTold, told, AllPosted, AllWords}
 use Rattle.lawful.proofs.Events.{Plain}
 use Rattle.lawful.proofs.Traces.{Each, Entry}
 use Rattle.lawful.proofs.PlainLines.{step-plain, post-plain}
 use Rattle.lawful.proofs.XesReads.{printed-log-reads}
 use Rattle.lawful.proofs.ToldLawful.{act-right}
-use Rattle.lawful.proofs.OwnLog.{whole-accepted, own-log-lawful}
+use Rattle.lawful.proofs.OwnLog.{fresh-words, whole-accepted, whole-posted, own-log-lawful}
 
 module _ (t : List ℕ) where
   line-plain : (a : Act) (z : List ℕ) → Plain (lineTold t a z)
@@ -38,15 +39,17 @@ module _ (t : List ℕ) where
         told-entries rest (did t a z .state) (did-valid t a z v) (and-right (eqb (did t a z .number) 0) (allAccepted t rest (did t a z .state)) h) (words .1),
       )
 
-  -- "a log made of a run's own lines, in the text that the run program prints, is lawful (for every model, state reached from fresh, and limit)"
-  module _ (right : valid t ≡ true) (acts : List Act) (accepted : allAccepted t acts (fresh t) ≡ true) (limit : ℕ) where
+  -- "a log made of a run's own lines, in the text that the run program prints, is lawful (for every model, state reached from fresh, and limit)"; small is what the type of a lent table says
+  module _ (right : valid t ≡ true) (small : (i : ℕ) → at t i ≤ greatest) (acts : List Act) (accepted : allAccepted t acts (fresh t) ≡ true) (posted : AllPosted acts) (limit : ℕ) where
     abbrev whole : List Act
     whole = acts ++ runSteps t limit (after t acts (fresh t))
 
     abbrev printed : List ℕ
     printed = logText (told t whole (fresh t))
 
-    pub run-log-lawful : AllWords t whole (fresh t) → length printed ≤ logMost → judgedTo t printed ≡ lawful
-    run-log-lawful words short =
-        let back = printed-log-reads (told t whole (fresh t)) (told-entries whole (fresh t) (fresh-valid t right) (whole-accepted t right acts accepted limit) words) short in
-        own-log-lawful t right acts accepted limit words printed (length printed) (back .whole) (back .lines-are)
+    pub run-log-lawful : length printed ≤ logMost → judgedTo t printed ≡ lawful
+    run-log-lawful short =
+        let taken : allAccepted t whole (fresh t) ≡ true = whole-accepted t right small acts accepted posted limit in
+        let words : AllWords t whole (fresh t) = fresh-words t right small whole taken (whole-posted t right small acts accepted posted limit) in
+        let back = printed-log-reads (told t whole (fresh t)) (told-entries whole (fresh t) (fresh-valid t right) taken words) short in
+        own-log-lawful t right small acts accepted posted limit printed (length printed) (back .whole) (back .lines-are)

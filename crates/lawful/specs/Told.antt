@@ -22,7 +22,13 @@ unfoldable pub told : List ℕ → List Act → List ℕ → List (List ℕ)
 told t [] z = []
 told t (a ∷ rest) z = lineTold t a z ∷ told t rest (did t a z .state)
 
--- WHAT IS SENT, CONSUMED OR POSTED is in words: the types of the calls say so
+-- WHAT IS POSTED is in words, as the type of the call says
+unfoldable pub AllPosted : List Act → Type 0
+AllPosted [] = Unit {0}
+AllPosted (aStep n ∷ rest) = AllPosted rest
+AllPosted (aPost name g ∷ rest) = ((j : ℕ) → at (g .values) j ≤ greatest) × AllPosted rest
+
+-- so is all that is sent, consumed or posted, from a table in words
 unfoldable pub message : List ℕ → Act → List ℕ → Tuple
 message t (aStep n) z = stepped t z n .answer .tuple
 message t (aPost name g) z = g
