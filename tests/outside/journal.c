@@ -315,7 +315,7 @@ static void put_stranger(struct journal *j, bool inside) {
     note(j, j->n);
     if (j->fault == TEXT_INSIDE || j->fault == TEXT_BEFORE) {
         put(j, "%s ", ONE_OF(j, none));
-        if (j->text[j->due.beside] != '<' && chance(j->r, 20)) j->end = j->due.beside + 1; /* one byte of it is enough */
+        if (!strchr("<&", j->text[j->due.beside]) && chance(j->r, 20)) j->end = j->due.beside + 1; /* one byte of it is enough */
     } else put(j, "%s", inside && chance(j->r, 30) ? "<event>" : ONE_OF(j, strangers));
 }
 
