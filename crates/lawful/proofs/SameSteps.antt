@@ -3,19 +3,15 @@ use Prim.Native.Nat.{ℕ, suc, _+_, _-_, _≤_}
 use mathlib.Core.Path.{_≡_, refl, sym, _∙_, ap, ap₂}
 use mathlib.Core.Bool.{Bool, true}
 use mathlib.Core.List.{List, [], _∷_, _++_}
-use lib.Dec.{eqb, leb, ltb}
+use lib.Dec.{eqb, ltb}
 use lib.ListN.{length}
 use borrow.Author.Tests.{eq-eqb}
-use Rattle.words.specs.Iter.{iter}
 use Rattle.words.specs.Pick.{if_then_else_}
 use Rattle.words.specs.Words.{at}
 use Rattle.words.specs.Writes.{writes}
 use Rattle.words.specs.Counts.{values}
-use Rattle.model.specs.Places.{operandNumber, leftPlace}
-use Rattle.model.specs.Table.{itemAt, messageLength}
 use Rattle.state.specs.Places.{valuesIn, slotsIn, slotWords, queueWords, queuePlace}
-use Rattle.state.specs.Instances.{withField, withInstance, withMade}
-use Rattle.meaning.specs.declared.Value.the-variants.{Number}
+use Rattle.state.specs.Instances.{withInstance, withMade}
 use Rattle.meaning.specs.declared.Tuple.{Tuple}
 use Rattle.meaning.specs.declared.Name.{Name}
 use Rattle.meaning.specs.declared.Evaluated.{Evaluated}
@@ -23,38 +19,19 @@ use Rattle.meaning.specs.declared.Traffic.the-variants.{Nothing, Consumed, Sent
 use Rattle.meaning.specs.Tuples.{empty, sameTuple}
 use Rattle.meaning.specs.Messages.{without}
 use Rattle.meaning.specs.Queues.{messagesOf, messageWord, messagesWord, queueWord, withMessages, sending, tidied}
-use Rattle.meaning.specs.Expressions.{expressionOf}
-use Rattle.meaning.specs.Templates.{binds, itemValue, evaluated, bindOne, bound}
 use Rattle.meaning.specs.Assignments.{Assigned}
-use Rattle.meaning.specs.Changes.{expected, received, messageSent, taken, moved}
+use Rattle.meaning.specs.Changes.{taken, moved}
 use Rattle.meaning.specs.Refusals.{Refusal, firstRefusal}
-use Rattle.meaning.specs.Step.{Site, Outcome, siteOf, poolNamed, elementNamed, moveNamed, receives, sends, template, work, sent, afterTaking, messageNamed, refusals, instanceAfter, madeAfter, instancesAfter, queuesAfter, traffic, step}
+use Rattle.meaning.specs.Step.{Site, Outcome, siteOf, poolNamed, elementNamed, moveNamed, receives, sends, afterTaking, messageNamed, refusals, instanceAfter, madeAfter, instancesAfter, queuesAfter, traffic, step}
 use Rattle.meaning.specs.Post.{postRefusals, post}
 use Rattle.values.proofs.TupleLaws.{same-value, same-sym}
 use Rattle.queues.proofs.MessageLaws.{same-both}
 use Rattle.queues.proofs.ChangeLaws.{tidied-same}
 use Rattle.steps.proofs.Choices.{chosen}
-use Rattle.listed.proofs.SameValues.{withGiven, accepted-same}
+use Rattle.listed.proofs.SameValues.{y, template-same, work-same, sent-same, withGiven, accepted-same}
 
 -- TWO TUPLES WITH EQUAL VALUES
 module _ (g k : Tuple) (same : sameTuple g k ≡ true) where
-  item-same : (el : List ℕ) (b : ℕ) (h : List ℕ) (j : ℕ) → itemValue el b h g j ≡ itemValue el b h k j
-  unfolding itemValue
-  item-same el b h j =
-      ap (λ v. if leb (messageLength el b) j then Number 0 else if binds el b j then Number v else expressionOf (itemAt el b j) h) (same-value g k same j)
-
-  evaluated-same : (el : List ℕ) (b : ℕ) (h : List ℕ) → evaluated el b h g ≡ evaluated el b h k
-  unfolding evaluated
-  evaluated-same el b h = rw (item-same el b h 0, item-same el b h 1, item-same el b h 2, item-same el b h 3)
-
-  bind-same : (el : List ℕ) (b j : ℕ) (h : List ℕ) → bindOne el b g j h ≡ bindOne el b k j h
-  unfolding bindOne
-  bind-same el b j h = ap (λ v. if binds el b j then withField h (at (itemAt el b j) (leftPlace + operandNumber)) v else h) (same-value g k same j)
-
-  bound-same : (el : List ℕ) (b : ℕ) (h : List ℕ) → bound el b g h ≡ bound el b k h
-  unfolding bound
-  bound-same el b h = ap (λ (f : ℕ → List ℕ → List ℕ). iter f h values) (λ i j y. bind-same el b j y i)
-
   without-same : (ms : List Tuple) → without g ms ≡ without k ms
   unfolding without
   without-same [] = refl
@@ -63,39 +40,24 @@ module _ (g k : Tuple) (same : sameTuple g k ≡ true) where
 
 -- THE SAME SITE with equal values
 module _ (x : Site) (g : Tuple) (same : sameTuple (x .given) g ≡ true) where
-  abbrev y : Site
-  y = record { element = x .element; move = x .move; branch = x .branch; given = g; made = x .made; limit = x .limit; instance = x .instance }
-
-  template-same : template x ≡ template y
-  unfolding template expected
-  template-same = rw (evaluated-same (x .given) g same (x .element) (x .branch) (x .instance))
-
-  work-same : work x ≡ work y
-  unfolding work received
-  work-same = rw (bound-same (x .given) g same (x .element) (x .branch) (x .instance))
-
-  sent-same : sent x ≡ sent y
-  unfolding sent
-  sent-same = ap (λ (w : Assigned). messageSent (x .element) (w .instance) (x .move) (x .branch)) work-same
-
-  after-same : instanceAfter x ≡ instanceAfter y
+  after-same : instanceAfter x ≡ instanceAfter (y x g same)
   unfolding instanceAfter afterTaking
-  after-same = ap (λ (w : Assigned). moved (x .element) (x .move) (x .branch) (taken (x .element) (x .move) (x .branch) (w .instance))) work-same
+  after-same = ap (λ (w : Assigned). moved (x .element) (x .move) (x .branch) (taken (x .element) (x .move) (x .branch) (w .instance))) (work-same x g same)
 
-  queues-same : (q : List ℕ) → queuesAfter x q ≡ queuesAfter y q
+  queues-same : (q : List ℕ) → queuesAfter x q ≡ queuesAfter (y x g same) q
   unfolding queuesAfter
   queues-same q =
       ap₂ (λ (ms : List Tuple) (e : Evaluated). if receives x then withMessages q (messageNamed x) ms else if sends x then sending q (messageNamed x) (e .tuple) else q)
-      (without-same (x .given) g same (messagesOf q (messageNamed x))) sent-same
+      (without-same (x .given) g same (messagesOf q (messageNamed x))) (sent-same x g same)
 
-  traffic-same : traffic x ≡ traffic y
+  traffic-same : traffic x ≡ traffic (y x g same)
   unfolding traffic
   traffic-same =
       ap₂ (λ (e d : Evaluated).
       if receives x then record { number = 0; traffic = Consumed; name = messageNamed x; tuple = e .tuple }
       else if sends x then record { number = 0; traffic = Sent; name = messageNamed x; tuple = d .tuple }
       else record { number = 0; traffic = Nothing; name = 0; tuple = empty })
-      template-same sent-same
+      (template-same x g same) (sent-same x g same)
 
 -- A STEP that is accepted
 module _ (t s q : List ℕ) (n : Name) (allowed : firstRefusal (refusals t s q n) ≡ 0) where

@@ -56,18 +56,18 @@ module _ (g k : Tuple) (same : sameTuple g k ≡ true) where
 
 -- THE SAME SITE with equal values
 module _ (x : Site) (g : Tuple) (same : sameTuple (x .given) g ≡ true) where
-  abbrev y : Site
+  abbrev pub y : Site
   y = record { element = x .element; move = x .move; branch = x .branch; given = g; made = x .made; limit = x .limit; instance = x .instance }
 
-  template-same : template x ≡ template y
+  pub template-same : template x ≡ template y
   unfolding template expected
   template-same = rw (evaluated-same (x .given) g same (x .element) (x .branch) (x .instance))
 
-  work-same : work x ≡ work y
+  pub work-same : work x ≡ work y
   unfolding work received
   work-same = rw (bound-same (x .given) g same (x .element) (x .branch) (x .instance))
 
-  sent-same : sent x ≡ sent y
+  pub sent-same : sent x ≡ sent y
   unfolding sent
   sent-same = ap (λ (w : Assigned). messageSent (x .element) (w .instance) (x .move) (x .branch)) work-same
 
