@@ -110,7 +110,7 @@ static void fill_state(struct setting *s, bool every) {
         for (unsigned i = 0; i < INSTANCES; i++) {
             word *h = instance_at(s->state, p, i);
             for (unsigned e = 0; e < EDGES; e++) h[e] = every || e == 17;
-            for (unsigned d = 0; d < 4; d++) h[DEFINED + d] = 1, h[FIELD_VALUES + d] = d ? d : i;
+            for (unsigned d = 0; d < 4; d++) h[defined_at(d)] = 1, h[value_at(d)] = d ? d : i;
         }
     }
     for (unsigned m = 0; m < NAMES; m++) fill_queue(queue_at(s->state, m), m);

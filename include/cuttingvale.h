@@ -20,7 +20,7 @@ extern "C" {
 #endif
 
 #define CV_TABLE_WORDS 33549
-#define CV_STATE_WORDS 12308
+#define CV_STATE_WORDS 12341
 #define CV_TEXT_MOST 65536
 #define CV_DRAWING_MOST 65536
 #define CV_LOG_MOST 65536
@@ -53,10 +53,11 @@ extern "C" {
    4 + 1792 p + 112 i            instance i of pool p:
        + e - 1                   tokens on edge e, at most 255
        + 48 + n - 1, 64 + n - 1  active and ready count of task n, at most 255
-       + 80 + d, 96 + d          1 where field d is defined; its value
-   7172 + 321 m                  how many messages queue m holds, at most 64; then for each, oldest first, its length and 4 values */
+       + 80 + 2 d, 81 + 2 d      1 where field d is defined; its value
+   7172                          33 words that all instances share; not in use, so 0
+   7205 + 321 m                  how many messages queue m holds, at most 64; then for each, oldest first, its length and 4 values */
 #define CV_INSTANCE(p, i) (4 + 1792 * (p) + 112 * (i))
-#define CV_QUEUE(m) (7172 + 321 * (m))
+#define CV_QUEUE(m) (7205 + 321 * (m))
 
 /* THE ITEMS OF A POLL, 64 of 11 words: 1 for a post, anything else a step; the pool's number, or the name posted to; instance, element, phase, branch,
    which a post does not use; the length of the message and its 4 values. What stands behind the items counted is ignored. */

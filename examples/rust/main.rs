@@ -3,7 +3,7 @@
 /// What include/cuttingvale.h declares; nothing else here is `unsafe` but the calls in `Engine`.
 mod c {
     pub const TABLE_WORDS: usize = 33549;
-    pub const STATE_WORDS: usize = 12308;
+    pub const STATE_WORDS: usize = 12341;
     pub const NOT_LISTED: u32 = 6;
     pub const CONSUMED: u32 = 1;
     pub const SENT: u32 = 2;

@@ -187,9 +187,9 @@ static bool instance_fits(const word *h, const word *most) {
     word over = 0;
     for (unsigned k = 0; k < DEFINED; k++) over |= h[k] & (word)~most[k];
     for (unsigned d = 0; d < FIELDS; d++) {
-        word defined = h[DEFINED + d];
+        word defined = h[defined_at(d)];
         over |= defined & (word)~1u;
-        over |= h[FIELD_VALUES + d] & (defined ? 0 : GREATEST);
+        over |= h[value_at(d)] & (defined ? 0 : GREATEST);
     }
     return over == 0;
 }
@@ -227,6 +227,7 @@ bool fitting(const word *t, const word *z) {
     if (!valid(t)) return false;
     for (unsigned p = 0; p < POOLS; p++)
         if (!instances_fit(t, z, p)) return false;
+    if (!all_zero(z + SHARED, SHARED_WORDS)) return false;
     for (unsigned m = 0; m < NAMES; m++)
         if (!queue_fits(z + QUEUES + QUEUE_WORDS * m)) return false;
     return true;

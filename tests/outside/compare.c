@@ -290,7 +290,7 @@ static void fill_up(struct random *r) {
                 if (el[KIND] != TASK && chance(r, 40)) h[READY + el[TASK_NUMBER] - 1] = chance(r, 50) ? 1 : 254 + draw(r, 2);
             }
             for (unsigned d = 0; d < 4; d++)
-                if (chance(r, 50)) h[DEFINED + d] = 1, h[FIELD_VALUES + d] = chance(r, 90) ? draw(r, 4) : some_end(r);
+                if (chance(r, 50)) h[defined_at(d)] = 1, h[value_at(d)] = chance(r, 90) ? draw(r, 4) : some_end(r);
         }
     for (unsigned m = 0; m < NAMES; m++) {
         if (!chance(r, 30)) continue;

@@ -88,10 +88,11 @@ static void do_run(uint16_t limit) {
     printf("steps %u left %u\n", r.steps, r.left);
 }
 
-static void print_pairs(const word *flags, const word *values, unsigned n, unsigned first) {
+/* flag k and value k stand stride words behind those before them */
+static void print_pairs(const word *flags, const word *values, unsigned stride, unsigned n, unsigned first) {
     bool any = false;
     for (unsigned k = 0; k < n; k++)
-        if (flags[k]) printf("%s%u:%u", any ? "," : "", k + first, values[k]), any = true;
+        if (flags[stride * k]) printf("%s%u:%u", any ? "," : "", k + first, values[stride * k]), any = true;
     if (!any) putchar('-');
 }
 
@@ -100,13 +101,13 @@ static void do_state(void) {
         for (unsigned i = 0; i < state[p]; i++) {
             const word *h = instance_at(state, p, i);
             printf("instance %u %u tokens ", pool_at(table, p)[0], i);
-            print_pairs(h, h, EDGES, 1);
+            print_pairs(h, h, 1, EDGES, 1);
             fputs(" active ", stdout);
-            print_pairs(h + ACTIVE, h + ACTIVE, TASKS, 1);
+            print_pairs(h + ACTIVE, h + ACTIVE, 1, TASKS, 1);
             fputs(" ready ", stdout);
-            print_pairs(h + READY, h + READY, TASKS, 1);
+            print_pairs(h + READY, h + READY, 1, TASKS, 1);
             fputs(" fields ", stdout);
-            print_pairs(h + DEFINED, h + FIELD_VALUES, FIELDS, 0);
+            print_pairs(h + defined_at(0), h + value_at(0), 2, FIELDS, 0);
             putchar('\n');
         }
     for (unsigned m = 0; m < NAMES; m++) {

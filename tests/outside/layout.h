@@ -28,8 +28,8 @@ enum { KIND = 0, TASK_NUMBER = 1, MODE = 2, ENTRIES = 3, EXITS = 12, CONDITIONS 
 enum { POOL_LIMIT = 1, POOL_COUNT = 2, POOL_ELEMENTS = 3, POOL_WORDS = 8387 };
 
 /* An instance's words; a state's. */
-enum { ACTIVE = 48, READY = 64, DEFINED = 80, FIELD_VALUES = 96, INSTANCE_WORDS = 112, POOL_INSTANCES = INSTANCE_WORDS * INSTANCES, QUEUES = 7172,
-       SLOT_WORDS = 5, QUEUE_WORDS = 321 };
+enum { ACTIVE = 48, READY = 64, DEFINED = 80, INSTANCE_WORDS = 112, POOL_INSTANCES = INSTANCE_WORDS * INSTANCES, SHARED = 7172, SHARED_WORDS = 33,
+       QUEUES = SHARED + SHARED_WORDS, SLOT_WORDS = 5, QUEUE_WORDS = 321 };
 
 enum { START = 1, START_RCV, END, TERMINATE, END_SND, INTER_RCV, INTER_SND, EVENT_BASED, AND_SPLIT, AND_JOIN, XOR_JOIN, XOR_SPLIT, TASK, TASK_RCV, TASK_SND,
        KINDS };
@@ -50,6 +50,8 @@ static inline const word *message_at(const word *el, unsigned b) { return el + E
 static inline const word *item_at(const word *message, unsigned j) { return message + 2 + EXPRESSION_WORDS * j; }
 static inline const word *assignment_at(const word *el, unsigned j) { return el + ASSIGNED + 1 + ASSIGNMENT_WORDS * j; }
 static inline word *instance_at(word *z, unsigned p, unsigned i) { return z + POOLS + POOL_INSTANCES * p + INSTANCE_WORDS * i; }
+static inline unsigned defined_at(unsigned d) { return DEFINED + 2 * d; }
+static inline unsigned value_at(unsigned d) { return defined_at(d) + 1; }
 static inline word *queue_at(word *z, unsigned m) { return z + QUEUES + QUEUE_WORDS * m; }
 static inline unsigned used(unsigned column, unsigned n) { return column == MANY ? n : column; }
 

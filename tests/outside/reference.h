@@ -5,7 +5,7 @@
 #include <stddef.h>
 #include <stdint.h>
 
-enum { REF_TABLE_WORDS = 33549, REF_STATE_WORDS = 12308, REF_TEXT_MOST = 65536, REF_ITEMS = 64, REF_ITEM_WORDS = 11 };
+enum { REF_TABLE_WORDS = 33549, REF_STATE_WORDS = 12341, REF_TEXT_MOST = 65536, REF_ITEMS = 64, REF_ITEM_WORDS = 11 };
 
 /* a word of a table or a state, and a value: 0 to 4,294,967,295 */
 typedef uint32_t ref_word;

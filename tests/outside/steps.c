@@ -52,7 +52,7 @@ enum { UNDEFINED = -1 };
 
 static value operand(const word *x, const word *h) {
     if (x[0] == 0) return x[1];
-    return h[DEFINED + x[1]] ? (value)h[FIELD_VALUES + x[1]] : UNDEFINED;
+    return h[defined_at(x[1])] ? (value)h[value_at(x[1])] : UNDEFINED;
 }
 
 static value expression(const word *x, const word *h) {
@@ -103,7 +103,7 @@ static bool work_out(const word *message, const word *h, const ref_tuple *given,
     return defined;
 }
 
-static void set_field(word *h, unsigned d, word v) { h[DEFINED + d] = 1, h[FIELD_VALUES + d] = v; }
+static void set_field(word *h, unsigned d, word v) { h[defined_at(d)] = 1, h[value_at(d)] = v; }
 
 static bool assign(const word *el, word *h) {
     for (unsigned j = 0; j < el[ASSIGNED]; j++) {

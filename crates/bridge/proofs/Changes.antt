@@ -17,7 +17,7 @@ use Rattle.limits.specs.Limits.{within}
 use Rattle.kinds.specs.declared.moves.Move.{Move}
 use Rattle.kinds.specs.Moves.{up, down}
 use Rattle.model.specs.Table.{taskIn, entryCount, exitCount, entryAt, exitAt}
-use Rattle.state.specs.Places.{tokenPlace, activePlace, readyPlace, instanceWords}
+use Rattle.state.specs.Places.{tokenPlace, activePlace, readyPlace, copyWords}
 use Rattle.state.specs.Instances.{tokens, activeCount, readyCount, withTokens, withActive, withReady}
 use Rattle.meaning.specs.Requirements.{touched, first}
 use Rattle.meaning.specs.Changes.{takeOne, taken, more, countChanged, activeChanged, readyChanged, putOne, puts}
@@ -52,11 +52,11 @@ ready-is h n l r = chosen (within 1 tasks n) _ 0 (is-inside 1 tasks n l r)
 -- A LOOP OVER EDGES: each turn changes the tokens of one edge by `turn`, which is `op` there; `many` is op for one edge after the other
 module _ (edge turn op : ℕ → ℕ) (many : (ℕ → ℕ) → List ℕ → ℕ → ℕ)
     (many-none : (σ : ℕ → ℕ) → many σ [] ≡ σ) (many-more : (σ : ℕ → ℕ) (k : ℕ) (ks : List ℕ) → many σ (k ∷ ks) ≡ many (put σ k (op (σ k))) ks)
-    (h : List ℕ) (long : length h ≡ instanceWords) where
+    (h : List ℕ) (long : length h ≡ copyWords) where
   abbrev go : ℕ → List ℕ → List ℕ
   go j g = withTokens g (edge j) (turn (tokens g (edge j)))
 
-  length-turned : (n : ℕ) → length (iter go h n) ≡ instanceWords
+  length-turned : (n : ℕ) → length (iter go h n) ≡ copyWords
   unfolding iter
   length-turned zero = long
   length-turned (suc n) = length-set (iter go h n) (tokenPlace (edge n)) (turn (tokens (iter go h n) (edge n))) ∙ length-turned n
@@ -116,8 +116,8 @@ module _ (cell n x : ℕ) (store : ℕ → List ℕ) (σ : ℕ → ℕ) (into : 
 -- A MOVE m at an element el by branch b
 module _ (el : List ℕ) (m : Move) (b : ℕ) where
   module _ (entries : (j : ℕ) → j < touched (m .takes) (entryCount el) → (1 ≤ entryAt el (first (m .takes) b + j)) × (entryAt el (first (m .takes) b + j) ≤ edges))
-      (h : List ℕ) (long : length h ≡ instanceWords) where
-    pub taken-long : length (taken el m b h) ≡ instanceWords
+      (h : List ℕ) (long : length h ≡ copyWords) where
+    pub taken-long : length (taken el m b h) ≡ copyWords
     unfolding taken takeOne
     taken-long = length-turned (λ j. entryAt el (first (m .takes) b + j)) (λ v. v - 1) (λ v. v - 1) decs (unfold decs in λ σ. refl) (unfold decs in λ σ k ks. refl) h long (touched (m .takes) (entryCount el))
 
@@ -130,7 +130,7 @@ module _ (el : List ℕ) (m : Move) (b : ℕ) where
 
   module _ (exits : (j : ℕ) → j < touched (m .puts) (exitCount el) → (1 ≤ exitAt el (first (m .puts) b + j)) × (exitAt el (first (m .puts) b + j) ≤ edges))
       (apart : (j k : ℕ) → j < touched (m .puts) (exitCount el) → k < touched (m .puts) (exitCount el) → (j ≡ k → ⊥) → exitAt el (first (m .puts) b + j) ≡ exitAt el (first (m .puts) b + k) → ⊥)
-      (h : List ℕ) (long : length h ≡ instanceWords) (room : (j : ℕ) → j < touched (m .puts) (exitCount el) → tokens h (exitAt el (first (m .puts) b + j)) < countMost) where
+      (h : List ℕ) (long : length h ≡ copyWords) (room : (j : ℕ) → j < touched (m .puts) (exitCount el) → tokens h (exitAt el (first (m .puts) b + j)) < countMost) where
     -- inc(σe, E)
     pub puts-is : localOf (puts el m b h) ≡ (localOf h edges: incs (localOf h .σe) (putEdges el m b))
     unfolding puts putOne incs
@@ -144,7 +144,7 @@ module _ (el : List ℕ) (m : Move) (b : ℕ) where
         (λ k r q. let v = exits k (omega arith) in apart j k l (omega arith) (λ e. omega arith) (omega (arith, w .0, v .0))) in
         more-one _ (omega (arith, s, room j l)))
 
-  module _ (task : (m .active ≡ 0 → ⊥) ⊎ (m .ready ≡ 0 → ⊥) → 1 ≤ taskIn el) (few : taskIn el ≤ tasks) (h : List ℕ) (long : length h ≡ instanceWords)
+  module _ (task : (m .active ≡ 0 → ⊥) ⊎ (m .ready ≡ 0 → ⊥) → 1 ≤ taskIn el) (few : taskIn el ≤ tasks) (h : List ℕ) (long : length h ≡ copyWords)
       (raise-active : m .active ≡ up → activeCount h (taskIn el) < countMost) (raise-ready : m .ready ≡ up → readyCount h (taskIn el) < countMost) where
     abbrev n : ℕ
     n = taskIn el
@@ -152,11 +152,11 @@ module _ (el : List ℕ) (m : Move) (b : ℕ) where
     abbrev mid : List ℕ
     mid = activeChanged el m h
 
-    mid-long : length mid ≡ instanceWords
+    mid-long : length mid ≡ copyWords
     unfolding activeChanged
     mid-long = length-set h (activePlace n) (countChanged (m .active) (activeCount h n)) ∙ long
 
-    pub counts-long : length (readyChanged el m mid) ≡ instanceWords
+    pub counts-long : length (readyChanged el m mid) ≡ copyWords
     unfolding readyChanged
     counts-long = length-set mid (readyPlace n) (countChanged (m .ready) (readyCount mid n)) ∙ mid-long
 

@@ -19,7 +19,7 @@ use Rattle.words.proofs.AllLaws.{and-left, and-right, all-at, all-of}
 use Rattle.words.proofs.PickLaws.{and-true, and-false-left, and-false-right}
 use Rattle.model.specs.Places.{operandNumber, formPlace, leftPlace, binding, assignedIn}
 use Rattle.model.specs.Table.{messageLength, itemAt, assignmentCount, assignmentAt}
-use Rattle.state.specs.Places.{definedPlace, valuePlace, instanceWords}
+use Rattle.state.specs.Places.{definedPlace, valuePlace, copyWords}
 use Rattle.state.specs.Instances.{withField}
 use Rattle.limits.specs.Limits.{expressionFits}
 use Rattle.meaning.specs.declared.Value.{Value}
@@ -89,10 +89,10 @@ module _ (f : ℕ → Assignments) (S : ℕ → ℕ → Value) (most : ℕ) wher
 
 -- an instance g that differs from h in its fields alone
 pub record FieldsOnly (h g : List ℕ) : Type 0 where
-  pub long : length g ≡ instanceWords
+  pub long : length g ≡ copyWords
   pub rest : localOf g ≡ (localOf h fields: localOf g .σd)
 
-pub fields-start : (h : List ℕ) → length h ≡ instanceWords → FieldsOnly h h
+pub fields-start : (h : List ℕ) → length h ≡ copyWords → FieldsOnly h h
 fields-start h long = record { long = long; rest = refl }
 
 pub fields-then : (h g k : List ℕ) → FieldsOnly h g → FieldsOnly g k → FieldsOnly h k
@@ -123,7 +123,7 @@ module _ (el : List ℕ) (b : ℕ) (g : Tuple) where
   abbrev item : ℕ → Item
   item j = itemOf (itemAt el b j)
 
-  module _ (right : (j : ℕ) → j < len → isBind j ≡ true → boundField j < fields) (few : len ≤ values) (h : List ℕ) (long : length h ≡ instanceWords) where
+  module _ (right : (j : ℕ) → j < len → isBind j ≡ true → boundField j < fields) (few : len ≤ values) (h : List ℕ) (long : length h ≡ copyWords) where
     abbrev st : ℕ → List ℕ
     st j = iter (bindOne el b g) h j
 
@@ -416,7 +416,7 @@ module _ (el : List ℕ) (b : ℕ) (h : List ℕ) (few : messageLength el b ≤ 
 
 -- THE ASSIGNMENTS
 module _ (el : List ℕ) (few : assignmentCount el ≤ assignments) (right : (j : ℕ) → j < assignmentCount el → at (assignmentAt el j) 0 < fields)
-    (fits : (j : ℕ) → j < assignmentCount el → expressionFits (drop assignedIn (assignmentAt el j)) ≡ true) (h : List ℕ) (long : length h ≡ instanceWords) where
+    (fits : (j : ℕ) → j < assignmentCount el → expressionFits (drop assignedIn (assignmentAt el j)) ≡ true) (h : List ℕ) (long : length h ≡ copyWords) where
   abbrev count : ℕ
   count = assignmentCount el
 

@@ -3,7 +3,7 @@
 use Prim.Native.Nat.{ℕ, zero, suc, _+_, _<_, _≤_}
 use mathlib.Core.Path.{_≡_, refl, sym, _∙_, ap, subst}
 use mathlib.Core.Bool.{Bool, true, _&&_, false≢true}
-use mathlib.Core.List.{List}
+use mathlib.Core.List.{List, _++_}
 use mathlib.Core.Logic.{inl, inr}
 use native.Mathlib.Omega.{arith}
 use lib.Dec.{eqb, ltb}
@@ -23,10 +23,11 @@ use Rattle.limits.specs.Limits.{within, tableFits}
 use Rattle.meaning.specs.declared.Value.the-variants.{Undefined}
 use Rattle.meaning.specs.declared.Name.{Name}
 use Rattle.meaning.specs.Expressions.{fieldOf}
-use Rattle.meaning.specs.Step.{siteOf, poolNamed, instanceOf, instanceAfter, madeAfter, instancesAfter}
+use Rattle.meaning.specs.Step.{siteOf, poolNamed, instanceOf, sharedOf, instanceAfter, madeAfter, instancesAfter}
 use Rattle.queues.proofs.SlotLaws.{by-order}
 use Rattle.steps.proofs.Choices.{by-test, chosen, passed}
 use Rattle.steps.proofs.Elements.{pools-few}
+use Rattle.steps.proofs.Seen.{seen-own}
 use Rattle.steps.proofs.OnlyOwn.{only-own, own-words, own-made}
 use Rattle.steps.proofs.MadeAfter.{Makes}
 use Rattle.paper.specs.States.{Local, blank, put}
@@ -57,6 +58,10 @@ instance-at s p i k l = getD-tab (λ k. at s (instancePlace p i + k)) instanceWo
 
 pub instance-alike : (s r : List ℕ) (p i : ℕ) → ((k : ℕ) → k < instanceWords → at r (instancePlace p i + k) ≡ at s (instancePlace p i + k)) → localOf (instanceOf r p i) ≡ localOf (instanceOf s p i)
 instance-alike s r p i e = local-alike (instanceOf r p i) (instanceOf s p i) (λ k l. instance-at r p i k l ∙ e k l ∙ sym (instance-at s p i k l))
+
+-- an instance as a step sees it: what all share is no part of it
+pub seen-local : (s own : List ℕ) → length own ≡ instanceWords → localOf (own ++ sharedOf s) ≡ localOf own
+seen-local s own long = local-alike (own ++ sharedOf s) own (seen-own s own long)
 
 -- nothing but zeros
 zero-at : (n k : ℕ) → at (replicate n 0) k ≡ 0
@@ -103,17 +108,18 @@ module _ (t s : List ℕ) (n : Name) (fits : tableFits t ≡ true) (long : lengt
   own-after : localOf (instanceOf r P i₀) ≡ localOf (instanceAfter (siteOf t s n))
   own-after =
       local-alike (instanceOf r P i₀) (instanceAfter (siteOf t s n))
-      (λ k l. instance-at r P i₀ k l ∙ own-words t s n (let a = few in omega arith) (let a = few in let b = inst-few in omega (arith, long)) k l)
+      (λ k l. instance-at r P i₀ k l ∙ own-words t s n (let a = few in omega arith) (let a = few in let b = inst-few in omega arith) (omega (arith, long)) k l)
 
   made-there : madeCount r P ≡ madeAfter (siteOf t s n)
   made-there = own-made t s n (let a = few in omega (arith, long))
 
   made-other : (o : ℕ) → o < pools → (o ≡ P → ⊥) → madeCount r o ≡ madeCount s o
-  made-other o l ne = only-own t s n (madePlace o) (inl (omega arith)) ne
+  made-other o l ne = only-own t s n (madePlace o) (omega arith) (inl (omega arith)) ne
 
   words-other : (o i : ℕ) → o < pools → i < instances → (o ≡ P → i ≡ i₀ → ⊥) → (k : ℕ) → k < instanceWords → at r (instancePlace o i + k) ≡ at s (instancePlace o i + k)
   words-other o i lo li ne k l =
       only-own t s n (instancePlace o i + k)
+      (omega arith)
       (let b = inst-few in
       by-order o P
       (λ y. inl (omega arith))

@@ -22,7 +22,7 @@ use Rattle.kinds.specs.Moves as Row
 use Rattle.model.specs.Places.{exitsPlace}
 use Rattle.model.specs.Places as Places
 use Rattle.model.specs.Table.{kindIn, taskIn, modeIn, entryCount, exitCount, entryAt, exitAt, conditionAt}
-use Rattle.state.specs.Places.{tokenPlace, instanceWords}
+use Rattle.state.specs.Places.{tokenPlace, copyWords}
 use Rattle.state.specs.Instances.{tokens, activeCount, readyCount}
 use Rattle.limits.specs.Limits.{conditionFits, elementFits}
 use Rattle.meaning.specs.declared.Value.{Value}
@@ -62,7 +62,7 @@ pub record Site (el : List ℕ) (m : Move) (b : ℕ) : Type 0 where
   pub asks-few : eqb (m .asks) on ≡ true → b < exitCount el
   pub asks-all : eqb (m .asks) on ≡ true → used (kindOf (kindIn el) .conditions) (at el exitsPlace) ≡ exitCount el
 
-module _ (el : List ℕ) (m : Move) (b : ℕ) (site : Site el m b) (h : List ℕ) (long : length h ≡ instanceWords) where
+module _ (el : List ℕ) (m : Move) (b : ℕ) (site : Site el m b) (h : List ℕ) (long : length h ≡ copyWords) where
   abbrev L : Local
   L = localOf h
 
@@ -245,7 +245,7 @@ module _ (el : List ℕ) (m : Move) (b : ℕ) (site : Site el m b) (h : List ℕ
     abbrev F : ℕ → Value
     F = localOf w .σd
 
-    T-long : length T ≡ instanceWords
+    T-long : length T ≡ copyWords
     T-long = taken-long el m b entry-in w (own .long)
 
     T-is : localOf T ≡ (L edges: decs (L .σe) (takenEdges el m b) fields: F)

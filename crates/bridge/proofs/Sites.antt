@@ -3,7 +3,7 @@
 use Prim.Native.Nat.{ℕ, _+_, _<_, _≤_}
 use mathlib.Core.Path.{_≡_, refl, sym, _∙_, ap, subst}
 use mathlib.Core.Bool.{Bool, true, false, not, _||_}
-use mathlib.Core.List.{List}
+use mathlib.Core.List.{List, _++_}
 use mathlib.Core.Logic.{_⊎_, ⊎-elim}
 use lib.Dec.{eqb}
 use lib.ListN.{length, replicate, length-replicate}
@@ -19,7 +19,7 @@ use Rattle.kinds.specs.Kinds.{one, kindOf, used}
 use Rattle.kinds.specs.Moves.{branch, on, making, moves, noMove, ruleOf, moveOf}
 use Rattle.model.specs.Places.{exitsPlace, formPlace, leftPlace, operandNumber, binding}
 use Rattle.model.specs.Table.{kindIn, taskIn, modeIn, exitCount, messageLength, itemAt}
-use Rattle.state.specs.Places.{instanceWords}
+use Rattle.state.specs.Places.{instanceWords, copyWords}
 use Rattle.limits.specs.Limits.{elementFits}
 use Rattle.meaning.specs.declared.Value.{Value}
 use Rattle.meaning.specs.declared.Tuple.{Tuple}
@@ -29,11 +29,12 @@ use Rattle.meaning.specs.Templates.{evaluated, gathered, bound}
 use Rattle.meaning.specs.Assignments.{Assigned, assigned}
 use Rattle.meaning.specs.Requirements.{branchCount}
 use Rattle.meaning.specs.Changes.{worked}
-use Rattle.meaning.specs.Step.{Site, siteOf, before, instanceOf, poolNamed, elementNamed, moveNamed, receives, sends, defined}
+use Rattle.meaning.specs.Step.{Site, siteOf, before, instanceOf, sharedOf, poolNamed, elementNamed, moveNamed, receives, sends, defined}
 use Rattle.engine.specs.Engine.{valid}
 use Rattle.steps.proofs.Choices.{by-test, by-choice, chosen, passed, chosen-true, passed-true}
 use Rattle.steps.proofs.Rows.{row-kind, row-one-way}
 use Rattle.steps.proofs.Elements.{bound-field, assigned-field}
+use Rattle.steps.proofs.Seen.{seen-long}
 use Rattle.steps.proofs.Found.{Found, element-named, message-there, length-few}
 use Rattle.steps.proofs.InstanceAfter.{branch-entry, branch-exit}
 use Rattle.checked.proofs.ChecksHold.{valid-fits}
@@ -65,7 +66,7 @@ module _ (t s : List ℕ) (v : valid t ≡ true) (n : Name) (f : Found t s n) wh
   g = n .given
 
   abbrev h : List ℕ
-  h = before (moveNamed t n) (instanceOf s (poolNamed t n) (n .instance))
+  h = before (moveNamed t n) (instanceOf s (poolNamed t n) (n .instance)) (sharedOf s)
 
   abbrev kind : Kind
   kind = kindOf (kindIn el)
@@ -76,9 +77,12 @@ module _ (t s : List ℕ) (v : valid t ≡ true) (n : Name) (f : Found t s n) wh
   pub fits : elementFits el ≡ true
   fits = element-named t s n (valid-fits t v) f
 
-  pub h-long : length h ≡ instanceWords
+  pub h-long : length h ≡ copyWords
   unfolding before
-  h-long = by-choice (λ y. length y ≡ instanceWords) (eqb (moveNamed t n .also) making) (replicate instanceWords 0) (instanceOf s (poolNamed t n) (n .instance)) (λ e. length-replicate {A = ℕ} instanceWords 0) (λ e. instance-long s (poolNamed t n) (n .instance))
+  h-long =
+      by-choice (λ (y : List ℕ). length (y ++ sharedOf s) ≡ copyWords) (eqb (moveNamed t n .also) making) (replicate instanceWords 0) (instanceOf s (poolNamed t n) (n .instance))
+      (λ e. seen-long s (replicate instanceWords 0) (length-replicate {A = ℕ} instanceWords 0))
+      (λ e. seen-long s (instanceOf s (poolNamed t n) (n .instance)) (instance-long s (poolNamed t n) (n .instance)))
 
   -- what every row has
   every-row : (test : Move → Bool) → each test moves ≡ true → test noMove ≡ true → test m ≡ true
@@ -182,7 +186,7 @@ module _ (t s : List ℕ) (v : valid t ≡ true) (n : Name) (f : Found t s n) wh
     bind-complete w u = bound-only el b g right short h h-long w u
 
   -- upd of what is assigned
-  module _ (k : List ℕ) (long : length k ≡ instanceWords) where
+  module _ (k : List ℕ) (long : length k ≡ copyWords) where
     pub work-fields : FieldsOnly k (worked el k m .instance)
     unfolding worked
     work-fields =

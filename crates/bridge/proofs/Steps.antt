@@ -3,10 +3,10 @@
 use Prim.Native.Nat.{ℕ, _+_, _<_, _≤_}
 use mathlib.Core.Path.{_≡_, refl, sym, _∙_, ap, subst}
 use mathlib.Core.Bool.{Bool, true, false, not, _&&_, _||_, false≢true}
-use mathlib.Core.List.{List, []}
+use mathlib.Core.List.{List, [], _++_}
 use native.Mathlib.Omega.{arith}
 use lib.Dec.{eqb, ltb}
-use lib.ListN.{length}
+use lib.ListN.{length, replicate, length-replicate}
 use borrow.Author.Tests.{eqb-true, eq-eqb, ne-eqb, not-true, ltb-true, lt-ltb}
 use Rattle.words.specs.Each.{each}
 use Rattle.words.specs.Pick.{if_then_else_}
@@ -19,7 +19,7 @@ use Rattle.kinds.specs.declared.moves.Move.{Move}
 use Rattle.kinds.specs.Moves.{on, making, clearing, moves, noMove, ruleOf, moveOf}
 use Rattle.model.specs.Places.{poolPlace}
 use Rattle.model.specs.Table.{poolCount, elementCount, elementAt, poolOf, limitOf, kindIn, modeIn, messageName, messageLength}
-use Rattle.state.specs.Places.{instanceWords}
+use Rattle.state.specs.Places.{instanceWords, copyWords}
 use Rattle.state.specs.Instances.{madeCount}
 use Rattle.limits.specs.Limits.{tableFits, elementFits}
 use Rattle.meaning.specs.declared.Value.{Value}
@@ -35,7 +35,7 @@ use Rattle.meaning.specs.Queues.{messageCount as count, messagesOf, sending}
 use Rattle.meaning.specs.Refusals.{firstRefusal}
 use Rattle.meaning.specs.Requirements.{branchCount, instanceNamed, belowLimit}
 use Rattle.meaning.specs.Changes.{expected, received, worked, messageSent, more}
-use Rattle.meaning.specs.Step.{Site, siteOf, before, instanceOf, poolNamed, elementNamed, moveNamed, exists, receives, sends, template, work, sent, defined, matches, afterTaking, instanceAfter, madeAfter, instancesAfter, queued, space, queuesAfter, refusals, traffic}
+use Rattle.meaning.specs.Step.{Site, siteOf, before, instanceOf, sharedOf, poolNamed, elementNamed, moveNamed, exists, receives, sends, template, work, sent, defined, matches, afterTaking, instanceAfter, madeAfter, instancesAfter, queued, space, queuesAfter, refusals, traffic}
 use Rattle.engine.specs.Engine.{valid}
 use Rattle.steps.proofs.Choices.{by-test, by-choice, chosen, passed, chosen-true}
 use Rattle.steps.proofs.Elements.{pools-few, limit-few, element-fits}
@@ -63,7 +63,7 @@ use Rattle.bridge.proofs.EachKind.{partsAt, Grants}
 use Rattle.bridge.proofs.Transitions.{process-sound, process-complete}
 use Rattle.bridge.proofs.Process as Process
 use Rattle.bridge.proofs.Mail.{mailOf, mail-consumed, mail-sent, has-times, times-has, times-values, equal-values, none-given, given-none}
-use Rattle.bridge.proofs.Pools.{blank-is, pool-number, instances-after, made-after}
+use Rattle.bridge.proofs.Pools.{instance-long, seen-local, blank-is, pool-number, instances-after, made-after}
 use Rattle.bridge.proofs.Sites as Sites
 
 or-right : (a c : Bool) → c ≡ true → a || c ≡ true
@@ -131,15 +131,21 @@ module _ (t s q : List ℕ) (v : valid t ≡ true) (state : Fitting t s q) (n : 
       (and-true (isPool t (n .pool)) (ltb (n .instance) (madeCount s p₀)) (lt-ltb p₀ (poolCount t) l) (lt-ltb (n .instance) (madeCount s p₀) r))
 
   abbrev h : List ℕ
-  h = before m (instanceOf s p₀ (n .instance))
+  h = before m (instanceOf s p₀ (n .instance)) (sharedOf s)
 
   found-is : eqb (m .also) making ≡ false → p₀ < poolCount t → n .instance < madeCount s p₀ → κ .σi (n .pool) (n .instance) ≡ localOf h
   unfolding before
-  found-is e l r = held-is l r ∙ ap localOf (sym (passed (eqb (m .also) making) _ (instanceOf s p₀ (n .instance)) e))
+  found-is e l r =
+      held-is l r
+      ∙ sym (seen-local s (instanceOf s p₀ (n .instance)) (instance-long s p₀ (n .instance)))
+      ∙ ap (λ (y : List ℕ). localOf (y ++ sharedOf s)) (sym (passed (eqb (m .also) making) (replicate instanceWords 0) (instanceOf s p₀ (n .instance)) e))
 
   begun-is : eqb (m .also) making ≡ true → blank ≡ localOf h
   unfolding before
-  begun-is e = sym (blank-is instanceWords) ∙ ap localOf (sym (chosen (eqb (m .also) making) _ (instanceOf s p₀ (n .instance)) e))
+  begun-is e =
+      sym (blank-is instanceWords)
+      ∙ sym (seen-local s (replicate instanceWords 0) (length-replicate {A = ℕ} instanceWords 0))
+      ∙ ap (λ (y : List ℕ). localOf (y ++ sharedOf s)) (sym (chosen (eqb (m .also) making) (replicate instanceWords 0) (instanceOf s p₀ (n .instance)) e))
 
   others-few : (o : ℕ) → o < pools → madeCount s o ≤ instances
   others-few o l = made-few t fits o (madeCount s o) (pool-parts t s o (state-instances t s q (state .fits) o l) .made)
@@ -208,7 +214,7 @@ module _ (t s q : List ℕ) (v : valid t ≡ true) (state : Fitting t s q) (n : 
     abbrev S : Process.Site el m b
     S = Sites.site t s v n f
 
-    abbrev long : length h ≡ instanceWords
+    abbrev long : length h ≡ copyWords
     long = Sites.h-long t s v n f
 
     abbrev W₀ : List ℕ

@@ -14,7 +14,7 @@ use Rattle.words.proofs.AllLaws.{and-left, and-right}
 use Rattle.words.proofs.PickLaws.{and-true}
 use Rattle.words.proofs.WritesLaws.{writes-in, writes-above}
 use Rattle.limits.specs.Limits.{within}
-use Rattle.state.specs.Places.{tokenPlace, activePlace, readyPlace, definedPlace, valuePlace, instanceWords}
+use Rattle.state.specs.Places.{tokenPlace, activePlace, readyPlace, definedPlace, valuePlace, copyWords}
 use Rattle.state.specs.Instances.{withTokens, withActive, withReady, withField}
 use Rattle.meaning.specs.declared.Value.{Value}
 use Rattle.meaning.specs.declared.Value.the-variants.{Undefined, Number}
@@ -66,7 +66,7 @@ module _ (h : List ℕ) where
       let b : at g (valuePlace d) ≡ at h (valuePlace d) = e (valuePlace d) (omega arith) in
       rw (a, b)) i
 
-module _ (h : List ℕ) (long : length h ≡ instanceWords) where
+module _ (h : List ℕ) (long : length h ≡ copyWords) where
   -- A COUNT
   pub tokens-put : (e v : ℕ) → 1 ≤ e → e ≤ edges → localOf (withTokens h e v) ≡ (localOf h edges: put (localOf h .σe) e v)
   tokens-put e v l r = λ i. record {

@@ -9,14 +9,14 @@ use model::pool_count;
 use printing::tell;
 use queues::message_at;
 use queues::queued_in;
+use state::defined_at;
 use state::instance_at;
 use state::made_count;
 use state::places::ACTIVE;
-use state::places::DEFINED;
-use state::places::FIELD_VALUES;
 use state::places::INSTANCES_WORDS;
 use state::places::READY;
 use state::places::STATE_WORDS;
+use state::value_at;
 use words::Word;
 use words::counts::EDGES;
 use words::counts::FIELDS;
@@ -44,27 +44,31 @@ fn pair_if(is_first: bool, flag: Word, number: Word, value: Word) -> bool {
     false
 }
 
-// The pairs of n places: their numbers count from `first`, their flags and values stand from two places on.
-fn tell_pairs(h: &[Word], flags: &[Word], n: Word, first: u8) {
+// The counts of n places that are not 0: their numbers count from 1.
+fn tell_counts(h: &[Word], n: Word) {
     let mut is_first = true;
     let mut k: Word = 0;
     while k < n {
-        let number = if k < 1000 { k + first as Word } else { k };
-        is_first = pair_if(
-            is_first,
-            word(flags, k as usize),
-            number,
-            word(h, k as usize),
-        );
+        let count = word(h, k as usize);
         k += 1;
+        is_first = pair_if(is_first, count, k, count);
     }
     if is_first {
         tell(b"-");
     }
 }
 
-fn tell_counts(h: &[Word], n: Word) {
-    tell_pairs(h, h, n, 1);
+// The fields that are defined.
+fn tell_fields(h: &[Word]) {
+    let mut is_first = true;
+    let mut d: Word = 0;
+    while d < FIELDS {
+        is_first = pair_if(is_first, defined_at(h, d), d, value_at(h, d));
+        d += 1;
+    }
+    if is_first {
+        tell(b"-");
+    }
 }
 
 fn tell_instance(number: Word, i: Word, h: &[Word]) {
@@ -79,7 +83,7 @@ fn tell_instance(number: Word, i: Word, h: &[Word]) {
     tell(b" ready ");
     tell_counts(tail(h, READY), TASKS);
     tell(b" fields ");
-    tell_pairs(tail(h, FIELD_VALUES), tail(h, DEFINED), FIELDS, 0);
+    tell_fields(h);
     tell(b"\n");
 }
 

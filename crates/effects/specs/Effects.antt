@@ -1,5 +1,5 @@
 -- What a move writes into the instances and into the queues, and its answer.
-use Prim.Native.Nat.{ℕ}
+use Prim.Native.Nat.{ℕ, _+_}
 use mathlib.Core.List.{List}
 use lib.Dec.{eqb}
 use lib.ListN.{set}
@@ -8,7 +8,7 @@ use Rattle.words.specs.Words.{at}
 use Rattle.words.specs.Writes.{writes}
 use Rattle.kinds.specs.declared.moves.Move.{Move}
 use Rattle.kinds.specs.Moves.{on, making}
-use Rattle.state.specs.Places.{instanceWords, madePlace, instancePlace}
+use Rattle.state.specs.Places.{instanceWords, madePlace, instancePlace, storeWords, sharedPlace}
 use Rattle.meaning.specs.declared.Tuple.{Tuple}
 use Rattle.meaning.specs.declared.Answer.{Answer}
 use Rattle.meaning.specs.declared.Traffic.the-variants.{Nothing, Consumed, Sent}
@@ -16,9 +16,10 @@ use Rattle.meaning.specs.Tuples.{empty}
 use Rattle.meaning.specs.Changes.{more}
 use Rattle.queues.specs.Changes.{oldest, extended, removed}
 
--- the instances with the words h of an instance and another count of made ones
+-- the instances with the words h that a step leaves, of an instance and of the stores, and another count of made ones
 abbrev pub storedIn : List ℕ → ℕ → ℕ → List ℕ → ℕ → List ℕ
-storedIn s p i h made = set (writes (at h) s (instancePlace p i) instanceWords) (madePlace p) made
+storedIn s p i h made =
+    set (writes (λ k. at h (instanceWords + k)) (writes (at h) s (instancePlace p i) instanceWords) sharedPlace storeWords) (madePlace p) made
 
 unfoldable pub madeBy : Move → ℕ → ℕ
 madeBy m made = if eqb (m .also) making then more made else made

@@ -1,114 +1,100 @@
-// The words of one instance: copied out of the instances of a state, and stored back.
+// What a step sees of the instances of a state, copied out of them, and stored back.
 ghost use mathlib.Core.Path.{_≡_};
 ghost use Prim.Native.Nat.{_+_, _≤_};
-ghost use lib.ListN.{length};
-ghost use Rattle.words.specs.Each.{tab};
+ghost use lib.ListN.{length, replicate};
 ghost use Rattle.words.specs.Words.{at, greatest};
 ghost use Rattle.words.specs.Writes.{writes};
-ghost use Rattle.state.specs.Places.{instancePlace, instanceWords};
-ghost use Rattle.meaning.specs.Step.{instanceOf, before};
+ghost use Rattle.state.specs.Places.{instancePlace, instanceWords, sharedPlace, sharedWords, copyWords};
+ghost use Rattle.meaning.specs.Step.{instanceOf, sharedOf, before};
 ghost use Rattle.effects.specs.Effects.{storedIn, madeBy};
 use kinds::moves::MAKES;
 use kinds::moves::Move;
+use state::places::COPY_WORDS;
 use state::places::FIRST_INSTANCE;
 use state::places::INSTANCE_WORDS;
 use state::places::POOL_INSTANCES;
+use state::places::SHARED;
+use state::places::SHARED_WORDS;
+use state::places::STORE_WORDS;
 use words::Word;
 use words::counts::COUNT_MOST;
 use words::put;
 use words::wide;
 use words::word;
 
-// The words from a place on, all of them inside.
-fn copy_inside(s: &[Word], from: usize) -> [Word; INSTANCE_WORDS]
-    requires { ⌜ from + instanceWords ≤ length (now s) ⌝ }
-    ensures { λ r. ⌜ r ≡ tab (λ k. at (now (s .entry)) (from + k)) instanceWords ⌝ }
-{
-    let mut h: [Word; INSTANCE_WORDS] = [0; INSTANCE_WORDS];
-    let mut k: usize = 0;
-    while k < INSTANCE_WORDS {
-        h[k] = s[from + k];
-        k += 1;
-    }
-    h
-}
-
-// The same where some may stand outside.
-fn copy_across(s: &[Word], from: usize) -> [Word; INSTANCE_WORDS]
-    requires { ⌜ from ≤ instancePlace greatest greatest ⌝ }
-    ensures { λ r. ⌜ r ≡ tab (λ k. at (now (s .entry)) (from + k)) instanceWords ⌝ }
-{
-    let mut h: [Word; INSTANCE_WORDS] = [0; INSTANCE_WORDS];
-    let mut k: usize = 0;
-    while k < INSTANCE_WORDS {
-        h[k] = word(s, from + k);
-        k += 1;
-    }
-    h
-}
-
-fn copy_of(s: &[Word], p: Word, i: Word) -> [Word; INSTANCE_WORDS]
-    ensures { λ r. ⌜ r ≡ instanceOf (now (s .entry)) p i ⌝ }
-{
-    let from = FIRST_INSTANCE + POOL_INSTANCES * (p as usize) + INSTANCE_WORDS * (i as usize);
-    if from + INSTANCE_WORDS <= s.len() {
-        return copy_inside(s, from);
-    }
-    copy_across(s, from)
-}
-
-// The instance that a move finds: where it makes one, all its words are 0.
-pub fn copy_before(s: &[Word], m: Move, p: Word, i: Word) -> [Word; INSTANCE_WORDS]
-    ensures { λ r. ⌜ r ≡ before m (instanceOf (now (s .entry)) p i) ⌝ }
-{
-    if m.also == MAKES {
-        return [0; INSTANCE_WORDS];
-    }
-    copy_of(s, p, i)
-}
-
-// Stores words from a place on, all of them inside.
-fn store_inside(s: &mut [Word], from: usize, h: &[Word])
-    requires { ⌜ (from + instanceWords ≤ length (now s)) × (instanceWords ≤ length (now h)) ⌝ }
-    ensures { λ _. ⌜ now (s .exit) ≡ writes (at (now (h .entry))) (now (s .entry)) from instanceWords ⌝ }
+// Copies n words of s from a place on to a place of z, all of them inside.
+fn move_inside(s: &[Word], from: usize, z: &mut [Word], to: usize, n: usize)
+    requires { ⌜ (from + n ≤ length (now s)) × (to + n ≤ length (now z)) ⌝ }
+    ensures { λ _. ⌜ now (z .exit) ≡ writes (λ k. at (now (s .entry)) (from + k)) (now (z .entry)) to n ⌝ }
 {
     let mut k: usize = 0;
-    while k < INSTANCE_WORDS {
-        s[from + k] = h[k];
+    while k < n {
+        z[to + k] = s[from + k];
         k += 1;
     }
 }
 
 // The same where some may stand outside.
-fn store_across(s: &mut [Word], from: usize, h: &[Word])
-    requires { ⌜ from ≤ instancePlace greatest greatest ⌝ }
-    ensures { λ _. ⌜ now (s .exit) ≡ writes (at (now (h .entry))) (now (s .entry)) from instanceWords ⌝ }
+fn move_across(s: &[Word], from: usize, z: &mut [Word], to: usize, n: usize)
+    requires { ⌜ (from ≤ instancePlace greatest greatest) × (to ≤ instancePlace greatest greatest) × (n ≤ copyWords) ⌝ }
+    ensures { λ _. ⌜ now (z .exit) ≡ writes (λ k. at (now (s .entry)) (from + k)) (now (z .entry)) to n ⌝ }
 {
     let mut k: usize = 0;
-    while k < INSTANCE_WORDS {
-        put(s, from + k, word(h, k));
+    while k < n {
+        put(z, to + k, word(s, from + k));
         k += 1;
     }
 }
 
-fn store(s: &mut [Word], p: Word, i: Word, h: &[Word])
-    ensures { λ _. ⌜ now (s .exit) ≡ writes (at (now (h .entry))) (now (s .entry)) (instancePlace p i) instanceWords ⌝ }
+fn move_words(s: &[Word], from: usize, z: &mut [Word], to: usize, n: usize)
+    requires { ⌜ (from ≤ instancePlace greatest greatest) × (to ≤ instancePlace greatest greatest) × (n ≤ copyWords) ⌝ }
+    ensures { λ _. ⌜ now (z .exit) ≡ writes (λ k. at (now (s .entry)) (from + k)) (now (z .entry)) to n ⌝ }
 {
-    let from = FIRST_INSTANCE + POOL_INSTANCES * (p as usize) + INSTANCE_WORDS * (i as usize);
-    if from + INSTANCE_WORDS <= s.len() {
-        if INSTANCE_WORDS <= h.len() {
-            store_inside(s, from, h);
+    if from + n <= s.len() {
+        if to + n <= z.len() {
+            move_inside(s, from, z, to, n);
             return;
         }
     }
-    store_across(s, from, h);
+    move_across(s, from, z, to, n);
 }
 
-// Stores an instance, and how many its pool has made.
+// An instance, with room behind it for what all share.
+fn copy_of(s: &[Word], p: Word, i: Word) -> [Word; COPY_WORDS]
+    ensures { λ r. ⌜ r ≡ writes (λ k. at (now (s .entry)) (instancePlace p i + k)) (replicate copyWords 0) 0 instanceWords ⌝ }
+{
+    let from = FIRST_INSTANCE + POOL_INSTANCES * (p as usize) + INSTANCE_WORDS * (i as usize);
+    let mut h: [Word; COPY_WORDS] = [0; COPY_WORDS];
+    move_words(s, from, &mut h, 0, INSTANCE_WORDS);
+    h
+}
+
+// What all share, behind an instance.
+fn with_shared(s: &[Word], own: [Word; COPY_WORDS]) -> [Word; COPY_WORDS]
+    ensures { λ r. ⌜ r ≡ writes (λ k. at (now (s .entry)) (sharedPlace + k)) own instanceWords sharedWords ⌝ }
+{
+    let mut h = own;
+    move_words(s, SHARED, &mut h, INSTANCE_WORDS, SHARED_WORDS);
+    h
+}
+
+// What a move sees: where it makes an instance, all words of that are 0.
+pub fn copy_before(s: &[Word], m: Move, p: Word, i: Word) -> [Word; COPY_WORDS]
+    ensures { λ r. ⌜ r ≡ before m (instanceOf (now (s .entry)) p i) (sharedOf (now (s .entry))) ⌝ }
+{
+    if m.also == MAKES {
+        return with_shared(s, [0; COPY_WORDS]);
+    }
+    with_shared(s, copy_of(s, p, i))
+}
+
+// Stores an instance and the stores behind it, and how many its pool has made.
 pub fn commit(s: &mut [Word], p: Word, i: Word, h: &[Word], made: Word)
     ensures { λ _. ⌜ now (s .exit) ≡ storedIn (now (s .entry)) p i (now (h .entry)) made ⌝ }
 {
-    store(s, p, i, h);
+    let to = FIRST_INSTANCE + POOL_INSTANCES * (p as usize) + INSTANCE_WORDS * (i as usize);
+    move_words(h, 0, s, to, INSTANCE_WORDS);
+    move_words(h, INSTANCE_WORDS, s, SHARED, STORE_WORDS);
     put(s, wide(p), made);
 }
 

@@ -9,8 +9,8 @@ use model::places::MINUS;
 use model::places::OPERAND_NUMBER;
 use model::places::PLUS;
 use model::places::RIGHT;
-use state::places::DEFINED;
-use state::places::FIELD_VALUES;
+use state::defined_at;
+use state::value_at;
 use words::Word;
 use words::word;
 
@@ -22,10 +22,10 @@ pub mod templates;
 pub fn field_of(h: &[Word], d: Word) -> Value
     ensures { λ r. ⌜ r ≡ fieldOf (now (h .entry)) d ⌝ }
 {
-    if word(h, DEFINED + (d as usize)) == 0 {
+    if defined_at(h, d) == 0 {
         return Value::Undefined;
     }
-    Value::Number(word(h, FIELD_VALUES + (d as usize)))
+    Value::Number(value_at(h, d))
 }
 
 // The operand at place p of an expression or a condition x.

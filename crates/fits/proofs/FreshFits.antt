@@ -20,10 +20,10 @@ use Rattle.kinds.specs.Kinds.{kindOf, start}
 use Rattle.model.specs.Places.{entriesPlace, exitsPlace, elementWords, poolPlace, limitPlace, elementPlace}
 use Rattle.model.specs.Table.{poolCount, elementCount, elementAt, limitOf, kindIn, entryAt}
 use Rattle.state.specs.Instances.{instancesOf, queuesOf, instanceAt}
-use Rattle.state.specs.Places.{definedPlace, valuePlace, instanceWords, instancePlace, instancesWords, slotWords, slotPlace, queuePlace}
+use Rattle.state.specs.Places.{definedPlace, valuePlace, instanceWords, instancePlace, sharedWords, sharedPlace, instancesWords, slotWords, slotPlace, queuePlace}
 use Rattle.limits.specs.Limits.{within, zeros, things, countFits as edgeCountFits, edgeFits, edgesFit, taskFits, conditionsFit, messagesFit, partsFit, elementFits, poolFits, tableFits}
 use Rattle.queues.proofs.SlotLaws.{by-below}
-use Rattle.fits.specs.Fits.{startPlace, hasStart, madeFits, usable, placeFits, fieldFits, instanceFits, instancesFit, slotFits, queueFits, stateFits}
+use Rattle.fits.specs.Fits.{startPlace, hasStart, madeFits, usable, placeFits, fieldFits, instanceFits, instancesFit, slotFits, sharedFits, queueFits, stateFits}
 use Rattle.fits.specs.Fresh.{firstEdge, fresh}
 use Rattle.fits.proofs.PartLaws.{Firsts, parted, shared}
 use Rattle.fits.proofs.FreshLaws.{Holds, Startable, firstPlace, pools-blank, pools-begun, pools-behind}
@@ -135,11 +135,20 @@ module _ (t : List ℕ) (ask : Startable t) where
   unfolding fresh
   queue-fresh j = getD-drop instancesWords (fresh t) j 0 ∙ pools-behind t ask (poolCount t) (instancesWords + j) (omega arith) (omega arith)
 
+  shared-fresh : sharedFits (instancesOf (fresh t)) ≡ true
+  unfolding fresh sharedFits
+  shared-fresh =
+      zeros-of (drop sharedPlace (instancesOf (fresh t))) sharedWords
+      (λ k l.
+      getD-drop sharedPlace (instancesOf (fresh t)) k 0
+      ∙ getD-take instancesWords (fresh t) (sharedPlace + k) 0 (omega arith)
+      ∙ pools-behind t ask (poolCount t) (sharedPlace + k) (omega arith) (omega arith))
+
   pub startable-fits : stateFits t (instancesOf (fresh t)) (queuesOf (fresh t)) ≡ true
   unfolding stateFits
   startable-fits =
-      and-true (all (instancesFit t (instancesOf (fresh t))) pools) (all (queueFits (queuesOf (fresh t))) names)
-      (all-of (instancesFit t (instancesOf (fresh t))) pools pool-fresh)
+      and-true (all (instancesFit t (instancesOf (fresh t))) pools && sharedFits (instancesOf (fresh t))) (all (queueFits (queuesOf (fresh t))) names)
+      (and-true (all (instancesFit t (instancesOf (fresh t))) pools) (sharedFits (instancesOf (fresh t))) (all-of (instancesFit t (instancesOf (fresh t))) pools pool-fresh) shared-fresh)
       (all-of (queueFits (queuesOf (fresh t))) names (λ m l. queue-blank (queuesOf (fresh t)) m queue-fresh))
 
 -- A TABLE WITHIN THE LIMITS is such a table. An element of kind start has one entry, and that is an edge

@@ -17,7 +17,7 @@ use Rattle.words.specs.Words.{at}
 use Rattle.words.specs.Counts.{pools, edges, instances}
 use Rattle.words.proofs.IterLaws.{iter-keeps}
 use Rattle.model.specs.Table.{poolCount}
-use Rattle.state.specs.Places.{tokenPlace, instanceWords, madePlace, instancePlace, instancesWords, stateWords}
+use Rattle.state.specs.Places.{tokenPlace, instanceWords, madePlace, instancePlace, sharedPlace, stateWords}
 use Rattle.fits.specs.Fits.{hasStart}
 use Rattle.fits.specs.Fresh.{firstEdge, begun}
 
@@ -126,8 +126,8 @@ module _ (t : List ℕ) (ask : Startable t) where
       (λ m. keep t n (Pools n) p 1 (λ k. hit k (firstPlace t p)) (omega (arith, ask .few)) (omega (arith, ask .few)) (λ q. omega arith) (λ e. ask .first n (omega arith) e .1) (pools-begun n p (omega arith) m s))
       (eq-or-lt-of-le (le-of-suc-le-suc r))
 
-  -- the queues
-  pub pools-behind : (n j : ℕ) → n ≤ poolCount t → instancesWords ≤ j → at (Pools n) j ≡ 0
+  -- what all share, and the queues
+  pub pools-behind : (n j : ℕ) → n ≤ poolCount t → sharedPlace ≤ j → at (Pools n) j ≡ 0
   pools-behind n j l r =
       iter-keeps (begun t) (replicate stateWords 0) (λ z. at z j ≡ 0) n
       (λ k z m e. begun-other t k z j (λ s. let d = ask .first k (omega arith) s .1 in ((λ q. omega (arith, ask .few)), (λ q. omega (arith, ask .few)))) ∙ e)

@@ -15,7 +15,7 @@ use Rattle.words.specs.Counts.{pools, names, instances, fields, values, message
 use Rattle.kinds.specs.Kinds.{start, kindOf}
 use Rattle.kinds.specs.Moves.{a}
 use Rattle.model.specs.Table.{poolCount, elementCount, elementAt, limitOf, kindIn, taskIn, modeIn, entryCount, exitCount, entryAt, exitAt}
-use Rattle.state.specs.Places.{tokenPlace, activePlace, readyPlace, definedPlace, valuePlace, instanceWords, slotWords, slotPlace}
+use Rattle.state.specs.Places.{tokenPlace, activePlace, readyPlace, definedPlace, valuePlace, instanceWords, sharedWords, sharedPlace, slotWords, slotPlace}
 use Rattle.state.specs.Instances.{madeCount, instanceAt}
 use Rattle.limits.specs.Limits.{zeros}
 use Rattle.meaning.specs.Tuples.{valueOf}
@@ -73,6 +73,10 @@ instancesFit t s p =
     && all (λ i. instanceFits (usable t p) (instanceAt s p i)) (madeCount s p)
     && zeros (instanceAt s p (madeCount s p)) (instanceWords * (instances - madeCount s p))
 
+-- what all instances share: nothing yet
+unfoldable pub sharedFits : List ℕ → Bool
+sharedFits s = zeros (drop sharedPlace s) sharedWords
+
 -- A QUEUE: at most 64 messages, each of at most 4 values, 0 behind them and behind the last
 unfoldable pub slotFits : List ℕ → ℕ → ℕ → Bool
 slotFits q m k =
@@ -86,4 +90,4 @@ queueFits q m =
 
 -- THE STATE
 unfoldable pub stateFits : List ℕ → List ℕ → List ℕ → Bool
-stateFits t s q = all (instancesFit t s) pools && all (queueFits q) names
+stateFits t s q = all (instancesFit t s) pools && sharedFits s && all (queueFits q) names

@@ -11,7 +11,7 @@ use Rattle.words.specs.Words.{at}
 use Rattle.words.specs.Writes.{writes}
 use Rattle.words.specs.Counts.{values}
 use Rattle.state.specs.Places.{valuesIn, slotsIn, slotWords, queueWords, queuePlace}
-use Rattle.state.specs.Instances.{withInstance, withMade}
+use Rattle.state.specs.Instances.{withInstance, withStores, withMade}
 use Rattle.meaning.specs.declared.Tuple.{Tuple}
 use Rattle.meaning.specs.declared.Name.{Name}
 use Rattle.meaning.specs.declared.Evaluated.{Evaluated}
@@ -76,7 +76,7 @@ module _ (t s q : List ℕ) (n : Name) (g : Tuple) (same : sameTuple (n .given) 
   site-instances : instancesAfter t s n ≡ instancesAfter t s k
   unfolding instancesAfter siteOf elementNamed moveNamed madeAfter
   site-instances =
-      ap (λ (h : List ℕ). withMade (withInstance s (poolNamed t n) (n .instance) h) (poolNamed t n) (madeAfter (siteOf t s n))) (after-same (siteOf t s n) g same)
+      ap (λ (h : List ℕ). withMade (withStores (withInstance s (poolNamed t n) (n .instance) h) h) (poolNamed t n) (madeAfter (siteOf t s n))) (after-same (siteOf t s n) g same)
 
   site-queues : queuesAfter (siteOf t s n) q ≡ queuesAfter (siteOf t s k) q
   unfolding siteOf elementNamed moveNamed

@@ -48,7 +48,7 @@ set-worded (x ∷ w) zero v s h (suc j) = s (suc j)
 set-worded (x ∷ w) (suc i) v s h zero = s zero
 set-worded (x ∷ w) (suc i) v s h (suc j) = set-worded w i v (λ k. s (suc k)) h j
 
-append-worded : (v w : List ℕ) → Worded v → Worded w → (j : ℕ) → at (v ++ w) j ≤ greatest
+pub append-worded : (v w : List ℕ) → Worded v → Worded w → (j : ℕ) → at (v ++ w) j ≤ greatest
 append-worded [] w a b j = b j
 append-worded (x ∷ v) w a b zero = a zero
 append-worded (x ∷ v) w a b (suc j) = append-worded v w (λ k. a (suc k)) b j

@@ -9,6 +9,7 @@ use lib.ListN.{length, length-append, set, replicate}
 use borrow.Author.Tests.{eqb-true, ltb-true, leb-true}
 use Rattle.words.specs.Counts.{names, values, messages}
 use Rattle.words.specs.Each.{tab}
+use Rattle.words.specs.Pick.{if_then_else_}
 use Rattle.words.specs.Words.{at, greatest}
 use Rattle.words.proofs.AllLaws.{and-left, and-right}
 use Rattle.words.proofs.IterLaws.{iter-keeps}
@@ -16,8 +17,8 @@ use Rattle.words.proofs.ListLaws.{length-tab}
 use Rattle.kinds.specs.Moves.{on, making}
 use Rattle.model.specs.Places.{elementPlace}
 use Rattle.model.specs.Table.{poolCount}
-use Rattle.state.specs.Places.{stateWords, instancesWords, instanceWords, instancePlace, madePlace, tokenPlace, valuesIn, slotsIn, slotWords, queueWords, queuePlace, slotPlace}
-use Rattle.state.specs.Instances.{instancesOf, queuesOf, madeCount, withInstance}
+use Rattle.state.specs.Places.{stateWords, instancesWords, instanceWords, instancePlace, madePlace, storeWords, sharedWords, sharedPlace, tokenPlace, valuesIn, slotsIn, slotWords, queueWords, queuePlace, slotPlace}
+use Rattle.state.specs.Instances.{instancesOf, queuesOf, madeCount, withInstance, withStores}
 use Rattle.limits.specs.Limits.{tableFits}
 use Rattle.fits.specs.Fits.{hasStart}
 use Rattle.fits.specs.Fresh.{firstEdge, begun, fresh}
@@ -34,7 +35,7 @@ use Rattle.meaning.specs.Assignments.{Assigned, assigned}
 use Rattle.meaning.specs.Changes.{expected, received, worked, messageSent, taken, more}
 use Rattle.meaning.specs.Refusals.{firstRefusal}
 use Rattle.meaning.specs.Post.{postRefusals}
-use Rattle.meaning.specs.Step.{Site, siteOf, poolNamed, elementNamed, moveNamed, instanceOf, before, receives, sends, messageNamed, template, work, sent, afterTaking, instanceAfter, madeAfter, instancesAfter, queuesAfter, traffic, refusals}
+use Rattle.meaning.specs.Step.{Site, siteOf, poolNamed, elementNamed, moveNamed, instanceOf, sharedOf, before, receives, sends, messageNamed, template, work, sent, afterTaking, instanceAfter, madeAfter, instancesAfter, queuesAfter, traffic, refusals}
 use Rattle.values.proofs.TupleLaws.{same-value}
 use Rattle.steps.proofs.AcceptedParts.{first-holds}
 use Rattle.steps.proofs.Choices.{by-test, by-choice, passed-true}
@@ -46,7 +47,7 @@ use Rattle.engine.proofs.KeepsValid.{did-valid}
 use Rattle.demands.proofs.Numbers.{stepped-traffic}
 use Rattle.demands.proofs.StatesLeft.{step-number, post-number, step-instances, step-queues, post-instances, post-queues}
 use Rattle.lawful.specs.Told.{message, AllWords, AllPosted}
-use Rattle.lawful.proofs.WordLaws.{Worded, nothing, set-worded, take-worded, drop-worded, zeros-worded, four-worded, tab-worded, writes-worded, value-fine, evaluated-worded, bound-worded, assigned-worded, more-fine, taken-worded, moved-worded}
+use Rattle.lawful.proofs.WordLaws.{append-worded, Worded, nothing, set-worded, take-worded, drop-worded, zeros-worded, four-worded, tab-worded, writes-worded, value-fine, evaluated-worded, bound-worded, assigned-worded, more-fine, taken-worded, moved-worded}
 
 empty-worded : Worded (empty .values)
 empty-worded = zeros-worded values
@@ -186,11 +187,13 @@ module _ (t s q : List ℕ) (n : Name) (tw : Worded t) (sw : Worded s) (qw : Wor
   element-words = drop-worded (elementPlace (poolNamed t n) (n .element)) t tw
 
   instance-words : Worded (x .instance)
-  unfolding siteOf before instanceOf
+  unfolding siteOf before instanceOf sharedOf
   instance-words =
-      by-choice Worded (eqb (moveNamed t n .also) making) (replicate instanceWords 0) (tab (λ k. at s (instancePlace (poolNamed t n) (n .instance) + k)) instanceWords)
+      append-worded (if eqb (moveNamed t n .also) making then replicate instanceWords 0 else instanceOf s (poolNamed t n) (n .instance)) (sharedOf s)
+      (by-choice Worded (eqb (moveNamed t n .also) making) (replicate instanceWords 0) (tab (λ k. at s (instancePlace (poolNamed t n) (n .instance) + k)) instanceWords)
       (λ e. zeros-worded instanceWords)
-      (λ e. tab-worded (λ k. at s (instancePlace (poolNamed t n) (n .instance) + k)) (λ k. sw (instancePlace (poolNamed t n) (n .instance) + k)) instanceWords)
+      (λ e. tab-worded (λ k. at s (instancePlace (poolNamed t n) (n .instance) + k)) (λ k. sw (instancePlace (poolNamed t n) (n .instance) + k)) instanceWords))
+      (tab-worded (λ k. at s (sharedPlace + k)) (λ k. sw (sharedPlace + k)) sharedWords)
 
   given-words : receives x ≡ true → (j : ℕ) → valueOf (x .given) j ≤ greatest
   given-words e = has-good (x .given) (messagesOf q (messageNamed x)) (messages-good q qw (messageNamed x)) (received-there t s q n fits allowed e)
@@ -205,11 +208,15 @@ module _ (t s q : List ℕ) (n : Name) (tw : Worded t) (sw : Worded s) (qw : Wor
   pub step-says : Worded (traffic x .tuple .values)
   step-says = traffic-worded x element-words instance-words given-words
 
+  after-words : Worded (instanceAfter x)
+  after-words = after-worded x element-words instance-words given-words
+
   pub step-instances-worded : Worded (instancesAfter t s n)
   unfolding instancesAfter
   step-instances-worded =
-      set-worded (withInstance s (poolNamed t n) (n .instance) (instanceAfter x)) (madePlace (poolNamed t n)) (madeAfter x)
-      (writes-worded (at (instanceAfter x)) (after-worded x element-words instance-words given-words) s (instancePlace (poolNamed t n) (n .instance)) instanceWords sw)
+      set-worded (withStores (withInstance s (poolNamed t n) (n .instance) (instanceAfter x)) (instanceAfter x)) (madePlace (poolNamed t n)) (madeAfter x)
+      (writes-worded (λ k. at (instanceAfter x) (instanceWords + k)) (λ k. after-words (instanceWords + k)) (withInstance s (poolNamed t n) (n .instance) (instanceAfter x)) sharedPlace storeWords
+      (writes-worded (at (instanceAfter x)) after-words s (instancePlace (poolNamed t n) (n .instance)) instanceWords sw))
       made-words
 
   pub step-queues-worded : Worded (queuesAfter x q)

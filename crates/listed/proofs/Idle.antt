@@ -2,7 +2,7 @@
 use Prim.Native.Nat.{ℕ, _+_, _-_, _<_}
 use mathlib.Core.Path.{_≡_, sym, _∙_, ap, subst}
 use mathlib.Core.Bool.{Bool, true, false, not, _&&_}
-use mathlib.Core.List.{List}
+use mathlib.Core.List.{List, _++_}
 use native.Mathlib.Omega.{arith}
 use lib.Dec.{eqb, leb, ltb}
 use lib.ListN.{drop}
@@ -13,7 +13,7 @@ use Rattle.words.specs.Each.{tab}
 use Rattle.words.specs.Words.{at}
 use Rattle.words.specs.Counts.{fewest, branches}
 use Rattle.words.proofs.AllLaws.{and-left, and-right, all-at, all-of}
-use Rattle.words.proofs.ListLaws.{getD-tab}
+use Rattle.words.proofs.ListLaws.{length-tab, getD-tab}
 use Rattle.kinds.specs.declared.Kind.{Kind}
 use Rattle.kinds.specs.declared.moves.Move.{Move}
 use Rattle.kinds.specs.Kinds.{many, startRcv, kindOf, used}
@@ -26,8 +26,9 @@ use Rattle.limits.specs.Limits.{within, zeros, countFits, edgesFit, elementFits
 use Rattle.meaning.specs.declared.Name.{Name}
 use Rattle.meaning.specs.Requirements.{touched, first, branchCount, instanceNamed, hasToken, hasTokens, canLower, isAlone, countsPermit}
 use Rattle.meaning.specs.Refusals.{firstRefusal}
-use Rattle.meaning.specs.Step.{siteOf, poolNamed, elementNamed, moveNamed, instanceOf, before, refusals}
+use Rattle.meaning.specs.Step.{siteOf, poolNamed, elementNamed, moveNamed, instanceOf, sharedOf, before, refusals}
 use Rattle.listing.specs.Scanned.{isBare, idle, stirs}
+use Rattle.steps.proofs.Seen.{seen-own}
 use Rattle.steps.proofs.Choices.{by-test, by-choice, chosen, passed, chosen-true}
 use Rattle.steps.proofs.ChangesFit.{touched-within}
 use Rattle.steps.proofs.Elements.{rowOf, fitting-parts, task-few, entry-within}
@@ -149,7 +150,8 @@ module _ (t s q : List ℕ) (n : Name) (fits : tableFits t ≡ true) (accepted :
     same-words : (k : ℕ) → k < instanceWords → at (siteOf t s n .instance) k ≡ at (instanceAt s p i) k
     unfolding siteOf before instanceOf
     same-words k l =
-        ap (λ (y : List ℕ). at y k) (passed (eqb (m .also) making) _ (tab (λ k. at s (instancePlace p i + k)) instanceWords) o)
+        ap (λ (y : List ℕ). at (y ++ sharedOf s) k) (passed (eqb (m .also) making) _ (tab (λ k. at s (instancePlace p i + k)) instanceWords) o)
+        ∙ seen-own s (tab (λ k. at s (instancePlace p i + k)) instanceWords) (length-tab (λ k. at s (instancePlace p i + k)) instanceWords) k l
         ∙ getD-tab (λ k. at s (instancePlace p i + k)) instanceWords k 0 l
         ∙ sym (getD-drop (instancePlace p i) s k 0)
 

@@ -13,8 +13,8 @@ use Rattle.meaning.specs.Tuples.{empty, sameTuple}
 use Rattle.kinds.specs.declared.moves.Move.{Move}
 use Rattle.kinds.specs.Moves.{on, making, moveOf}
 use Rattle.model.specs.Table.{poolCount, elementCount, elementAt, poolOf, limitOf, kindIn, modeIn, messageName}
-use Rattle.state.specs.Places.{instanceWords, instancePlace}
-use Rattle.state.specs.Instances.{madeCount, withInstance, withMade}
+use Rattle.state.specs.Places.{instanceWords, instancePlace, sharedWords, sharedPlace}
+use Rattle.state.specs.Instances.{madeCount, withInstance, withStores, withMade}
 use Rattle.meaning.specs.Messages.{has}
 use Rattle.meaning.specs.Queues.{messagesOf, sending, consuming}
 use Rattle.meaning.specs.declared.Evaluated.{Evaluated}
@@ -28,7 +28,7 @@ use Rattle.meaning.specs.Changes.{expected, received, worked, messageSen
 use Rattle.meaning.specs.Refusals.{Refusal, _unless_, firstRefusal}
 
 -- WHERE. What a name finds: the place of its pool, the element's words, the move of the element's kind and mode in this phase, how many
--- instances the pool has made and may make, and the instance's words. "startRcv: its template sees only undefined fields."
+-- instances the pool has made and may make, and the words that it sees. "startRcv: its template sees only undefined fields."
 abbrev pub poolNamed : List ℕ → Name → ℕ
 poolNamed t n = poolOf t (n .pool)
 
@@ -41,8 +41,12 @@ moveNamed t n = moveOf (kindIn (elementNamed t n)) (modeIn (elementNamed t n)) (
 unfoldable pub instanceOf : List ℕ → ℕ → ℕ → List ℕ
 instanceOf s p i = tab (λ k. at s (instancePlace p i + k)) instanceWords
 
-unfoldable pub before : Move → List ℕ → List ℕ
-before m h = if eqb (m .also) making then replicate instanceWords 0 else h
+unfoldable pub sharedOf : List ℕ → List ℕ
+sharedOf s = tab (λ k. at s (sharedPlace + k)) sharedWords
+
+-- what a step sees: the words of its instance, own, and behind them those that all share
+unfoldable pub before : Move → List ℕ → List ℕ → List ℕ
+before m own shared = (if eqb (m .also) making then replicate instanceWords 0 else own) ++ shared
 
 pub record Site : Type 0 where
   pub element : List ℕ
@@ -62,7 +66,7 @@ siteOf t s n =
       given = n .given;
       made = madeCount s (poolNamed t n);
       limit = limitOf t (poolNamed t n);
-      instance = before (moveNamed t n) (instanceOf s (poolNamed t n) (n .instance));
+      instance = before (moveNamed t n) (instanceOf s (poolNamed t n) (n .instance)) (sharedOf s);
     }
 
 -- 11: there is such a pool, element, phase, branch and instance
@@ -131,7 +135,7 @@ refusalsAt x q =
 unfoldable pub refusals : List ℕ → List ℕ → List ℕ → Name → List Refusal
 refusals t s q n = 11 unless exists t s n ∷ refusalsAt (siteOf t s n) q  -- no such pool, instance, element, phase or branch
 
--- THE STATE AFTER: the instance's words and the count of its pool; the message consumed or sent.
+-- THE STATE AFTER: the instance's words, the stores and the count of its pool; the message consumed or sent.
 unfoldable pub instanceAfter : Site → List ℕ
 instanceAfter x = moved (x .element) (x .move) (x .branch) (afterTaking x)
 
@@ -140,7 +144,8 @@ madeAfter x = if eqb (x .move .also) making then more (x .made) else x .made
 
 unfoldable pub instancesAfter : List ℕ → List ℕ → Name → List ℕ
 instancesAfter t s n =
-    withMade (withInstance s (poolNamed t n) (n .instance) (instanceAfter (siteOf t s n))) (poolNamed t n) (madeAfter (siteOf t s n))
+    withMade (withStores (withInstance s (poolNamed t n) (n .instance) (instanceAfter (siteOf t s n))) (instanceAfter (siteOf t s n))) (poolNamed t n)
+    (madeAfter (siteOf t s n))
 
 unfoldable pub queuesAfter : Site → List ℕ → List ℕ
 queuesAfter x q =

@@ -12,7 +12,7 @@ use Rattle.meaning.specs.Tuples.{empty}
 use Rattle.meaning.specs.Refusals.{firstRefusal}
 use Rattle.meaning.specs.Requirements.{belowLimit}
 use Rattle.meaning.specs.Changes.{expected}
-use Rattle.meaning.specs.Step.{poolNamed, elementNamed, moveNamed, instanceOf, before}
+use Rattle.meaning.specs.Step.{poolNamed, elementNamed, moveNamed, instanceOf, sharedOf, before}
 use Rattle.refusals.specs.Chain.{beforeFields}
 use Rattle.naming.specs.declared.Scan.{Scan}
 use Rattle.naming.specs.Names.{offered, namedBy, accepted, blank}
@@ -31,7 +31,7 @@ byMessage q n name k = namedBy (withValues n) (offered q name k)
 -- What a name finds whatever its values: the words h of its instance before the step; whether 16, and 12 or 13 of the guard, let it pass; what is
 -- expected where no values are given.
 unfoldable pub instanceFor : List ℕ → List ℕ → Name → List ℕ
-instanceFor t s n = before (moveNamed t n) (instanceOf s (poolNamed t n) (n .instance))
+instanceFor t s n = before (moveNamed t n) (instanceOf s (poolNamed t n) (n .instance)) (sharedOf s)
 
 unfoldable pub belowFor : List ℕ → List ℕ → Name → Bool
 belowFor t s n = belowLimit (moveNamed t n) (madeCount s (poolNamed t n)) (limitOf t (poolNamed t n))

@@ -31,7 +31,7 @@ use queues::queued_in;
 use refusals::numbers::number_before;
 use rules::is_accepted;
 use state::made_count;
-use state::places::INSTANCE_WORDS;
+use state::places::COPY_WORDS;
 use state::places::INSTANCES_WORDS;
 use state::places::STATE_WORDS;
 use tokens::is_below_limit;
@@ -144,7 +144,7 @@ fn move_for(t: &[Word], n: Name) -> Move
     move_of(kind_in(el), mode_in(el), n.phase)
 }
 
-fn instance_for(t: &[Word], z: &[Word], n: Name) -> [Word; INSTANCE_WORDS]
+fn instance_for(t: &[Word], z: &[Word], n: Name) -> [Word; COPY_WORDS]
     ensures { λ r. ⌜ r ≡ instanceFor (now (t .entry)) (instancesOf (now (z .entry))) n ⌝ }
 {
     let p = pool_of(t, n.pool);

@@ -14,7 +14,7 @@ use Rattle.state.specs.Instances.{instancesOf, queuesOf, madeCount}
 use Rattle.meaning.specs.declared.Tuple.{Tuple}
 use Rattle.meaning.specs.declared.Name.{Name}
 use Rattle.meaning.specs.Refusals.{firstRefusal}
-use Rattle.meaning.specs.Step.{siteOf, elementNamed, moveNamed, instanceOf, before, space, refusalsAt, refusals}
+use Rattle.meaning.specs.Step.{siteOf, elementNamed, moveNamed, instanceOf, sharedOf, before, space, refusalsAt, refusals}
 use Rattle.plans.specs.declared.Plan.{Plan}
 use Rattle.plans.specs.Plans.{siteAt, Decided}
 use Rattle.refusals.specs.Chain.{placed, offered, spaceFor}
@@ -38,7 +38,7 @@ module _ (t z : List ℕ) (n : Name) (p : ℕ) (el : List ℕ) (m : Move) (made 
   number-nowhere k = rw (there-is t z n p el m made e₁ e₂ e₃ e₄ ∙ k)
 
   number-there : (limit r : ℕ) → placed t p (n .element) && offered el m (n .branch) (n .instance) made ≡ true → limit ≡ limitOf t p
-      → r ≡ firstRefusal (refusalsAt (siteAt el (before m (instanceOf (instancesOf z) p (n .instance))) m (n .branch) (n .given) made limit) (queuesOf z))
+      → r ≡ firstRefusal (refusalsAt (siteAt el (before m (instanceOf (instancesOf z) p (n .instance)) (sharedOf (instancesOf z))) m (n .branch) (n .given) made limit) (queuesOf z))
       → r ≡ firstRefusal (refusals t (instancesOf z) (queuesOf z) n)
   unfolding refusals firstRefusal if_then_else_ siteOf elementNamed moveNamed
   number-there limit r k e d = rw (there-is t z n p el m made e₁ e₂ e₃ e₄ ∙ k) (rw (e, e₄, e₃, e₂, e₁) at d)
@@ -48,7 +48,7 @@ module _ (t z : List ℕ) (n : Name) (p : ℕ) (el : List ℕ) (m : Move) (made 
   accepted-nowhere k = rw (← number-nowhere k)
 
   pub accepted-there : (limit : ℕ) (r : Bool) → placed t p (n .element) && offered el m (n .branch) (n .instance) made ≡ true → limit ≡ limitOf t p
-      → r ≡ eqb (firstRefusal (refusalsAt (siteAt el (before m (instanceOf (instancesOf z) p (n .instance))) m (n .branch) (n .given) made limit) (queuesOf z))) 0
+      → r ≡ eqb (firstRefusal (refusalsAt (siteAt el (before m (instanceOf (instancesOf z) p (n .instance)) (sharedOf (instancesOf z))) m (n .branch) (n .given) made limit) (queuesOf z))) 0
       → r ≡ eqb (firstRefusal (refusals t (instancesOf z) (queuesOf z) n)) 0
   accepted-there limit r k e d = d ∙ ap (λ x. eqb x 0) (number-there limit _ k e refl)
 

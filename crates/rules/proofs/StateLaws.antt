@@ -1,5 +1,5 @@
 -- A step on a state of two parts. Assumes nothing.
-use Prim.Native.Nat.{ℕ, _-_, _≤_}
+use Prim.Native.Nat.{ℕ, _+_, _-_, _≤_}
 use mathlib.Core.Path.{_≡_, refl, sym, ap, _∙_}
 use mathlib.Core.Bool.{Bool, true, false, not, _&&_}
 use mathlib.Core.List.{List, _++_, append-nil}
@@ -11,12 +11,13 @@ use borrow.Author.Tests.{eq-eqb, ne-eqb}
 use Rattle.words.specs.Pick.{if_then_else_}
 use Rattle.words.specs.Counts.{names, values, messages}
 use Rattle.words.specs.Words.{at}
+use Rattle.words.specs.Writes.{writes}
 use Rattle.words.proofs.BlockLaws.{tail-in}
 use Rattle.words.proofs.WritesLaws.{length-writes}
 use Rattle.kinds.specs.declared.moves.Move.{Move}
 use Rattle.kinds.specs.Moves.{moveOf}
 use Rattle.model.specs.Table.{kindIn, modeIn, elementAt, poolOf, poolCount, elementCount, limitOf, messageName}
-use Rattle.state.specs.Places.{instanceWords, instancePlace, instancesWords}
+use Rattle.state.specs.Places.{instanceWords, instancePlace, storeWords, sharedPlace, instancesWords}
 use Rattle.state.specs.Instances.{instancesOf, queuesOf, madeCount}
 use Rattle.meaning.specs.declared.Tuple.{Tuple}
 use Rattle.meaning.specs.declared.Name.{Name}
@@ -28,7 +29,7 @@ use Rattle.meaning.specs.Queues.{messagesOf}
 use Rattle.queues.specs.Changes.{extended}
 use Rattle.meaning.specs.Refusals.{firstRefusal}
 use Rattle.meaning.specs.Requirements.{branchCount, instanceNamed}
-use Rattle.meaning.specs.Step.{siteOf, poolNamed, elementNamed, moveNamed, instanceOf, before, exists, refusals, instancesAfter, madeAfter, traffic, sent}
+use Rattle.meaning.specs.Step.{siteOf, poolNamed, elementNamed, moveNamed, instanceOf, sharedOf, before, exists, refusals, instancesAfter, madeAfter, traffic, sent}
 use Rattle.effects.specs.Effects.{storedIn, madeBy, deliveredBy, answerBy}
 use Rattle.refusals.specs.Chain.{placed, offered}
 use Rattle.plans.specs.declared.Plan.{Plan}
@@ -43,7 +44,10 @@ back a s z y e =
     rw (drop-of-length-le (drop a s) l, append-nil, e)
 
 pub length-stored : (s : List ℕ) (p i : ℕ) (h : List ℕ) (made : ℕ) → length (storedIn s p i h made) ≡ length s
-length-stored s p i h made = simp length-set (length-writes (at h) s (instancePlace p i) instanceWords)
+length-stored s p i h made =
+    simp length-set
+    (length-writes (λ k. at h (instanceWords + k)) (writes (at h) s (instancePlace p i) instanceWords) sharedPlace storeWords
+    ∙ length-writes (at h) s (instancePlace p i) instanceWords)
 
 -- the two writes of a step, y after the first and w after the second; over any place a where the parts meet
 both-at : (a : ℕ) (z y w s : List ℕ) (f : List ℕ → List ℕ) → length s ≡ a
@@ -137,7 +141,7 @@ module _ (t z : List ℕ) (n : Name) (p : ℕ) (el : List ℕ) (m : Move) (made 
 
   pub found : (limit : ℕ) (r : Answer) (w : List ℕ) → placed t p (n .element) && offered el m (n .branch) (n .instance) made ≡ true
       → limit ≡ limitOf t p
-      → Done (settledAt (siteAt el (before m (instanceOf (instancesOf z) p (n .instance))) m (n .branch) (n .given) made limit) p (n .instance) (instancesOf z) (queuesOf z)) r w
+      → Done (settledAt (siteAt el (before m (instanceOf (instancesOf z) p (n .instance)) (sharedOf (instancesOf z))) m (n .branch) (n .given) made limit) p (n .instance) (instancesOf z) (queuesOf z)) r w
       → Done (settled t (instancesOf z) (queuesOf z) n) r w
   unfolding settled settledAt refusals firstRefusal if_then_else_ siteOf elementNamed moveNamed instancesAfter
   found limit r w k e d = rw (there-is ∙ k) (rw (e, e₄, e₃, e₂, e₁) at d)

@@ -6,7 +6,7 @@ ghost use Prim.Native.Nat.{_≤_};
 ghost use Rattle.state.specs.Places.{instancesWords};
 ghost use Rattle.state.specs.Instances.{instancesOf, queuesOf};
 ghost use Rattle.meaning.specs.Refusals.{firstRefusal};
-ghost use Rattle.meaning.specs.Step.{instanceOf, before, refusalsAt, refusals};
+ghost use Rattle.meaning.specs.Step.{instanceOf, sharedOf, before, refusalsAt, refusals};
 ghost use Rattle.plans.specs.Plans.{siteAt};
 use super::halves::copy_in;
 use super::halves::decide_in;
@@ -25,7 +25,7 @@ use words::Word;
 // The number that refuses a step of instance n.instance of pool p, which exists.
 fn number_at(el: &[Word], z: &[Word], m: Move, p: Word, made: Word, limit: Word, n: Name) -> Word
     requires { ⌜ instancesWords ≤ length (now z) ⌝ }
-    ensures { λ r. ⌜ r ≡ firstRefusal (refusalsAt (siteAt (now (el .entry)) (before m (instanceOf (instancesOf (now (z .entry))) p (n .instance))) m (n .branch) (n .given) made limit) (queuesOf (now (z .entry)))) ⌝ }
+    ensures { λ r. ⌜ r ≡ firstRefusal (refusalsAt (siteAt (now (el .entry)) (before m (instanceOf (instancesOf (now (z .entry))) p (n .instance)) (sharedOf (instancesOf (now (z .entry))))) m (n .branch) (n .given) made limit) (queuesOf (now (z .entry)))) ⌝ }
 {
     let g = n.given;
     let mut h = copy_in(z, m, p, n.instance);
@@ -44,7 +44,7 @@ fn is_accepted_at(
     n: Name,
 ) -> bool
     requires { ⌜ instancesWords ≤ length (now z) ⌝ }
-    ensures { λ r. ⌜ r ≡ eqb (firstRefusal (refusalsAt (siteAt (now (el .entry)) (before m (instanceOf (instancesOf (now (z .entry))) p (n .instance))) m (n .branch) (n .given) made limit) (queuesOf (now (z .entry))))) 0 ⌝ }
+    ensures { λ r. ⌜ r ≡ eqb (firstRefusal (refusalsAt (siteAt (now (el .entry)) (before m (instanceOf (instancesOf (now (z .entry))) p (n .instance)) (sharedOf (instancesOf (now (z .entry))))) m (n .branch) (n .given) made limit) (queuesOf (now (z .entry))))) 0 ⌝ }
 {
     let name = message_name(el, n.branch);
     if !has_space_in(z, m, name) {

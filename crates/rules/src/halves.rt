@@ -5,7 +5,7 @@ ghost use lib.ListN.{length};
 ghost use Prim.Native.Nat.{_≤_};
 ghost use Rattle.state.specs.Places.{instancesWords};
 ghost use Rattle.state.specs.Instances.{instancesOf, queuesOf, madeCount};
-ghost use Rattle.meaning.specs.Step.{instanceOf, before};
+ghost use Rattle.meaning.specs.Step.{instanceOf, sharedOf, before};
 ghost use Rattle.effects.specs.Effects.{storedIn, deliveredBy};
 ghost use Rattle.refusals.specs.Chain.{spaceFor};
 ghost use Rattle.plans.specs.Plans.{siteAt, Decided};
@@ -28,7 +28,7 @@ use refusals::numbers::has_place;
 use refusals::numbers::has_space;
 use refusals::numbers::is_postable;
 use state::made_count;
-use state::places::INSTANCE_WORDS;
+use state::places::COPY_WORDS;
 use state::places::INSTANCES_WORDS;
 use words::Word;
 use words::numbers::NOT_POSTABLE;
@@ -42,9 +42,9 @@ pub fn made_in(z: &[Word], p: Word) -> Word
     made_count(&z[..INSTANCES_WORDS], p)
 }
 
-pub fn copy_in(z: &[Word], m: Move, p: Word, i: Word) -> [Word; INSTANCE_WORDS]
+pub fn copy_in(z: &[Word], m: Move, p: Word, i: Word) -> [Word; COPY_WORDS]
     requires { ⌜ instancesWords ≤ length (now z) ⌝ }
-    ensures { λ r. ⌜ r ≡ before m (instanceOf (instancesOf (now (z .entry))) p i) ⌝ }
+    ensures { λ r. ⌜ r ≡ before m (instanceOf (instancesOf (now (z .entry))) p i) (sharedOf (instancesOf (now (z .entry)))) ⌝ }
 {
     copy_before(&z[..INSTANCES_WORDS], m, p, i)
 }

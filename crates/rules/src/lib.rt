@@ -8,7 +8,7 @@ ghost use Rattle.model.specs.Table.{kindIn, modeIn};
 ghost use Rattle.state.specs.Places.{instancesWords};
 ghost use Rattle.state.specs.Instances.{instancesOf, queuesOf};
 ghost use Rattle.meaning.specs.Refusals.{firstRefusal};
-ghost use Rattle.meaning.specs.Step.{instanceOf, before, refusals};
+ghost use Rattle.meaning.specs.Step.{instanceOf, sharedOf, before, refusals};
 ghost use Rattle.plans.specs.Plans.{siteAt};
 ghost use Rattle.rules.specs.Parts.{settledAt};
 ghost use Rattle.rules.specs.Settled.{settled, posted, Done};
@@ -56,7 +56,7 @@ fn step_at(
     n: Name,
 ) -> Answer
     requires { ⌜ instancesWords ≤ length (now z) ⌝ }
-    ensures { λ r. ⌜ Done (settledAt (siteAt (now (el .entry)) (before m (instanceOf (instancesOf (now (z .entry))) p (n .instance))) m (n .branch) (n .given) made limit) p (n .instance) (instancesOf (now (z .entry))) (queuesOf (now (z .entry)))) r (now (z .exit)) ⌝ }
+    ensures { λ r. ⌜ Done (settledAt (siteAt (now (el .entry)) (before m (instanceOf (instancesOf (now (z .entry))) p (n .instance)) (sharedOf (instancesOf (now (z .entry))))) m (n .branch) (n .given) made limit) p (n .instance) (instancesOf (now (z .entry))) (queuesOf (now (z .entry)))) r (now (z .exit)) ⌝ }
 {
     let g = n.given;
     let mut h = copy_in(z, m, p, n.instance);

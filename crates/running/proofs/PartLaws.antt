@@ -9,8 +9,8 @@ use lib.ListN.{length, take, drop, length-set}
 use Rattle.words.specs.Pick.{if_then_else_}
 use Rattle.words.specs.Words.{at}
 use Rattle.words.proofs.WritesLaws.{length-writes}
-use Rattle.state.specs.Places.{instanceWords, instancePlace, instancesWords, slotPlace, slotWords}
-use Rattle.state.specs.Instances.{instancesOf, queuesOf}
+use Rattle.state.specs.Places.{instanceWords, instancePlace, storeWords, sharedPlace, instancesWords, slotPlace, slotWords}
+use Rattle.state.specs.Instances.{instancesOf, queuesOf, withInstance}
 use Rattle.meaning.specs.declared.Tuple.{Tuple}
 use Rattle.meaning.specs.declared.Name.{Name}
 use Rattle.meaning.specs.declared.Answer.{Answer}
@@ -37,7 +37,9 @@ two-parts (suc n) (w ∷ z) (x ∷ s) q e d =
 long-instances : (t s : List ℕ) (n : Name) → length (instancesAfter t s n) ≡ length s
 unfolding instancesAfter
 long-instances t s n =
-    simp length-set (length-writes (at (instanceAfter (siteOf t s n))) s (instancePlace (poolNamed t n) (n .instance)) instanceWords)
+    simp length-set
+    (length-writes (λ k. at (instanceAfter (siteOf t s n)) (instanceWords + k)) (withInstance s (poolNamed t n) (n .instance) (instanceAfter (siteOf t s n))) sharedPlace storeWords
+    ∙ length-writes (at (instanceAfter (siteOf t s n))) s (instancePlace (poolNamed t n) (n .instance)) instanceWords)
 
 long-extended : (q : List ℕ) (m : ℕ) (g : Tuple) → length (extended q m g) ≡ length q
 unfolding extended

@@ -1,11 +1,11 @@
 -- What the instances s of a state say, and the words h of one instance: "tokens on each edge, an active and a ready count for each task, and
 -- 16 fields. A field is 0 to 4,294,967,295 or undefined."
-use Prim.Native.Nat.{ℕ}
+use Prim.Native.Nat.{ℕ, _+_}
 use mathlib.Core.List.{List}
 use lib.ListN.{set, take, drop}
 use Rattle.words.specs.Words.{at}
 use Rattle.words.specs.Writes.{writes}
-use Rattle.state.specs.Places.{tokenPlace, activePlace, readyPlace, definedPlace, valuePlace, madePlace, instancePlace, instanceWords, instancesWords}
+use Rattle.state.specs.Places.{tokenPlace, activePlace, readyPlace, definedPlace, valuePlace, madePlace, instancePlace, instanceWords, storeWords, sharedPlace, instancesWords}
 
 -- the two parts of a state
 abbrev pub instancesOf : List ℕ → List ℕ
@@ -46,6 +46,10 @@ withField h d v = set (set h (definedPlace d) 1) (valuePlace d) v
 -- the instances with the words h stored as instance i of pool p, with another number of instances made
 abbrev pub withInstance : List ℕ → ℕ → ℕ → List ℕ → List ℕ
 withInstance s p i h = writes (at h) s (instancePlace p i) instanceWords
+
+-- the instances with the stores of the words h that a step leaves, which stand behind those of its instance
+abbrev pub withStores : List ℕ → List ℕ → List ℕ
+withStores s h = writes (λ k. at h (instanceWords + k)) s sharedPlace storeWords
 
 abbrev pub withMade : List ℕ → ℕ → ℕ → List ℕ
 withMade s p count = set s (madePlace p) count

@@ -1,5 +1,7 @@
 // The instances of a state, and the words of one instance: tokens, task counts, fields.
 ghost use mathlib.Core.Path.{_≡_};
+ghost use Rattle.words.specs.Words.{at};
+ghost use Rattle.state.specs.Places.{definedPlace, valuePlace};
 ghost use Rattle.state.specs.Instances.{madeCount, instanceAt, tokens, activeCount, readyCount, withTokens, withActive, withReady, withField};
 use words::Word;
 use words::less_one;
@@ -71,10 +73,36 @@ pub fn put_ready(h: &mut [Word], task: Word, count: Word)
     put(h, READY + wide(less_one(task)), count);
 }
 
+// Where it stands whether field d is defined, and its value.
+pub fn defined_place(d: Word) -> usize
+    ensures { λ r. ⌜ r ≡ definedPlace d ⌝ }
+{
+    DEFINED + 2 * (d as usize)
+}
+
+pub fn value_place(d: Word) -> usize
+    ensures { λ r. ⌜ r ≡ valuePlace d ⌝ }
+{
+    FIELD_VALUES + 2 * (d as usize)
+}
+
+// Whether field d is defined, and its value, as they stand.
+pub fn defined_at(h: &[Word], d: Word) -> Word
+    ensures { λ r. ⌜ r ≡ at (now (h .entry)) (definedPlace d) ⌝ }
+{
+    word(h, defined_place(d))
+}
+
+pub fn value_at(h: &[Word], d: Word) -> Word
+    ensures { λ r. ⌜ r ≡ at (now (h .entry)) (valuePlace d) ⌝ }
+{
+    word(h, value_place(d))
+}
+
 // Field d, defined.
 pub fn put_field(h: &mut [Word], d: Word, v: Word)
     ensures { λ _. ⌜ now (h .exit) ≡ withField (now (h .entry)) d v ⌝ }
 {
-    put(h, DEFINED + (d as usize), 1);
-    put(h, FIELD_VALUES + (d as usize), v);
+    put(h, defined_place(d), 1);
+    put(h, value_place(d), v);
 }

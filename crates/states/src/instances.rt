@@ -14,11 +14,12 @@ use super::marks::mark_pool;
 use fits::pools::made_fits;
 use limits::zeros::less;
 use limits::zeros::zero_words;
+use state::defined_at;
 use state::instance_at;
 use state::made_count;
 use state::places::DEFINED;
-use state::places::FIELD_VALUES;
 use state::places::INSTANCE_WORDS;
+use state::value_at;
 use words::Word;
 use words::counts::COUNT_MOST;
 use words::counts::FIELDS;
@@ -41,9 +42,9 @@ fn excess(u: Word, n: Word) -> Word
 fn field_fits(h: &[Word], d: Word) -> bool
     ensures { λ r. ⌜ r ≡ fieldFits (now (h .entry)) d ⌝ }
 {
-    let defined = word(h, DEFINED + (d as usize));
+    let defined = defined_at(h, d);
     if defined == 0 {
-        return word(h, FIELD_VALUES + (d as usize)) == 0;
+        return value_at(h, d) == 0;
     }
     defined == 1
 }

@@ -6,8 +6,11 @@ ghost use lib.ListN.{take};
 ghost use Rattle.words.specs.All.{all};
 ghost use Rattle.words.specs.Counts.{pools, names};
 ghost use Rattle.state.specs.Instances.{instancesOf, queuesOf};
-ghost use Rattle.fits.specs.Fits.{instancesFit, queueFits, stateFits};
+ghost use Rattle.fits.specs.Fits.{instancesFit, sharedFits, queueFits, stateFits};
+use limits::zeros::zero_words;
 use state::places::INSTANCES_WORDS;
+use state::places::SHARED;
+use state::places::SHARED_WORDS;
 use state::places::STATE_WORDS;
 use words::Word;
 use words::counts::NAMES;
@@ -34,6 +37,12 @@ fn all_instances_fit(t: &[Word], s: &[Word]) -> bool
     true
 }
 
+fn shared_fits(s: &[Word]) -> bool
+    ensures { λ r. ⌜ r ≡ sharedFits (now (s .entry)) ⌝ }
+{
+    zero_words(tail(s, SHARED), SHARED_WORDS)
+}
+
 fn queues_fit(q: &[Word]) -> bool
     ensures { λ r. ⌜ r ≡ all (queueFits (now (q .entry))) names ⌝ }
 {
@@ -51,6 +60,9 @@ fn both_fit(t: &[Word], s: &[Word], q: &[Word]) -> bool
     ensures { λ r. ⌜ r ≡ stateFits (now (t .entry)) (now (s .entry)) (now (q .entry)) ⌝ }
 {
     if !all_instances_fit(t, s) {
+        return false;
+    }
+    if !shared_fits(s) {
         return false;
     }
     queues_fit(q)

@@ -1,14 +1,14 @@
 -- Every step and every post, accepted or not, keeps a state fit and as long as it was. Assumes nothing.
 use Prim.Native.Nat.{ℕ, _*_}
 use mathlib.Core.Path.{_≡_, refl, _∙_}
-use mathlib.Core.Bool.{true}
+use mathlib.Core.Bool.{true, _&&_}
 use mathlib.Core.List.{List}
 use lib.Dec.{eqb}
 use lib.ListN.{length}
 use borrow.Author.Tests.{eqb-true}
 use Rattle.words.specs.All.{all}
 use Rattle.words.specs.Counts.{pools, names}
-use Rattle.words.proofs.AllLaws.{all-at, all-of, and-left, and-right}
+use Rattle.words.proofs.AllLaws.{all-of}
 use Rattle.words.proofs.PickLaws.{and-true}
 use Rattle.state.specs.Places.{instancesWords, queueWords}
 use Rattle.limits.specs.Limits.{tableFits}
@@ -20,10 +20,11 @@ use Rattle.meaning.specs.Refusals.{firstRefusal}
 use Rattle.meaning.specs.Post.{Posted, postRefusals, post}
 use Rattle.meaning.specs.Step.{Outcome, Site, siteOf, messageNamed, sent, refusals, refused, traffic, instancesAfter, queuesAfter, step}
 use Rattle.queues.proofs.SlotLaws.{length-with}
-use Rattle.fits.specs.Fits.{instancesFit, queueFits, stateFits}
+use Rattle.fits.specs.Fits.{instancesFit, sharedFits, queueFits, stateFits}
 use Rattle.steps.proofs.Choices.{by-choice}
 use Rattle.steps.proofs.OnlyOwn.{length-after}
 use Rattle.steps.proofs.QueuesAfter.{by-queues}
+use Rattle.steps.proofs.Traffic.{state-own, state-queues}
 use Rattle.steps.proofs.MadeAfter.{StartsOnce}
 use Rattle.steps.proofs.KeepsFits.{keeps-fits, post-keeps-fits}
 
@@ -59,10 +60,8 @@ module _ (t s q : List ℕ) (f : Fitting t s q) (name : ℕ) (g : Tuple) where
   posted-state : firstRefusal (postRefusals q name g) ≡ 0 → stateFits t s (sending q name g) ≡ true
   unfolding stateFits
   posted-state e =
-      and-true (all (instancesFit t s) pools) (all (queueFits (sending q name g)) names)
-      (and-left (all (instancesFit t s) pools) (all (queueFits q) names) (f .fits))
-      (all-of (queueFits (sending q name g)) names
-      (post-keeps-fits q name g e (f .wide) (all-at (queueFits q) names (and-right (all (instancesFit t s) pools) (all (queueFits q) names) (f .fits)))))
+      and-true (all (instancesFit t s) pools && sharedFits s) (all (queueFits (sending q name g)) names) (state-own t s q (f .fits))
+      (all-of (queueFits (sending q name g)) names (post-keeps-fits q name g e (f .wide) (state-queues t s q (f .fits))))
 
   pub post-keeps-state : Fitting t s (post q name g .queues)
   unfolding post

@@ -1,24 +1,22 @@
 -- Changes to an instance that keep it fit: a count at most 255 at a place it may use, a field defined, all counts cleared. u is the places it may
--- use, h its words. Assumes nothing.
+-- use, h its words and behind them what all share. Assumes nothing.
 use Prim.Native.Nat.{ℕ, _+_, _≤_, _<_}
 use mathlib.Core.Path.{_≡_, sym, _∙_, ap, subst}
 use mathlib.Core.Bool.{true}
 use mathlib.Core.List.{List}
 use native.Mathlib.Omega.{arith}
 use lib.Dec.{eqb, leb}
-use lib.ListN.{length, set, replicate, length-set, length-replicate, getD-replicate}
+use lib.ListN.{length, set, length-set}
 use lib.Seq.{getD-set-same, getD-set-other}
 use borrow.Author.Tests.{eqb-true, leb-true, eq-eqb, le-leb}
 use Rattle.words.specs.All.{all}
-use Rattle.words.specs.Each.{tab}
 use Rattle.words.specs.Pick.{if_then_else_}
 use Rattle.words.specs.Words.{at}
 use Rattle.words.specs.Counts.{fields, countMost}
 use Rattle.words.proofs.AllLaws.{and-left, and-right, all-at, all-of}
-use Rattle.words.proofs.ListLaws.{length-tab, getD-tab}
 use Rattle.words.proofs.PickLaws.{and-true}
 use Rattle.words.proofs.WritesLaws.{length-writes, writes-in, writes-above}
-use Rattle.state.specs.Places.{definedPlace, valuePlace, instanceWords}
+use Rattle.state.specs.Places.{definedPlace, valuePlace, instanceWords, copyWords, versionPlace}
 use Rattle.state.specs.Instances.{withField}
 use Rattle.meaning.specs.Changes.{cleared}
 use Rattle.fits.specs.Fits.{placeFits, fieldFits, instanceFits}
@@ -62,16 +60,31 @@ module _ (h : List ℕ) (d : ℕ) where
 
 -- AN INSTANCE
 pub record Fit (u h : List ℕ) : Type 0 where
-  pub long : length h ≡ instanceWords
+  pub long : length h ≡ copyWords
   pub counts : (k : ℕ) → k < definedPlace 0 → placeFits u h k ≡ true
   pub filled : (d : ℕ) → d < fields → fieldFits h d ≡ true
+  pub unstored : (k : ℕ) → instanceWords ≤ k → k < versionPlace → at h k ≡ 0
+
+-- the same words in another list
+pub instance-same : (u h g : List ℕ) → ((k : ℕ) → k < instanceWords → at g k ≡ at h k) → instanceFits u h ≡ true → instanceFits u g ≡ true
+unfolding instanceFits
+instance-same u h g same f =
+    and-true (all (placeFits u g) (definedPlace 0)) (all (fieldFits g) fields)
+    (all-of (placeFits u g) (definedPlace 0)
+    (λ k r. count-same u h k g (same k (omega arith)) (all-at (placeFits u h) (definedPlace 0) (and-left (all (placeFits u h) (definedPlace 0)) (all (fieldFits h) fields) f) k r)))
+    (all-of (fieldFits g) fields
+    (λ d r.
+    field-same h d g (same (definedPlace d) (omega arith)) (same (valuePlace d) (omega arith))
+    (all-at (fieldFits h) fields (and-right (all (placeFits u h) (definedPlace 0)) (all (fieldFits h) fields) f) d r)))
 
 module _ (u h : List ℕ) where
   -- from the definition, whatever list its words are read from, and back
-  pub fit-read : (g : List ℕ) → length g ≡ instanceWords → ((k : ℕ) → k < instanceWords → at g k ≡ at h k) → instanceFits u h ≡ true → Fit u g
+  pub fit-read : (g : List ℕ) → length g ≡ copyWords → ((k : ℕ) → k < instanceWords → at g k ≡ at h k)
+      → ((k : ℕ) → instanceWords ≤ k → k < versionPlace → at g k ≡ 0) → instanceFits u h ≡ true → Fit u g
   unfolding instanceFits
-  fit-read g l same f = record {
+  fit-read g l same none f = record {
     long = l;
+    unstored = none;
     counts = λ k r. count-same u h k g (same k (omega arith)) (all-at (placeFits u h) (definedPlace 0) (and-left (all (placeFits u h) (definedPlace 0)) (all (fieldFits h) fields) f) k r);
     filled = λ d r.
         field-same h d g (same (definedPlace d) (omega arith)) (same (valuePlace d) (omega arith))
@@ -81,14 +94,14 @@ module _ (u h : List ℕ) where
   pub fit-back : (g : List ℕ) → ((k : ℕ) → k < instanceWords → at g k ≡ at h k) → Fit u h → instanceFits u g ≡ true
   unfolding instanceFits
   fit-back g same f =
-      and-true (all (placeFits u g) (definedPlace 0)) (all (fieldFits g) fields)
-      (all-of (placeFits u g) (definedPlace 0) (λ k r. count-same u h k g (same k (omega arith)) (f .counts k r)))
-      (all-of (fieldFits g) fields (λ d r. field-same h d g (same (definedPlace d) (omega arith)) (same (valuePlace d) (omega arith)) (f .filled d r)))
+      instance-same u h g same
+      (and-true (all (placeFits u h) (definedPlace 0)) (all (fieldFits h) fields) (all-of (placeFits u h) (definedPlace 0) (f .counts)) (all-of (fieldFits h) fields (f .filled)))
 
   -- a count
   pub fit-set : (k v : ℕ) → k < definedPlace 0 → at u k ≡ 1 → v ≤ countMost → Fit u h → Fit u (set h k v)
   fit-set k v l e r f = record {
     long = length-set h k v ∙ f .long;
+    unstored = λ j a b. getD-set-other h k j v 0 (λ z. omega arith) ∙ f .unstored j a b;
     counts = λ j s.
         by-order j k (λ o. count-same u h j (set h k v) (getD-set-other h k j v 0 (λ z. omega arith)) (f .counts j s))
         (λ o. let i : k < length h = omega (arith, f .long) in
@@ -106,6 +119,7 @@ module _ (u h : List ℕ) where
       λ k a b. getD-set-other (set h (definedPlace d) 1) (valuePlace d) k v 0 b ∙ getD-set-other h (definedPlace d) k 1 0 a in
       record {
         long = length-set (set h (definedPlace d) 1) (valuePlace d) v ∙ length-set h (definedPlace d) 1 ∙ f .long;
+        unstored = λ k a b. away k (λ z. omega arith) (λ z. omega arith) ∙ f .unstored k a b;
         counts = λ k s. count-same u h k (withField h d v) (away k (λ z. omega arith) (λ z. omega arith)) (f .counts k s);
         filled = λ c s.
             by-order c d (λ o. field-same h c (withField h d v) (away (definedPlace c) (λ z. omega arith) (λ z. omega arith)) (away (valuePlace c) (λ z. omega arith) (λ z. omega arith)) (f .filled c s))
@@ -120,22 +134,17 @@ module _ (u h : List ℕ) where
   unfolding cleared
   fit-cleared f = record {
     long = length-writes (λ k. 0) h 0 (definedPlace 0) ∙ f .long;
+    unstored = λ k a b. writes-above (λ k. 0) h 0 (definedPlace 0) k (omega arith) ∙ f .unstored k a b;
     counts = λ k s. count-zero u (cleared h) k (let e : 0 + k ≡ k = omega arith in ap (at (cleared h)) (sym e) ∙ writes-in (λ k. 0) h 0 (definedPlace 0) k s (omega (arith, f .long)));
     filled = λ d s.
         field-same h d (cleared h) (writes-above (λ k. 0) h 0 (definedPlace 0) (definedPlace d) (omega arith)) (writes-above (λ k. 0) h 0 (definedPlace 0) (valuePlace d) (omega arith)) (f .filled d s);
   }
 
--- nothing but zeros
-pub fit-blank : (u : List ℕ) → Fit u (replicate instanceWords 0)
-fit-blank u = record {
-  long = length-replicate {A = ℕ} instanceWords 0;
-  counts = λ k s. count-zero u (replicate instanceWords 0) k (getD-replicate instanceWords k 0 0 (omega arith));
-  filled = λ d s.
-      field-blank (replicate instanceWords 0) d (getD-replicate instanceWords (definedPlace d) 0 0 (omega arith)) (getD-replicate instanceWords (valuePlace d) 0 0 (omega arith));
+-- nothing but zeros, up to the version
+pub fit-blank : (u h : List ℕ) → length h ≡ copyWords → ((k : ℕ) → k < versionPlace → at h k ≡ 0) → Fit u h
+fit-blank u h l none = record {
+  long = l;
+  counts = λ k s. count-zero u h k (none k (omega arith));
+  filled = λ d s. field-blank h d (none (definedPlace d) (omega arith)) (none (valuePlace d) (omega arith));
+  unstored = λ k a b. none k b;
 }
-
--- the same words in another list
-pub instance-same : (u h g : List ℕ) → ((k : ℕ) → k < instanceWords → at g k ≡ at h k) → instanceFits u h ≡ true → instanceFits u g ≡ true
-instance-same u h g same f =
-    let e : (k : ℕ) → k < instanceWords → at (tab (at h) instanceWords) k ≡ at h k = λ k l. getD-tab (at h) instanceWords k 0 l in
-    fit-back u (tab (at h) instanceWords) g (λ k l. same k l ∙ sym (e k l)) (fit-read u h (tab (at h) instanceWords) (length-tab (at h) instanceWords) e f)

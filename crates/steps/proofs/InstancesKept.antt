@@ -8,7 +8,7 @@ use native.Mathlib.Omega.{arith}
 use lib.Seq.{getD-drop}
 use Rattle.words.specs.Words.{at}
 use Rattle.words.specs.Counts.{pools, instances}
-use Rattle.state.specs.Places.{instanceWords, instancePlace, madePlace}
+use Rattle.state.specs.Places.{instanceWords, instancePlace, madePlace, sharedPlace}
 use Rattle.state.specs.Instances.{madeCount, instanceAt}
 use Rattle.fits.specs.Fits.{usable, instanceFits}
 use Rattle.queues.proofs.SlotLaws.{by-order}
@@ -16,12 +16,12 @@ use Rattle.steps.proofs.InstanceFits.{Fit, fit-back, instance-same}
 use Rattle.steps.proofs.PoolFits.{PoolFit, pool-same}
 use Rattle.steps.proofs.MadeAfter.{Makes}
 
-module _ (t s r : List ℕ) (p i : ℕ) (few : p < pools) (other : (k : ℕ) → (k < instancePlace p i) ⊎ (instancePlace p i + instanceWords ≤ k) → (k ≡ madePlace p → ⊥) → at r k ≡ at s k) where
+module _ (t s r : List ℕ) (p i : ℕ) (few : p < pools) (other : (k : ℕ) → k < sharedPlace → (k < instancePlace p i) ⊎ (instancePlace p i + instanceWords ≤ k) → (k ≡ madePlace p → ⊥) → at r k ≡ at s k) where
   -- the words of another instance of the pool
-  another : (j : ℕ) → (j ≡ i → ⊥) → (k : ℕ) → k < instanceWords → at r (instancePlace p j + k) ≡ at s (instancePlace p j + k)
-  another j d k h =
-      by-order j i (λ l. other (instancePlace p j + k) (inl (omega arith)) (λ e. omega arith)) (λ e. absurd (d (sym e)))
-      (λ l. other (instancePlace p j + k) (inr (omega arith)) (λ e. omega arith))
+  another : (j : ℕ) → j < instances → (j ≡ i → ⊥) → (k : ℕ) → k < instanceWords → at r (instancePlace p j + k) ≡ at s (instancePlace p j + k)
+  another j r d k h =
+      by-order j i (λ l. other (instancePlace p j + k) (omega arith) (inl (omega arith)) (λ e. omega arith)) (λ e. absurd (d (sym e)))
+      (λ l. other (instancePlace p j + k) (omega arith) (inr (omega arith)) (λ e. omega arith))
 
   module _ (h : List ℕ) (own : (k : ℕ) → k < instanceWords → at r (instancePlace p i + k) ≡ at h k) (fit : Fit (usable t p) h) (makes : Makes t p i (madeCount s p) (madeCount r p)) (room : madeCount r p ≤ instances) (before : PoolFit t s p) where
     each-after : (j : ℕ) → j < madeCount r p → instanceFits (usable t p) (instanceAt r p j) ≡ true
@@ -34,7 +34,7 @@ module _ (t s r : List ℕ) (p i : ℕ) (few : p < pools) (other : (k : ℕ) →
         later : (j ≡ i → ⊥) → instanceFits (usable t p) (instanceAt r p j) ≡ true
         later d =
             instance-same (usable t p) (instanceAt s p j) (instanceAt r p j)
-            (λ k o. getD-drop (instancePlace p j) r k 0 ∙ another j d k o ∙ sym (getD-drop (instancePlace p j) s k 0))
+            (λ k o. getD-drop (instancePlace p j) r k 0 ∙ another j (omega arith) d k o ∙ sym (getD-drop (instancePlace p j) s k 0))
             (before .each j (makes .others j l d))
 
     rest-after : (k : ℕ) → k < instanceWords * (instances - madeCount r p) → at r (instancePlace p (madeCount r p) + k) ≡ 0
@@ -42,7 +42,7 @@ module _ (t s r : List ℕ) (p i : ℕ) (few : p < pools) (other : (k : ℕ) →
         let a : madeCount s p ≤ madeCount r p = makes .least in
         let b : i < madeCount r p = makes .named in
         let e : instancePlace p (madeCount r p) + k ≡ instancePlace p (madeCount s p) + (instanceWords * (madeCount r p - madeCount s p) + k) = omega arith in
-        other (instancePlace p (madeCount r p) + k) (inr (omega arith)) (λ z. omega arith)
+        other (instancePlace p (madeCount r p) + k) (omega arith) (inr (omega arith)) (λ z. omega arith)
         ∙ ap (at s) e
         ∙ before .rest (instanceWords * (madeCount r p - madeCount s p) + k) (omega arith)
 
@@ -52,8 +52,8 @@ module _ (t s r : List ℕ) (p i : ℕ) (few : p < pools) (other : (k : ℕ) →
   -- another pool
   pub other-pool : (o : ℕ) → o < pools → (o ≡ p → ⊥) → i < instances → madeCount s o ≤ instances → PoolFit t s o → PoolFit t r o
   other-pool o l d named room f =
-      pool-same t s r o room (other o (inl (omega arith)) d)
+      pool-same t s r o room (other o (omega arith) (inl (omega arith)) d)
       (λ k h.
-      by-order o p (λ y. other (instancePlace o 0 + k) (inl (omega arith)) (λ e. omega arith)) (λ e. absurd (d (sym e)))
-      (λ y. other (instancePlace o 0 + k) (inr (omega arith)) (λ e. omega arith)))
+      by-order o p (λ y. other (instancePlace o 0 + k) (omega arith) (inl (omega arith)) (λ e. omega arith)) (λ e. absurd (d (sym e)))
+      (λ y. other (instancePlace o 0 + k) (omega arith) (inr (omega arith)) (λ e. omega arith)))
       f

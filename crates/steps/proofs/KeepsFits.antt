@@ -1,40 +1,43 @@
 -- An accepted step keeps a state fit, and so does an accepted post: t is a table within the limits, in which no pool with `start` has a startRcv.
 -- Assumes nothing.
-use Prim.Native.Nat.{ℕ, _*_, _≤_, _<_}
-use mathlib.Core.Path.{_≡_, sym, subst}
+use Prim.Native.Nat.{ℕ, _+_, _*_, _≤_, _<_}
+use mathlib.Core.Path.{_≡_, sym, _∙_, ap, subst}
 use mathlib.Core.Bool.{true, _&&_}
 use mathlib.Core.List.{List, [], _∷_}
 use native.Mathlib.Omega.{arith}
 use lib.Dec.{eqb, leb, ltb}
-use lib.ListN.{length}
-use borrow.Author.Tests.{ltb-true, leb-true}
+use lib.ListN.{length, drop}
+use lib.Seq.{getD-drop}
+use borrow.Author.Tests.{ltb-true, leb-true, eq-eqb}
 use Rattle.words.specs.All.{all}
+use Rattle.words.specs.Words.{at}
 use Rattle.words.specs.Counts.{pools, names, values, messages, instances}
 use Rattle.words.proofs.AllLaws.{all-of, and-left, and-right}
 use Rattle.words.proofs.PickLaws.{and-true}
 use Rattle.kinds.specs.Moves.{making}
-use Rattle.state.specs.Places.{instancesWords, queueWords}
+use Rattle.state.specs.Places.{instanceWords, storeWords, versionIn, sharedWords, sharedPlace, instancesWords, queueWords}
 use Rattle.state.specs.Instances.{madeCount}
-use Rattle.limits.specs.Limits.{tableFits}
+use Rattle.limits.specs.Limits.{zeros, tableFits}
 use Rattle.meaning.specs.declared.Name.{Name}
 use Rattle.meaning.specs.declared.Tuple.{Tuple}
 use Rattle.meaning.specs.Queues.{messagesOf, sending}
 use Rattle.meaning.specs.Refusals.{_unless_, firstRefusal}
 use Rattle.meaning.specs.Post.{postRefusals}
 use Rattle.meaning.specs.Step.{Site, siteOf, poolNamed, moveNamed, messageNamed, sent, instanceAfter, madeAfter, instancesAfter, queuesAfter, refusals}
-use Rattle.fits.specs.Fits.{instancesFit, queueFits, stateFits}
-use Rattle.queues.proofs.SlotLaws.{by-order}
+use Rattle.fits.specs.Fits.{usable, instancesFit, sharedFits, queueFits, stateFits}
+use Rattle.queues.proofs.SlotLaws.{by-order, by-below}
 use Rattle.steps.proofs.AcceptedParts.{first-holds}
 use Rattle.steps.proofs.Choices.{by-test}
-use Rattle.steps.proofs.OnlyOwn.{only-own, own-words, own-made}
+use Rattle.steps.proofs.OnlyOwn.{only-own, own-words, own-stores, own-made, same-version}
 use Rattle.steps.proofs.Elements.{limit-few}
 use Rattle.steps.proofs.Found.{Found}
 use Rattle.steps.proofs.InstanceBefore.{pool-few, instance-before}
+use Rattle.steps.proofs.InstanceFits.{Fit}
 use Rattle.steps.proofs.InstanceAfter.{fit-after}
 use Rattle.steps.proofs.MadeAfter.{StartsOnce, Makes, makes-none, makes-one}
 use Rattle.steps.proofs.PoolFits.{PoolFit, pool-parts, pool-back, made-few}
 use Rattle.steps.proofs.InstancesKept.{own-pool, other-pool}
-use Rattle.steps.proofs.Traffic.{state-queues, state-instances, here, site, received-name, sent-name, sent-space, sent-short}
+use Rattle.steps.proofs.Traffic.{state-queues, state-instances, state-shared, here, site, received-name, sent-name, sent-space, sent-short}
 use Rattle.steps.proofs.QueuesAfter.{by-queues}
 use Rattle.steps.proofs.QueuesKept.{consuming-fits, sending-fits}
 
@@ -73,6 +76,9 @@ module _ (t s q : List ℕ) (n : Name) (fits : tableFits t ≡ true) (once : Sta
   named : n .instance < instances
   named = omega (arith, made-room, makes .named)
 
+  fit : Fit (usable t p) (instanceAfter x)
+  fit = fit-after t s n fits f (instance-before t s q n fits state accepted)
+
   -- EVERY POOL
   pool-after : (o : ℕ) → o < pools → PoolFit t r o
   pool-after o l =
@@ -86,14 +92,27 @@ module _ (t s q : List ℕ) (n : Name) (fits : tableFits t ≡ true) (once : Sta
       mine : PoolFit t r p
       mine =
           own-pool t s r p (n .instance) few (only-own t s n) (instanceAfter x)
-          (own-words t s n (omega (arith, few)) (omega (arith, few, named)))
-          (fit-after t s n fits f (instance-before t s q n fits state accepted))
+          (own-words t s n (omega (arith, few)) (omega (arith, few, named)) (omega (arith, long)))
+          fit
           (subst (Makes t p (n .instance) (madeCount s p)) (sym made-is) makes)
           (subst (λ k. k ≤ instances) (sym made-is) made-room)
           (pool-before p few)
 
   pub keeps-instances : (o : ℕ) → o < pools → instancesFit t r o ≡ true
   keeps-instances o l = pool-back t r o (pool-after o l)
+
+  -- WHAT ALL SHARE: the stores are those that it leaves, the version is as it was
+  shared-after : (k : ℕ) → k < sharedWords → at r (sharedPlace + k) ≡ 0
+  shared-after k l =
+      by-below k storeWords
+      (λ a. own-stores t s n (omega (arith, few)) (omega (arith, long)) k a ∙ fit .unstored (instanceWords + k) (omega arith) (omega arith))
+      (λ a.
+      let e : sharedPlace + k ≡ sharedPlace + versionIn = omega arith in
+      ap (at r) e ∙ same-version t s n (omega (arith, few)) (omega (arith, few, named)) ∙ state-shared t s q state versionIn (omega arith))
+
+  pub keeps-shared : sharedFits r ≡ true
+  unfolding sharedFits zeros
+  keeps-shared = all-of (λ k. eqb (at (drop sharedPlace r) k) 0) sharedWords (λ k l. eq-eqb _ 0 (getD-drop sharedPlace r k 0 ∙ shared-after k l))
 
   -- EVERY QUEUE
   pub keeps-queues : length q ≡ queueWords * names → (m : ℕ) → m < names → queueFits (queuesAfter x q) m ≡ true
@@ -107,7 +126,8 @@ module _ (t s q : List ℕ) (n : Name) (fits : tableFits t ≡ true) (once : Sta
   pub keeps-fits : length q ≡ queueWords * names → stateFits t (instancesAfter t s n) (queuesAfter (siteOf t s n) q) ≡ true
   unfolding stateFits
   keeps-fits wide =
-      and-true (all (instancesFit t r) pools) (all (queueFits (queuesAfter x q)) names) (all-of (instancesFit t r) pools keeps-instances)
+      and-true (all (instancesFit t r) pools && sharedFits r) (all (queueFits (queuesAfter x q)) names)
+      (and-true (all (instancesFit t r) pools) (sharedFits r) (all-of (instancesFit t r) pools keeps-instances) keeps-shared)
       (all-of (queueFits (queuesAfter x q)) names (keeps-queues wide))
 
 -- A POST

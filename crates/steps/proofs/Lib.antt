@@ -8,6 +8,7 @@ pub mod Elements
 pub mod Messages
 pub mod Found
 pub mod QueueFits
+pub mod Seen
 pub mod Traffic
 pub mod ConsumesOne
 pub mod Usable

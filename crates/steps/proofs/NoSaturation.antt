@@ -16,7 +16,7 @@ use Rattle.words.proofs.AllLaws.{all-at, and-left, and-right}
 use Rattle.kinds.specs.declared.moves.Move.{Move}
 use Rattle.kinds.specs.Moves.{branch, up, clearing}
 use Rattle.model.specs.Table.{taskIn, kindIn, modeIn, exitCount, exitAt}
-use Rattle.state.specs.Places.{tokenPlace, activePlace, readyPlace, instanceWords}
+use Rattle.state.specs.Places.{tokenPlace, activePlace, readyPlace, copyWords}
 use Rattle.state.specs.Instances.{tokens, activeCount, readyCount}
 use Rattle.limits.specs.Limits.{elementFits, tableFits}
 use Rattle.meaning.specs.declared.Name.{Name}
@@ -41,7 +41,7 @@ abbrev pub ExitsApart : List ℕ → Type 0
 ExitsApart el = (j k : ℕ) → j < exitCount el → k < exitCount el → (j ≡ k → ⊥) → exitAt el j ≡ exitAt el k → ⊥
 
 -- OF ANY INSTANCE h that has room
-module _ (el : List ℕ) (m : Move) (b : ℕ) (h : List ℕ) (fits : elementFits el ≡ true) (few : m .puts ≡ branch → b < exitCount el) (long : length h ≡ instanceWords) (room : roomy el h m b ≡ true) where
+module _ (el : List ℕ) (m : Move) (b : ℕ) (h : List ℕ) (fits : elementFits el ≡ true) (few : m .puts ≡ branch → b < exitCount el) (long : length h ≡ copyWords) (room : roomy el h m b ≡ true) where
   abbrev place : ℕ → ℕ
   place j = tokenPlace (exitAt el (first (m .puts) b + j))
 
@@ -70,7 +70,7 @@ module _ (el : List ℕ) (m : Move) (b : ℕ) (h : List ℕ) (fits : elementFits
       (all-at (hasRoom el h (first (m .puts) b)) count (and-left roomsPart activePart (and-left (roomsPart && activePart) readyPart room)) j l)
 
   -- the counts are changed apart from the tokens, and apart from one another
-  length-counted : length g ≡ instanceWords
+  length-counted : length g ≡ copyWords
   unfolding readyChanged activeChanged
   length-counted =
       length-set (activeChanged el m h) (readyPlace (taskIn el)) (countChanged (m .ready) (readyCount (activeChanged el m h) (taskIn el)))
@@ -152,7 +152,7 @@ module _ (t s q : List ℕ) (n : Name) (fits : tableFits t ≡ true) (state : st
   right : elementFits (elementNamed t n) ≡ true
   right = element-named t s n fits f
 
-  taking-long : length (afterTaking x) ≡ instanceWords
+  taking-long : length (afterTaking x) ≡ copyWords
   taking-long = fit-taking t s n fits f (instance-before t s q n fits state accepted) .long
 
   room-after : roomy (elementNamed t n) (afterTaking x) (moveNamed t n) (n .branch) ≡ true

@@ -1,9 +1,9 @@
--- A step changes only the words of the instance that it names, how many instances its pool has made, and the one queue that it receives from or
--- sends to. Assumes nothing.
+-- A step changes only the words of the instance that it names, the stores, how many instances its pool has made, and the one queue that it receives
+-- from or sends to. Assumes nothing.
 use Prim.Native.Nat.{ℕ, _+_, _≤_, _<_}
 use mathlib.Core.Path.{_≡_, refl, _∙_}
 use mathlib.Core.List.{List}
-use mathlib.Core.Logic.{_⊎_, ⊎-elim}
+use mathlib.Core.Logic.{_⊎_, inl, inr, ⊎-elim}
 use native.Mathlib.Omega.{arith}
 use lib.ListN.{length, set, length-set}
 use lib.Seq.{getD-set-same, getD-set-other}
@@ -11,7 +11,7 @@ use Rattle.words.specs.Words.{at}
 use Rattle.words.specs.Writes.{writes}
 use Rattle.words.specs.Counts.{messages}
 use Rattle.words.proofs.WritesLaws.{length-writes, writes-in, writes-below, writes-above}
-use Rattle.state.specs.Places.{instanceWords, madePlace, instancePlace, queueWords, queuePlace}
+use Rattle.state.specs.Places.{instanceWords, madePlace, instancePlace, storeWords, versionIn, sharedPlace, queueWords, queuePlace}
 use Rattle.state.specs.Instances.{madeCount}
 use Rattle.meaning.specs.declared.Name.{Name}
 use Rattle.meaning.specs.Messages.{appended, without}
@@ -20,44 +20,76 @@ use Rattle.meaning.specs.Step.{Site, siteOf, poolNamed, messageNamed, sent, ins
 use Rattle.queues.proofs.ReadLaws.{words-other, messages-other}
 use Rattle.steps.proofs.QueuesAfter.{by-queues}
 
--- f 0 to f (n - 1) stored from place a on, then v at place m
-module _ (f : ℕ → ℕ) (s : List ℕ) (a n m v : ℕ) where
+-- f 0 to f (n - 1) stored from place a on, g 0 to g (l - 1) from place b on, then v at place m
+module _ (f g : ℕ → ℕ) (s : List ℕ) (a n b l m v : ℕ) where
+  abbrev first : List ℕ
+  first = writes f s a n
+
+  abbrev second : List ℕ
+  second = writes g first b l
+
   abbrev stored : List ℕ
-  stored = set (writes f s a n) m v
+  stored = set second m v
+
+  second-length : length second ≡ length s
+  second-length = length-writes g first b l ∙ length-writes f s a n
 
   stored-length : length stored ≡ length s
-  stored-length = length-set (writes f s a n) m v ∙ length-writes f s a n
+  stored-length = length-set second m v ∙ second-length
 
-  stored-other : (k : ℕ) → (k < a) ⊎ (a + n ≤ k) → (k ≡ m → ⊥) → at stored k ≡ at s k
-  stored-other k o ne = getD-set-other (writes f s a n) m k v 0 ne ∙ ⊎-elim (writes-below f s a n k) (writes-above f s a n k) o
+  stored-other : (k : ℕ) → (k < a) ⊎ (a + n ≤ k) → (k < b) ⊎ (b + l ≤ k) → (k ≡ m → ⊥) → at stored k ≡ at s k
+  stored-other k o r ne =
+      getD-set-other second m k v 0 ne ∙ ⊎-elim (writes-below g first b l k) (writes-above g first b l k) r ∙ ⊎-elim (writes-below f s a n k) (writes-above f s a n k) o
 
-  stored-in : m < a → a + n ≤ length s → (k : ℕ) → k < n → at stored (a + k) ≡ f k
-  stored-in l r k h = getD-set-other (writes f s a n) m (a + k) v 0 (λ e. omega arith) ∙ writes-in f s a n k h r
+  stored-in : m < a → a + n ≤ b → b ≤ length s → (k : ℕ) → k < n → at stored (a + k) ≡ f k
+  stored-in i o r k h =
+      getD-set-other second m (a + k) v 0 (λ e. omega arith) ∙ writes-below g first b l (a + k) (omega arith) ∙ writes-in f s a n k h (omega arith)
+
+  stored-behind : m < b → b + l ≤ length s → (k : ℕ) → k < l → at stored (b + k) ≡ g k
+  stored-behind i r k h = getD-set-other second m (b + k) v 0 (λ e. omega arith) ∙ writes-in g first b l k h (omega (arith, length-writes f s a n))
 
   stored-made : m < length s → at stored m ≡ v
-  stored-made l = getD-set-same (writes f s a n) m v 0 (omega (arith, length-writes f s a n))
+  stored-made i = getD-set-same second m v 0 (omega (arith, second-length))
 
 module _ (t s : List ℕ) (n : Name) where
   abbrev ownPlace : ℕ
   ownPlace = instancePlace (poolNamed t n) (n .instance)
 
+  abbrev after : List ℕ
+  after = instanceAfter (siteOf t s n)
+
   pub length-after : length (instancesAfter t s n) ≡ length s
   unfolding instancesAfter
-  length-after = stored-length (at (instanceAfter (siteOf t s n))) s ownPlace instanceWords (poolNamed t n) (madeAfter (siteOf t s n))
+  length-after = stored-length (at after) (λ k. at after (instanceWords + k)) s ownPlace instanceWords sharedPlace storeWords (poolNamed t n) (madeAfter (siteOf t s n))
 
   -- a word of no part of it
-  pub only-own : (k : ℕ) → (k < ownPlace) ⊎ (ownPlace + instanceWords ≤ k) → (k ≡ madePlace (poolNamed t n) → ⊥) → at (instancesAfter t s n) k ≡ at s k
+  pub untouched : (k : ℕ) → (k < ownPlace) ⊎ (ownPlace + instanceWords ≤ k) → (k < sharedPlace) ⊎ (sharedPlace + storeWords ≤ k) → (k ≡ madePlace (poolNamed t n) → ⊥)
+      → at (instancesAfter t s n) k ≡ at s k
   unfolding instancesAfter
-  only-own = stored-other (at (instanceAfter (siteOf t s n))) s ownPlace instanceWords (poolNamed t n) (madeAfter (siteOf t s n))
+  untouched = stored-other (at after) (λ k. at after (instanceWords + k)) s ownPlace instanceWords sharedPlace storeWords (poolNamed t n) (madeAfter (siteOf t s n))
 
-  -- its own words, and how many are made
-  pub own-words : poolNamed t n < ownPlace → ownPlace + instanceWords ≤ length s → (k : ℕ) → k < instanceWords → at (instancesAfter t s n) (ownPlace + k) ≡ at (instanceAfter (siteOf t s n)) k
+  -- a word of the instances that is not its own
+  pub only-own : (k : ℕ) → k < sharedPlace → (k < ownPlace) ⊎ (ownPlace + instanceWords ≤ k) → (k ≡ madePlace (poolNamed t n) → ⊥) → at (instancesAfter t s n) k ≡ at s k
+  only-own k l o ne = untouched k o (inl l) ne
+
+  -- its own words, the stores, and how many are made
+  pub own-words : poolNamed t n < ownPlace → ownPlace + instanceWords ≤ sharedPlace → sharedPlace ≤ length s → (k : ℕ) → k < instanceWords
+      → at (instancesAfter t s n) (ownPlace + k) ≡ at after k
   unfolding instancesAfter
-  own-words = stored-in (at (instanceAfter (siteOf t s n))) s ownPlace instanceWords (poolNamed t n) (madeAfter (siteOf t s n))
+  own-words = stored-in (at after) (λ k. at after (instanceWords + k)) s ownPlace instanceWords sharedPlace storeWords (poolNamed t n) (madeAfter (siteOf t s n))
+
+  pub own-stores : poolNamed t n < sharedPlace → sharedPlace + storeWords ≤ length s → (k : ℕ) → k < storeWords
+      → at (instancesAfter t s n) (sharedPlace + k) ≡ at after (instanceWords + k)
+  unfolding instancesAfter
+  own-stores = stored-behind (at after) (λ k. at after (instanceWords + k)) s ownPlace instanceWords sharedPlace storeWords (poolNamed t n) (madeAfter (siteOf t s n))
 
   pub own-made : poolNamed t n < length s → madeCount (instancesAfter t s n) (poolNamed t n) ≡ madeAfter (siteOf t s n)
   unfolding instancesAfter
-  own-made = stored-made (at (instanceAfter (siteOf t s n))) s ownPlace instanceWords (poolNamed t n) (madeAfter (siteOf t s n))
+  own-made = stored-made (at after) (λ k. at after (instanceWords + k)) s ownPlace instanceWords sharedPlace storeWords (poolNamed t n) (madeAfter (siteOf t s n))
+
+  -- the version is as it was
+  pub same-version : poolNamed t n < sharedPlace → ownPlace + instanceWords ≤ sharedPlace → at (instancesAfter t s n) (sharedPlace + versionIn) ≡ at s (sharedPlace + versionIn)
+  same-version l o = untouched (sharedPlace + versionIn) (inr (omega arith)) (inr (omega arith)) (λ e. omega arith)
 
 module _ (x : Site) (q : List ℕ) (m : ℕ) (other : m ≡ messageNamed x → ⊥) where
   -- another queue: its words, and its messages

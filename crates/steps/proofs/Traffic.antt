@@ -1,19 +1,22 @@
 -- What an accepted step that receives or sends knows of its queue: the name is one of the 16, the message is there or has space, it has at most 4
 -- values. Assumes nothing.
-use Prim.Native.Nat.{ℕ, _≤_, _<_}
-use mathlib.Core.Path.{_≡_, refl}
-use mathlib.Core.Bool.{Bool, true, false, _||_}
+use Prim.Native.Nat.{ℕ, _+_, _≤_, _<_}
+use mathlib.Core.Path.{_≡_, refl, sym, _∙_}
+use mathlib.Core.Bool.{Bool, true, false, _&&_, _||_}
 use mathlib.Core.List.{List}
-use lib.Dec.{ltb}
-use lib.ListN.{length}
+use lib.Dec.{eqb, ltb}
+use lib.ListN.{length, drop}
+use lib.Seq.{getD-drop}
 use borrow.Author.Tests.{ltb-true, eqb-true, ne-eqb}
 use Rattle.words.specs.All.{all}
 use Rattle.words.specs.Pick.{if_then_else_}
+use Rattle.words.specs.Words.{at}
 use Rattle.words.specs.Counts.{pools, names, values, messages}
 use Rattle.words.proofs.AllLaws.{and-left, and-right, all-at}
 use Rattle.kinds.specs.Moves.{on}
 use Rattle.model.specs.Table.{kindIn, modeIn}
-use Rattle.limits.specs.Limits.{tableFits}
+use Rattle.state.specs.Places.{sharedWords, sharedPlace}
+use Rattle.limits.specs.Limits.{zeros, tableFits}
 use Rattle.meaning.specs.declared.Name.{Name}
 use Rattle.meaning.specs.Messages.{has}
 use Rattle.meaning.specs.Queues.{messagesOf}
@@ -21,20 +24,30 @@ use Rattle.meaning.specs.Templates.{gathered, evaluated}
 use Rattle.meaning.specs.Changes.{messageSent}
 use Rattle.meaning.specs.Refusals.{firstRefusal}
 use Rattle.meaning.specs.Step.{Site, siteOf, elementNamed, moveNamed, receives, sends, messageNamed, sent, queued, space, refusals}
-use Rattle.fits.specs.Fits.{instancesFit, queueFits, stateFits}
+use Rattle.fits.specs.Fits.{instancesFit, sharedFits, queueFits, stateFits}
 use Rattle.steps.proofs.AcceptedParts.{Accepted, accepted-parts}
 use Rattle.steps.proofs.Choices.{chosen-true}
 use Rattle.steps.proofs.Found.{Found, found, name-few, length-few}
 use Rattle.steps.proofs.Rows.{row-one-way}
 
--- the queues of a state that fits
-pub state-queues : (t s q : List ℕ) → stateFits t s q ≡ true → (m : ℕ) → m < names → queueFits q m ≡ true
-unfolding stateFits
-state-queues t s q h = all-at (queueFits q) names (and-right (all (instancesFit t s) pools) (all (queueFits q) names) h)
+-- the parts of a state that fits
+module _ (t s q : List ℕ) (h : stateFits t s q ≡ true) where
+  pub state-queues : (m : ℕ) → m < names → queueFits q m ≡ true
+  unfolding stateFits
+  state-queues = all-at (queueFits q) names (and-right (all (instancesFit t s) pools && sharedFits s) (all (queueFits q) names) h)
 
-pub state-instances : (t s q : List ℕ) → stateFits t s q ≡ true → (p : ℕ) → p < pools → instancesFit t s p ≡ true
-unfolding stateFits
-state-instances t s q h = all-at (instancesFit t s) pools (and-left (all (instancesFit t s) pools) (all (queueFits q) names) h)
+  pub state-own : all (instancesFit t s) pools && sharedFits s ≡ true
+  unfolding stateFits
+  state-own = and-left (all (instancesFit t s) pools && sharedFits s) (all (queueFits q) names) h
+
+  pub state-instances : (p : ℕ) → p < pools → instancesFit t s p ≡ true
+  state-instances = all-at (instancesFit t s) pools (and-left (all (instancesFit t s) pools) (sharedFits s) state-own)
+
+  pub state-shared : (k : ℕ) → k < sharedWords → at s (sharedPlace + k) ≡ 0
+  unfolding sharedFits zeros
+  state-shared k l =
+      sym (getD-drop sharedPlace s k 0)
+      ∙ eqb-true _ 0 (all-at (λ k. eqb (at (drop sharedPlace s) k) 0) sharedWords (and-right (all (instancesFit t s) pools) (sharedFits s) state-own) k l)
 
 or-left : (a b : Bool) → a ≡ true → a || b ≡ true
 or-left a b e = rw e

@@ -13,9 +13,7 @@ unfolding fieldOf
 field-of-spec =
     tie.close
     (tie.spec
-    (λ c. search L)
     (λ c κs. search L)
-    (λ c. pick-yes _ _ _ _ (eq-eqb-by _ _ _ (c .before .word .ensures) (c .if1 .taken)) refl)
-    (λ c. search L)
+    (λ c. pick-yes _ _ _ _ (eq-eqb-by _ _ _ (c .before .defined-at .ensures) (c .if1 .taken)) refl)
     (λ c κs. search L)
-    (λ c. pick-no _ _ _ _ (ne-eqb-by _ _ _ (c .before .before .word .ensures) (c .before .if1 .left)) (rw (c .word2 .ensures))))
+    (λ c. pick-no _ _ _ _ (ne-eqb-by _ _ _ (c .before .before .defined-at .ensures) (c .before .if1 .left)) (rw (c .value-at .ensures))))

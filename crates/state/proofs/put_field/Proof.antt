@@ -2,9 +2,5 @@ use borrow.Author.Needs.{needs}
 use Rattle.state.proofs.put_field.Statement.{statement}
 use Rattle.state.proofs.put_field.Tie as tie
 
-returns : tie.Need-returns
-returns c = rw (c .before .before .before .before .before .before .put .ensures) at (c .before .before .put2 .ensures)
-
 pub put-field-spec : {M : Type 1} → statement M
-put-field-spec =
-    tie.close (tie.spec (λ c. search needs) (λ c κs. search needs) (λ c. search needs) (λ c κs. search needs) (λ c. search needs) returns)
+put-field-spec = tie.close (tie.spec (λ c κs. search needs) (λ c κs. search needs) (λ c κs. search needs) (λ c κs. search needs) (λ c. search needs) (λ c. cc))

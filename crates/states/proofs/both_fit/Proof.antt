@@ -12,6 +12,8 @@ both-fit-spec =
     tie.close
     (tie.spec
     (λ c κs. search L)
-    (λ c. search L)
+    (λ c. search L depth 9)
     (λ c κs. search L)
-    (λ c. search L))
+    (λ c. search L depth 9)
+    (λ c κs. search L)
+    (λ c. search L depth 9))

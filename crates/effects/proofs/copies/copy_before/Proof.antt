@@ -1,18 +1,15 @@
-use mathlib.Core.Path.{refl}
-use Rattle.words.proofs.PickLaws.{pick-yes, pick-no}
 use borrow.Author.Tests.{ne-eqb, eq-eqb}
-use Rattle.meaning.specs.Step.{before}
 use borrow.Author.Needs.{needs}
+use Rattle.effects.proofs.CopyLaws.{sees-made, sees-own}
 use Rattle.effects.proofs.copies.copy_before.Statement.{statement}
 use Rattle.effects.proofs.copies.copy_before.Tie as tie
 
-ruleset L = (needs)
-
 pub copy-before-spec : {M : Type 1} → statement M
-unfolding before
 copy-before-spec =
     tie.close
     (tie.spec
-    (λ c. pick-yes _ _ _ _ (eq-eqb _ _ (c .if1 .taken)) refl)  -- returns
-    (λ c κs. search L)
-    (λ c. pick-no _ _ _ _ (ne-eqb _ _ (c .before .if1 .left)) (c .copy-of .ensures)))  -- returns-2
+    (λ c κs. search needs)
+    (λ c. sees-made (c .before .before .before .before .args .s .now) (c .before .before .before .before .args .m) (c .before .before .before .before .args .p) (c .before .before .before .before .args .i) _ (eq-eqb _ _ (c .before .if1 .taken)) (c .with-shared .ensures))  -- returns
+    (λ c κs. search needs)
+    (λ c κs. search needs)
+    (λ c. sees-own (c .before .before .before .before .before .args .s .now) (c .before .before .before .before .before .args .m) (c .before .before .before .before .before .args .p) (c .before .before .before .before .before .args .i) _ (ne-eqb _ _ (c .before .before .if1 .left)) _ (c .before .copy-of .ensures) (c .with-shared2 .ensures)))  -- returns-2

@@ -1,28 +1,28 @@
-use Prim.Native.Nat.{_≤_, _-_}
+use Prim.Native.Nat.{_≤_, _-_, _+_}
 use mathlib.Core.Path.{_≡_}
 use lib.ListN.{length}
 use Rattle.words.specs.Words.{at}
 use Rattle.words.specs.Writes.{writes}
 use Rattle.words.proofs.WritesLaws.{writes-loop}
-use Rattle.state.specs.Places.{instanceWords}
 use borrow.Author.Needs.{needs}
-use Rattle.effects.proofs.copies.store_inside.Statement.{statement}
-use Rattle.effects.proofs.copies.store_inside.Tie as tie
+use Rattle.effects.proofs.copies.move_inside.Statement.{statement}
+use Rattle.effects.proofs.copies.move_inside.Tie as tie
 
 ruleset L = (needs, writes-loop)
 
 abbrev Inv-loop : tie.InvT-loop
-Inv-loop s₀ from h k₀ s k = (k ≤ instanceWords) × (length s ≡ length s₀) × (s ≡ writes (at h) s₀ from k)
+Inv-loop s from z₀ to n k₀ z k = (k ≤ n) × (length z ≡ length z₀) × (z ≡ writes (λ j. at s (from + j)) z₀ to k)
 
 abbrev μ-loop : tie.MeasureT-loop
-μ-loop s₀ from h k₀ s k = instanceWords - k
+μ-loop s from z₀ to n k₀ z k = n - k
 
-pub store-inside-spec : {M : Type 1} → statement M
-store-inside-spec =
+pub move-inside-spec : {M : Type 1} → statement M
+move-inside-spec =
     tie.close
     (tie.spec
     Inv-loop
     μ-loop
+    (λ c. search L)
     (λ c. search L)
     (λ c. search L)
     (λ c. search L)
