@@ -5,18 +5,18 @@ use super::arguments::value_of;
 use super::output::no_model;
 use super::output::tell_done;
 use super::output::tell_refused;
-use lexer::piece;
-use model::places::TABLE_WORDS;
-use notation::Reading;
-use numerals::same;
-use printing::tell;
-use printing::tell_count;
-use printing::tell_unread;
-use state::places::STATE_WORDS;
-use words::Word;
-use words::counts::TEXT_MOST;
-use words::put;
-use words::word;
+use base_state::places::STATE_WORDS;
+use base_table::places::TABLE_WORDS;
+use base_words::Word;
+use base_words::counts::TEXT_MOST;
+use base_words::put;
+use base_words::word;
+use text_lexer::piece;
+use text_numerals::same;
+use text_read::Reading;
+use tool_print::tell;
+use tool_print::tell_count;
+use tool_print::tell_unread;
 
 // clear, table, state
 

@@ -17,21 +17,21 @@ use super::output::tell_name;
 use super::output::tell_refused;
 use super::output::tell_traffic;
 use super::report::report;
-use buffers::least;
+use base_state::places::STATE_WORDS;
+use base_table::places::TABLE_WORDS;
+use base_words::Word;
+use base_words::counts::TEXT_MOST;
 use engine::Written;
-use lexer::piece;
 use meaning::Answer;
 use meaning::Name;
-use model::places::TABLE_WORDS;
-use notation::Reading;
-use numerals::same;
-use printing::tell;
-use printing::tell_judged;
-use printing::tell_run;
-use printing::tell_unread;
-use state::places::STATE_WORDS;
-use words::Word;
-use words::counts::TEXT_MOST;
+use text_lexer::piece;
+use text_numerals::same;
+use text_read::Reading;
+use tool_print::tell;
+use tool_print::tell_judged;
+use tool_print::tell_run;
+use tool_print::tell_unread;
+use write_buffer::least;
 
 // read, draw
 

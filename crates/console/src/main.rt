@@ -21,12 +21,12 @@
 //   check              ok, or refused N X
 //
 // A command other than read, draw, clear and table before one of these made a table: no model. Any other line: bad line.
-use lexer::piece;
+use base_state::places::STATE_WORDS;
+use base_table::places::TABLE_WORDS;
+use base_words::Word;
 use libc::STDIN_FILENO;
-use model::places::TABLE_WORDS;
-use printing::tell;
-use state::places::STATE_WORDS;
-use words::Word;
+use text_lexer::piece;
+use tool_print::tell;
 
 mod arguments;
 mod batch;

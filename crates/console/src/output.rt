@@ -1,13 +1,13 @@
 // What the console says beside what the programs share.
-use lexer::piece;
-use lines::NAME_LINE;
-use lines::STEP_LINE;
+use base_words::Word;
 use meaning::Answer;
 use meaning::Name;
 use meaning::Tuple;
-use printing::tell;
-use printing::tell_count;
-use words::Word;
+use text_lexer::piece;
+use tool_print::tell;
+use tool_print::tell_count;
+use write_lines::NAME_LINE;
+use write_lines::STEP_LINE;
 
 pub(super) fn bad_line() {
     tell(b"bad line\n");
@@ -39,14 +39,14 @@ pub(super) fn tell_done(number: Word) {
 // `-`, or the message sent or consumed.
 pub(super) fn tell_traffic(a: Answer) {
     let mut out = [0u8; STEP_LINE];
-    let n = lines::put_traffic(&mut out, 0, a);
+    let n = write_lines::put_traffic(&mut out, 0, a);
     tell(piece(&out, 0, n));
 }
 
 // The name of a step, and its values.
 pub(super) fn tell_name(n: Name) {
     let mut out = [0u8; NAME_LINE];
-    let k = lines::put_name(&mut out, 0, n);
+    let k = write_lines::put_name(&mut out, 0, n);
     tell(piece(&out, 0, k));
     tell(b"\n");
 }
@@ -54,6 +54,6 @@ pub(super) fn tell_name(n: Name) {
 // The values of a message, `-` for none.
 pub(super) fn tell_tuple(g: Tuple) {
     let mut out = [0u8; NAME_LINE];
-    let k = lines::put_tuple(&mut out, 0, g);
+    let k = write_lines::put_tuple(&mut out, 0, g);
     tell(piece(&out, 0, k));
 }

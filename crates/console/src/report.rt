@@ -1,29 +1,29 @@
 // The lines of a state: its made instances and its queues.
 use super::output::tell_number;
 use super::output::tell_tuple;
+use base_state::defined_at;
+use base_state::instance_at;
+use base_state::made_count;
+use base_state::places::ACTIVE;
+use base_state::places::INSTANCES_WORDS;
+use base_state::places::READY;
+use base_state::places::STATE_WORDS;
+use base_state::value_at;
+use base_table::places::FIRST_POOL;
+use base_table::places::POOL_WORDS;
+use base_table::places::TABLE_WORDS;
+use base_table::pool_count;
+use base_words::Word;
+use base_words::counts::EDGES;
+use base_words::counts::FIELDS;
+use base_words::counts::NAMES;
+use base_words::counts::TASKS;
+use base_words::tail;
+use base_words::word;
 use meaning::Tuple;
-use model::places::FIRST_POOL;
-use model::places::POOL_WORDS;
-use model::places::TABLE_WORDS;
-use model::pool_count;
-use printing::tell;
-use queues::message_at;
-use queues::queued_in;
-use state::defined_at;
-use state::instance_at;
-use state::made_count;
-use state::places::ACTIVE;
-use state::places::INSTANCES_WORDS;
-use state::places::READY;
-use state::places::STATE_WORDS;
-use state::value_at;
-use words::Word;
-use words::counts::EDGES;
-use words::counts::FIELDS;
-use words::counts::NAMES;
-use words::counts::TASKS;
-use words::tail;
-use words::word;
+use step_queues::message_at;
+use step_queues::queued_in;
+use tool_print::tell;
 
 // `number:value`, a comma before it where another stands there.
 fn tell_pair(is_first: bool, number: Word, value: Word) {

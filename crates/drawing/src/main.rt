@@ -1,12 +1,12 @@
 // Reads a drawing from standard input and writes its text in the notation.
-use drawings::DRAWING_MOST;
-use lexer::piece;
+use base_table::places::TABLE_WORDS;
+use base_words::Word;
+use base_words::counts::TEXT_MOST;
+use draw_read::DRAWING_MOST;
 use libc::STDIN_FILENO;
-use model::places::TABLE_WORDS;
-use printing::tell;
-use printing::tell_unread;
-use words::Word;
-use words::counts::TEXT_MOST;
+use text_lexer::piece;
+use tool_print::tell;
+use tool_print::tell_unread;
 
 // One byte more than the longest drawing: what fills it is refused for its length.
 const ROOM: usize = DRAWING_MOST + 1;

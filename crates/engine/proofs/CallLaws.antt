@@ -8,12 +8,12 @@ use borrow.Author.Tests.{eqb-true, leb-true, leb-false, le-leb, lt-ltb, le-ltb}
 use lib.Dec.{eqb, leb}
 use lib.ListN.{length, drop, length-drop, take-append-drop}
 use lib.Seq.{length-take-le}
-use Rattle.words.specs.Pick.{if_then_else_}
-use Rattle.words.specs.Counts.{textMost, names}
-use Rattle.words.proofs.AllLaws.{and-left, and-right}
-use Rattle.words.proofs.PickLaws.{pick-no, and-false-right}
-use Rattle.state.specs.Places.{instancesWords, queueWords, stateWords}
-use Rattle.state.specs.Instances.{instancesOf, queuesOf}
+use Rattle.base_words.specs.Pick.{if_then_else_}
+use Rattle.base_words.specs.Counts.{textMost, names}
+use Rattle.base_words.proofs.AllLaws.{and-left, and-right}
+use Rattle.base_words.proofs.PickLaws.{pick-no, and-false-right}
+use Rattle.base_state.specs.Places.{instancesWords, queueWords, stateWords}
+use Rattle.base_state.specs.Instances.{instancesOf, queuesOf}
 use Rattle.meaning.specs.declared.Name.{Name}
 use Rattle.meaning.specs.declared.Answer.{Answer}
 use Rattle.meaning.specs.declared.Traffic.the-variants.{Nothing}
@@ -21,27 +21,27 @@ use Rattle.meaning.specs.declared.Tuple.{Tuple}
 use Rattle.meaning.specs.Tuples.{empty}
 use Rattle.meaning.specs.Step.{Outcome, step}
 use Rattle.meaning.specs.Post.{Posted, post}
-use Rattle.limits.specs.Limits.{tableFits}
-use Rattle.checks.specs.Checks.{lowest}
-use Rattle.lowest.specs.Model.{modelOf}
-use Rattle.fits.specs.Fits.{stateFits}
-use Rattle.fits.proofs.FitsLaws.{queue-tidy}
-use Rattle.rules.specs.Settled.{Done, settled, posted}
-use Rattle.rules.proofs.StepLaws.{posted-is}
-use Rattle.steps.proofs.EveryStep.{Fitting}
-use Rattle.steps.proofs.Traffic.{state-queues}
-use Rattle.listing.specs.declared.Listed.{Listed}
-use Rattle.naming.specs.Names.{blank}
-use Rattle.listing.specs.Listing.{chosen}
-use Rattle.listing.specs.Scanned.{scanned}
-use Rattle.running.specs.Run.{Run, ranBy, ran}
-use Rattle.listed.proofs.ScannedIs.{scanned-is}
-use Rattle.listed.proofs.RunIs.{settled-step, run-is}
-use Rattle.lengths.proofs.Short.{short}
+use Rattle.check_limits.specs.Limits.{tableFits}
+use Rattle.check_model.specs.Checks.{lowest}
+use Rattle.check_lowest.specs.Model.{modelOf}
+use Rattle.state_fits.specs.Fits.{stateFits}
+use Rattle.state_fits.proofs.FitsLaws.{queue-tidy}
+use Rattle.step_take.specs.Settled.{Done, settled, posted}
+use Rattle.step_take.proofs.StepLaws.{posted-is}
+use Rattle.proof_steps.proofs.EveryStep.{Fitting}
+use Rattle.proof_steps.proofs.Traffic.{state-queues}
+use Rattle.step_list.specs.declared.Listed.{Listed}
+use Rattle.step_names.specs.Names.{blank}
+use Rattle.step_list.specs.Listing.{chosen}
+use Rattle.step_list.specs.Scanned.{scanned}
+use Rattle.step_run.specs.Run.{Run, ranBy, ran}
+use Rattle.proof_listing.proofs.ScannedIs.{scanned-is}
+use Rattle.proof_listing.proofs.RunIs.{settled-step, run-is}
+use Rattle.proof_lengths.proofs.Short.{short}
 use Rattle.engine.specs.Engine.{valid, fitting, lentNumber, Stepped, leaving, stepped, Left, postedTo, listedAt, RanTo, ended, ranTo, WrittenTo, written, writtenTo}
-use Rattle.shown.specs.Shown.{shownTable}
-use Rattle.buffers.specs.Buffers.{over, lesser, lastPlace}
-use Rattle.buffers.proofs.OverLaws.{over-all, lesser-is}
+use Rattle.write_shown.specs.Shown.{shownTable}
+use Rattle.write_buffer.specs.Buffers.{over, lesser, lastPlace}
+use Rattle.write_buffer.proofs.OverLaws.{over-all, lesser-is}
 
 -- what a fitting table and state are
 module _ (t z : List ℕ) (h : fitting t z ≡ true) where

@@ -3,14 +3,14 @@ use Prim.Native.Nat.{ℕ}
 use mathlib.Core.Path.{_≡_, _∙_, ap}
 use mathlib.Core.Bool.{true, false}
 use mathlib.Core.List.{List}
-use Rattle.words.specs.Pick.{if_then_else_}
-use Rattle.fits.specs.Fresh.{fresh}
-use Rattle.steps.proofs.Choices.{by-choice}
-use Rattle.polling.specs.Poll.{settledStep, settledPost}
-use Rattle.entries.specs.Entries.{entryOf}
-use Rattle.judging.specs.declared.Judged.{Judged}
-use Rattle.judging.specs.Judge.{Taking, takenBy, taken, answered, judgedFrom}
-use Rattle.judging.proofs.Faults.{same-log}
+use Rattle.base_words.specs.Pick.{if_then_else_}
+use Rattle.state_fits.specs.Fresh.{fresh}
+use Rattle.proof_steps.proofs.Choices.{by-choice}
+use Rattle.step_poll.specs.Poll.{settledStep, settledPost}
+use Rattle.log_lines.specs.Entries.{entryOf}
+use Rattle.log_judge.specs.declared.Judged.{Judged}
+use Rattle.log_judge.specs.Judge.{Taking, takenBy, taken, answered, judgedFrom}
+use Rattle.log_judge.proofs.Faults.{same-log}
 use Rattle.engine.specs.Engine.{valid, stepped, postedTo}
 use Rattle.engine.specs.Calls.{Valid, judgedTo}
 use Rattle.engine.proofs.KeepsValid.{step-valid, post-valid, fresh-valid}

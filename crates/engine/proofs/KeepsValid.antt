@@ -6,25 +6,25 @@ use mathlib.Core.List.{List, [], _∷_, _++_}
 use lib.Dec.{eqb}
 use lib.ListN.{length, set, replicate, length-append, length-set, length-replicate}
 use lib.Seq.{take-at, drop-at}
-use Rattle.words.proofs.AllLaws.{and-left}
-use Rattle.words.proofs.IterLaws.{iter-keeps}
-use Rattle.words.proofs.PickLaws.{and-true}
-use Rattle.model.specs.Table.{poolCount}
-use Rattle.state.specs.Places.{instancesWords, stateWords, tokenPlace, madePlace, instancePlace}
-use Rattle.state.specs.Instances.{instancesOf, queuesOf}
+use Rattle.base_words.proofs.AllLaws.{and-left}
+use Rattle.base_words.proofs.IterLaws.{iter-keeps}
+use Rattle.base_words.proofs.PickLaws.{and-true}
+use Rattle.base_table.specs.Table.{poolCount}
+use Rattle.base_state.specs.Places.{instancesWords, stateWords, tokenPlace, madePlace, instancePlace}
+use Rattle.base_state.specs.Instances.{instancesOf, queuesOf}
 use Rattle.meaning.specs.declared.Name.{Name}
 use Rattle.meaning.specs.declared.Tuple.{Tuple}
 use Rattle.meaning.specs.Step.{step}
 use Rattle.meaning.specs.Post.{post}
-use Rattle.limits.specs.Limits.{tableFits}
-use Rattle.checks.specs.Checks.{lowest}
-use Rattle.lowest.specs.Model.{modelOf}
-use Rattle.fits.specs.Fits.{hasStart, stateFits}
-use Rattle.fits.specs.Fresh.{firstEdge, begun, fresh}
-use Rattle.fits.proofs.FreshFits.{fresh-fits}
-use Rattle.steps.proofs.Choices.{by-choice, chosen}
-use Rattle.steps.proofs.EveryStep.{Fitting, step-keeps-fits, post-keeps-state}
-use Rattle.listed.proofs.StartUnique.{starts-once}
+use Rattle.check_limits.specs.Limits.{tableFits}
+use Rattle.check_model.specs.Checks.{lowest}
+use Rattle.check_lowest.specs.Model.{modelOf}
+use Rattle.state_fits.specs.Fits.{hasStart, stateFits}
+use Rattle.state_fits.specs.Fresh.{firstEdge, begun, fresh}
+use Rattle.state_fits.proofs.FreshFits.{fresh-fits}
+use Rattle.proof_steps.proofs.Choices.{by-choice, chosen}
+use Rattle.proof_steps.proofs.EveryStep.{Fitting, step-keeps-fits, post-keeps-state}
+use Rattle.proof_listing.proofs.StartUnique.{starts-once}
 use Rattle.engine.specs.Engine.{valid, Left, fitting, leaving, stepped, postedTo}
 use Rattle.engine.specs.Calls.{Act, aStep, aPost, did, after, Valid}
 use Rattle.engine.proofs.CallLaws.{table-fits, checks-hold, state-fits, long-instances, long-queues}

@@ -4,17 +4,17 @@ use mathlib.Core.Path.{_≡_, refl, _∙_, ap}
 use mathlib.Core.List.{List, [], _∷_, _++_}
 use lib.Dec.{eqb}
 use lib.ListN.{length}
-use Rattle.words.specs.Pick.{if_then_else_}
-use Rattle.state.specs.Places.{stateWords}
-use Rattle.state.specs.Instances.{instancesOf, queuesOf}
+use Rattle.base_words.specs.Pick.{if_then_else_}
+use Rattle.base_state.specs.Places.{stateWords}
+use Rattle.base_state.specs.Instances.{instancesOf, queuesOf}
 use Rattle.meaning.specs.declared.Name.{Name}
 use Rattle.meaning.specs.declared.Tuple.{Tuple}
 use Rattle.meaning.specs.Post.{Posted}
 use Rattle.meaning.specs.Step.{Outcome}
-use Rattle.rules.specs.Settled.{Done, settled, posted}
-use Rattle.polling.specs.Items.{actsIn}
-use Rattle.polling.specs.Poll.{Polling, oneBefore, polledBy, polledFrom, settledStep, settledPost, settledAct}
-use Rattle.polling.proofs.PollLaws.{same-poll}
+use Rattle.step_take.specs.Settled.{Done, settled, posted}
+use Rattle.step_poll.specs.Items.{actsIn}
+use Rattle.step_poll.specs.Poll.{Polling, oneBefore, polledBy, polledFrom, settledStep, settledPost, settledAct}
+use Rattle.step_poll.proofs.PollLaws.{same-poll}
 use Rattle.engine.specs.Engine.{Left, Stepped, lentNumber, stepped, postedTo}
 use Rattle.engine.specs.Calls.{Act, aStep, aPost, did, Valid, polledTo}
 use Rattle.engine.proofs.CallLaws.{step-done, settled-post, lent-good}

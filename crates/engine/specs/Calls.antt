@@ -5,16 +5,16 @@ use mathlib.Core.Bool.{Bool, true, _&&_}
 use mathlib.Core.List.{List, [], _∷_}
 use lib.Dec.{eqb}
 use lib.ListN.{length}
-use Rattle.words.specs.Pick.{if_then_else_}
-use Rattle.state.specs.Places.{stateWords}
+use Rattle.base_words.specs.Pick.{if_then_else_}
+use Rattle.base_state.specs.Places.{stateWords}
 use Rattle.meaning.specs.declared.Name.{Name}
 use Rattle.meaning.specs.declared.Tuple.{Tuple}
-use Rattle.fits.specs.Fresh.{fresh}
-use Rattle.judging.specs.declared.Judged.{Judged}
-use Rattle.judging.specs.Judge.{answered, taken, judgedFrom}
+use Rattle.state_fits.specs.Fresh.{fresh}
+use Rattle.log_judge.specs.declared.Judged.{Judged}
+use Rattle.log_judge.specs.Judge.{answered, taken, judgedFrom}
 use Rattle.engine.specs.Engine.{valid, Left, fitting, lentNumber, stepped, postedTo}
-pub use Rattle.polling.specs.Items.{Act, aStep, aPost}
-use Rattle.polling.specs.Poll.{Polling, polledFrom}
+pub use Rattle.step_poll.specs.Items.{Act, aStep, aPost}
+use Rattle.step_poll.specs.Poll.{Polling, polledFrom}
 
 -- the number that the public call gives back, and the state that it leaves
 unfoldable pub did : List ℕ → Act → List ℕ → Left

@@ -4,25 +4,25 @@ use mathlib.Core.Bool.{Bool, _&&_}
 use mathlib.Core.List.{List, _++_}
 use lib.Dec.{eqb, ltb}
 use lib.ListN.{length, drop}
-use Rattle.words.specs.Pick.{if_then_else_}
-use Rattle.state.specs.Instances.{instancesOf, queuesOf}
+use Rattle.base_words.specs.Pick.{if_then_else_}
+use Rattle.base_state.specs.Instances.{instancesOf, queuesOf}
 use Rattle.meaning.specs.declared.Name.{Name}
 use Rattle.meaning.specs.declared.Tuple.{Tuple}
 use Rattle.meaning.specs.declared.Traffic.the-variants.{Nothing}
 use Rattle.meaning.specs.Tuples.{empty}
 use Rattle.meaning.specs.Step.{Outcome, step}
 use Rattle.meaning.specs.Post.{post}
-use Rattle.limits.specs.Limits.{tableFits}
-use Rattle.checks.specs.Checks.{lowest}
-use Rattle.lowest.specs.Model.{modelOf}
-use Rattle.fits.specs.Fits.{stateFits}
-use Rattle.fits.specs.Fresh.{fresh}
-use Rattle.listing.specs.declared.Listed.{Listed}
-use Rattle.naming.specs.Names.{blank}
-use Rattle.listing.specs.Listing.{listed, chosen}
-use Rattle.running.specs.Run.{Run, ran}
-use Rattle.shown.specs.Shown.{shownTable}
-pub use Rattle.polling.specs.Poll.{Left, Stepped}
+use Rattle.check_limits.specs.Limits.{tableFits}
+use Rattle.check_model.specs.Checks.{lowest}
+use Rattle.check_lowest.specs.Model.{modelOf}
+use Rattle.state_fits.specs.Fits.{stateFits}
+use Rattle.state_fits.specs.Fresh.{fresh}
+use Rattle.step_list.specs.declared.Listed.{Listed}
+use Rattle.step_names.specs.Names.{blank}
+use Rattle.step_list.specs.Listing.{listed, chosen}
+use Rattle.step_run.specs.Run.{Run, ran}
+use Rattle.write_shown.specs.Shown.{shownTable}
+pub use Rattle.step_poll.specs.Poll.{Left, Stepped}
 use Rattle.engine.specs.declared.Verdict.{Verdict}
 
 -- a table that breaks no limit and no check

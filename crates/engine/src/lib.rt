@@ -3,34 +3,34 @@ ghost use mathlib.Core.Path.{_≡_};
 ghost use mathlib.Core.Bool.{true};
 ghost use lib.Dec.{leb};
 ghost use lib.ListN.{length};
-ghost use Rattle.state.specs.Places.{stateWords};
+ghost use Rattle.base_state.specs.Places.{stateWords};
 ghost use Rattle.engine.specs.Engine.{valid, verdictOf, Left, freshened, lentNumber, Stepped, stepped, postedTo, listedAt, RanTo, ranTo, WrittenTo, writtenTo};
 ghost use Rattle.engine.specs.Calls.{polledTo, judgedTo};
-ghost use Rattle.polling.specs.Poll.{Polling};
-ghost use Rattle.naming.specs.Names.{blank};
-ghost use Rattle.notation.specs.Notation.{readInto};
-ghost use Rattle.drawings.specs.Drawings.{drawInto};
-ghost use Rattle.buffers.specs.Buffers.{lesser, lastPlace};
-ghost use Rattle.shown.specs.Shown.{shownTable};
-use effects::refuse;
-use judging::Judged;
-use listing::Listed;
+ghost use Rattle.step_poll.specs.Poll.{Polling};
+ghost use Rattle.step_names.specs.Names.{blank};
+ghost use Rattle.text_read.specs.Notation.{readInto};
+ghost use Rattle.draw_read.specs.Drawings.{drawInto};
+ghost use Rattle.write_buffer.specs.Buffers.{lesser, lastPlace};
+ghost use Rattle.write_shown.specs.Shown.{shownTable};
+use base_state::places::STATE_WORDS;
+use base_table::places::TABLE_WORDS;
+use base_words::Word;
+use base_words::counts::TEXT_MOST;
+use base_words::numbers::ACCEPTED;
+use base_words::numbers::BAD;
+use base_words::numbers::CHECK_BROKEN;
+use base_words::numbers::TOO_SHORT;
+use log_judge::Judged;
 use meaning::Answer;
 use meaning::Name;
 use meaning::Tuple;
 use meaning::empty_tuple;
-use model::places::TABLE_WORDS;
-use notation::Reading;
-use polling::POLL_WORDS;
-use polling::Polled;
-use running::Steps;
-use state::places::STATE_WORDS;
-use words::Word;
-use words::counts::TEXT_MOST;
-use words::numbers::ACCEPTED;
-use words::numbers::BAD;
-use words::numbers::CHECK_BROKEN;
-use words::numbers::TOO_SHORT;
+use step_effects::refuse;
+use step_list::Listed;
+use step_poll::POLL_WORDS;
+use step_poll::Polled;
+use step_run::Steps;
+use text_read::Reading;
 
 // The answer of a check: a number, and beside 4 the lowest check broken.
 #[repr(C)]
@@ -43,13 +43,13 @@ pub struct Verdict {
 pub fn check(t: &[Word; TABLE_WORDS]) -> Verdict
     ensures { λ r. ⌜ r ≡ verdictOf (now (t .entry)) ⌝ }
 {
-    if !tables::table_fits(t) {
+    if !check_table::table_fits(t) {
         return Verdict {
             number: BAD,
             beside: 0,
         };
     }
-    let broken = lowest::lowest_broken(t);
+    let broken = check_lowest::lowest_broken(t);
     if broken == 0 {
         return Verdict {
             number: ACCEPTED,
@@ -65,10 +65,10 @@ pub fn check(t: &[Word; TABLE_WORDS]) -> Verdict
 fn is_valid(t: &[Word; TABLE_WORDS]) -> bool
     ensures { λ r. ⌜ r ≡ valid (now (t .entry)) ⌝ }
 {
-    if !tables::table_fits(t) {
+    if !check_table::table_fits(t) {
         return false;
     }
-    lowest::lowest_broken(t) == 0
+    check_lowest::lowest_broken(t) == 0
 }
 
 // Makes a fresh state: 10 where the table is bad, and the state stays; else 0.
@@ -78,7 +78,7 @@ pub fn fresh(t: &[Word; TABLE_WORDS], z: &mut [Word; STATE_WORDS]) -> Word
     if !is_valid(t) {
         return BAD;
     }
-    fresh::begin(t, z);
+    state_fresh::begin(t, z);
     ACCEPTED
 }
 
@@ -89,7 +89,7 @@ fn lent_number(t: &[Word; TABLE_WORDS], z: &[Word; STATE_WORDS]) -> Word
     if !is_valid(t) {
         return BAD;
     }
-    if !states::state_fits(t, z) {
+    if !state_check::state_fits(t, z) {
         return BAD;
     }
     ACCEPTED
@@ -103,7 +103,7 @@ pub fn step(t: &[Word; TABLE_WORDS], z: &mut [Word; STATE_WORDS], n: Name) -> An
     if number != ACCEPTED {
         return refuse(number);
     }
-    rules::step_on(t, z, n)
+    step_take::step_on(t, z, n)
 }
 
 // Posts a message from outside: 10, 19 or 17, and the state stays; else 0.
@@ -114,7 +114,7 @@ pub fn post(t: &[Word; TABLE_WORDS], z: &mut [Word; STATE_WORDS], name: Word, g:
     if number != ACCEPTED {
         return number;
     }
-    rules::post_on(z, name, g)
+    step_take::post_on(z, name, g)
 }
 
 fn unlisted(number: Word) -> Listed
@@ -141,7 +141,7 @@ pub fn list(t: &[Word; TABLE_WORDS], z: &[Word; STATE_WORDS], k: usize) -> Liste
     if number != ACCEPTED {
         return unlisted(number);
     }
-    listing::list_on(t, z, k)
+    step_list::list_on(t, z, k)
 }
 
 // The answer of a run: a number, the steps taken, 1 or 0 for whether one is still accepted.
@@ -164,7 +164,7 @@ pub fn run(t: &[Word; TABLE_WORDS], z: &mut [Word; STATE_WORDS], limit: Steps) -
             left: 0,
         };
     }
-    let r = running::run_on(t, z, limit);
+    let r = step_run::run_on(t, z, limit);
     Ran {
         number: ACCEPTED,
         steps: r.steps,
@@ -176,14 +176,14 @@ pub fn run(t: &[Word; TABLE_WORDS], z: &mut [Word; STATE_WORDS], limit: Steps) -
 pub fn read(text: &[u8], t: &mut [Word; TABLE_WORDS]) -> Reading
     ensures { λ r. ⌜ record { number = r .number; beside = r .beside; table = now (t .exit) } ≡ readInto (now (text .entry)) (now (t .entry)) ⌝ }
 {
-    notation::read_into(text, t)
+    text_read::read_into(text, t)
 }
 
 // Reads a drawing into the lent table: 1, 20 with its place, 21, 3 with its place, 4 with the lowest check broken, and the table stays; else 0, and every word of it is the model's.
 pub fn draw(text: &[u8], t: &mut [Word; TABLE_WORDS]) -> Reading
     ensures { λ r. ⌜ record { number = r .number; beside = r .beside; table = now (t .exit) } ≡ drawInto (now (text .entry)) (now (t .entry)) ⌝ }
 {
-    drawings::draw_into(text, t)
+    draw_read::draw_into(text, t)
 }
 
 // The answer of a writing: a number, and beside 0 the length of the text.
@@ -198,7 +198,7 @@ fn text_length(t: &[Word]) -> usize
     ensures { λ r. ⌜ r ≡ lesser (length (shownTable (now (t .entry)))) lastPlace ⌝ }
 {
     let mut none = [0u8; 1];
-    writer::put_table(t, &mut none)
+    write_table::put_table(t, &mut none)
 }
 
 // Whether the text of a valid table fits into a buffer of n bytes. None is longer than TEXT_MOST, so that a buffer of that many needs no measuring.
@@ -228,7 +228,7 @@ pub fn write(t: &[Word; TABLE_WORDS], out: &mut [u8]) -> Written
             length: 0,
         };
     }
-    let n = writer::put_table(t, out);
+    let n = write_table::put_table(t, out);
     Written {
         number: ACCEPTED,
         length: n,
@@ -246,7 +246,7 @@ pub fn poll(
     ensures { λ r. ⌜ record { number = r .number; accepted = r .accepted; state = now (z .exit) } ≡ polledTo (now (t .entry)) (now (z .entry)) (now (items .entry)) count ⌝ }
 {
     let number = lent_number(t, z);
-    polling::poll_on(t, z, items, count, number)
+    step_poll::poll_on(t, z, items, count, number)
 }
 
 // Judges the run that a log tells: 10 where the table is bad; 23 with its place where it is no such log; 24 with the first event at fault and its number; else 0. The state
@@ -262,6 +262,6 @@ pub fn judge(t: &[Word; TABLE_WORDS], log: &[u8]) -> Judged
         };
     }
     let mut z: [Word; STATE_WORDS] = [0; STATE_WORDS];
-    fresh::begin(t, &mut z);
-    judging::judge_on(t, &mut z, log)
+    state_fresh::begin(t, &mut z);
+    log_judge::judge_on(t, &mut z, log)
 }

@@ -1,16 +1,16 @@
 // Reads from standard input a line with the length of a model's text, the text and behind it a log, and says whether the run that the log tells was lawful.
-use buffers::further;
-use lexer::piece;
+use base_table::places::TABLE_WORDS;
+use base_words::DIGITS;
+use base_words::Word;
+use base_words::counts::TEXT_MOST;
 use libc::STDIN_FILENO;
-use model::places::TABLE_WORDS;
-use numerals::Number;
-use numerals::numeral_at;
-use printing::tell_judged;
-use printing::tell_unread;
-use words::DIGITS;
-use words::Word;
-use words::counts::TEXT_MOST;
-use xml::spans::after;
+use text_lexer::piece;
+use text_numerals::Number;
+use text_numerals::numeral_at;
+use tool_print::tell_judged;
+use tool_print::tell_unread;
+use write_buffer::further;
+use xml_markup::spans::after;
 
 // The longest log.
 const LOG_MOST: usize = 65536;

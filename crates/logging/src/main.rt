@@ -1,18 +1,18 @@
 // Reads a model's text from standard input, runs it and writes the run as an XES log.
-use lexer::piece;
+use base_state::places::STATE_WORDS;
+use base_table::places::TABLE_WORDS;
+use base_words::Word;
+use base_words::counts::TEXT_MOST;
 use libc::STDIN_FILENO;
+use log_write::EVENT;
+use log_write::FOOTER;
+use log_write::HEADER;
 use meaning::Answer;
 use meaning::Name;
-use model::places::TABLE_WORDS;
-use printing::tell;
-use printing::tell_unread;
-use running::Steps;
-use state::places::STATE_WORDS;
-use words::Word;
-use words::counts::TEXT_MOST;
-use xes::EVENT;
-use xes::FOOTER;
-use xes::HEADER;
+use step_run::Steps;
+use text_lexer::piece;
+use tool_print::tell;
+use tool_print::tell_unread;
 
 // The most steps of the run, as the program `run` has it.
 const STEPS: Steps = 100;
@@ -22,19 +22,19 @@ const ROOM: usize = TEXT_MOST + 1;
 
 fn tell_header() {
     let mut out = [0u8; HEADER];
-    let n = xes::put_header(&mut out, 0);
+    let n = log_write::put_header(&mut out, 0);
     tell(piece(&out, 0, n));
 }
 
 fn tell_event(n: Name, a: Answer) {
     let mut out = [0u8; EVENT];
-    let k = xes::put_event(&mut out, 0, n, a);
+    let k = log_write::put_event(&mut out, 0, n, a);
     tell(piece(&out, 0, k));
 }
 
 fn tell_footer() {
     let mut out = [0u8; FOOTER];
-    let n = xes::put_footer(&mut out, 0);
+    let n = log_write::put_footer(&mut out, 0);
     tell(piece(&out, 0, n));
 }
 

@@ -1,14 +1,14 @@
 -- Every point holds of the definitions: one claim, computed. Assumes nothing.
 use mathlib.Core.Path.{_≡_, refl}
-use Rattle.words.specs.All.{all}
-use Rattle.words.specs.Each.{tab}
-use Rattle.words.specs.Iter.{iter}
-use Rattle.words.specs.Pick.{if_then_else_}
-use Rattle.words.specs.Seek.{seek}
-use Rattle.words.specs.Writes.{writes}
-use Rattle.kinds.specs.Kinds.{kindOf, used}
-use Rattle.kinds.specs.Moves.{modeOf, isRule, ruleOf, moveOf}
-use Rattle.model.specs.Table.{numbered, poolOf, limitOf, entryCount, exitCount}
+use Rattle.base_words.specs.All.{all}
+use Rattle.base_words.specs.Each.{tab}
+use Rattle.base_words.specs.Iter.{iter}
+use Rattle.base_words.specs.Pick.{if_then_else_}
+use Rattle.base_words.specs.Seek.{seek}
+use Rattle.base_words.specs.Writes.{writes}
+use Rattle.base_kinds.specs.Kinds.{kindOf, used}
+use Rattle.base_kinds.specs.Moves.{modeOf, isRule, ruleOf, moveOf}
+use Rattle.base_table.specs.Table.{numbered, poolOf, limitOf, entryCount, exitCount}
 use Rattle.meaning.specs.Values.{sumOf, differenceOf, equalOf, lessOf, isTrue, isFalse, isDefined, numberIn}
 use Rattle.meaning.specs.Tuples.{valueOf, sameTuple}
 use Rattle.meaning.specs.Messages.{has, without, times}

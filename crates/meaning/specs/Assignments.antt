@@ -4,15 +4,15 @@ use mathlib.Core.Bool.{Bool, true, false}
 use mathlib.Core.List.{List}
 use lib.Dec.{leb}
 use lib.ListN.{drop}
-use Rattle.words.specs.Iter.{iter}
-use Rattle.words.specs.Pick.{if_then_else_}
-use Rattle.words.specs.Words.{at}
-use Rattle.words.specs.Counts.{assignments}
+use Rattle.base_words.specs.Iter.{iter}
+use Rattle.base_words.specs.Pick.{if_then_else_}
+use Rattle.base_words.specs.Words.{at}
+use Rattle.base_words.specs.Counts.{assignments}
 use Rattle.meaning.specs.declared.Value.{Value}
 use Rattle.meaning.specs.declared.Value.the-variants.{Undefined, Number}
-use Rattle.model.specs.Places.{assignedIn}
-use Rattle.model.specs.Table.{assignmentCount, assignmentAt}
-use Rattle.state.specs.Instances.{withField}
+use Rattle.base_table.specs.Places.{assignedIn}
+use Rattle.base_table.specs.Table.{assignmentCount, assignmentAt}
+use Rattle.base_state.specs.Instances.{withField}
 use Rattle.meaning.specs.Expressions.{expressionOf}
 
 -- the instance after assignments, and whether all of them were defined; the first that is not leaves it as it is

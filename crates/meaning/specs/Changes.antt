@@ -4,17 +4,17 @@ use mathlib.Core.Bool.{Bool, true}
 use mathlib.Core.List.{List}
 use lib.Dec.{eqb, ltb}
 use lib.ListN.{replicate}
-use Rattle.words.specs.Iter.{iter}
-use Rattle.words.specs.Pick.{if_then_else_}
-use Rattle.words.specs.Writes.{writes}
-use Rattle.words.specs.Counts.{countMost}
+use Rattle.base_words.specs.Iter.{iter}
+use Rattle.base_words.specs.Pick.{if_then_else_}
+use Rattle.base_words.specs.Writes.{writes}
+use Rattle.base_words.specs.Counts.{countMost}
 use Rattle.meaning.specs.declared.Tuple.{Tuple}
 use Rattle.meaning.specs.Tuples.{empty}
-use Rattle.kinds.specs.declared.moves.Move.{Move}
-use Rattle.kinds.specs.Moves.{on, up, down, making, clearing}
-use Rattle.model.specs.Table.{taskIn, entryCount, exitCount, entryAt, exitAt}
-use Rattle.state.specs.Places.{definedPlace}
-use Rattle.state.specs.Instances.{tokens, activeCount, readyCount, withTokens, withActive, withReady}
+use Rattle.base_kinds.specs.declared.moves.Move.{Move}
+use Rattle.base_kinds.specs.Moves.{on, up, down, making, clearing}
+use Rattle.base_table.specs.Table.{taskIn, entryCount, exitCount, entryAt, exitAt}
+use Rattle.base_state.specs.Places.{definedPlace}
+use Rattle.base_state.specs.Instances.{tokens, activeCount, readyCount, withTokens, withActive, withReady}
 use Rattle.meaning.specs.declared.Evaluated.{Evaluated}
 use Rattle.meaning.specs.Templates.{evaluated, bound}
 use Rattle.meaning.specs.Assignments.{Assigned, assigned}

@@ -3,14 +3,14 @@ use Prim.Native.Nat.{ℕ}
 use mathlib.Core.Bool.{Bool, true, _&&_}
 use mathlib.Core.List.{List}
 use lib.Dec.{eqb}
-use Rattle.words.specs.All.{all}
-use Rattle.words.specs.Pick.{if_then_else_}
-use Rattle.words.specs.Words.{at}
+use Rattle.base_words.specs.All.{all}
+use Rattle.base_words.specs.Pick.{if_then_else_}
+use Rattle.base_words.specs.Words.{at}
 use Rattle.meaning.specs.declared.Truth.{Truth}
 use Rattle.meaning.specs.declared.Truth.the-variants.{True, Neither}
 use Rattle.meaning.specs.Values.{equalOf, lessOf, isTrue, isFalse}
-use Rattle.model.specs.Places.{formPlace, leftPlace, rightPlace, always, default, equals, below}
-use Rattle.model.specs.Table.{conditionAt, exitCount}
+use Rattle.base_table.specs.Places.{formPlace, leftPlace, rightPlace, always, default, equals, below}
+use Rattle.base_table.specs.Table.{conditionAt, exitCount}
 use Rattle.meaning.specs.Expressions.{operandOf}
 
 -- `default` by itself holds neither true nor false

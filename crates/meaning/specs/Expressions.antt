@@ -2,13 +2,13 @@
 use Prim.Native.Nat.{ℕ, _+_}
 use mathlib.Core.List.{List}
 use lib.Dec.{eqb}
-use Rattle.words.specs.Pick.{if_then_else_}
-use Rattle.words.specs.Words.{at}
+use Rattle.base_words.specs.Pick.{if_then_else_}
+use Rattle.base_words.specs.Words.{at}
 use Rattle.meaning.specs.declared.Value.{Value}
 use Rattle.meaning.specs.declared.Value.the-variants.{Undefined, Number}
 use Rattle.meaning.specs.Values.{sumOf, differenceOf}
-use Rattle.model.specs.Places.{operandNumber, formPlace, leftPlace, rightPlace, plus, minus}
-use Rattle.state.specs.Places.{definedPlace, valuePlace}
+use Rattle.base_table.specs.Places.{operandNumber, formPlace, leftPlace, rightPlace, plus, minus}
+use Rattle.base_state.specs.Places.{definedPlace, valuePlace}
 
 -- field d of an instance
 unfoldable pub fieldOf : List ℕ → ℕ → Value

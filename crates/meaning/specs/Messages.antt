@@ -3,8 +3,8 @@
 use Prim.Native.Nat.{ℕ, _+_}
 use mathlib.Core.Bool.{Bool, true, false}
 use mathlib.Core.List.{List, [], _∷_, _++_}
-use Rattle.words.specs.Pick.{if_then_else_}
-use Rattle.words.specs.Sum.{oneIf}
+use Rattle.base_words.specs.Pick.{if_then_else_}
+use Rattle.base_words.specs.Sum.{oneIf}
 use Rattle.meaning.specs.declared.Tuple.{Tuple}
 use Rattle.meaning.specs.Tuples.{sameTuple}
 

@@ -7,14 +7,14 @@ use mathlib.Core.Path.{_≡_}
 use mathlib.Core.Bool.{Bool, true, false}
 use mathlib.Core.List.{List, [], _∷_, _++_}
 use lib.ListN.{length, replicate}
-use Rattle.words.specs.Each.{tab}
-use Rattle.words.specs.Words.{greatest}
-use Rattle.words.specs.Counts.{branches, values, pools}
-use Rattle.kinds.specs.Kinds.{startRcv, terminate, interRcv, xorSplit, task}
-use Rattle.kinds.specs.Moves.{o, a, na-c, na-nc}
-use Rattle.model.specs.Places.{aField, single, plus, minus, binding, always, default, equals, below, expressionWords, messageWords}
-use Rattle.state.specs.Places.{instanceWords, instancePlace, queueWords}
-use Rattle.state.specs.Instances.{madeCount, instanceAt, tokens, activeCount, readyCount, withTokens, withActive, withReady, withField}
+use Rattle.base_words.specs.Each.{tab}
+use Rattle.base_words.specs.Words.{greatest}
+use Rattle.base_words.specs.Counts.{branches, values, pools}
+use Rattle.base_kinds.specs.Kinds.{startRcv, terminate, interRcv, xorSplit, task}
+use Rattle.base_kinds.specs.Moves.{o, a, na-c, na-nc}
+use Rattle.base_table.specs.Places.{aField, single, plus, minus, binding, always, default, equals, below, expressionWords, messageWords}
+use Rattle.base_state.specs.Places.{instanceWords, instancePlace, queueWords}
+use Rattle.base_state.specs.Instances.{madeCount, instanceAt, tokens, activeCount, readyCount, withTokens, withActive, withReady, withField}
 use Rattle.meaning.specs.declared.Tuple.{Tuple}
 use Rattle.meaning.specs.declared.Name.{Name}
 use Rattle.meaning.specs.Values.{numberIn}

@@ -4,8 +4,8 @@ use mathlib.Core.Bool.{Bool, _&&_}
 use mathlib.Core.List.{List, [], _∷_}
 use lib.Dec.{eqb, leb, ltb}
 use lib.ListN.{length}
-use Rattle.words.specs.Pick.{if_then_else_}
-use Rattle.words.specs.Counts.{names, values, messages}
+use Rattle.base_words.specs.Pick.{if_then_else_}
+use Rattle.base_words.specs.Counts.{names, values, messages}
 use Rattle.meaning.specs.declared.Tuple.{Tuple}
 use Rattle.meaning.specs.Queues.{messagesOf, sending}
 use Rattle.meaning.specs.Refusals.{Refusal, _unless_, firstRefusal}

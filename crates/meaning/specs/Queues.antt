@@ -4,14 +4,14 @@ use mathlib.Core.Path.{_≡_}
 use mathlib.Core.List.{List, [], _∷_}
 use lib.Dec.{eqb, ltb}
 use lib.ListN.{length}
-use Rattle.words.specs.Each.{tab}
-use Rattle.words.specs.Pick.{if_then_else_}
-use Rattle.words.specs.Words.{at}
-use Rattle.words.specs.Writes.{writes}
-use Rattle.words.specs.Counts.{values, messages}
+use Rattle.base_words.specs.Each.{tab}
+use Rattle.base_words.specs.Pick.{if_then_else_}
+use Rattle.base_words.specs.Words.{at}
+use Rattle.base_words.specs.Writes.{writes}
+use Rattle.base_words.specs.Counts.{values, messages}
 use Rattle.meaning.specs.declared.Tuple.{Tuple}
 use Rattle.meaning.specs.Tuples.{valueOf}
-use Rattle.state.specs.Places.{valuesIn, slotsIn, slotWords, queueWords, queuePlace, slotPlace}
+use Rattle.base_state.specs.Places.{valuesIn, slotsIn, slotWords, queueWords, queuePlace, slotPlace}
 use Rattle.meaning.specs.Messages.{appended, without}
 
 -- READING: how many messages the queue of a name holds; message k, oldest first; all of them

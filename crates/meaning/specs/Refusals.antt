@@ -2,7 +2,7 @@
 use Prim.Native.Nat.{ℕ}
 use mathlib.Core.Bool.{Bool}
 use mathlib.Core.List.{List, [], _∷_}
-use Rattle.words.specs.Pick.{if_then_else_}
+use Rattle.base_words.specs.Pick.{if_then_else_}
 
 infix 70 _unless_
 pub record Refusal : Type 0 where

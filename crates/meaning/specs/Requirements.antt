@@ -3,13 +3,13 @@ use Prim.Native.Nat.{ℕ, _+_}
 use mathlib.Core.Bool.{Bool, true, _&&_}
 use mathlib.Core.List.{List}
 use lib.Dec.{eqb, ltb}
-use Rattle.words.specs.All.{all}
-use Rattle.words.specs.Pick.{if_then_else_}
-use Rattle.words.specs.Counts.{countMost}
-use Rattle.kinds.specs.declared.moves.Move.{Move}
-use Rattle.kinds.specs.Moves.{every, branch, on, up, down, na-nc, making}
-use Rattle.model.specs.Table.{taskIn, modeIn, entryCount, exitCount, entryAt, exitAt}
-use Rattle.state.specs.Instances.{tokens, activeCount, readyCount}
+use Rattle.base_words.specs.All.{all}
+use Rattle.base_words.specs.Pick.{if_then_else_}
+use Rattle.base_words.specs.Counts.{countMost}
+use Rattle.base_kinds.specs.declared.moves.Move.{Move}
+use Rattle.base_kinds.specs.Moves.{every, branch, on, up, down, na-nc, making}
+use Rattle.base_table.specs.Table.{taskIn, modeIn, entryCount, exitCount, entryAt, exitAt}
+use Rattle.base_state.specs.Instances.{tokens, activeCount, readyCount}
 use Rattle.meaning.specs.Conditions.{holds}
 
 -- Which edges of a list a cell of the table of moves means: as many as there are, the branch's alone, or none; from which one on.

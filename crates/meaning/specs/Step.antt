@@ -4,17 +4,17 @@ use mathlib.Core.Bool.{Bool, true, not, _&&_, _||_}
 use mathlib.Core.List.{List, [], _∷_, _++_}
 use lib.Dec.{eqb, ltb}
 use lib.ListN.{length, replicate}
-use Rattle.words.specs.Each.{tab}
-use Rattle.words.specs.Pick.{if_then_else_}
-use Rattle.words.specs.Words.{at}
-use Rattle.words.specs.Counts.{messages}
+use Rattle.base_words.specs.Each.{tab}
+use Rattle.base_words.specs.Pick.{if_then_else_}
+use Rattle.base_words.specs.Words.{at}
+use Rattle.base_words.specs.Counts.{messages}
 use Rattle.meaning.specs.declared.Tuple.{Tuple}
 use Rattle.meaning.specs.Tuples.{empty, sameTuple}
-use Rattle.kinds.specs.declared.moves.Move.{Move}
-use Rattle.kinds.specs.Moves.{on, making, moveOf}
-use Rattle.model.specs.Table.{poolCount, elementCount, elementAt, poolOf, limitOf, kindIn, modeIn, messageName}
-use Rattle.state.specs.Places.{instanceWords, instancePlace, sharedWords, sharedPlace}
-use Rattle.state.specs.Instances.{madeCount, withInstance, withStores, withMade}
+use Rattle.base_kinds.specs.declared.moves.Move.{Move}
+use Rattle.base_kinds.specs.Moves.{on, making, moveOf}
+use Rattle.base_table.specs.Table.{poolCount, elementCount, elementAt, poolOf, limitOf, kindIn, modeIn, messageName}
+use Rattle.base_state.specs.Places.{instanceWords, instancePlace, sharedWords, sharedPlace}
+use Rattle.base_state.specs.Instances.{madeCount, withInstance, withStores, withMade}
 use Rattle.meaning.specs.Messages.{has}
 use Rattle.meaning.specs.Queues.{messagesOf, sending, consuming}
 use Rattle.meaning.specs.declared.Evaluated.{Evaluated}

@@ -4,18 +4,18 @@ use Prim.Native.Nat.{ℕ, _+_}
 use mathlib.Core.Bool.{Bool, _&&_}
 use mathlib.Core.List.{List, [], _∷_}
 use lib.Dec.{eqb, ltb, leb}
-use Rattle.words.specs.Iter.{iter}
-use Rattle.words.specs.Pick.{if_then_else_}
-use Rattle.words.specs.Words.{at}
-use Rattle.words.specs.Counts.{values}
+use Rattle.base_words.specs.Iter.{iter}
+use Rattle.base_words.specs.Pick.{if_then_else_}
+use Rattle.base_words.specs.Words.{at}
+use Rattle.base_words.specs.Counts.{values}
 use Rattle.meaning.specs.declared.Value.{Value}
 use Rattle.meaning.specs.declared.Value.the-variants.{Number}
 use Rattle.meaning.specs.declared.Tuple.{Tuple}
 use Rattle.meaning.specs.Values.{isDefined, numberIn}
 use Rattle.meaning.specs.Tuples.{valueOf}
-use Rattle.model.specs.Places.{operandNumber, formPlace, leftPlace, binding}
-use Rattle.model.specs.Table.{itemAt, messageLength}
-use Rattle.state.specs.Instances.{withField}
+use Rattle.base_table.specs.Places.{operandNumber, formPlace, leftPlace, binding}
+use Rattle.base_table.specs.Table.{itemAt, messageLength}
+use Rattle.base_state.specs.Instances.{withField}
 use Rattle.meaning.specs.declared.Evaluated.{Evaluated}
 use Rattle.meaning.specs.Expressions.{expressionOf}
 

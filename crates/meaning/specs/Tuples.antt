@@ -4,10 +4,10 @@ use mathlib.Core.Bool.{Bool, _&&_}
 use mathlib.Core.List.{List}
 use lib.Dec.{ltb, eqb}
 use lib.ListN.{replicate}
-use Rattle.words.specs.Pick.{if_then_else_}
-use Rattle.words.specs.All.{all}
-use Rattle.words.specs.Words.{at}
-use Rattle.words.specs.Counts.{values}
+use Rattle.base_words.specs.Pick.{if_then_else_}
+use Rattle.base_words.specs.All.{all}
+use Rattle.base_words.specs.Words.{at}
+use Rattle.base_words.specs.Counts.{values}
 use Rattle.meaning.specs.declared.Tuple.{Tuple}
 
 -- the empty tuple

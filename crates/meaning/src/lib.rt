@@ -1,8 +1,8 @@
 // What the meaning in specs/ speaks of: values, tuples, the name of a step, its answer.
 ghost use mathlib.Core.Path.{_≡_};
 ghost use Rattle.meaning.specs.Tuples.{empty};
-use words::Word;
-use words::counts::VALUES;
+use base_words::Word;
+use base_words::counts::VALUES;
 
 // "A field is 0 to 4,294,967,295 or undefined."
 pub enum Value {

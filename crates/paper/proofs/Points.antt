@@ -5,7 +5,7 @@ use mathlib.Core.Bool.{false≢true}
 use mathlib.Core.List.{List, [], _∷_}
 use native.Mathlib.Omega.{arith}
 use lib.Dec.{eqb}
-use Rattle.words.specs.Pick.{if_then_else_}
+use Rattle.base_words.specs.Pick.{if_then_else_}
 use Rattle.meaning.specs.declared.Truth.the-variants.{True, False, Neither}
 use Rattle.meaning.specs.Values.{equalOf, isTrue, isFalse}
 use Rattle.paper.specs.Syntax.{number, field, equal, always, default, ε, na-nc, Choice, start, xorSplit, task, Stands, here, there}

@@ -1,12 +1,12 @@
 // Reads a model's text from standard input, runs it and writes a line for each step.
+use base_state::places::STATE_WORDS;
+use base_table::places::TABLE_WORDS;
+use base_words::Word;
+use base_words::counts::TEXT_MOST;
 use libc::STDIN_FILENO;
-use model::places::TABLE_WORDS;
-use printing::tell_run;
-use printing::tell_unread;
-use running::Steps;
-use state::places::STATE_WORDS;
-use words::Word;
-use words::counts::TEXT_MOST;
+use step_run::Steps;
+use tool_print::tell_run;
+use tool_print::tell_unread;
 
 // The most steps of the run.
 const STEPS: Steps = 100;

@@ -1,7 +1,7 @@
 use mathlib.Core.Path.{refl}
 use borrow.Author.Needs.{needs}
-use Rattle.words.proofs.AllLaws.{eq-eqb-by, ne-eqb-by}
-use Rattle.words.proofs.PickLaws.{pick-yes, pick-no, flag-yes, flag-no}
+use Rattle.base_words.proofs.AllLaws.{eq-eqb-by, ne-eqb-by}
+use Rattle.base_words.proofs.PickLaws.{pick-yes, pick-no, flag-yes, flag-no}
 use Rattle.engine.specs.Engine.{verdictOf}
 use Rattle.engine.proofs.check.Statement.{statement}
 use Rattle.engine.proofs.check.Tie as tie

@@ -1,6 +1,6 @@
 use mathlib.Core.Path.{refl}
 use borrow.Author.Needs.{needs}
-use Rattle.words.proofs.PickLaws.{pick-yes, pick-no, flag-yes, flag-no}
+use Rattle.base_words.proofs.PickLaws.{pick-yes, pick-no, flag-yes, flag-no}
 use Rattle.engine.specs.Engine.{freshened}
 use Rattle.engine.proofs.fresh.Statement.{statement}
 use Rattle.engine.proofs.fresh.Tie as tie

@@ -1,5 +1,5 @@
 use Rattle.engine.proofs.CallLaws.{measured, room-always}
-use Rattle.words.proofs.PickLaws.{leb-same}
+use Rattle.base_words.proofs.PickLaws.{leb-same}
 use borrow.Author.Needs.{needs}
 use Rattle.engine.proofs.has_room.Statement.{statement}
 use Rattle.engine.proofs.has_room.Tie as tie

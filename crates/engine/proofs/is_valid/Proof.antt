@@ -1,5 +1,5 @@
 use borrow.Author.Needs.{needs}
-use Rattle.words.proofs.PickLaws.{and-yes, and-no, flag-yes, flag-no, eqb-same}
+use Rattle.base_words.proofs.PickLaws.{and-yes, and-no, flag-yes, flag-no, eqb-same}
 use Rattle.engine.specs.Engine.{valid}
 use Rattle.engine.proofs.is_valid.Statement.{statement}
 use Rattle.engine.proofs.is_valid.Tie as tie

@@ -1,5 +1,5 @@
 use borrow.Author.Needs.{needs}
-use Rattle.words.proofs.PickLaws.{flag-yes, flag-no}
+use Rattle.base_words.proofs.PickLaws.{flag-yes, flag-no}
 use Rattle.engine.proofs.JudgeLaws.{judge-bad, judge-done}
 use Rattle.engine.proofs.judge.Statement.{statement}
 use Rattle.engine.proofs.judge.Tie as tie

@@ -1,6 +1,6 @@
 use native.Mathlib.Omega.{arith}
 use borrow.Author.Needs.{needs}
-use Rattle.words.proofs.PickLaws.{flag-yes, flag-no}
+use Rattle.base_words.proofs.PickLaws.{flag-yes, flag-no}
 use Rattle.engine.proofs.CallLaws.{lent-invalid, lent-unfit, lent-right}
 use Rattle.engine.proofs.lent_number.Statement.{statement}
 use Rattle.engine.proofs.lent_number.Tie as tie

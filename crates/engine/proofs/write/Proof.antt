@@ -1,5 +1,5 @@
 use Rattle.engine.proofs.CallLaws.{write-bad, write-short, write-done, measured}
-use Rattle.words.proofs.PickLaws.{flag-yes, flag-no}
+use Rattle.base_words.proofs.PickLaws.{flag-yes, flag-no}
 use borrow.Author.Needs.{needs}
 use Rattle.engine.proofs.write.Statement.{statement}
 use Rattle.engine.proofs.write.Tie as tie

@@ -1,6 +1,6 @@
 -- The measure is how many words are left.
 use Prim.Native.Nat.{_-_}
-use Rattle.model.specs.Places.{tableWords}
+use Rattle.base_table.specs.Places.{tableWords}
 use borrow.Author.Needs.{needs}
 use Rattle.console.proofs.blocks.same_tables.Statement.{statement}
 use Rattle.console.proofs.blocks.same_tables.Tie as tie

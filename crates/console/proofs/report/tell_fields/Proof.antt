@@ -1,6 +1,6 @@
 -- The measure is how many fields are left.
 use Prim.Native.Nat.{_-_}
-use Rattle.words.specs.Counts.{fields}
+use Rattle.base_words.specs.Counts.{fields}
 use borrow.Author.Needs.{needs}
 use Rattle.console.proofs.report.tell_fields.Statement.{statement}
 use Rattle.console.proofs.report.tell_fields.Tie as tie

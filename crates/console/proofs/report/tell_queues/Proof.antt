@@ -1,6 +1,6 @@
 -- The measure is how many queues are left.
 use Prim.Native.Nat.{_-_}
-use Rattle.words.specs.Counts.{names}
+use Rattle.base_words.specs.Counts.{names}
 use borrow.Author.Needs.{needs}
 use Rattle.console.proofs.report.tell_queues.Statement.{statement}
 use Rattle.console.proofs.report.tell_queues.Tie as tie

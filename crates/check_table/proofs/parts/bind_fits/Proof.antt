@@ -1,0 +1,22 @@
+use borrow.Author.Needs.{needs}
+use Rattle.base_words.proofs.AllLaws.{tests-by, tests}
+use Rattle.base_words.proofs.PickLaws.{chains}
+use Rattle.check_limits.specs.Limits.{bindFits}
+use Rattle.check_table.proofs.parts.bind_fits.Statement.{statement}
+use Rattle.check_table.proofs.parts.bind_fits.Tie as tie
+
+ruleset L = (needs, chains, tests, tests-by)
+
+pub bind-fits-spec : {M : Type 1} → statement M
+unfolding bindFits
+bind-fits-spec =
+    tie.close
+    (tie.spec
+    (λ c. search L)
+    (λ c κs. search L)
+    (λ c. search L)
+    (λ c. search L)
+    (λ c κs. search L)
+    (λ c. search L)
+    (λ c κs. search L)
+    (λ c. search L))

@@ -1,0 +1,90 @@
+-- THE CALLS AS C HAS THEM: each block comes with its length in words. A wrong length is 10 before the block is looked at, and what was lent stays; else it is the call of `engine`.
+use Prim.Native.Nat.{ℕ, _*_}
+use mathlib.Core.Bool.{Bool, _&&_}
+use mathlib.Core.List.{List}
+use lib.Dec.{eqb, ltb}
+use Rattle.base_words.specs.Pick.{if_then_else_}
+use Rattle.base_table.specs.Places.{tableWords}
+use Rattle.base_state.specs.Places.{stateWords}
+use Rattle.meaning.specs.declared.Name.{Name}
+use Rattle.meaning.specs.declared.Tuple.{Tuple}
+use Rattle.meaning.specs.declared.Traffic.{Traffic}
+use Rattle.meaning.specs.declared.Traffic.the-variants.{Nothing, Consumed, Sent}
+use Rattle.meaning.specs.Tuples.{empty}
+use Rattle.step_list.specs.declared.Listed.{Listed}
+use Rattle.step_names.specs.Names.{blank}
+use Rattle.text_read.specs.Notation.{ReadInto, readInto}
+use Rattle.draw_read.specs.Drawings.{drawInto}
+use Rattle.engine.specs.declared.Verdict.{Verdict}
+use Rattle.engine.specs.Engine.{verdictOf, Left, freshened, Stepped, stepped, postedTo, listedAt, RanTo, ranTo, WrittenTo, writtenTo}
+use Rattle.step_poll.specs.Items.{itemWords, itemsMost}
+use Rattle.step_poll.specs.Poll.{Polling}
+use Rattle.log_judge.specs.declared.Judged.{Judged}
+use Rattle.engine.specs.Calls.{polledTo, judgedTo}
+use Rattle.cuttingvale.specs.declared.Taken.{Taken}
+
+-- n words of a table and m words of a state
+unfoldable pub areWhole : ℕ → ℕ → Bool
+areWhole n m = eqb n tableWords && eqb m stateWords
+
+unfoldable pub checkedBy : List ℕ → ℕ → Verdict
+checkedBy t n = if eqb n tableWords then verdictOf t else record { number = 10; beside = 0 }
+
+unfoldable pub freshenedBy : List ℕ → ℕ → List ℕ → ℕ → Left
+freshenedBy t n z m = if areWhole n m then freshened t z else record { number = 10; state = z }
+
+-- what a step did to the queues, as a number
+unfoldable pub trafficNumber : Traffic → ℕ
+trafficNumber Nothing = 0
+trafficNumber Consumed = 1
+trafficNumber Sent = 2
+
+-- an answer given back, and the state that is left
+pub record TakenTo : Type 0 where
+  pub answer : Taken
+  pub state : List ℕ
+
+unfoldable pub told : Stepped → TakenTo
+told s =
+    record {
+      answer = record { number = s .answer .number; traffic = trafficNumber (s .answer .traffic); name = s .answer .name; tuple = s .answer .tuple };
+      state = s .state;
+    }
+
+unfoldable pub steppedBy : List ℕ → ℕ → List ℕ → ℕ → Name → TakenTo
+steppedBy t n z m name =
+    if areWhole n m then told (stepped t z name) else record { answer = record { number = 10; traffic = 0; name = 0; tuple = empty }; state = z }
+
+unfoldable pub postedBy : List ℕ → ℕ → List ℕ → ℕ → ℕ → Tuple → Left
+postedBy t n z m name g = if areWhole n m then postedTo t z name g else record { number = 10; state = z }
+
+unfoldable pub listedBy : List ℕ → ℕ → List ℕ → ℕ → ℕ → Listed
+listedBy t n z m k = if areWhole n m then listedAt t z k else record { number = 10; name = blank }
+
+unfoldable pub ranBy : List ℕ → ℕ → List ℕ → ℕ → ℕ → RanTo
+ranBy t n z m limit = if areWhole n m then ranTo t z limit else record { number = 10; steps = 0; left = 0; state = z }
+
+unfoldable pub readBy : List ℕ → List ℕ → ℕ → ReadInto
+readBy text t n = if eqb n tableWords then readInto text t else record { number = 10; beside = 0; table = t }
+
+unfoldable pub drawnBy : List ℕ → List ℕ → ℕ → ReadInto
+drawnBy text t n = if eqb n tableWords then drawInto text t else record { number = 10; beside = 0; table = t }
+
+unfoldable pub writtenBy : List ℕ → ℕ → List ℕ → WrittenTo
+writtenBy t n out = if eqb n tableWords then writtenTo t out else record { number = 10; length = 0; buffer = out }
+
+abbrev pub pollWords : ℕ
+pollWords = itemWords * itemsMost
+
+-- k words of items too; where a length is wrong, 22 goes before 10 as in the call itself
+unfoldable pub areLent : ℕ → ℕ → ℕ → Bool
+areLent n m k = eqb k pollWords && areWhole n m
+
+unfoldable pub lentWrong : ℕ → ℕ
+lentWrong count = if ltb itemsMost count then 22 else 10
+
+unfoldable pub polledAt : List ℕ → ℕ → List ℕ → ℕ → List ℕ → ℕ → ℕ → Polling
+polledAt t n z m w k count = if areLent n m k then polledTo t z w count else record { number = lentWrong count; accepted = 0; state = z }
+
+unfoldable pub judgedBy : List ℕ → ℕ → List ℕ → Judged
+judgedBy t n log = if eqb n tableWords then judgedTo t log else record { number = 10; beside = 0; own = 0 }

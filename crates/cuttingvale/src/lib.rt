@@ -1,0 +1,297 @@
+// The public calls as C has them: include/cuttingvale.h. Each block comes with its length in words, and a wrong one is refused before the block is looked at.
+ghost use mathlib.Core.Path.{_≡_};
+ghost use Rattle.meaning.specs.Tuples.{empty};
+ghost use Rattle.step_poll.specs.Poll.{Polling};
+ghost use Rattle.step_names.specs.Names.{blank};
+ghost use Rattle.cuttingvale.specs.Boundary.{areWhole, checkedBy, freshenedBy, trafficNumber, steppedBy, postedBy, listedBy, ranBy, readBy, drawnBy, writtenBy, lentWrong, areLent, polledAt, judgedBy};
+use base_state::places::STATE_WORDS;
+use base_table::places::TABLE_WORDS;
+use base_words::Word;
+use base_words::numbers::BAD;
+use base_words::numbers::TOO_MANY;
+use engine::Ran;
+use engine::Verdict;
+use engine::Written;
+use log_judge::Judged;
+use meaning::Name;
+use meaning::Traffic;
+use meaning::Tuple;
+use meaning::empty_tuple;
+use step_list::Listed;
+use step_poll::ITEMS;
+use step_poll::POLL_WORDS;
+use step_poll::Polled;
+use step_run::Steps;
+use text_read::Reading;
+
+// What a step did to the queues, as a number: an enum does not cross to C.
+pub const NOTHING: Word = 0;
+
+pub const CONSUMED: Word = 1;
+
+pub const SENT: Word = 2;
+
+// The answer of a step, with that number in the place of the enum.
+#[repr(C)]
+pub struct Taken {
+    pub number: Word,
+    pub traffic: Word,
+    pub name: Word,
+    pub tuple: Tuple,
+}
+
+#[no_mangle]
+pub extern "C" fn cv_check(table: &[Word; TABLE_WORDS], tablelength: usize) -> Verdict
+    ensures { λ r. ⌜ r ≡ checkedBy (now (table .entry)) tablelength ⌝ }
+{
+    if tablelength != TABLE_WORDS {
+        return Verdict {
+            number: BAD,
+            beside: 0,
+        };
+    }
+    engine::check(table)
+}
+
+fn are_whole(tablelength: usize, statelength: usize) -> bool
+    ensures { λ r. ⌜ r ≡ areWhole tablelength statelength ⌝ }
+{
+    if tablelength != TABLE_WORDS {
+        return false;
+    }
+    statelength == STATE_WORDS
+}
+
+#[no_mangle]
+pub extern "C" fn cv_fresh(
+    table: &[Word; TABLE_WORDS],
+    tablelength: usize,
+    state: &mut [Word; STATE_WORDS],
+    statelength: usize,
+) -> Word
+    ensures { λ r. ⌜ record { number = r; state = now (state .exit) } ≡ freshenedBy (now (table .entry)) tablelength (now (state .entry)) statelength ⌝ }
+{
+    if !are_whole(tablelength, statelength) {
+        return BAD;
+    }
+    engine::fresh(table, state)
+}
+
+fn number_of(traffic: Traffic) -> Word
+    ensures { λ r. ⌜ r ≡ trafficNumber traffic ⌝ }
+{
+    match traffic {
+        Traffic::Nothing => NOTHING,
+        Traffic::Consumed => CONSUMED,
+        Traffic::Sent => SENT,
+    }
+}
+
+fn untaken() -> Taken
+    ensures { λ r. ⌜ r ≡ record { number = 10; traffic = 0; name = 0; tuple = empty } ⌝ }
+{
+    Taken {
+        number: BAD,
+        traffic: NOTHING,
+        name: 0,
+        tuple: empty_tuple(),
+    }
+}
+
+#[no_mangle]
+pub extern "C" fn cv_step(
+    table: &[Word; TABLE_WORDS],
+    tablelength: usize,
+    state: &mut [Word; STATE_WORDS],
+    statelength: usize,
+    name: Name,
+) -> Taken
+    ensures { λ r. ⌜ record { answer = r; state = now (state .exit) } ≡ steppedBy (now (table .entry)) tablelength (now (state .entry)) statelength name ⌝ }
+{
+    if !are_whole(tablelength, statelength) {
+        return untaken();
+    }
+    let a = engine::step(table, state, name);
+    let traffic = a.traffic;
+    let tuple = a.tuple;
+    Taken {
+        number: a.number,
+        traffic: number_of(traffic),
+        name: a.name,
+        tuple: tuple,
+    }
+}
+
+#[no_mangle]
+pub extern "C" fn cv_post(
+    table: &[Word; TABLE_WORDS],
+    tablelength: usize,
+    state: &mut [Word; STATE_WORDS],
+    statelength: usize,
+    name: Word,
+    values: Tuple,
+) -> Word
+    ensures { λ r. ⌜ record { number = r; state = now (state .exit) } ≡ postedBy (now (table .entry)) tablelength (now (state .entry)) statelength name values ⌝ }
+{
+    if !are_whole(tablelength, statelength) {
+        return BAD;
+    }
+    engine::post(table, state, name, values)
+}
+
+fn unlisted() -> Listed
+    ensures { λ r. ⌜ r ≡ record { number = 10; name = blank } ⌝ }
+{
+    Listed {
+        number: BAD,
+        name: Name {
+            pool: 0,
+            instance: 0,
+            element: 0,
+            phase: 0,
+            branch: 0,
+            given: empty_tuple(),
+        },
+    }
+}
+
+#[no_mangle]
+pub extern "C" fn cv_list(
+    table: &[Word; TABLE_WORDS],
+    tablelength: usize,
+    state: &[Word; STATE_WORDS],
+    statelength: usize,
+    ordinal: usize,
+) -> Listed
+    ensures { λ r. ⌜ r ≡ listedBy (now (table .entry)) tablelength (now (state .entry)) statelength ordinal ⌝ }
+{
+    if !are_whole(tablelength, statelength) {
+        return unlisted();
+    }
+    engine::list(table, state, ordinal)
+}
+
+#[no_mangle]
+pub extern "C" fn cv_run(
+    table: &[Word; TABLE_WORDS],
+    tablelength: usize,
+    state: &mut [Word; STATE_WORDS],
+    statelength: usize,
+    limit: Steps,
+) -> Ran
+    ensures { λ r. ⌜ record { number = r .number; steps = r .steps; left = r .left; state = now (state .exit) } ≡ ranBy (now (table .entry)) tablelength (now (state .entry)) statelength limit ⌝ }
+{
+    if !are_whole(tablelength, statelength) {
+        return Ran {
+            number: BAD,
+            steps: 0,
+            left: 0,
+        };
+    }
+    engine::run(table, state, limit)
+}
+
+#[no_mangle]
+pub extern "C" fn cv_read(
+    text: &[u8],
+    table: &mut [Word; TABLE_WORDS],
+    tablelength: usize,
+) -> Reading
+    ensures { λ r. ⌜ record { number = r .number; beside = r .beside; table = now (table .exit) } ≡ readBy (now (text .entry)) (now (table .entry)) tablelength ⌝ }
+{
+    if tablelength != TABLE_WORDS {
+        return Reading {
+            number: BAD,
+            beside: 0,
+        };
+    }
+    engine::read(text, table)
+}
+
+#[no_mangle]
+pub extern "C" fn cv_draw(
+    text: &[u8],
+    table: &mut [Word; TABLE_WORDS],
+    tablelength: usize,
+) -> Reading
+    ensures { λ r. ⌜ record { number = r .number; beside = r .beside; table = now (table .exit) } ≡ drawnBy (now (text .entry)) (now (table .entry)) tablelength ⌝ }
+{
+    if tablelength != TABLE_WORDS {
+        return Reading {
+            number: BAD,
+            beside: 0,
+        };
+    }
+    engine::draw(text, table)
+}
+
+#[no_mangle]
+pub extern "C" fn cv_write(
+    table: &[Word; TABLE_WORDS],
+    tablelength: usize,
+    buffer: &mut [u8],
+) -> Written
+    ensures { λ r. ⌜ record { number = r .number; length = r .length; buffer = now (buffer .exit) } ≡ writtenBy (now (table .entry)) tablelength (now (buffer .entry)) ⌝ }
+{
+    if tablelength != TABLE_WORDS {
+        return Written {
+            number: BAD,
+            length: 0,
+        };
+    }
+    engine::write(table, buffer)
+}
+
+// A block of a wrong length is 10, as a bad one, and 22 goes before it.
+fn wrong_number(count: usize) -> Word
+    ensures { λ r. ⌜ r ≡ lentWrong count ⌝ }
+{
+    if count > ITEMS {
+        return TOO_MANY;
+    }
+    BAD
+}
+
+fn are_lent(tablelength: usize, statelength: usize, itemslength: usize) -> bool
+    ensures { λ r. ⌜ r ≡ areLent tablelength statelength itemslength ⌝ }
+{
+    if itemslength != POLL_WORDS {
+        return false;
+    }
+    are_whole(tablelength, statelength)
+}
+
+#[no_mangle]
+pub extern "C" fn cv_poll(
+    table: &[Word; TABLE_WORDS],
+    tablelength: usize,
+    state: &mut [Word; STATE_WORDS],
+    statelength: usize,
+    items: &[Word; POLL_WORDS],
+    itemslength: usize,
+    count: usize,
+) -> Polled
+    ensures { λ r. ⌜ record { number = r .number; accepted = r .accepted; state = now (state .exit) } ≡ polledAt (now (table .entry)) tablelength (now (state .entry)) statelength (now (items .entry)) itemslength count ⌝ }
+{
+    if !are_lent(tablelength, statelength, itemslength) {
+        return Polled {
+            number: wrong_number(count),
+            accepted: 0,
+        };
+    }
+    engine::poll(table, state, items, count)
+}
+
+#[no_mangle]
+pub extern "C" fn cv_judge(table: &[Word; TABLE_WORDS], tablelength: usize, log: &[u8]) -> Judged
+    ensures { λ r. ⌜ r ≡ judgedBy (now (table .entry)) tablelength (now (log .entry)) ⌝ }
+{
+    if tablelength != TABLE_WORDS {
+        return Judged {
+            number: BAD,
+            beside: 0,
+            own: 0,
+        };
+    }
+    engine::judge(table, log)
+}

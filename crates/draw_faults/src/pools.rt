@@ -1,0 +1,89 @@
+// What is amiss with pools: R18, R19, R20.
+ghost use mathlib.Core.Path.{_≡_};
+ghost use Rattle.draw_faults.specs.Amiss.{isSecondCollaboration, isLost, hasParticipants, isPool, hasPool, isUnowned, isSecond, isOutside};
+use super::has;
+use base_words::Word;
+use draw_kinds::counting::SOURCE_IN;
+use draw_kinds::counting::WITHIN_IN;
+use draw_kinds::counting::count_sort;
+use draw_kinds::counting::count_with;
+use draw_kinds::counting::of_sort;
+use draw_things::things::COLLABORATION;
+use draw_things::things::PARTICIPANT;
+use draw_things::things::PROCESS;
+use draw_things::things::source_of;
+use draw_things::things::within_of;
+
+// Whether a collaboration stands before collaboration k.
+pub fn is_second_collaboration(w: &[Word], k: Word) -> bool
+    ensures { λ r. ⌜ r ≡ isSecondCollaboration (now (w .entry)) k ⌝ }
+{
+    of_sort(COLLABORATION, w, k) && 0 < count_sort(COLLABORATION, w, k)
+}
+
+// Whether participant k names no process.
+pub fn is_lost(text: &[u8], w: &[Word], k: Word) -> bool
+    ensures { λ r. ⌜ r ≡ isLost (now (text .entry)) (now (w .entry)) k ⌝ }
+{
+    of_sort(PARTICIPANT, w, k) && (has(text, b"processRef", w, k) && source_of(w, k) == 0)
+}
+
+// Whether there is a participant.
+pub fn has_participants(w: &[Word], n: Word) -> bool
+    ensures { λ r. ⌜ r ≡ hasParticipants (now (w .entry)) n ⌝ }
+{
+    let mut j: Word = 0;
+    while j < n {
+        if of_sort(PARTICIPANT, w, j) {
+            return true;
+        }
+        j += 1;
+    }
+    false
+}
+
+// Whether thing k is a pool: a participant with a process or, where there are no participants, a process.
+pub fn is_pool(owned: bool, w: &[Word], k: Word) -> bool
+    ensures { λ r. ⌜ r ≡ isPool owned (now (w .entry)) k ⌝ }
+{
+    if owned {
+        return of_sort(PARTICIPANT, w, k) && source_of(w, k) != 0;
+    }
+    of_sort(PROCESS, w, k)
+}
+
+// Whether there is a pool.
+pub fn has_pool(owned: bool, w: &[Word], n: Word) -> bool
+    ensures { λ r. ⌜ r ≡ hasPool owned (now (w .entry)) n ⌝ }
+{
+    let mut j: Word = 0;
+    while j < n {
+        if is_pool(owned, w, j) {
+            return true;
+        }
+        j += 1;
+    }
+    false
+}
+
+// Whether process k belongs to no participant, or to two.
+pub fn is_unowned(w: &[Word], n: Word, k: Word) -> bool
+    ensures { λ r. ⌜ r ≡ isUnowned (now (w .entry)) n k ⌝ }
+{
+    of_sort(PROCESS, w, k)
+        && (has_participants(w, n) && count_with(PARTICIPANT, SOURCE_IN, k, w, n) != 1)
+}
+
+// Whether one of the same sort stands before thing k in the same thing.
+pub fn is_second(s: Word, w: &[Word], k: Word) -> bool
+    ensures { λ r. ⌜ r ≡ isSecond s (now (w .entry)) k ⌝ }
+{
+    of_sort(s, w, k) && 0 < count_with(s, WITHIN_IN, within_of(w, k), w, k)
+}
+
+// Whether thing j is a participant without a process.
+pub fn is_outside(text: &[u8], w: &[Word], j: Word) -> bool
+    ensures { λ r. ⌜ r ≡ isOutside (now (text .entry)) (now (w .entry)) j ⌝ }
+{
+    of_sort(PARTICIPANT, w, j) && !has(text, b"processRef", w, j)
+}

@@ -1,0 +1,203 @@
+// Which of the kinds of document 01 a node of a drawing is: what stands round it, counted.
+ghost use mathlib.Core.Path.{_≡_};
+ghost use Rattle.draw_kinds.specs.Roles.{shapeOf, flows, defines, when, startDrawn, endDrawn, intermediate, activity, splits, joins, gateway, kindBy, caughtAs, kindDrawn, settled, roles};
+use base_kinds::moves;
+use base_words::Word;
+use counting::SOURCE_IN;
+use counting::TARGET_IN;
+use counting::WITHIN_IN;
+use counting::count_with;
+use counting::first_with;
+use draw_links::is_node_at;
+use draw_things::things::BRANCH;
+use draw_things::things::END_EVENT;
+use draw_things::things::EVENT_BASED_GATEWAY;
+use draw_things::things::EXCLUSIVE_GATEWAY;
+use draw_things::things::INTERMEDIATE_CATCH_EVENT;
+use draw_things::things::INTERMEDIATE_THROW_EVENT;
+use draw_things::things::MESSAGE_EVENT_DEFINITION;
+use draw_things::things::PARALLEL_GATEWAY;
+use draw_things::things::RECEIVE_TASK;
+use draw_things::things::SEND_TASK;
+use draw_things::things::SEQUENCE_FLOW;
+use draw_things::things::START_EVENT;
+use draw_things::things::TASK;
+use draw_things::things::TERMINATE_EVENT_DEFINITION;
+use draw_things::things::set_source;
+use draw_things::things::sort_of;
+use draw_things::things::source_of;
+
+pub mod counting;
+
+// What is drawn round a node: flows in, flows out, message and terminate definitions.
+pub struct Shape {
+    pub ins: Word,
+    pub outs: Word,
+    pub messages: Word,
+    pub terminates: Word,
+}
+
+fn shape_of(w: &[Word], n: Word, k: Word) -> Shape
+    ensures { λ r. ⌜ r ≡ shapeOf (now (w .entry)) n k ⌝ }
+{
+    let ins = count_with(SEQUENCE_FLOW, TARGET_IN, k, w, n);
+    let outs = count_with(SEQUENCE_FLOW, SOURCE_IN, k, w, n);
+    let messages = count_with(MESSAGE_EVENT_DEFINITION, WITHIN_IN, k, w, n);
+    let terminates = count_with(TERMINATE_EVENT_DEFINITION, WITHIN_IN, k, w, n);
+    Shape {
+        ins: ins,
+        outs: outs,
+        messages: messages,
+        terminates: terminates,
+    }
+}
+
+fn flows(i: Word, o: Word, d: Shape) -> bool
+    ensures { λ r. ⌜ r ≡ flows i o d ⌝ }
+{
+    d.ins == i && d.outs == o
+}
+
+fn defines(m: Word, e: Word, d: Shape) -> bool
+    ensures { λ r. ⌜ r ≡ defines m e d ⌝ }
+{
+    d.messages == m && d.terminates == e
+}
+
+fn when(right: bool, kind: Word) -> Word
+    ensures { λ r. ⌜ r ≡ when right kind ⌝ }
+{
+    if right { kind } else { 0 }
+}
+
+fn start_drawn(d: Shape) -> Word
+    ensures { λ r. ⌜ r ≡ startDrawn d ⌝ }
+{
+    if !flows(0, 1, d) {
+        return 0;
+    }
+    if defines(0, 0, d) {
+        return moves::START;
+    }
+    when(defines(1, 0, d), moves::START_RCV)
+}
+
+fn end_drawn(d: Shape) -> Word
+    ensures { λ r. ⌜ r ≡ endDrawn d ⌝ }
+{
+    if !flows(1, 0, d) {
+        return 0;
+    }
+    if defines(0, 0, d) {
+        return moves::END;
+    }
+    if defines(1, 0, d) {
+        return moves::END_SND;
+    }
+    when(defines(0, 1, d), moves::TERMINATE)
+}
+
+fn intermediate(kind: Word, d: Shape) -> Word
+    ensures { λ r. ⌜ r ≡ intermediate kind d ⌝ }
+{
+    if !flows(1, 1, d) {
+        return 0;
+    }
+    when(defines(1, 0, d), kind)
+}
+
+fn activity(kind: Word, d: Shape) -> Word
+    ensures { λ r. ⌜ r ≡ activity kind d ⌝ }
+{
+    when(flows(1, 1, d), kind)
+}
+
+fn splits(d: Shape) -> bool
+    ensures { λ r. ⌜ r ≡ splits d ⌝ }
+{
+    d.ins == 1 && 2 <= d.outs
+}
+
+fn joins(d: Shape) -> bool
+    ensures { λ r. ⌜ r ≡ joins d ⌝ }
+{
+    2 <= d.ins && d.outs == 1
+}
+
+fn gateway(split: Word, join: Word, d: Shape) -> Word
+    ensures { λ r. ⌜ r ≡ gateway split join d ⌝ }
+{
+    if splits(d) {
+        return split;
+    }
+    when(joins(d), join)
+}
+
+fn kind_by(s: Word, caught: Word, d: Shape) -> Word
+    ensures { λ r. ⌜ r ≡ kindBy s caught d ⌝ }
+{
+    if s == START_EVENT {
+        return start_drawn(d);
+    }
+    if s == END_EVENT {
+        return end_drawn(d);
+    }
+    if s == INTERMEDIATE_CATCH_EVENT {
+        return intermediate(caught, d);
+    }
+    if s == INTERMEDIATE_THROW_EVENT {
+        return intermediate(moves::INTER_SND, d);
+    }
+    if s == TASK {
+        return activity(moves::TASK, d);
+    }
+    if s == SEND_TASK {
+        return activity(moves::TASK_SND, d);
+    }
+    if s == RECEIVE_TASK {
+        return activity(moves::TASK_RCV, d);
+    }
+    if s == PARALLEL_GATEWAY {
+        return gateway(moves::AND_SPLIT, moves::AND_JOIN, d);
+    }
+    if s == EXCLUSIVE_GATEWAY {
+        return gateway(moves::XOR_SPLIT, moves::XOR_JOIN, d);
+    }
+    gateway(moves::EVENT_BASED, 0, d)
+}
+
+fn caught_as(w: &[Word], n: Word, k: Word) -> Word
+    ensures { λ r. ⌜ r ≡ caughtAs (now (w .entry)) n k ⌝ }
+{
+    let flow = first_with(SEQUENCE_FLOW, TARGET_IN, k, w, n);
+    if sort_of(w, source_of(w, flow)) == EVENT_BASED_GATEWAY {
+        return BRANCH;
+    }
+    moves::INTER_RCV
+}
+
+fn kind_drawn(w: &[Word], n: Word, k: Word) -> Word
+    ensures { λ r. ⌜ r ≡ kindDrawn (now (w .entry)) n k ⌝ }
+{
+    kind_by(sort_of(w, k), caught_as(w, n, k), shape_of(w, n, k))
+}
+
+fn settle(w: &mut [Word], n: Word, k: Word)
+    ensures { λ _. ⌜ now (w .exit) ≡ settled n k (now (w .entry)) ⌝ }
+{
+    if is_node_at(w, k) {
+        let kind = kind_drawn(w, n, k);
+        set_source(w, k, kind);
+    }
+}
+
+// The kinds of nodes, stored in the things.
+pub fn roles(w: &mut [Word], n: Word)
+    ensures { λ _. ⌜ now (w .exit) ≡ roles n (now (w .entry)) ⌝ }
+{
+    let mut k: Word = 0;
+    while k < n {
+        settle(w, n, k);
+        k += 1;
+    }
+}

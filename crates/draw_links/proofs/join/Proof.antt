@@ -1,0 +1,19 @@
+use Rattle.draw_links.specs.Links.{joined}
+use mathlib.Core.Path.{refl}
+use borrow.Author.Needs.{needs}
+use Rattle.draw_links.proofs.join.Statement.{statement}
+use Rattle.draw_links.proofs.join.Tie as tie
+
+pub join-spec : {M : Type 1} → statement M
+unfolding joined
+join-spec =
+    tie.close
+    (tie.spec
+    (λ c. search needs)
+    (λ c κs. search needs)
+    (λ c. search needs)
+    (λ c κs. search needs)
+    (λ c κs. search needs)
+    (λ c κs. search needs)
+    (λ c. search needs)
+    (λ c. rw (c .before .before .set-target .ensures, c .before .before .before .before .before .before .set-source .ensures, c .before .before .before .before .before .before .before .before .before .before .before .named .ensures, c .before .before .before .before .before .before .before .before .named2 .ensures) refl))

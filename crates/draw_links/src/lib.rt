@@ -1,0 +1,161 @@
+// What the references of a drawing name, and the ends of its flows.
+ghost use mathlib.Core.Bool.{_&&_, _||_};
+ghost use mathlib.Core.Path.{_≡_};
+ghost use lib.Dec.{eqb};
+ghost use Rattle.draw_things.specs.Things.{sort, within, source, place, isNode, participant, messageFlow, sequenceFlow};
+ghost use Rattle.xml_markup.specs.Spans.{attribute};
+ghost use Rattle.draw_links.specs.Links.{hasId, mayName, meant, named, joined, owned, linked, links};
+use base_words::Word;
+use draw_things::things::MESSAGE_FLOW;
+use draw_things::things::PARTICIPANT;
+use draw_things::things::PROCESS;
+use draw_things::things::SEQUENCE_FLOW;
+use draw_things::things::is_node;
+use draw_things::things::place_of;
+use draw_things::things::set_source;
+use draw_things::things::set_target;
+use draw_things::things::sort_of;
+use draw_things::things::source_of;
+use draw_things::things::within_of;
+use text_lexer::piece;
+use text_numerals::same;
+use xml_markup::Attribute;
+use xml_markup::spans::attribute;
+use xml_markup::spans::local_of;
+
+// An attribute of a thing.
+pub fn attribute_of(text: &[u8], w: &[Word], k: Word, name: &[u8]) -> Attribute
+    ensures { λ r. ⌜ r ≡ attribute (now (text .entry)) (place (now (w .entry)) k) (now (name .entry)) ⌝ }
+{
+    let p = place_of(w, k) as usize;
+    attribute(text, p, name)
+}
+
+// Whether thing j has an id.
+pub fn has_id(text: &[u8], v: &[u8], w: &[Word], j: Word) -> bool
+    ensures { λ r. ⌜ r ≡ hasId (now (text .entry)) (now (v .entry)) (now (w .entry)) j ⌝ }
+{
+    let a = attribute_of(text, w, j, b"id");
+    let Attribute::Is(from, to) = a else {
+        return false;
+    };
+    same(piece(text, from, to), v)
+}
+
+// Whether thing j is a node.
+pub fn is_node_at(w: &[Word], j: Word) -> bool
+    ensures { λ r. ⌜ r ≡ isNode (sort (now (w .entry)) j) ⌝ }
+{
+    is_node(sort_of(w, j))
+}
+
+fn is_beside(w: &[Word], k: Word, j: Word) -> bool
+    ensures { λ r. ⌜ r ≡ isNode (sort (now (w .entry)) j) && eqb (within (now (w .entry)) j) (within (now (w .entry)) k) ⌝ }
+{
+    is_node_at(w, j) && within_of(w, j) == within_of(w, k)
+}
+
+fn is_end(w: &[Word], j: Word) -> bool
+    ensures { λ r. ⌜ r ≡ isNode (sort (now (w .entry)) j) || eqb (sort (now (w .entry)) j) participant ⌝ }
+{
+    is_node_at(w, j) || sort_of(w, j) == PARTICIPANT
+}
+
+fn is_exit(w: &[Word], k: Word, j: Word) -> bool
+    ensures { λ r. ⌜ r ≡ eqb (sort (now (w .entry)) j) sequenceFlow && eqb (source (now (w .entry)) j) k ⌝ }
+{
+    sort_of(w, j) == SEQUENCE_FLOW && source_of(w, j) == k
+}
+
+// Whether thing j is of a sort that thing k may name.
+fn may_name(w: &[Word], k: Word, j: Word) -> bool
+    ensures { λ r. ⌜ r ≡ mayName (now (w .entry)) k j ⌝ }
+{
+    let s = sort_of(w, k);
+    if s == SEQUENCE_FLOW {
+        return is_beside(w, k, j);
+    }
+    if s == MESSAGE_FLOW {
+        return is_end(w, j);
+    }
+    if s == PARTICIPANT {
+        return sort_of(w, j) == PROCESS;
+    }
+    is_exit(w, k, j)
+}
+
+fn is_meant(text: &[u8], w: &[Word], k: Word, v: &[u8], j: Word) -> bool
+    ensures { λ r. ⌜ r ≡ mayName (now (w .entry)) k j && hasId (now (text .entry)) (now (v .entry)) (now (w .entry)) j ⌝ }
+{
+    may_name(w, k, j) && has_id(text, v, w, j)
+}
+
+fn meant(text: &[u8], w: &[Word], n: Word, k: Word, v: &[u8]) -> Word
+    ensures { λ r. ⌜ r ≡ meant (now (text .entry)) (now (w .entry)) n k (now (v .entry)) ⌝ }
+{
+    let mut j: Word = 0;
+    while j < n {
+        if is_meant(text, w, k, v, j) {
+            return j;
+        }
+        j += 1;
+    }
+    0
+}
+
+// The thing that an attribute of thing k names; 0 for none.
+pub fn named(text: &[u8], w: &[Word], n: Word, k: Word, name: &[u8]) -> Word
+    ensures { λ r. ⌜ r ≡ named (now (text .entry)) (now (w .entry)) n k (now (name .entry)) ⌝ }
+{
+    let a = attribute_of(text, w, k, name);
+    let Attribute::Is(from, to) = a else {
+        return 0;
+    };
+    meant(text, w, n, k, local_of(piece(text, from, to)))
+}
+
+fn join(text: &[u8], w: &mut [Word], n: Word, k: Word)
+    ensures { λ _. ⌜ now (w .exit) ≡ joined (now (text .entry)) n k (now (w .entry)) ⌝ }
+{
+    let from = named(text, w, n, k, b"sourceRef");
+    let to = named(text, w, n, k, b"targetRef");
+    set_source(w, k, from);
+    set_target(w, k, to);
+}
+
+fn own(text: &[u8], w: &mut [Word], n: Word, k: Word)
+    ensures { λ _. ⌜ now (w .exit) ≡ owned (now (text .entry)) n k (now (w .entry)) ⌝ }
+{
+    let process = named(text, w, n, k, b"processRef");
+    set_source(w, k, process);
+}
+
+fn is_flow(w: &[Word], k: Word) -> bool
+    ensures { λ r. ⌜ r ≡ eqb (sort (now (w .entry)) k) sequenceFlow || eqb (sort (now (w .entry)) k) messageFlow ⌝ }
+{
+    let s = sort_of(w, k);
+    s == SEQUENCE_FLOW || s == MESSAGE_FLOW
+}
+
+fn link(text: &[u8], w: &mut [Word], n: Word, k: Word)
+    ensures { λ _. ⌜ now (w .exit) ≡ linked (now (text .entry)) n k (now (w .entry)) ⌝ }
+{
+    if is_flow(w, k) {
+        join(text, w, n, k);
+        return;
+    }
+    if sort_of(w, k) == PARTICIPANT {
+        own(text, w, n, k);
+    }
+}
+
+// The ends of flows and the processes of participants, stored in the things.
+pub fn links(text: &[u8], w: &mut [Word], n: Word)
+    ensures { λ _. ⌜ now (w .exit) ≡ links (now (text .entry)) n (now (w .entry)) ⌝ }
+{
+    let mut k: Word = 0;
+    while k < n {
+        link(text, w, n, k);
+        k += 1;
+    }
+}

@@ -1,0 +1,86 @@
+-- A DRAWING READ into a lent table t. "Refusals: 1 above 65,536 bytes; 20 not the XML named here or nested deeper, with its place; 21 ..; then 3 and 4 as they are." "By class, not by position: a 20 at the
+-- end of the text goes before a 21 at its start; 21 before 3; 3 before 4" (R1).
+use Prim.Native.Nat.{ℕ}
+use mathlib.Core.Bool.{not}
+use mathlib.Core.List.{List}
+use lib.Dec.{eqb, ltb}
+use lib.ListN.{length, replicate}
+use Rattle.base_words.specs.Pick.{if_then_else_}
+use Rattle.check_model.specs.Checks.{Pool, lowest}
+use Rattle.text_readers.specs.Reading.{excessive}
+use Rattle.text_read.specs.declared.Reading.{Reading}
+use Rattle.text_read.specs.Notation.{ReadInto, tableOf}
+use Rattle.xml_skip.specs.declared.Skipped.{Skipped}
+use Rattle.xml_skip.specs.declared.Skipped.the-variants.{Past, Fault}
+use Rattle.draw_things.specs.Things.{blockWords, place}
+use Rattle.draw_walk.specs.Walk.{Walk, walk}
+use Rattle.draw_links.specs.Links.{links}
+use Rattle.draw_kinds.specs.Roles.{roles}
+use Rattle.draw_faults.specs.Amiss.{isDrawing}
+use Rattle.draw_limits.specs.Excess.{firstBeyond, beyondAt}
+use Rattle.draw_model.specs.Content.{content, firstUnfit}
+
+-- bytes of a drawing
+abbrev pub drawingMost : ℕ
+drawingMost = 65536
+
+abbrev pub tooLong : ℕ
+tooLong = 1
+
+abbrev pub checkBroken : ℕ
+checkBroken = 4
+
+-- "not the XML named here or nested deeper"
+abbrev pub notXml : ℕ
+notXml = 20
+
+-- "an element we don't run", or another fault of what is drawn
+abbrev pub notRun : ℕ
+notRun = 21
+
+abbrev pub answer : ℕ → ℕ → Reading
+answer number beside = record { number = number; beside = beside }
+
+-- w is the things of the drawing, n their count: "no 3": 4 with the lowest check broken, else 0
+unfoldable pub checkedAs : ℕ → Reading
+checkedAs k = answer (if eqb k 0 then 0 else checkBroken) k
+
+-- 3 at a node whose element is not within the limits: a case that should not come up where nothing is beyond them, and that is refused if it does
+unfoldable pub fittedBy : List ℕ → List ℕ → ℕ → Reading
+fittedBy text w n =
+    if ltb (firstUnfit text w n) n then answer excessive (place w (firstUnfit text w n))
+    else checkedAs (lowest (content text w n))
+
+-- 21 beside 0; "no 21": 3 at the first thing that is beyond the limits
+unfoldable pub meantBy : List ℕ → List ℕ → ℕ → Reading
+meantBy text w n =
+    if not (isDrawing text w n) then answer notRun 0
+    else if ltb (firstBeyond text w n) n then answer excessive (beyondAt text w (firstBeyond text w n))
+    else fittedBy text w n
+
+-- what the walk meets, then with the ends of flows and the kinds of nodes
+unfoldable pub walked : List ℕ → Walk
+walked text = walk text (replicate blockWords 0)
+
+unfoldable pub settledBy : List ℕ → ℕ → List ℕ → List ℕ
+settledBy text n w = roles n (links text n w)
+
+unfoldable pub thingsOf : List ℕ → List ℕ
+thingsOf text = settledBy text (walked text .count) (walked text .words)
+
+-- 20 where the walk stops
+unfoldable pub judged : Skipped → Reading → Reading
+judged (Past q) a = a
+judged (Fault q) a = answer notXml q
+
+unfoldable pub answered : List ℕ → Reading
+answered text =
+    if ltb drawingMost (length text) then answer tooLong 0
+    else judged (walked text .end) (meantBy text (thingsOf text) (walked text .count))
+
+-- a refusal leaves the table; else every word of it is the model's
+unfoldable pub filledBy : Reading → List Pool → List ℕ → ReadInto
+filledBy a ps t = record { number = a .number; beside = a .beside; table = if eqb (a .number) 0 then tableOf ps else t }
+
+unfoldable pub drawInto : List ℕ → List ℕ → ReadInto
+drawInto text t = filledBy (answered text) (content text (thingsOf text) (walked text .count)) t

@@ -1,0 +1,140 @@
+// A drawing read into a lent table: judged first, so that a refusal changes nothing; then its model fills the table.
+ghost use mathlib.Core.Path.{_≡_};
+ghost use mathlib.Core.Bool.{false};
+ghost use Prim.Native.Nat.{ℕ};
+ghost use lib.Dec.{ltb};
+ghost use Rattle.check_model.specs.Checks.{lowest};
+ghost use Rattle.text_read.specs.Notation.{tableOf};
+ghost use Rattle.draw_model.specs.Content.{content};
+ghost use Rattle.draw_limits.specs.Excess.{firstBeyond};
+ghost use Rattle.xml_skip.specs.declared.Skipped.the-variants.{Fault};
+ghost use Rattle.draw_read.specs.Drawings.{notXml, answer, checkedAs, fittedBy, meantBy, settledBy, filledBy, drawInto};
+use base_table::places::TABLE_WORDS;
+use base_words::Word;
+use base_words::clear;
+use base_words::numbers::ACCEPTED;
+use base_words::numbers::CHECK_BROKEN;
+use base_words::numbers::EXCESSIVE;
+use base_words::numbers::NOT_RUN;
+use base_words::numbers::NOT_XML;
+use base_words::numbers::TOO_LONG;
+use check_verdict::MODEL_WORDS;
+use check_verdict::lowest_in;
+use draw_faults::is_drawing;
+use draw_kinds::roles;
+use draw_limits::beyond_at;
+use draw_limits::first_beyond;
+use draw_links::links;
+use draw_model::first_unfit;
+use draw_model::keep_content;
+use draw_things::things::BLOCK_WORDS;
+use draw_things::things::place_of;
+use draw_walk::walk;
+use text_read::Reading;
+use xml_skip::Skipped;
+
+// Bytes of a drawing.
+pub const DRAWING_MOST: usize = 65536;
+
+fn answer(number: Word, beside: usize) -> Reading
+    ensures { λ a. ⌜ a ≡ answer number beside ⌝ }
+{
+    Reading {
+        number: number,
+        beside: beside,
+    }
+}
+
+fn checked(broken: Word) -> Reading
+    ensures { λ a. ⌜ a ≡ checkedAs broken ⌝ }
+{
+    if broken == 0 {
+        return answer(ACCEPTED, 0);
+    }
+    answer(CHECK_BROKEN, broken as usize)
+}
+
+fn lowest_of(text: &[u8], w: &[Word], n: Word) -> Word
+    ensures { λ r. ⌜ r ≡ lowest (content (now (text .entry)) (now (w .entry)) n) ⌝ }
+{
+    let mut m = [0; MODEL_WORDS];
+    keep_content(false, text, w, n, &mut m);
+    lowest_in(&m)
+}
+
+fn fitted(text: &[u8], w: &[Word], n: Word) -> Reading
+    ensures { λ a. ⌜ a ≡ fittedBy (now (text .entry)) (now (w .entry)) n ⌝ }
+{
+    let k = first_unfit(text, w, n);
+    if k < n {
+        return answer(EXCESSIVE, place_of(w, k) as usize);
+    }
+    checked(lowest_of(text, w, n))
+}
+
+// The answer to a drawing whose walk met the things w.
+fn meant(text: &[u8], w: &[Word], n: Word) -> Reading
+    ensures { λ a. ⌜ a ≡ meantBy (now (text .entry)) (now (w .entry)) n ⌝ }
+{
+    if !is_drawing(text, w, n) {
+        return answer(NOT_RUN, 0);
+    }
+    let k = first_beyond(text, w, n);
+    if k < n {
+        return answer(EXCESSIVE, beyond_at(text, w, k));
+    }
+    fitted(text, w, n)
+}
+
+// The table of a drawing that is not beyond the limits.
+fn fill(text: &[u8], w: &[Word], n: Word, t: &mut [Word; TABLE_WORDS])
+    ensures { λ _. ⌜ (ltb (firstBeyond (now (text .entry)) (now (w .entry)) n) n ≡ false → now (t .exit) ≡ tableOf (content (now (text .entry)) (now (w .entry)) n)) ⌝ }
+{
+    clear(t);
+    keep_content(true, text, w, n, t);
+}
+
+fn judge(text: &[u8], w: &[Word], n: Word, t: &mut [Word; TABLE_WORDS]) -> Reading
+    ensures { λ a. ⌜ record { number = a .number; beside = a .beside; table = now (t .exit) } ≡ filledBy (meantBy (now (text .entry)) (now (w .entry)) n) (content (now (text .entry)) (now (w .entry)) n) (now (t .entry)) ⌝ }
+{
+    let a = meant(text, w, n);
+    if a.number != ACCEPTED {
+        return a;
+    }
+    fill(text, w, n, t);
+    a
+}
+
+fn settle(text: &[u8], w: &mut [Word], n: Word)
+    ensures { λ _. ⌜ now (w .exit) ≡ settledBy (now (text .entry)) n (now (w .entry)) ⌝ }
+{
+    links(text, w, n);
+    roles(w, n);
+}
+
+fn stopped(end: Skipped) -> Reading
+    ensures { λ a. ⌜ ((q : ℕ) → end ≡ Fault q → a ≡ answer notXml q) ⌝ }
+{
+    match end {
+        Skipped::Past(_) => answer(ACCEPTED, 0),
+        Skipped::Fault(q) => answer(NOT_XML, q),
+    }
+}
+
+// Reads a drawing into the table: 1, 20, 21, 3 or 4, and the table stays; else 0, and every word of the table is the model's.
+pub fn draw_into(text: &[u8], t: &mut [Word; TABLE_WORDS]) -> Reading
+    ensures { λ a. ⌜ record { number = a .number; beside = a .beside; table = now (t .exit) } ≡ drawInto (now (text .entry)) (now (t .entry)) ⌝ }
+{
+    if text.len() > DRAWING_MOST {
+        return answer(TOO_LONG, 0);
+    }
+    let mut w = [0; BLOCK_WORDS];
+    let met = walk(text, &mut w);
+    let n = met.count;
+    let end = met.end;
+    let Skipped::Past(_) = end else {
+        return stopped(end);
+    };
+    settle(text, &mut w, n);
+    judge(text, &w, n, t)
+}

@@ -1,0 +1,39 @@
+-- The sort of an element, by what the calls gave. Assumes nothing.
+use mathlib.Core.Path.{_≡_, _∙_, sym}
+use mathlib.Core.Bool.{Bool, true, false, not}
+use mathlib.Core.List.{List}
+use Prim.Native.Nat.{ℕ}
+use lib.Dec.{eqb}
+use borrow.Author.Tests.{eq-eqb, ne-eqb}
+use Rattle.base_words.specs.Pick.{if_then_else_}
+use Rattle.xml_markup.specs.Spans.{nameAt, bytesOf, localOf}
+use Rattle.draw_things.specs.Things.{nothing, process, stranger}
+use Rattle.draw_things.specs.Names.{rowNamed, rowOf, drawsAnother, family, namedIn, namedAt, sortIn}
+
+module _ (parent : ℕ) (t : List ℕ) (p i : ℕ) (ei : i ≡ rowNamed (localOf (bytesOf t (nameAt t p)))) (s : ℕ) (es : s ≡ rowOf i .sort) where
+  pub named-nothing : s ≡ nothing → nothing ≡ namedAt parent t p
+  unfolding namedAt namedIn if_then_else_
+  named-nothing h = rw (← ei, ← es, eq-eqb s nothing h)
+
+  module _ (h : s ≡ nothing → ⊥) (q : ℕ) (eq : q ≡ rowOf i .parent) (f : ℕ) (ef : f ≡ family parent) where
+    pub named-elsewhere : (q ≡ f → ⊥) → stranger ≡ namedAt parent t p
+    unfolding namedAt namedIn if_then_else_
+    named-elsewhere k = rw (← ei, ← es, ← eq, ← ef, ne-eqb s nothing h, ne-eqb q f k)
+
+    pub named-here : q ≡ f → s ≡ namedAt parent t p
+    unfolding namedAt namedIn if_then_else_
+    named-here k = rw (← ei, ← es, ← eq, ← ef, ne-eqb s nothing h, eq-eqb q f k)
+
+module _ (parent : ℕ) (t : List ℕ) (p : ℕ) where
+  pub sort-elsewhere : (parent ≡ process → ⊥) → (r : ℕ) → r ≡ namedAt parent t p → r ≡ sortIn parent t p
+  unfolding sortIn if_then_else_
+  sort-elsewhere o r e = rw (ne-eqb parent process o) e
+
+  module _ (o : parent ≡ process) (b : Bool) (eb : b ≡ drawsAnother t p) where
+    pub sort-another : b ≡ true → stranger ≡ sortIn parent t p
+    unfolding sortIn if_then_else_
+    sort-another e = rw (eq-eqb parent process o, ← eb, e)
+
+    pub sort-plain : b ≡ false → (r : ℕ) → r ≡ namedAt parent t p → r ≡ sortIn parent t p
+    unfolding sortIn if_then_else_
+    sort-plain e r k = rw (eq-eqb parent process o, ← eb, e) k

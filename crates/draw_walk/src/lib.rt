@@ -1,0 +1,163 @@
+// One walk through a drawing, from left to right: the first fault of its text, and what is drawn up to there.
+ghost use mathlib.Core.Path.{_≡_};
+ghost use Rattle.draw_walk.specs.Walk.{told, tagFrom, noted, counted, entered, contentAt, thingAt, walk};
+use base_words::Word;
+use draw_things::names::sort_in;
+use draw_things::things::DEFINITIONS;
+use draw_things::things::NOTHING;
+use draw_things::things::add_thing;
+use draw_things::things::one_more;
+use xml_document::around::last_from;
+use xml_document::around::root_at;
+use xml_markup::scanning::markup;
+use xml_skip::Part;
+use xml_skip::Skipped;
+use xml_skip::Tag;
+use xml_skip::part_at;
+use xml_skip::skip;
+use xml_skip::tag_of;
+
+pub mod passing;
+
+use passing::is_passed;
+use passing::pass;
+
+// The place reached, or that of the fault, and how many things were met.
+pub struct Walked {
+    pub end: Skipped,
+    pub count: Word,
+}
+
+// The thing whose content is walked: its sort, its ordinal and the place of its tag.
+pub struct Outer {
+    pub sort: Word,
+    pub thing: Word,
+    pub tag: usize,
+}
+
+fn tag_from(s: Skipped) -> Tag
+    ensures { λ r. ⌜ r ≡ tagFrom s ⌝ }
+{
+    match s {
+        Skipped::Past(q) => Tag::Empty(q),
+        Skipped::Fault(q) => Tag::Fault(q),
+    }
+}
+
+// Where the content of an element of a sort begins, or the place behind the element.
+fn enter(s: Word, text: &[u8], p: usize) -> Tag
+    ensures { λ r. ⌜ r ≡ entered s (now (text .entry)) p ⌝ }
+{
+    if s == NOTHING {
+        return tag_from(skip(text, p));
+    }
+    if is_passed(s) {
+        return tag_from(pass(s, text, p));
+    }
+    tag_of(markup(text, p), p)
+}
+
+fn note(s: Word, p: usize, k: Word, w: &mut [Word], n: Word)
+    ensures { λ _. ⌜ now (w .exit) ≡ noted s p k (now (w .entry)) n ⌝ }
+{
+    if s != NOTHING {
+        add_thing(s, p, k, w, n);
+    }
+}
+
+fn counted(s: Word, n: Word) -> Word
+    ensures { λ r. ⌜ r ≡ counted s n ⌝ }
+{
+    if s == NOTHING { n } else { one_more(n) }
+}
+
+// An element of a sort at a place, within thing k, after n things.
+pub fn walk_thing(s: Word, text: &[u8], k: Word, p: usize, w: &mut [Word], n: Word) -> Walked
+    ensures { λ r. ⌜ told r (now (w .exit)) ≡ thingAt s (now (text .entry)) k p (now (w .entry)) n ⌝ }
+{
+    note(s, p, k, w, n);
+    let count = counted(s, n);
+    let t = enter(s, text, p);
+    match t {
+        Tag::Open(q) => {
+            let o = Outer {
+                sort: s,
+                thing: n,
+                tag: p,
+            };
+            walk_content(text, o, q, w, count)
+        }
+        Tag::Empty(q) => Walked {
+            end: Skipped::Past(q),
+            count: count,
+        },
+        Tag::Fault(q) => Walked {
+            end: Skipped::Fault(q),
+            count: count,
+        },
+    }
+}
+
+// The content of a thing from a place on, after n things.
+pub fn walk_content(text: &[u8], o: Outer, p: usize, w: &mut [Word], n: Word) -> Walked
+    ensures { λ r. ⌜ told r (now (w .exit)) ≡ contentAt (now (text .entry)) o p (now (w .entry)) n ⌝ }
+{
+    let mut at = p;
+    let mut count = n;
+    while at < text.len() {
+        let part = part_at(text, o.tag, at);
+        match part {
+            Part::Element => {
+                let s = sort_in(o.sort, text, at);
+                let e = walk_thing(s, text, o.thing, at, w, count);
+                let end = e.end;
+                let Skipped::Past(q) = end else {
+                    return e;
+                };
+                count = e.count;
+                at = q;
+            }
+            Part::Close(q) => {
+                return Walked {
+                    end: Skipped::Past(q),
+                    count: count,
+                };
+            }
+            Part::On(q) => {
+                at = q;
+            }
+            Part::Fault(q) => {
+                return Walked {
+                    end: Skipped::Fault(q),
+                    count: count,
+                };
+            }
+        }
+    }
+    Walked {
+        end: Skipped::Fault(text.len()),
+        count: count,
+    }
+}
+
+// The things of a drawing into the words lent, and how many there are; or the first fault of its text.
+pub fn walk(text: &[u8], w: &mut [Word]) -> Walked
+    ensures { λ r. ⌜ told r (now (w .exit)) ≡ walk (now (text .entry)) (now (w .entry)) ⌝ }
+{
+    let root = root_at(text, b"definitions");
+    let Skipped::Past(p) = root else {
+        return Walked {
+            end: root,
+            count: 0,
+        };
+    };
+    let e = walk_thing(DEFINITIONS, text, 0, p, w, 0);
+    let end = e.end;
+    let Skipped::Past(q) = end else {
+        return e;
+    };
+    Walked {
+        end: last_from(text, q),
+        count: e.count,
+    }
+}

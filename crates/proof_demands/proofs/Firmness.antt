@@ -1,0 +1,116 @@
+-- HOW FIRM THE PROMISES ARE: any two results that the promise of a public call allows coincide, the words and bytes lent to it included; the promise is
+-- the one in the code, its `ensures`. Only read and draw change a table. Assumes nothing.
+use Prim.Native.Nat.{ℕ}
+use mathlib.Core.Path.{_≡_, refl, sym, _∙_, ap, ap₂}
+use mathlib.Core.List.{List, [], _∷_}
+use denote.Ref.{now}
+use Rattle.meaning.specs.declared.Name.{Name}
+use Rattle.meaning.specs.declared.Answer.{Answer}
+use Rattle.meaning.specs.declared.Tuple.{Tuple}
+use Rattle.step_list.specs.declared.Listed.{Listed}
+use Rattle.text_read.specs.declared.Reading.{Reading}
+use Rattle.text_read.specs.Notation.{ReadInto}
+use Rattle.step_poll.specs.declared.Polled.{Polled}
+use Rattle.log_judge.specs.declared.Judged.{Judged}
+use Rattle.step_poll.specs.Poll.{Polling}
+use Rattle.engine.specs.declared.Ran.{Ran}
+use Rattle.engine.specs.declared.Verdict.{Verdict}
+use Rattle.engine.specs.declared.Written.{Written}
+use Rattle.engine.specs.Engine.{Left, Stepped, RanTo, WrittenTo}
+use Rattle.engine.specs.Calls.{Act, aStep, aPost, did, numbers, after}
+use Rattle.engine.proofs.check.Reads as check
+use Rattle.engine.proofs.fresh.Reads as fresh
+use Rattle.engine.proofs.step.Reads as step
+use Rattle.engine.proofs.post.Reads as post
+use Rattle.engine.proofs.list.Reads as list
+use Rattle.engine.proofs.run.Reads as run
+use Rattle.engine.proofs.read.Reads as read
+use Rattle.engine.proofs.draw.Reads as draw
+use Rattle.engine.proofs.write.Reads as write
+use Rattle.engine.proofs.poll.Reads as poll
+use Rattle.engine.proofs.judge.Reads as judge
+use Rattle.proof_demands.specs.Demands.{Allowed, AllAllowed}
+use Rattle.proof_demands.proofs.Promises.{Lent, One, Two, Three}
+
+-- each statement takes the promise of the code twice, for what was lent before
+pub check-firm : (κ : One) (t t₁ t₂ : Lent) (r₁ r₂ : Verdict) → check.Post κ (t, tt) r₁ (t₁, tt) → check.Post κ (t, tt) r₂ (t₂, tt) → r₁ ≡ r₂
+check-firm κ t t₁ t₂ r₁ r₂ p₁ p₂ = p₁ ∙ sym p₂
+
+module _ (κ : Two) where
+  pub fresh-firm : (t z t₁ t₂ z₁ z₂ : Lent) (r₁ r₂ : ℕ) → fresh.Post κ (t, (z, tt)) r₁ (t₁, (z₁, tt)) → fresh.Post κ (t, (z, tt)) r₂ (t₂, (z₂, tt))
+      → (r₁ ≡ r₂) × (now z₁ ≡ now z₂)
+  fresh-firm t z t₁ t₂ z₁ z₂ r₁ r₂ p₁ p₂ = let p = p₁ ∙ sym p₂ in (ap (λ (o : Left). o .number) p, ap (λ (o : Left). o .state) p)
+
+  pub step-firm : (t z t₁ t₂ z₁ z₂ : Lent) (n n₁ n₂ : Name) (r₁ r₂ : Answer)
+      → step.Post κ (t, (z, (n, tt))) r₁ (t₁, (z₁, (n₁, tt))) → step.Post κ (t, (z, (n, tt))) r₂ (t₂, (z₂, (n₂, tt)))
+      → (r₁ ≡ r₂) × (now z₁ ≡ now z₂)
+  step-firm t z t₁ t₂ z₁ z₂ n n₁ n₂ r₁ r₂ p₁ p₂ = let p = p₁ ∙ sym p₂ in (ap (λ (o : Stepped). o .answer) p, ap (λ (o : Stepped). o .state) p)
+
+  pub post-firm : (t z t₁ t₂ z₁ z₂ : Lent) (name name₁ name₂ : ℕ) (g g₁ g₂ : Tuple) (r₁ r₂ : ℕ)
+      → post.Post κ (t, (z, (name, (g, tt)))) r₁ (t₁, (z₁, (name₁, (g₁, tt)))) → post.Post κ (t, (z, (name, (g, tt)))) r₂ (t₂, (z₂, (name₂, (g₂, tt))))
+      → (r₁ ≡ r₂) × (now z₁ ≡ now z₂)
+  post-firm t z t₁ t₂ z₁ z₂ name name₁ name₂ g g₁ g₂ r₁ r₂ p₁ p₂ = let p = p₁ ∙ sym p₂ in (ap (λ (o : Left). o .number) p, ap (λ (o : Left). o .state) p)
+
+  pub list-firm : (t z t₁ t₂ z₁ z₂ : Lent) (k k₁ k₂ : ℕ) (r₁ r₂ : Listed)
+      → list.Post κ (t, (z, (k, tt))) r₁ (t₁, (z₁, (k₁, tt))) → list.Post κ (t, (z, (k, tt))) r₂ (t₂, (z₂, (k₂, tt)))
+      → r₁ ≡ r₂
+  list-firm t z t₁ t₂ z₁ z₂ k k₁ k₂ r₁ r₂ p₁ p₂ = p₁ ∙ sym p₂
+
+  pub run-firm : (t z t₁ t₂ z₁ z₂ : Lent) (limit limit₁ limit₂ : ℕ) (r₁ r₂ : Ran)
+      → run.Post κ (t, (z, (limit, tt))) r₁ (t₁, (z₁, (limit₁, tt))) → run.Post κ (t, (z, (limit, tt))) r₂ (t₂, (z₂, (limit₂, tt)))
+      → (r₁ ≡ r₂) × (now z₁ ≡ now z₂)
+  run-firm t z t₁ t₂ z₁ z₂ limit limit₁ limit₂ r₁ r₂ p₁ p₂ =
+      let p = p₁ ∙ sym p₂ in (
+        ap (λ (o : RanTo). record { number = o .number; steps = o .steps; left = o .left }) p,
+        ap (λ (o : RanTo). o .state) p,
+      )
+
+  pub read-firm : (text t text₁ text₂ t₁ t₂ : Lent) (r₁ r₂ : Reading)
+      → read.Post κ (text, (t, tt)) r₁ (text₁, (t₁, tt)) → read.Post κ (text, (t, tt)) r₂ (text₂, (t₂, tt))
+      → (r₁ ≡ r₂) × (now t₁ ≡ now t₂)
+  read-firm text t text₁ text₂ t₁ t₂ r₁ r₂ p₁ p₂ =
+      let p = p₁ ∙ sym p₂ in (ap (λ (o : ReadInto). record { number = o .number; beside = o .beside }) p, ap (λ (o : ReadInto). o .table) p)
+
+  pub draw-firm : (text t text₁ text₂ t₁ t₂ : Lent) (r₁ r₂ : Reading)
+      → draw.Post κ (text, (t, tt)) r₁ (text₁, (t₁, tt)) → draw.Post κ (text, (t, tt)) r₂ (text₂, (t₂, tt))
+      → (r₁ ≡ r₂) × (now t₁ ≡ now t₂)
+  draw-firm text t text₁ text₂ t₁ t₂ r₁ r₂ p₁ p₂ =
+      let p = p₁ ∙ sym p₂ in (ap (λ (o : ReadInto). record { number = o .number; beside = o .beside }) p, ap (λ (o : ReadInto). o .table) p)
+
+  pub write-firm : (t out t₁ t₂ out₁ out₂ : Lent) (r₁ r₂ : Written)
+      → write.Post κ (t, (out, tt)) r₁ (t₁, (out₁, tt)) → write.Post κ (t, (out, tt)) r₂ (t₂, (out₂, tt))
+      → (r₁ ≡ r₂) × (now out₁ ≡ now out₂)
+  write-firm t out t₁ t₂ out₁ out₂ r₁ r₂ p₁ p₂ =
+      let p = p₁ ∙ sym p₂ in (ap (λ (o : WrittenTo). record { number = o .number; length = o .length }) p, ap (λ (o : WrittenTo). o .buffer) p)
+
+  pub judge-firm : (t log t₁ t₂ log₁ log₂ : Lent) (r₁ r₂ : Judged)
+      → judge.Post κ (t, (log, tt)) r₁ (t₁, (log₁, tt)) → judge.Post κ (t, (log, tt)) r₂ (t₂, (log₂, tt))
+      → r₁ ≡ r₂
+  judge-firm t log t₁ t₂ log₁ log₂ r₁ r₂ p₁ p₂ = p₁ ∙ sym p₂
+
+pub poll-firm : (κ : Three) (t z w t₁ t₂ z₁ z₂ w₁ w₂ : Lent) (count count₁ count₂ : ℕ) (r₁ r₂ : Polled)
+    → poll.Post κ (t, (z, (w, (count, tt)))) r₁ (t₁, (z₁, (w₁, (count₁, tt)))) → poll.Post κ (t, (z, (w, (count, tt)))) r₂ (t₂, (z₂, (w₂, (count₂, tt))))
+    → (r₁ ≡ r₂) × (now z₁ ≡ now z₂)
+poll-firm κ t z w t₁ t₂ z₁ z₂ w₁ w₂ count count₁ count₂ r₁ r₂ p₁ p₂ =
+    let p = p₁ ∙ sym p₂ in (ap (λ (o : Polling). record { number = o .number; accepted = o .accepted }) p, ap (λ (o : Polling). o .state) p)
+
+-- WHAT THE PROMISES ALLOW is what the demands speak of
+module _ (t : List ℕ) where
+  -- one call
+  pub allowed-is : (a : Act) (z : List ℕ) (r : ℕ) (y : List ℕ) → Allowed t a z r y → (r ≡ did t a z .number) × (y ≡ did t a z .state)
+  unfolding Allowed did
+  allowed-is (aStep n) z r y h = (h .1 ∙ ap (λ (o : Stepped). o .answer .number) (h .2), ap (λ (o : Stepped). o .state) (h .2))
+  allowed-is (aPost name g) z r y h = (ap (λ (o : Left). o .number) h, ap (λ (o : Left). o .state) h)
+
+  -- and calls one after the other: no later one does anything but its own
+  pub all-allowed-is : (acts : List Act) (z : List ℕ) (rs : List ℕ) (y : List ℕ) → AllAllowed t acts z rs y → (rs ≡ numbers t acts z) × (y ≡ after t acts z)
+  unfolding AllAllowed after numbers
+  all-allowed-is [] z [] y h = (refl, h)
+  all-allowed-is [] z (r ∷ rs) y h = absurd h
+  all-allowed-is (a ∷ rest) z [] y h = absurd h
+  all-allowed-is (a ∷ rest) z (r ∷ rs) y h =
+      let one = allowed-is a z r (h .0) (h .1) in
+      let others = all-allowed-is rest (h .0) rs y (h .2) in (
+        ap₂ _∷_ (one .0) (others .0 ∙ ap (numbers t rest) (one .1)),
+        others .1 ∙ ap (after t rest) (one .1),
+      )

@@ -1,0 +1,121 @@
+-- The number that each public call gives back: as one equation, what stands beside it, and which numbers can come. Assumes nothing.
+use Prim.Native.Nat.{ℕ}
+use mathlib.Core.Path.{_≡_, refl}
+use mathlib.Core.Bool.{Bool, true, false}
+use mathlib.Core.List.{List, [], _∷_}
+use native.Mathlib.Omega.{arith}
+use lib.Dec.{eqb}
+use borrow.Author.Tests.{eqb-false}
+use Rattle.base_words.specs.Each.{each}
+use Rattle.base_words.specs.Pick.{if_then_else_}
+use Rattle.base_words.proofs.AllLaws.{and-left, and-right}
+use Rattle.base_state.specs.Instances.{instancesOf, queuesOf}
+use Rattle.meaning.specs.declared.Name.{Name}
+use Rattle.meaning.specs.declared.Answer.{Answer}
+use Rattle.meaning.specs.declared.Tuple.{Tuple}
+use Rattle.meaning.specs.declared.Traffic.the-variants.{Nothing}
+use Rattle.meaning.specs.Tuples.{empty}
+use Rattle.meaning.specs.Refusals.{Refusal, firstRefusal}
+use Rattle.meaning.specs.Post.{postRefusals}
+use Rattle.meaning.specs.Step.{Outcome, siteOf, instancesAfter, queuesAfter, traffic, refusalsAt, refusals, refused, step}
+use Rattle.proof_steps.proofs.Choices.{by-choice}
+use Rattle.check_model.specs.Checks.{lowest}
+use Rattle.check_lowest.specs.Model.{modelOf}
+use Rattle.check_limits.specs.Limits.{tableFits}
+use Rattle.state_fits.specs.Fresh.{fresh}
+use Rattle.engine.specs.declared.Verdict.{Verdict}
+use Rattle.engine.specs.Engine.{Left, valid, verdictOf, freshened, fitting, Stepped, leaving, stepped, postedTo}
+use Rattle.proof_valid.proofs.NumberGiven.{traffic-zero, stepped-number, posted-number}
+use Rattle.proof_demands.specs.Demands.{among, checkNumbers, freshNumbers, stepNumbers, postNumbers}
+
+-- a refused step says its number and nothing else
+abbrev pub Plain : Answer → Type 0
+Plain a = (a .number ≡ 0 → ⊥) → a ≡ record { number = a .number; traffic = Nothing; name = 0; tuple = empty }
+
+step-plain : (t s q : List ℕ) (n : Name) → Plain (step t s q n .answer)
+unfolding step
+step-plain t s q n =
+    by-choice (λ (o : Outcome). Plain (o .answer)) (eqb (firstRefusal (refusals t s q n)) 0)
+    (record { answer = traffic (siteOf t s n); instances = instancesAfter t s n; queues = queuesAfter (siteOf t s n) q })
+    (refused (firstRefusal (refusals t s q n)) s q)
+    (λ e k. absurd (k (traffic-zero (siteOf t s n))))
+    (λ e k. refl)
+
+pub stepped-plain : (t z : List ℕ) (n : Name) → Plain (stepped t z n .answer)
+unfolding stepped leaving
+stepped-plain t z n =
+    by-choice (λ (o : Stepped). Plain (o .answer)) (fitting t z) (leaving (step t (instancesOf z) (queuesOf z) n))
+    (record { answer = record { number = 10; traffic = Nothing; name = 0; tuple = empty }; state = z })
+    (λ e. step-plain t (instancesOf z) (queuesOf z) n)
+    (λ e k. refl)
+
+-- an accepted one says what was consumed or sent
+step-traffic : (t s q : List ℕ) (n : Name) → step t s q n .answer .number ≡ 0 → step t s q n .answer ≡ traffic (siteOf t s n)
+unfolding step
+step-traffic t s q n =
+    by-choice (λ (o : Outcome). o .answer .number ≡ 0 → o .answer ≡ traffic (siteOf t s n)) (eqb (firstRefusal (refusals t s q n)) 0)
+    (record { answer = traffic (siteOf t s n); instances = instancesAfter t s n; queues = queuesAfter (siteOf t s n) q })
+    (refused (firstRefusal (refusals t s q n)) s q)
+    (λ e k. refl)
+    (λ e k. absurd (eqb-false (firstRefusal (refusals t s q n)) 0 e k))
+
+pub stepped-traffic : (t z : List ℕ) (n : Name) → stepped t z n .answer .number ≡ 0 → stepped t z n .answer ≡ traffic (siteOf t (instancesOf z) n)
+unfolding stepped leaving
+stepped-traffic t z n =
+    by-choice (λ (o : Stepped). o .answer .number ≡ 0 → o .answer ≡ traffic (siteOf t (instancesOf z) n)) (fitting t z)
+    (leaving (step t (instancesOf z) (queuesOf z) n))
+    (record { answer = record { number = 10; traffic = Nothing; name = 0; tuple = empty }; state = z })
+    (λ e. step-traffic t (instancesOf z) (queuesOf z) n)
+    (λ e k. absurd (omega arith))
+
+pub fresh-number : (t z : List ℕ) → freshened t z .number ≡ (if valid t then 0 else 10)
+unfolding freshened if_then_else_
+fresh-number t z = go (valid t)
+  where
+    o : Bool → Left
+    o b = if b then record { number = 0; state = fresh t } else record { number = 10; state = z }
+
+    go : (b : Bool) → o b .number ≡ (if b then 0 else 10)
+    go true = refl
+    go false = refl
+
+-- a number of one of the refusals, or 0
+pub first-among : (f : ℕ → Bool) (rs : List Refusal) → f 0 ≡ true → each (λ (r : Refusal). f (r .number)) rs ≡ true → f (firstRefusal rs) ≡ true
+unfolding each firstRefusal
+first-among f [] z h = z
+first-among f (r ∷ rs) z h =
+    by-choice (λ (k : ℕ). f k ≡ true) (r .holds) (firstRefusal rs) (r .number)
+    (λ e. first-among f rs z (and-right (f (r .number)) (each (λ (r : Refusal). f (r .number)) rs) h))
+    (λ e. and-left (f (r .number)) (each (λ (r : Refusal). f (r .number)) rs) h)
+
+-- WHICH NUMBERS CAN COME
+pub check-numbers : (t : List ℕ) → among checkNumbers (verdictOf t .number) ≡ true
+unfolding verdictOf among if_then_else_
+check-numbers t =
+    by-choice (λ (v : Verdict). among checkNumbers (v .number) ≡ true) (tableFits t) _ (record { number = 10; beside = 0 })
+    (λ e.
+    by-choice (λ (v : Verdict). among checkNumbers (v .number) ≡ true) (eqb (lowest (modelOf t)) 0) (record { number = 0; beside = 0 })
+    (record { number = 4; beside = lowest (modelOf t) }) (λ f. refl) (λ f. refl))
+    (λ e. refl)
+
+pub fresh-numbers : (t z : List ℕ) → among freshNumbers (freshened t z .number) ≡ true
+unfolding freshened among if_then_else_
+fresh-numbers t z =
+    by-choice (λ (o : Left). among freshNumbers (o .number) ≡ true) (valid t) (record { number = 0; state = fresh t }) (record { number = 10; state = z })
+    (λ e. refl) (λ e. refl)
+
+pub step-numbers : (t z : List ℕ) (n : Name) → among stepNumbers (stepped t z n .answer .number) ≡ true
+unfolding among refusals refusalsAt each if_then_else_
+step-numbers t z n =
+    rw (stepped-number t z n)
+    (by-choice (λ (k : ℕ). among stepNumbers k ≡ true) (fitting t z) (firstRefusal (refusals t (instancesOf z) (queuesOf z) n)) 10
+    (λ e. first-among (among stepNumbers) (refusals t (instancesOf z) (queuesOf z) n) refl refl)
+    (λ e. refl))
+
+pub post-numbers : (t z : List ℕ) (name : ℕ) (g : Tuple) → among postNumbers (postedTo t z name g .number) ≡ true
+unfolding among postRefusals each if_then_else_
+post-numbers t z name g =
+    rw (posted-number t z name g)
+    (by-choice (λ (k : ℕ). among postNumbers k ≡ true) (fitting t z) (firstRefusal (postRefusals (queuesOf z) name g)) 10
+    (λ e. first-among (among postNumbers) (postRefusals (queuesOf z) name g) refl refl)
+    (λ e. refl))

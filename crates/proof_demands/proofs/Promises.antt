@@ -1,0 +1,93 @@
+-- THE PROMISES ARE THOSE OF THE CODE: what specs/Promises.antt says of each public call is what its `ensures` says, by computation. A reference is what
+-- it points to now, a call's arguments and what they are afterwards are a list of them. Assumes nothing.
+use Prim.Native.Nat.{ℕ}
+use mathlib.Core.Path.{_≡_, refl}
+use mathlib.Core.List.{List}
+use denote.Ref.{RefT, now}
+use Rattle.meaning.specs.declared.Name.{Name}
+use Rattle.meaning.specs.declared.Answer.{Answer}
+use Rattle.meaning.specs.declared.Tuple.{Tuple}
+use Rattle.step_list.specs.declared.Listed.{Listed}
+use Rattle.text_read.specs.declared.Reading.{Reading}
+use Rattle.step_poll.specs.declared.Polled.{Polled}
+use Rattle.log_judge.specs.declared.Judged.{Judged}
+use Rattle.engine.specs.declared.Verdict.{Verdict}
+use Rattle.engine.specs.declared.Ran.{Ran}
+use Rattle.engine.specs.declared.Written.{Written}
+use Rattle.engine.specs.Calls.{aStep, aPost}
+use Rattle.engine.proofs.check.Reads as check
+use Rattle.engine.proofs.fresh.Reads as fresh
+use Rattle.engine.proofs.step.Reads as step
+use Rattle.engine.proofs.post.Reads as post
+use Rattle.engine.proofs.list.Reads as list
+use Rattle.engine.proofs.run.Reads as run
+use Rattle.engine.proofs.read.Reads as read
+use Rattle.engine.proofs.draw.Reads as draw
+use Rattle.engine.proofs.write.Reads as write
+use Rattle.engine.proofs.poll.Reads as poll
+use Rattle.engine.proofs.judge.Reads as judge
+use Rattle.proof_demands.specs.Promises.{Checks, Freshens, Steps, Posts, Lists, Runs, Reads, Draws, Writes, Polls, Judges}
+use Rattle.proof_demands.specs.Demands.{Allowed}
+
+-- a slice or an array that is lent, and the lifetimes of one, of two and of three
+abbrev pub Lent : Type 0
+Lent = RefT (List ℕ)
+
+abbrev pub None : Type 0
+None = Unit {0}
+
+abbrev pub One : Type 0
+One = List ℕ × None
+
+abbrev pub Two : Type 0
+Two = List ℕ × One
+
+abbrev pub Three : Type 0
+Three = List ℕ × Two
+
+pub check-promise : (κ : One) (t t₁ : Lent) (r : Verdict) → check.Post κ (t, tt) r (t₁, tt) ≡ Checks (now t) r
+check-promise κ t t₁ r = refl
+
+module _ (κ : Two) where
+  pub fresh-promise : (t z t₁ z₁ : Lent) (r : ℕ) → fresh.Post κ (t, (z, tt)) r (t₁, (z₁, tt)) ≡ Freshens (now t) (now z) r (now z₁)
+  fresh-promise t z t₁ z₁ r = refl
+
+  pub step-promise : (t z t₁ z₁ : Lent) (n n₁ : Name) (r : Answer) → step.Post κ (t, (z, (n, tt))) r (t₁, (z₁, (n₁, tt))) ≡ Steps (now t) (now z) n r (now z₁)
+  step-promise t z t₁ z₁ n n₁ r = refl
+
+  pub post-promise : (t z t₁ z₁ : Lent) (name name₁ : ℕ) (g g₁ : Tuple) (r : ℕ)
+      → post.Post κ (t, (z, (name, (g, tt)))) r (t₁, (z₁, (name₁, (g₁, tt)))) ≡ Posts (now t) (now z) name g r (now z₁)
+  post-promise t z t₁ z₁ name name₁ g g₁ r = refl
+
+  pub list-promise : (t z t₁ z₁ : Lent) (k k₁ : ℕ) (r : Listed) → list.Post κ (t, (z, (k, tt))) r (t₁, (z₁, (k₁, tt))) ≡ Lists (now t) (now z) k r
+  list-promise t z t₁ z₁ k k₁ r = refl
+
+  pub run-promise : (t z t₁ z₁ : Lent) (limit limit₁ : ℕ) (r : Ran) → run.Post κ (t, (z, (limit, tt))) r (t₁, (z₁, (limit₁, tt))) ≡ Runs (now t) (now z) limit r (now z₁)
+  run-promise t z t₁ z₁ limit limit₁ r = refl
+
+  pub read-promise : (text t text₁ t₁ : Lent) (r : Reading) → read.Post κ (text, (t, tt)) r (text₁, (t₁, tt)) ≡ Reads (now text) (now t) r (now t₁)
+  read-promise text t text₁ t₁ r = refl
+
+  pub draw-promise : (text t text₁ t₁ : Lent) (r : Reading) → draw.Post κ (text, (t, tt)) r (text₁, (t₁, tt)) ≡ Draws (now text) (now t) r (now t₁)
+  draw-promise text t text₁ t₁ r = refl
+
+  pub write-promise : (t out t₁ out₁ : Lent) (r : Written) → write.Post κ (t, (out, tt)) r (t₁, (out₁, tt)) ≡ Writes (now t) (now out) r (now out₁)
+  write-promise t out t₁ out₁ r = refl
+
+  pub judge-promise : (t log t₁ log₁ : Lent) (r : Judged) → judge.Post κ (t, (log, tt)) r (t₁, (log₁, tt)) ≡ Judges (now t) (now log) r
+  judge-promise t log t₁ log₁ r = refl
+
+  -- so too what the demands say that a step and a post are allowed
+  pub step-allowed : (t z t₁ z₁ : Lent) (n n₁ : Name) (k : ℕ)
+      → ((a : Answer) × (k ≡ a .number) × step.Post κ (t, (z, (n, tt))) a (t₁, (z₁, (n₁, tt)))) ≡ Allowed (now t) (aStep n) (now z) k (now z₁)
+  unfolding Allowed
+  step-allowed t z t₁ z₁ n n₁ k = refl
+
+  pub post-allowed : (t z t₁ z₁ : Lent) (name name₁ : ℕ) (g g₁ : Tuple) (r : ℕ)
+      → post.Post κ (t, (z, (name, (g, tt)))) r (t₁, (z₁, (name₁, (g₁, tt)))) ≡ Allowed (now t) (aPost name g) (now z) r (now z₁)
+  unfolding Allowed
+  post-allowed t z t₁ z₁ name name₁ g g₁ r = refl
+
+pub poll-promise : (κ : Three) (t z w t₁ z₁ w₁ : Lent) (count count₁ : ℕ) (r : Polled)
+    → poll.Post κ (t, (z, (w, (count, tt)))) r (t₁, (z₁, (w₁, (count₁, tt)))) ≡ Polls (now t) (now z) (now w) count r (now z₁)
+poll-promise κ t z w t₁ z₁ w₁ count count₁ r = refl

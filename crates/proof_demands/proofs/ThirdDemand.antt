@@ -1,0 +1,65 @@
+-- DEMAND 3: "More messages take nothing away. Take two valid states of one model, alike but for further messages in the second's queues, and named
+-- steps and posts all accepted in turn from the first. If no queue of the first run, with the further messages added, ever passes 64, all are accepted
+-- from the second too, and it ends with equal instances and in each queue exactly the further messages more, equal ones counted singly."
+-- Assumes nothing.
+use Prim.Native.Nat.{ℕ}
+use mathlib.Core.Path.{_≡_, refl, sym, _∙_, ap}
+use mathlib.Core.Bool.{true, _&&_}
+use mathlib.Core.List.{List, [], _∷_}
+use lib.Dec.{eqb}
+use borrow.Author.Tests.{eqb-true, eq-eqb}
+use Rattle.base_words.specs.Each.{each}
+use Rattle.base_words.proofs.AllLaws.{and-left, and-right}
+use Rattle.base_words.proofs.PickLaws.{and-true}
+use Rattle.meaning.specs.declared.Tuple.{Tuple}
+use Rattle.engine.specs.Calls.{Act, did, numbers, allAccepted, after, Valid}
+use Rattle.proof_demands.specs.Demands.{Further, roomFor, neverPasses, AllAllowed}
+use Rattle.engine.proofs.KeepsValid.{did-valid}
+use Rattle.proof_demands.proofs.OneMore.{one-more}
+use Rattle.proof_demands.proofs.Firmness.{all-allowed-is}
+
+module _ (t : List ℕ) (e : ℕ → List Tuple) where
+  room-now : (acts : List Act) (z : List ℕ) → neverPasses t e acts z ≡ true → roomFor e z ≡ true
+  unfolding neverPasses
+  room-now [] z h = h
+  room-now (a ∷ rest) z h = and-left (roomFor e z) (neverPasses t e rest (did t a z .state)) h
+
+  -- MORE MESSAGES TAKE NOTHING AWAY
+  pub more-messages : (acts : List Act) (z₁ z₂ : List ℕ)
+      → Valid t z₁
+      → Valid t z₂
+      → Further e z₁ z₂
+      → allAccepted t acts z₁ ≡ true
+      → neverPasses t e acts z₁ ≡ true
+      → (allAccepted t acts z₂ ≡ true) × Further e (after t acts z₁) (after t acts z₂)
+  unfolding allAccepted after neverPasses
+  more-messages [] z₁ z₂ v₁ v₂ f h r = (refl, f)
+  more-messages (a ∷ rest) z₁ z₂ v₁ v₂ f h r =
+      let k : did t a z₁ .number ≡ 0 = eqb-true (did t a z₁ .number) 0 (and-left (eqb (did t a z₁ .number) 0) (allAccepted t rest (did t a z₁ .state)) h) in
+      let never : neverPasses t e rest (did t a z₁ .state) ≡ true = and-right (roomFor e z₁) (neverPasses t e rest (did t a z₁ .state)) r in
+      let o = one-more t e z₁ z₂ v₁ v₂ f a k (room-now rest (did t a z₁ .state) never) in
+      let w =
+      more-messages rest (did t a z₁ .state) (did t a z₂ .state) (did-valid t a z₁ v₁) (did-valid t a z₂ v₂) (o .1)
+      (and-right (eqb (did t a z₁ .number) 0) (allAccepted t rest (did t a z₁ .state)) h) never in
+      (and-true (eqb (did t a z₂ .number) 0) (allAccepted t rest (did t a z₂ .state)) (eq-eqb (did t a z₂ .number) 0 (o .0)) (w .0), w .1)
+
+  -- THE SAME OF THE CALLS: rs the numbers that their promises allow them to return, y the state that they leave
+  accepted-zero : (acts : List Act) (z : List ℕ) → allAccepted t acts z ≡ each (λ (k : ℕ). eqb k 0) (numbers t acts z)
+  unfolding allAccepted numbers each
+  accepted-zero [] z = refl
+  accepted-zero (a ∷ rest) z = ap (λ b. eqb (did t a z .number) 0 && b) (accepted-zero rest (did t a z .state))
+
+  pub more-messages-called : (acts : List Act) (z₁ z₂ rs₁ rs₂ y₁ y₂ : List ℕ)
+      → Valid t z₁
+      → Valid t z₂
+      → Further e z₁ z₂
+      → AllAllowed t acts z₁ rs₁ y₁
+      → AllAllowed t acts z₂ rs₂ y₂
+      → each (λ (k : ℕ). eqb k 0) rs₁ ≡ true
+      → neverPasses t e acts z₁ ≡ true
+      → (each (λ (k : ℕ). eqb k 0) rs₂ ≡ true) × Further e y₁ y₂
+  more-messages-called acts z₁ z₂ rs₁ rs₂ y₁ y₂ v₁ v₂ f c₁ c₂ h r =
+      let w₁ = all-allowed-is t acts z₁ rs₁ y₁ c₁ in
+      let w₂ = all-allowed-is t acts z₂ rs₂ y₂ c₂ in
+      let d = more-messages acts z₁ z₂ v₁ v₂ f (accepted-zero acts z₁ ∙ ap (λ (ks : List ℕ). each (λ (k : ℕ). eqb k 0) ks) (sym (w₁ .0)) ∙ h) r in
+      rw (w₁ .1, w₂ .0, w₂ .1, ← accepted-zero acts z₂) d

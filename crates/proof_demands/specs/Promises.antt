@@ -1,0 +1,53 @@
+-- What the promise of each public call says of r, which it returns, and of y, which it leaves of the words or bytes lent to it: the very promises of the
+-- code (proofs/Promises.antt).
+use Prim.Native.Nat.{ℕ}
+use mathlib.Core.Path.{_≡_}
+use mathlib.Core.List.{List}
+use Rattle.meaning.specs.declared.Name.{Name}
+use Rattle.meaning.specs.declared.Answer.{Answer}
+use Rattle.meaning.specs.declared.Tuple.{Tuple}
+use Rattle.step_list.specs.declared.Listed.{Listed}
+use Rattle.text_read.specs.declared.Reading.{Reading}
+use Rattle.text_read.specs.Notation.{ReadInto, readInto}
+use Rattle.draw_read.specs.Drawings.{drawInto}
+use Rattle.engine.specs.declared.Verdict.{Verdict}
+use Rattle.engine.specs.declared.Ran.{Ran}
+use Rattle.engine.specs.declared.Written.{Written}
+use Rattle.step_poll.specs.declared.Polled.{Polled}
+use Rattle.step_poll.specs.Poll.{Polling}
+use Rattle.log_judge.specs.declared.Judged.{Judged}
+use Rattle.engine.specs.Calls.{polledTo, judgedTo}
+use Rattle.engine.specs.Engine.{Left, Stepped, RanTo, WrittenTo, verdictOf, freshened, stepped, postedTo, listedAt, ranTo, writtenTo}
+
+abbrev pub Checks : List ℕ → Verdict → Type 0
+Checks t r = r ≡ verdictOf t
+
+abbrev pub Freshens : List ℕ → List ℕ → ℕ → List ℕ → Type 0
+Freshens t z r y = _≡_ {A = Left} (record { number = r; state = y }) (freshened t z)
+
+abbrev pub Steps : List ℕ → List ℕ → Name → Answer → List ℕ → Type 0
+Steps t z n r y = _≡_ {A = Stepped} (record { answer = r; state = y }) (stepped t z n)
+
+abbrev pub Posts : List ℕ → List ℕ → ℕ → Tuple → ℕ → List ℕ → Type 0
+Posts t z name g r y = _≡_ {A = Left} (record { number = r; state = y }) (postedTo t z name g)
+
+abbrev pub Lists : List ℕ → List ℕ → ℕ → Listed → Type 0
+Lists t z k r = r ≡ listedAt t z k
+
+abbrev pub Runs : List ℕ → List ℕ → ℕ → Ran → List ℕ → Type 0
+Runs t z limit r y = _≡_ {A = RanTo} (record { number = r .number; steps = r .steps; left = r .left; state = y }) (ranTo t z limit)
+
+abbrev pub Reads : List ℕ → List ℕ → Reading → List ℕ → Type 0
+Reads text t r y = _≡_ {A = ReadInto} (record { number = r .number; beside = r .beside; table = y }) (readInto text t)
+
+abbrev pub Draws : List ℕ → List ℕ → Reading → List ℕ → Type 0
+Draws text t r y = _≡_ {A = ReadInto} (record { number = r .number; beside = r .beside; table = y }) (drawInto text t)
+
+abbrev pub Writes : List ℕ → List ℕ → Written → List ℕ → Type 0
+Writes t out r y = _≡_ {A = WrittenTo} (record { number = r .number; length = r .length; buffer = y }) (writtenTo t out)
+
+abbrev pub Polls : List ℕ → List ℕ → List ℕ → ℕ → Polled → List ℕ → Type 0
+Polls t z w count r y = _≡_ {A = Polling} (record { number = r .number; accepted = r .accepted; state = y }) (polledTo t z w count)
+
+abbrev pub Judges : List ℕ → List ℕ → Judged → Type 0
+Judges t log r = r ≡ judgedTo t log

@@ -1,0 +1,157 @@
+-- WHAT THE ANSWERS OF DRAW SAY: which numbers can come, that a refusal leaves the table, and what 0 says of the drawing. Assumes nothing.
+use Prim.Native.Nat.{ℕ, suc}
+use mathlib.Core.Path.{_≡_, refl, ap}
+use mathlib.Core.Bool.{Bool, true, false, not}
+use mathlib.Core.List.{List, [], _∷_}
+use native.Mathlib.Omega.{arith}
+use lib.Dec.{eqb, ltb}
+use lib.ListN.{length}
+use borrow.Author.Tests.{eqb-true, ne-eqb}
+use Rattle.base_words.specs.Pick.{if_then_else_}
+use Rattle.text_readers.specs.Reading.{excessive}
+use Rattle.check_model.specs.Checks.{lowest}
+use Rattle.text_read.specs.declared.Reading.{Reading}
+use Rattle.text_read.specs.Notation.{tableOf}
+use Rattle.xml_skip.specs.declared.Skipped.{Skipped}
+use Rattle.xml_skip.specs.declared.Skipped.the-variants.{Past, Fault}
+use Rattle.draw_things.specs.Things.{place}
+use Rattle.draw_faults.specs.Amiss.{isDrawing}
+use Rattle.draw_limits.specs.Excess.{firstBeyond, beyondAt}
+use Rattle.draw_model.specs.Content.{content, firstUnfit}
+use Rattle.draw_read.specs.Drawings.{drawingMost, tooLong, checkBroken, notXml, notRun, answer, checkedAs, fittedBy, meantBy, walked, thingsOf, judged, answered, filledBy, drawInto}
+use Rattle.proof_steps.proofs.Choices.{passed}
+use Rattle.proof_demands.specs.Demands.{among}
+use Rattle.proof_drawings.proofs.TermLaws.{either}
+
+-- THE NUMBERS
+abbrev pub drawNumbers : List ℕ
+drawNumbers = 0 ∷ tooLong ∷ excessive ∷ checkBroken ∷ notXml ∷ notRun ∷ []
+
+record Told (a : Reading) : Type 0 where
+  pub number : among drawNumbers (a .number) ≡ true
+
+told : (n p : ℕ) → among drawNumbers n ≡ true → Told (answer n p)
+told n p h = record { number = h }
+
+checked-told : (k : ℕ) → Told (checkedAs k)
+unfolding checkedAs among if_then_else_
+checked-told k = go (eqb k 0)
+  where
+    go : (b : Bool) → Told (answer (if b then 0 else checkBroken) k)
+    go true = record { number = refl }
+    go false = record { number = refl }
+
+too-long : among drawNumbers tooLong ≡ true
+unfolding among if_then_else_
+too-long = refl
+
+beyond-told : among drawNumbers excessive ≡ true
+unfolding among if_then_else_
+beyond-told = refl
+
+xml-told : among drawNumbers notXml ≡ true
+unfolding among if_then_else_
+xml-told = refl
+
+run-told : among drawNumbers notRun ≡ true
+unfolding among if_then_else_
+run-told = refl
+
+meant-told : (text w : List ℕ) (n : ℕ) → Told (meantBy text w n)
+unfolding meantBy fittedBy
+meant-told text w n =
+    either Told _ _ _ (told notRun 0 run-told)
+    (either Told _ _ _ (told excessive _ beyond-told) (either Told _ _ _ (told excessive _ beyond-told) (checked-told (lowest (content text w n)))))
+
+judged-told : (e : Skipped) (a : Reading) → Told a → Told (judged e a)
+unfolding judged
+judged-told (Past q) a h = h
+judged-told (Fault q) a h = told notXml q xml-told
+
+answered-told : (text : List ℕ) → Told (answered text)
+unfolding answered
+answered-told text = either Told _ _ _ (told tooLong 0 too-long) (judged-told (walked text .end) _ (meant-told text (thingsOf text) (walked text .count)))
+
+-- "1, 20 .., 21, 3 .., 4 ..", else 0; a number other than 0 leaves the table as it was
+module _ (text t : List ℕ) where
+  pub draw-number : among drawNumbers (drawInto text t .number) ≡ true
+  unfolding drawInto filledBy
+  draw-number = answered-told text .number
+
+  pub draw-refused : (drawInto text t .number ≡ 0 → ⊥) → drawInto text t .table ≡ t
+  unfolding drawInto filledBy
+  draw-refused n = passed (eqb (answered text .number) 0) _ t (ne-eqb (answered text .number) 0 n)
+
+-- WHAT 0 SAYS: w is the things of the drawing, n their count, a the answer
+pub record Clear (text w : List ℕ) (n : ℕ) (a : Reading) : Type 0 where
+  pub drawn : isDrawing text w n ≡ true
+  pub beyond : ltb (firstBeyond text w n) n ≡ false
+  pub unfit : ltb (firstUnfit text w n) n ≡ false
+  pub sound : lowest (content text w n) ≡ 0
+  pub is : a ≡ answer 0 0
+
+none-more : (k : ℕ) → suc k ≡ 0 → ⊥
+none-more k e = omega (arith, e)
+
+checked-zero : (k : ℕ) → checkedAs k .number ≡ 0 → k ≡ 0
+unfolding checkedAs
+checked-zero k = go (eqb k 0) refl
+  where
+    go : (b : Bool) → eqb k 0 ≡ b → (if b then 0 else checkBroken) ≡ 0 → k ≡ 0
+    go true q e = eqb-true k 0 q
+    go false q e = absurd (none-more 3 (unfold if_then_else_ in e))
+
+checked-is : (k : ℕ) → k ≡ 0 → checkedAs k ≡ answer 0 0
+unfolding checkedAs if_then_else_
+checked-is k e = ap checkedAs e
+
+module _ (text w : List ℕ) (n : ℕ) where
+  abbrev fitting : Bool → Reading
+  fitting c = if c then answer excessive (place w (firstUnfit text w n)) else checkedAs (lowest (content text w n))
+
+  fitted-clear : isDrawing text w n ≡ true → ltb (firstBeyond text w n) n ≡ false → fittedBy text w n .number ≡ 0 → Clear text w n (fittedBy text w n)
+  unfolding fittedBy
+  fitted-clear d b = go (ltb (firstUnfit text w n) n) refl
+    where
+      go : (c : Bool) → ltb (firstUnfit text w n) n ≡ c → fitting c .number ≡ 0 → Clear text w n (fitting c)
+      go true q e = absurd (none-more 2 (unfold if_then_else_ in e))
+      go false q e =
+          unfold if_then_else_ in
+          let s = checked-zero (lowest (content text w n)) e in
+          record { drawn = d; beyond = b; unfit = q; sound = s; is = checked-is (lowest (content text w n)) s }
+
+  abbrev meaning : Bool → Bool → Reading
+  meaning a b = if not a then answer notRun 0 else if b then answer excessive (beyondAt text w (firstBeyond text w n)) else fittedBy text w n
+
+  meant-clear : meantBy text w n .number ≡ 0 → Clear text w n (meantBy text w n)
+  unfolding meantBy
+  meant-clear = go (isDrawing text w n) (ltb (firstBeyond text w n) n) refl refl
+    where
+      go : (a b : Bool) → isDrawing text w n ≡ a → ltb (firstBeyond text w n) n ≡ b → meaning a b .number ≡ 0 → Clear text w n (meaning a b)
+      go false b d q e = absurd (none-more 20 (unfold if_then_else_ in e))
+      go true true d q e = absurd (none-more 2 (unfold if_then_else_ in e))
+      go true false d q e = unfold if_then_else_ in fitted-clear d q e
+
+pub answered-clear : (text : List ℕ) → answered text .number ≡ 0 → Clear text (thingsOf text) (walked text .count) (answered text)
+unfolding answered
+answered-clear text = go (ltb drawingMost (length text)) (walked text .end)
+  where
+    w : List ℕ
+    w = thingsOf text
+
+    n : ℕ
+    n = walked text .count
+
+    go : (b : Bool) (e : Skipped) → (if b then answer tooLong 0 else judged e (meantBy text w n)) .number ≡ 0 → Clear text w n (if b then answer tooLong 0 else judged e (meantBy text w n))
+    go true e h = absurd (none-more 0 (unfold if_then_else_ in h))
+    go false (Past q) h = unfold if_then_else_ judged in meant-clear text w n h
+    go false (Fault q) h = absurd (none-more 19 (unfold if_then_else_ judged in h))
+
+-- a table that was drawn is the content's
+pub drawn-is : (text t : List ℕ) → drawInto text t .number ≡ 0 → drawInto text t ≡ record { number = 0; beside = 0; table = tableOf (content text (thingsOf text) (walked text .count)) }
+unfolding drawInto filledBy if_then_else_
+drawn-is text t h = ap (λ (a : Reading). filledBy a (content text (thingsOf text) (walked text .count)) t) (answered-clear text h .is)
+
+pub drawn-clear : (text t : List ℕ) → drawInto text t .number ≡ 0 → Clear text (thingsOf text) (walked text .count) (answered text)
+unfolding drawInto filledBy
+drawn-clear text t h = answered-clear text h

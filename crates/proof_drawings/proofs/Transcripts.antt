@@ -1,0 +1,101 @@
+-- THE THEOREM OF DRAWINGS, over the public calls draw, write and read: a drawing that is accepted gives the table that the notation text with the same content gives. Assumes nothing.
+use Prim.Native.Nat.{ℕ, _≤_}
+use mathlib.Core.Path.{_≡_, sym, _∙_, ap, subst}
+use mathlib.Core.Bool.{true}
+use mathlib.Core.List.{List}
+use lib.Dec.{eqb}
+use lib.ListN.{length}
+use borrow.Author.Tests.{eq-eqb}
+use Rattle.base_words.specs.Counts.{textMost}
+use Rattle.base_words.proofs.PickLaws.{and-true}
+use Rattle.check_limits.specs.Limits.{tableFits}
+use Rattle.check_model.specs.Checks.{Pool, lowest}
+use Rattle.check_lowest.specs.Model.{modelOf}
+use Rattle.text_read.specs.Notation.{ReadInto, tableOf, readInto}
+use Rattle.write_shown.specs.Shown.{shownTable}
+use Rattle.engine.specs.Engine.{valid, verdictOf, freshened, writtenTo}
+use Rattle.proof_steps.proofs.Choices.{chosen}
+use Rattle.proof_valid.proofs.ChecksHold.{valid-fits, valid-sound}
+use Rattle.draw_model.specs.Content.{content}
+use Rattle.draw_read.specs.Drawings.{walked, thingsOf, drawInto}
+use Rattle.proof_lengths.proofs.Short.{short}
+use Rattle.proof_roundtrip.proofs.LowestLaws.{lowest-same}
+use Rattle.proof_roundtrip.proofs.ReadPools.{Model}
+use Rattle.proof_roundtrip.proofs.ReadTables.{table-small, table-fits, table-long, blocks-are}
+use Rattle.proof_roundtrip.proofs.RoundTrip.{read-back}
+use Rattle.proof_demands.specs.Demands.{Table, textIn, Made, NeverTen}
+use Rattle.proof_demands.proofs.Numbers.{fresh-number}
+use Rattle.proof_demands.proofs.FirstDemand.{check-passed}
+use Rattle.proof_demands.proofs.NeverTen.{never-ten}
+use Rattle.proof_demands.proofs.TextsAndTables.{write-fits, read-what-was-written}
+use Rattle.proof_drawings.proofs.ContentModel.{content-model}
+use Rattle.proof_drawings.proofs.PlacedLaws.{things-placed}
+use Rattle.proof_drawings.proofs.Answers.{drawn-clear, drawn-is}
+
+-- the model that a drawing means
+abbrev pub drawnModel : List ℕ → List Pool
+drawnModel text = content text (thingsOf text) (walked text .count)
+
+-- A DRAWING THAT IS ACCEPTED
+module _ (text t : List ℕ) (h : drawInto text t .number ≡ 0) where
+  -- its content is a model within its limits, with no check broken, and the table is that model's
+  pub accepted : Model (drawnModel text)
+  accepted = let c = drawn-clear text t h in content-model text (thingsOf text) (walked text .count) (c .drawn) (c .beyond) (c .unfit) (things-placed text) (c .sound)
+
+  pub accepted-sound : lowest (drawnModel text) ≡ 0
+  accepted-sound = drawn-clear text t h .sound
+
+  pub accepted-table : drawInto text t ≡ record { number = 0; beside = 0; table = tableOf (drawnModel text) }
+  accepted-table = drawn-is text t h
+
+  table-is : tableOf (drawnModel text) ≡ drawInto text t .table
+  table-is = sym (ap (λ (r : ReadInto). r .table) accepted-table)
+
+  fits : tableFits (tableOf (drawnModel text)) ≡ true
+  fits = table-fits (drawnModel text) accepted
+
+  sound : lowest (modelOf (tableOf (drawnModel text))) ≡ 0
+  sound = sym (lowest-same (tableOf (drawnModel text)) fits) ∙ ap lowest (blocks-are (drawnModel text) accepted) ∙ accepted-sound
+
+  model-valid : valid (tableOf (drawnModel text)) ≡ true
+  unfolding valid
+  model-valid = and-true (tableFits (tableOf (drawnModel text))) (eqb (lowest (modelOf (tableOf (drawnModel text)))) 0) fits (eq-eqb (lowest (modelOf (tableOf (drawnModel text)))) 0 sound)
+
+  model-table : Table (tableOf (drawnModel text))
+  model-table = record { long = table-long (drawnModel text) accepted; small = table-small (drawnModel text) accepted }
+
+  -- so it is a table that no later call refuses, and the three demands hold of it as of every other
+  pub draw-valid : (valid (drawInto text t .table) ≡ true) × Table (drawInto text t .table)
+  draw-valid = subst (λ (y : List ℕ). (valid y ≡ true) × Table y) table-is (model-valid, model-table)
+
+  pub draw-then-check : verdictOf (drawInto text t .table) ≡ record { number = 0; beside = 0 }
+  draw-then-check = let y : List ℕ = drawInto text t .table in check-passed y (valid-fits y (draw-valid .0)) (valid-sound y (draw-valid .0))
+
+  pub draw-then-fresh : (z : List ℕ) → freshened (drawInto text t .table) z .number ≡ 0
+  draw-then-fresh z = fresh-number (drawInto text t .table) z ∙ chosen (valid (drawInto text t .table)) 0 10 (draw-valid .0)
+
+  -- its text is written into every buffer of 65,536 bytes
+  pub draw-then-write : (out : List ℕ) → textMost ≤ length out → writtenTo (drawInto text t .table) out .number ≡ 0
+  draw-then-write out l = write-fits (drawInto text t .table) out (draw-valid .0) l
+
+  -- THE THEOREM: and what is read of that text is what was drawn, whatever table is lent
+  pub transcript : (out t₁ : List ℕ) → writtenTo (drawInto text t .table) out .number ≡ 0 → readInto (textIn (writtenTo (drawInto text t .table) out)) t₁ ≡ drawInto text t
+  transcript out t₁ n =
+      read-what-was-written (drawInto text t .table) (draw-valid .1) (draw-valid .0) out t₁ n
+      ∙ ap (λ (y : List ℕ). record { number = 0; beside = 0; table = y }) (sym table-is)
+      ∙ sym accepted-table
+
+  -- the text that its table shows, read without a buffer between
+  pub as-read : (t₁ : List ℕ) → readInto (shownTable (drawInto text t .table)) t₁ ≡ drawInto text t
+  as-read t₁ =
+      let y : List ℕ = drawInto text t .table in
+      let v = draw-valid in
+      read-back y t₁ (v .1 .small) (valid-fits y (v .0)) (valid-sound y (v .0)) (v .1 .long) (short y (valid-fits y (v .0)) (valid-sound y (v .0)))
+      ∙ ap (λ (x : List ℕ). record { number = 0; beside = 0; table = x }) (sym table-is)
+      ∙ sym accepted-table
+
+  -- so what is proved of every table that was read is proved of one that was drawn: no call answers 10 to it
+  pub draw-never-ten : (z : List ℕ) → Made (drawInto text t .table) z → NeverTen (drawInto text t .table) z
+  draw-never-ten =
+      subst (λ (r : ReadInto). (z : List ℕ) → Made (r .table) z → NeverTen (r .table) z) (as-read t)
+      (never-ten (shownTable (drawInto text t .table)) t (ap (λ (r : ReadInto). r .number) (as-read t) ∙ h))

@@ -1,0 +1,204 @@
+-- The events of a printed log and its end: from the place before the first event on, the reader comes to the end of the text, with exactly those lines. Assumes nothing.
+use mathlib.Core.Path.{_≡_, _∙_, refl, ap, subst}
+use mathlib.Core.Bool.{true, false}
+use mathlib.Core.List.{List, [], _∷_, _++_, append-assoc}
+use Prim.Native.Nat.{ℕ, zero, suc, _+_, _<_, _≤_}
+use native.Mathlib.Omega.{arith}
+use lib.Dec.{eqb}
+use lib.ListN.{length, drop, length-append}
+use borrow.Author.Tests.{ne-eqb}
+use Rattle.base_words.specs.Pick.{if_then_else_}
+use Rattle.base_words.specs.Text.{bytes}
+use Rattle.xml_markup.specs.declared.Class.the-variants.{Blanks}
+use Rattle.xml_markup.specs.Spans.{run, nameAt, bytesOf}
+use Rattle.xml_skip.specs.declared.Skipped.the-variants.{Past}
+use Rattle.xml_document.specs.Around.{lastFrom}
+use Rattle.log_lines.specs.Entries.{entryOf}
+use Rattle.log_text.specs.declared.Level.the-variants.{Log, Trace, Event}
+use Rattle.log_text.specs.declared.Cursor.{Cursor}
+use Rattle.log_text.specs.declared.Move.the-variants.{On, Done}
+use Rattle.log_text.specs.Cursors.{reached, inEvent, named, behindEvent, behindTrace, lacksBy, tagBy as openTag}
+use Rattle.log_text.specs.Logs.{leftBy, advance, byMove, scanIn, closesEvent, lineOf, linesIn}
+use Rattle.log_write.specs.Xes.{eventOpening, eventClosing, eventText, eventsText, footer}
+use Rattle.proof_logs.proofs.Stands.{behind, rest}
+use Rattle.proof_logs.proofs.Elements.{EndAt, no-blank, newline, at-end, ends-there}
+use Rattle.proof_logs.proofs.Known.{stringOpening, event-start, event-end, trace-end, log-end}
+use Rattle.proof_logs.proofs.Events.{Plain, event-begun, line-says, string-passed, string-behind, event-ended}
+
+-- from c on, m steps are enough: the end is the end of the text, and the lines are these
+pub record Reads (t : List ℕ) (m : ℕ) (c : Cursor) (lines : List (List ℕ)) : Type 0 where
+  pub ends : (n : ℕ) → m ≤ n → scanIn n t c .end ≡ Past (length t)
+  pub says : (n : ℕ) → m ≤ n → linesIn n t c ≡ lines
+
+module _ (t : List ℕ) (m : ℕ) (c d : Cursor) (lines : List (List ℕ)) (goes : advance t c ≡ On d) (further : Reads t m d lines) where
+  on-ends : (n : ℕ) → suc m ≤ n → scanIn n t c .end ≡ Past (length t)
+  unfolding scanIn byMove
+  on-ends zero h = absurd (omega arith)
+  on-ends (suc n) h = rw goes (further .ends n (omega arith))
+
+  between-says : closesEvent (c .level) (d .level) ≡ false → (n : ℕ) → suc m ≤ n → linesIn n t c ≡ lines
+  unfolding linesIn byMove if_then_else_
+  between-says e zero h = absurd (omega arith)
+  between-says e (suc n) h = rw (goes, e) (further .says n (omega arith))
+
+  event-says : closesEvent (c .level) (d .level) ≡ true → (n : ℕ) → suc m ≤ n → linesIn n t c ≡ lineOf t d ∷ lines
+  unfolding linesIn byMove if_then_else_
+  event-says e zero h = absurd (omega arith)
+  event-says e (suc n) h = rw (goes, e) (ap (λ (l : List (List ℕ)). lineOf t d ∷ l) (further .says n (omega arith)))
+
+  pub reads-on : closesEvent (c .level) (d .level) ≡ false → Reads t (suc m) c lines
+  reads-on e = record { ends = on-ends; says = between-says e }
+
+  pub reads-line : closesEvent (c .level) (d .level) ≡ true → Reads t (suc m) c (lineOf t d ∷ lines)
+  reads-line e = record { ends = on-ends; says = event-says e }
+
+module _ (t : List ℕ) (c d : Cursor) (goes : advance t c ≡ Done d) (last : lastFrom t (d .at) ≡ Past (length t)) where
+  done-ends : (n : ℕ) → 1 ≤ n → scanIn n t c .end ≡ Past (length t)
+  unfolding scanIn byMove
+  done-ends zero h = absurd (omega arith)
+  done-ends (suc n) h = rw goes last
+
+  done-says : (n : ℕ) → 1 ≤ n → linesIn n t c ≡ []
+  unfolding linesIn byMove
+  done-says zero h = absurd (omega arith)
+  done-says (suc n) h = rw goes refl
+
+  pub reads-end : Reads t 1 c []
+  reads-end = record { ends = done-ends; says = done-says }
+
+-- in the trace of a log, whose tags have these names
+pub record InTrace (t log trace : List ℕ) (c : Cursor) : Type 0 where
+  pub level-is : c .level ≡ Trace
+  pub log-is : bytesOf t (nameAt t (c .log)) ≡ log
+  pub trace-is : bytesOf t (nameAt t (c .trace)) ≡ trace
+  pub opened-is : eqb (c .opened) 0 ≡ false
+
+-- THE END TAGS: the trace's at p, the log's at q, and the end behind it
+module _ (t log trace x y : List ℕ) (c : Cursor) (k : InTrace t log trace c) (p q : ℕ) (blanks : run Blanks t (c .at) ≡ p) (trace-ends : EndAt t trace x p) (more : run Blanks t (p + 3 + length trace) ≡ q) (log-ends : EndAt t log y q) (last : lastFrom t (q + 3 + length log) ≡ Past (length t)) where
+  abbrev out : Cursor
+  out = behindTrace c (p + 3 + length trace)
+
+  trace-left : advance t c ≡ On out
+  unfolding leftBy lacksBy openTag
+  trace-left = at-end t trace x c p blanks (rw (k .level-is) refl) trace-ends (rw (k .level-is) (k .trace-is)) ∙ rw (k .level-is) refl
+
+  log-left : advance t out ≡ Done (reached out (q + 3 + length log))
+  unfolding leftBy lacksBy openTag
+  log-left = at-end t log y out q more (k .opened-is) log-ends (k .log-is)
+
+  not-closed : closesEvent (c .level) Log ≡ false
+  unfolding closesEvent
+  not-closed = rw (k .level-is) refl
+
+  pub closing-read : Reads t 2 c []
+  closing-read = reads-on t 1 c out [] trace-left (reads-end t out (reached out (q + 3 + length log)) log-left last) not-closed
+
+module _ (t : List ℕ) (c : Cursor) (k : InTrace t (bytes "log") (bytes "trace") c) (stands : drop (c .at) t ≡ 10 ∷ footer) where
+  trace-ended : EndAt t (bytes "trace") (10 ∷ (bytes "</log>" ++ (10 ∷ []))) (c .at + 1)
+  unfolding footer
+  trace-ended = trace-end t (10 ∷ (bytes "</log>" ++ (10 ∷ []))) (c .at + 1) (rest t (bytes "</trace>\n</log>\n") 10 (c .at) stands)
+
+  log-ended : EndAt t (bytes "log") (10 ∷ []) (c .at + 1 + 3 + 5 + 1)
+  log-ended = log-end t (10 ∷ []) (c .at + 1 + 3 + 5 + 1) (rest t (bytes "</log>" ++ (10 ∷ [])) 10 (c .at + 1 + 3 + 5) (trace-ended .behind))
+
+  pub footer-read : Reads t 2 c []
+  unfolding footer
+  footer-read =
+      closing-read t (bytes "log") (bytes "trace") (10 ∷ (bytes "</log>" ++ (10 ∷ []))) (10 ∷ []) c k (c .at + 1) (c .at + 1 + 3 + 5 + 1) (newline t (bytes "/trace>\n</log>\n") (c .at) stands) trace-ended (newline t (bytes "/log>\n") (c .at + 1 + 3 + 5) (trace-ended .behind)) log-ended
+      (ends-there t (c .at + 1 + 3 + 5 + 1 + 3 + 3) (log-ended .behind))
+
+-- AN EVENT
+module _ (t line x : List ℕ) (c : Cursor) (k : InTrace t (bytes "log") (bytes "trace") c) (stands : drop (c .at) t ≡ 10 ∷ (bytes "<event>" ++ (stringOpening ++ (line ++ (bytes "\"/>" ++ (bytes "</event>" ++ x)))))) (plain : Plain line) (entry : entryOf line .right ≡ true) where
+  abbrev p : ℕ
+  p = c .at + 1
+
+  abbrev opened : Cursor
+  opened = inEvent c p (p + 7)
+
+  abbrev lined : Cursor
+  lined = named opened (p + 7 + 32 + 2) (p + 7 + 32 + 2 + length line) (p + 7 + 34 + length line + 3)
+
+  abbrev pub ended : Cursor
+  ended = behindEvent t lined (lined .at + 3 + 5)
+
+  event-stands : drop p t ≡ bytes "<event>" ++ (stringOpening ++ (line ++ (bytes "\"/>" ++ (bytes "</event>" ++ x))))
+  event-stands = rest t (bytes "<event>" ++ (stringOpening ++ (line ++ (bytes "\"/>" ++ (bytes "</event>" ++ x))))) 10 (c .at) stands
+
+  string-stands : drop (p + 7) t ≡ stringOpening ++ (line ++ (bytes "\"/>" ++ (bytes "</event>" ++ x)))
+  string-stands = behind t (bytes "<event>") (stringOpening ++ (line ++ (bytes "\"/>" ++ (bytes "</event>" ++ x)))) p event-stands
+
+  end-stands : drop (lined .at) t ≡ bytes "</event>" ++ x
+  end-stands = string-behind t line (bytes "</event>" ++ x) (p + 7) string-stands plain
+
+  event-ends : EndAt t (bytes "event") x (lined .at)
+  event-ends = event-end t x (lined .at) end-stands
+
+  named-event : bytesOf t (nameAt t p) ≡ bytes "event"
+  named-event = event-start t (stringOpening ++ (line ++ (bytes "\"/>" ++ (bytes "</event>" ++ x)))) p event-stands .named
+
+  has-line : eqb (lined .to) 0 ≡ false
+  has-line = ne-eqb (lined .to) 0 (λ e. omega (arith, e))
+
+  not-yet : closesEvent (c .level) Event ≡ false
+  unfolding closesEvent
+  not-yet = rw (k .level-is) refl
+
+  inside : closesEvent Event Event ≡ false
+  unfolding closesEvent
+  inside = refl
+
+  closes : closesEvent Event Trace ≡ true
+  unfolding closesEvent
+  closes = refl
+
+  says-line : lineOf t ended ≡ line
+  unfolding lineOf
+  says-line = line-says t line (bytes "</event>" ++ x) (p + 7) string-stands plain
+
+  pub event-behind : drop (ended .at) t ≡ x
+  event-behind = event-ends .behind
+
+  pub event-inside : InTrace t (bytes "log") (bytes "trace") ended
+  event-inside = record { level-is = refl; log-is = k .log-is; trace-is = k .trace-is; opened-is = k .opened-is }
+
+  pub event-read : (m : ℕ) (lines : List (List ℕ)) → Reads t m ended lines → Reads t (suc (suc (suc m))) c (line ∷ lines)
+  event-read m lines r =
+      reads-on t (suc (suc m)) c opened (line ∷ lines) (event-begun t (stringOpening ++ (line ++ (bytes "\"/>" ++ (bytes "</event>" ++ x)))) c (k .level-is) stands)
+      (reads-on t (suc m) opened lined (line ∷ lines) (string-passed t line (bytes "</event>" ++ x) (p + 7) string-stands plain opened refl refl refl entry)
+      (subst (λ (l : List ℕ). Reads t (suc m) lined (l ∷ lines)) says-line (reads-line t m lined ended lines (event-ended t (bytes "event") x lined refl has-line named-event (no-blank t (bytes "/event>" ++ x) (lined .at) end-stands) event-ends) r closes))
+      inside)
+      not-yet
+
+-- ALL OF THEM
+abbrev pub Each : (List ℕ → Type 0) → List (List ℕ) → Type 0
+Each P [] = Unit {0}
+Each P (line ∷ lines) = P line × Each P lines
+
+-- a line that XML writes as it is, and that names a step or a post
+pub record Entry (line : List ℕ) : Type 0 where
+  pub plain : Plain line
+  pub right : entryOf line .right ≡ true
+
+abbrev pub steps : List (List ℕ) → ℕ
+steps [] = 2
+steps (line ∷ lines) = suc (suc (suc (steps lines)))
+
+pub few-steps : (lines : List (List ℕ)) → steps lines ≤ length (eventsText lines) + 2
+unfolding eventsText eventText eventOpening
+few-steps [] = omega arith
+few-steps (line ∷ lines) = omega (arith, few-steps lines, length-append (eventText line) (eventsText lines), length-append eventOpening (line ++ eventClosing))
+
+event-first : (line : List ℕ) (lines : List (List ℕ)) → eventsText (line ∷ lines) ++ footer ≡ bytes "<event>" ++ (stringOpening ++ (line ++ (bytes "\"/>" ++ (bytes "</event>" ++ (10 ∷ (eventsText lines ++ footer))))))
+unfolding eventsText eventText eventOpening eventClosing
+event-first line lines =
+    ap (λ (l : List ℕ). bytes "<event>" ++ (stringOpening ++ l))
+    (append-assoc (line ++ bytes "\"/></event>\n") (eventsText lines) footer ∙ append-assoc line (bytes "\"/></event>\n") (eventsText lines ++ footer))
+
+pub events-read : (t : List ℕ) (lines : List (List ℕ)) (c : Cursor) → InTrace t (bytes "log") (bytes "trace") c → drop (c .at) t ≡ 10 ∷ (eventsText lines ++ footer) → Each Entry lines → Reads t (steps lines) c lines
+events-read t [] c k e a = footer-read t c k (unfold eventsText in e)
+events-read t (line ∷ lines) c k e a =
+    event-read t line (10 ∷ (eventsText lines ++ footer)) c k stands (a .0 .plain) (a .0 .right) (steps lines) lines
+    (events-read t lines (ended t line (10 ∷ (eventsText lines ++ footer)) c k stands (a .0 .plain) (a .0 .right)) (event-inside t line (10 ∷ (eventsText lines ++ footer)) c k stands (a .0 .plain) (a .0 .right)) (event-behind t line (10 ∷ (eventsText lines ++ footer)) c k stands (a .0 .plain) (a .0 .right)) (a .1))
+  where
+    stands : drop (c .at) t ≡ 10 ∷ (bytes "<event>" ++ (stringOpening ++ (line ++ (bytes "\"/>" ++ (bytes "</event>" ++ (10 ∷ (eventsText lines ++ footer)))))))
+    stands = e ∙ ap (λ (l : List ℕ). 10 ∷ l) (event-first line lines)

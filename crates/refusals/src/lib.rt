@@ -1,4 +1,0 @@
-// "Numbers given back": what each of them says.
-use words::Word;
-
-pub mod numbers;

@@ -1,8 +1,0 @@
-use Rattle.skipping.specs.Skipping.{skipped}
-use borrow.Author.Needs.{needs}
-use Rattle.skipping.proofs.skip.Statement.{statement}
-use Rattle.skipping.proofs.skip.Tie as tie
-
-pub skip-spec : {M : Type 1} → statement M
-unfolding skipped
-skip-spec = tie.close (tie.spec (λ c κs. search needs) (λ c. c .skip-element .ensures))

@@ -1,6 +1,0 @@
-use borrow.Author.Needs.{needs}
-use Rattle.state.proofs.value_at.Statement.{statement}
-use Rattle.state.proofs.value_at.Tie as tie
-
-pub value-at-spec : {M : Type 1} → statement M
-value-at-spec = tie.close (tie.spec (λ c κs. search needs) (λ c κs. search needs) (λ c. cc))

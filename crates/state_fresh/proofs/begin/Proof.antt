@@ -1,0 +1,14 @@
+use Rattle.state_fresh.proofs.BeginLaws.{begin-all}
+use borrow.Author.Needs.{needs}
+use Rattle.state_fresh.proofs.begin.Statement.{statement}
+use Rattle.state_fresh.proofs.begin.Tie as tie
+
+ruleset L = (needs)
+
+pub begin-spec : {M : Type 1} → statement M
+begin-spec =
+    tie.close
+    (tie.spec
+    (λ c κs. search L)
+    (λ c κs. search L)
+    (λ c. begin-all _ (c .before .before .before .before .before .args .z .now) _ _ (c .before .before .clear .ensures) (c .begin-pools .ensures) (search L)))  -- returns

@@ -1,0 +1,18 @@
+use mathlib.Core.Path.{refl}
+use Rattle.base_words.proofs.PickLaws.{pick-no, pick-yes}
+use borrow.Author.Tests.{eq-eqb, ne-eqb}
+use Rattle.meaning.specs.Requirements.{granted}
+use borrow.Author.Needs.{needs}
+use Rattle.step_fields.proofs.grants.Statement.{statement}
+use Rattle.step_fields.proofs.grants.Tie as tie
+
+ruleset L = (needs)
+
+pub grants-spec : {M : Type 1} → statement M
+unfolding granted
+grants-spec =
+    tie.close
+    (tie.spec
+    (λ c κs. search L)
+    (λ c. pick-yes _ _ _ _ (eq-eqb _ _ (c .before .if1 .taken)) (c .does-hold .ensures))  -- returns
+    (λ c. pick-no _ _ _ _ (ne-eqb _ _ (c .if1 .left)) refl))  -- returns-2

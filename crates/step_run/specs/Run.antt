@@ -1,0 +1,34 @@
+-- THE RUN: "takes the first listed step until none is accepted or the limit is used up, and returns the number of steps taken and 1 or 0 for whether
+-- one is still accepted. A limit of 0 takes none." s the instances, q the queues of a state.
+use Prim.Native.Nat.{ℕ, zero, suc, _+_}
+use mathlib.Core.List.{List, [], _∷_}
+use Rattle.meaning.specs.declared.Name.{Name}
+use Rattle.meaning.specs.Step.{Outcome, step}
+use Rattle.step_list.specs.Listing.{listed}
+
+pub record Run : Type 0 where
+  pub steps : ℕ
+  pub left : ℕ
+  pub instances : List ℕ
+  pub queues : List ℕ
+
+-- 1 or 0 for whether there is one
+unfoldable pub whether : List Name → ℕ
+whether [] = 0
+whether (n ∷ ns) = 1
+
+-- one step before a run
+unfoldable pub oneStep : Run → Run
+oneStep r = record { steps = r .steps + 1; left = r .left; instances = r .instances; queues = r .queues }
+
+-- by a way to list the steps of a state and a way to take one; by cases on the listing: nothing is listed, or the first one is taken before the rest
+unfoldable pub ranBy : (List ℕ → List ℕ → List Name) → (List ℕ → List ℕ → Name → Outcome) → ℕ → List ℕ → List ℕ → Run
+ranBy list take zero s q = record { steps = 0; left = whether (list s q); instances = s; queues = q }
+ranBy list take (suc limit) s q =
+    elim (list s q) [
+      | [] ↦ record { steps = 0; left = 0; instances = s; queues = q }
+      | n ∷ ns ↦ oneStep (ranBy list take limit (take s q n .instances) (take s q n .queues))
+    ]
+
+unfoldable pub ran : List ℕ → ℕ → List ℕ → List ℕ → Run
+ran t limit s q = ranBy (listed t) (step t) limit s q

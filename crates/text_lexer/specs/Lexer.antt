@@ -1,0 +1,103 @@
+-- "Blank, tab and newline may stand between tokens. A word is the longest run of letters, digits and `_`; `:=` is one token." "A byte that starts
+-- no token counts as one." A token is a function of the bytes that are left and of the place where they start.
+use Prim.Native.Char.{code}
+use Prim.Native.Nat.{ℕ, _+_}
+use mathlib.Core.Bool.{Bool, false, not, _||_, _&&_}
+use mathlib.Core.List.{List, [], _∷_}
+use lib.Dec.{leb, eqb}
+use lib.ListN.{drop}
+use Rattle.base_words.specs.Pick.{if_then_else_}
+use Rattle.base_words.specs.Text.{bytes}
+use Rattle.base_words.specs.Words.{at}
+use Rattle.text_lexer.specs.declared.Form.{Form}
+use Rattle.text_lexer.specs.declared.Form.the-variants.{Word, Sign, Assign, End, Other}
+use Rattle.text_lexer.specs.declared.Token.{Token}
+
+-- a byte stands in a list of bytes; it lies between two
+unfoldable pub among : List ℕ → ℕ → Bool
+among [] b = false
+among (x ∷ xs) b = eqb b x || among xs b
+
+unfoldable pub between : ℕ → ℕ → ℕ → Bool
+between low high b = leb low b && leb b high
+
+-- the classes of bytes; all others start no token
+abbrev pub blanks : List ℕ
+blanks = bytes " \t\n"
+
+abbrev pub signs : List ℕ
+signs = bytes "|(){},<>?+-="
+
+unfoldable pub isBlank : ℕ → Bool
+isBlank b = among blanks b
+
+unfoldable pub isSign : ℕ → Bool
+isSign b = among signs b
+
+unfoldable pub isDigit : ℕ → Bool
+isDigit b = between (code "0") (code "9") b
+
+unfoldable pub isLetter : ℕ → Bool
+isLetter b = between (code "a") (code "z") b || between (code "A") (code "Z") b
+
+unfoldable pub isWord : ℕ → Bool
+isWord b = isLetter b || (isDigit b || eqb b (code "_"))
+
+-- the place of the first byte that is not of a class, or of the end; the bytes s start at the place p
+unfoldable pub past : (ℕ → Bool) → List ℕ → ℕ → ℕ
+past class [] p = p
+past class (b ∷ s) p = if class b then past class s (p + 1) else p
+
+abbrev pub placed : Form → ℕ → ℕ → Token
+placed form p q = record { form = form; at = p; next = q }
+
+-- the token that the byte b at the place p begins, with the bytes s behind it
+unfoldable pub tokenOf : ℕ → List ℕ → ℕ → Token
+tokenOf b s p =
+    if isWord b then placed Word p (past isWord s (p + 1))
+    else if isSign b then placed (Sign b) p (p + 1)
+    else if not (eqb b (code ":")) then placed Other p (p + 1)
+    else if eqb (at s 0) (code "=") then placed Assign p (p + 2)
+    else placed (Sign b) p (p + 1)
+
+-- the token that the bytes left begin with, no blank first
+unfoldable pub tokenHere : List ℕ → ℕ → Token
+tokenHere [] p = placed End p p
+tokenHere (b ∷ s) p = tokenOf b s p
+
+-- the next token at or after a place of the text; beyond the text it is the end, at that place
+unfoldable pub tokenAt : List ℕ → ℕ → Token
+tokenAt text from = let p = past isBlank (drop from text) from in tokenHere (drop p text) p
+
+-- by the token's form: one choice for each pattern that a reader takes a token apart with
+unfoldable pub ifWord : {A : Type 0} → Form → A → A → A
+ifWord Word a b = a
+ifWord (Sign s) a b = b
+ifWord Assign a b = b
+ifWord End a b = b
+ifWord Other a b = b
+
+unfoldable pub ifSign : {A : Type 0} → Form → (ℕ → A) → A → A
+ifSign Word a b = b
+ifSign (Sign s) a b = a s
+ifSign Assign a b = b
+ifSign End a b = b
+ifSign Other a b = b
+
+unfoldable pub ifAssign : {A : Type 0} → Form → A → A → A
+ifAssign Word a b = b
+ifAssign (Sign s) a b = b
+ifAssign Assign a b = a
+ifAssign End a b = b
+ifAssign Other a b = b
+
+unfoldable pub ifEnd : {A : Type 0} → Form → A → A → A
+ifEnd Word a b = b
+ifEnd (Sign s) a b = b
+ifEnd Assign a b = b
+ifEnd End a b = a
+ifEnd Other a b = b
+
+-- the place behind a given sign, where it is the token that the bytes left begin with; else the place itself
+unfoldable pub signBehind : ℕ → List ℕ → ℕ → ℕ
+signBehind s left p = ifSign (tokenHere left p .form) (λ b. if eqb b s then p + 1 else p) p

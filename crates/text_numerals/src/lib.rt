@@ -1,0 +1,219 @@
+// Words as numbers and operands, and words compared.
+ghost use mathlib.Core.Path.{_≡_};
+ghost use mathlib.Core.Bool.{true};
+ghost use lib.ListN.{drop};
+ghost use Rattle.text_lexer.specs.Lexer.{isDigit};
+ghost use Rattle.text_numerals.specs.Numerals.{valueFrom, leadingZero, numberOf, sameBytes, asNumber, asField};
+ghost use Rattle.text_numerals.specs.Numerals.{grown, digitsFrom, numberBy, numeralAt, operandAt};
+use base_words::GREATEST;
+use base_words::Word;
+use base_words::counts::FIELDS;
+use text_lexer::byte;
+use text_lexer::is_digit;
+use text_lexer::past_word;
+use text_lexer::piece;
+
+// What a word says as a number: a value within the range, a number above it, or no number.
+pub enum Number {
+    Value(Word),
+    TooLarge,
+    NotANumber,
+}
+
+// What a word says as an operand: a number or a field, one of them out of its range, or neither.
+pub enum Operand {
+    Number(Word),
+    Field(Word),
+    OutOfRange,
+    NotAnOperand,
+}
+
+// The digits of a word, leading zeros or not. A value above the greatest word grows no more.
+fn digits(word: &[u8]) -> Number
+    ensures { λ r. ⌜ r ≡ valueFrom 0 (now (word .entry)) ⌝ }
+{
+    let mut v: u64 = 0;
+    let mut i = 0;
+    while i < word.len() {
+        let d = word[i];
+        if !is_digit(d) {
+            return Number::NotANumber;
+        }
+        if v <= GREATEST as u64 {
+            v = v * 10 + (d - b'0') as u64;
+        }
+        i += 1;
+    }
+    if v <= GREATEST as u64 {
+        return Number::Value(v as Word);
+    }
+    Number::TooLarge
+}
+
+fn leading_zero(word: &[u8]) -> bool
+    ensures { λ r. ⌜ r ≡ leadingZero (now (word .entry)) ⌝ }
+{
+    1 < word.len() && byte(word, 0) == b'0'
+}
+
+// A word as a number.
+pub fn number_of(word: &[u8]) -> Number
+    ensures { λ r. ⌜ r ≡ numberOf (now (word .entry)) ⌝ }
+{
+    if word.len() == 0 {
+        return Number::NotANumber;
+    }
+    if leading_zero(word) {
+        return Number::NotANumber;
+    }
+    digits(word)
+}
+
+// Whether two words are the same.
+pub fn same(a: &[u8], b: &[u8]) -> bool
+    ensures { λ r. ⌜ r ≡ sameBytes (now (a .entry)) (now (b .entry)) ⌝ }
+{
+    if a.len() != b.len() {
+        return false;
+    }
+    let mut i = 0;
+    while i < a.len() {
+        if a[i] != b[i] {
+            return false;
+        }
+        i += 1;
+    }
+    true
+}
+
+fn as_number(n: Number) -> Operand
+    ensures { λ r. ⌜ r ≡ asNumber n ⌝ }
+{
+    match n {
+        Number::Value(v) => Operand::Number(v),
+        Number::TooLarge => Operand::OutOfRange,
+        Number::NotANumber => Operand::NotAnOperand,
+    }
+}
+
+fn as_field(n: Number) -> Operand
+    ensures { λ r. ⌜ r ≡ asField n ⌝ }
+{
+    match n {
+        Number::Value(v) => {
+            if v < FIELDS {
+                return Operand::Field(v);
+            }
+            Operand::OutOfRange
+        }
+        Number::TooLarge => Operand::OutOfRange,
+        Number::NotANumber => Operand::NotAnOperand,
+    }
+}
+
+// Digits of a text: what they come to, and the place behind them.
+pub struct Decimal {
+    pub value: u64,
+    pub end: usize,
+}
+
+// A value and one digit more; above the greatest word it grows no more.
+fn grown(v: u64, d: u8) -> u64
+    requires { ⌜ isDigit d ≡ true ⌝ }
+    ensures { λ r. ⌜ r ≡ grown v d ⌝ }
+{
+    if v <= GREATEST as u64 {
+        return v * 10 + (d - b'0') as u64;
+    }
+    v
+}
+
+// The digits from a place of the text on.
+fn digits_at(text: &[u8], from: usize) -> Decimal
+    ensures { λ r. ⌜ r ≡ digitsFrom 0 (drop from (now (text .entry))) from ⌝ }
+{
+    let mut v: u64 = 0;
+    let mut i = from;
+    while i < text.len() {
+        let d = text[i];
+        if !is_digit(d) {
+            return Decimal { value: v, end: i };
+        }
+        v = grown(v, d);
+        i += 1;
+    }
+    Decimal { value: v, end: i }
+}
+
+// A word of digits alone, which come to v, as a number.
+fn number_by(word: &[u8], v: u64) -> Number
+    ensures { λ r. ⌜ r ≡ numberBy v (now (word .entry)) ⌝ }
+{
+    if word.len() == 0 {
+        return Number::NotANumber;
+    }
+    if leading_zero(word) {
+        return Number::NotANumber;
+    }
+    if v <= GREATEST as u64 {
+        return Number::Value(v as Word);
+    }
+    Number::TooLarge
+}
+
+// The word at a place of a text as a number, and the place behind it.
+pub struct Numeral {
+    pub number: Number,
+    pub next: usize,
+}
+
+// A word is taken digit by digit, so that a number is gone over once.
+pub fn numeral_at(text: &[u8], from: usize) -> Numeral
+    ensures { λ r. ⌜ r ≡ numeralAt (now (text .entry)) from ⌝ }
+{
+    let d = digits_at(text, from);
+    let v = d.value;
+    let end = d.end;
+    let next = past_word(text, end);
+    if end < next {
+        return Numeral {
+            number: Number::NotANumber,
+            next: next,
+        };
+    }
+    Numeral {
+        number: number_by(piece(text, from, end), v),
+        next: end,
+    }
+}
+
+// The word at a place of a text as an operand, and the place behind it.
+pub struct Term {
+    pub operand: Operand,
+    pub next: usize,
+}
+
+pub fn operand_at(text: &[u8], p: usize) -> Term
+    ensures { λ r. ⌜ r ≡ operandAt (now (text .entry)) p ⌝ }
+{
+    if text.len() <= p {
+        return Term {
+            operand: Operand::NotAnOperand,
+            next: p,
+        };
+    }
+    if text[p] != b'd' {
+        let plain = numeral_at(text, p);
+        let number = plain.number;
+        return Term {
+            operand: as_number(number),
+            next: plain.next,
+        };
+    }
+    let field = numeral_at(text, p + 1);
+    let number = field.number;
+    Term {
+        operand: as_field(number),
+        next: field.next,
+    }
+}

@@ -1,0 +1,145 @@
+// What the programs share of what they say on standard output. That a text is said is not part of a promise; what it is, and what becomes of the state, is.
+ghost use mathlib.Core.Path.{_≡_};
+ghost use lib.ListN.{length};
+ghost use Rattle.base_words.specs.Words.{greatest, digits};
+ghost use Rattle.write_buffer.specs.Buffers.{Put, lesser};
+ghost use Rattle.write_decimals.specs.Decimals.{shown};
+ghost use Rattle.write_lines.specs.Lines.{unreadLine};
+ghost use Rattle.engine.specs.Engine.{RanTo, ranTo};
+ghost use Prim.Native.Nat.{_+_};
+ghost use Rattle.tool_print.specs.Judged.{besideLine, unlawfulLine, judgedLine, judgedMost};
+use base_state::places::STATE_WORDS;
+use base_table::places::TABLE_WORDS;
+use base_words::DIGITS;
+use base_words::Word;
+use base_words::numbers::AT_FAULT;
+use base_words::numbers::BAD;
+use engine::Ran;
+use libc::STDOUT_FILENO;
+use log_judge::Judged;
+use meaning::Answer;
+use meaning::Name;
+use step_run::Steps;
+use text_lexer::piece;
+use text_read::Reading;
+use write_buffer::put_byte;
+use write_buffer::put_bytes;
+use write_decimals::put_number;
+use write_lines::STEP_LINE;
+use write_lines::UNREAD_LINE;
+use write_lines::put_beside;
+
+// Says a text; gives back its length.
+pub fn tell(text: &[u8]) -> usize
+    ensures { λ r. ⌜ r ≡ length (now (text .entry)) ⌝ }
+{
+    io::write_all(STDOUT_FILENO, text);
+    text.len()
+}
+
+// Says a number, as far as a word holds it; gives back its length.
+pub fn tell_count(n: usize) -> usize
+    ensures { λ r. ⌜ r ≡ length (shown (lesser n greatest)) ⌝ }
+{
+    let mut out = [0u8; DIGITS];
+    let k = put_beside(&mut out, 0, n);
+    tell(piece(&out, 0, k));
+    k
+}
+
+// Says the line of a refused text; gives back its length. A place above the greatest word, which no text that is read has, is said as that one.
+pub fn tell_unread(r: Reading) -> usize
+    ensures { λ n. ⌜ n ≡ length (unreadLine (r .number) (lesser (r .beside) greatest)) ⌝ }
+{
+    let mut out = [0u8; UNREAD_LINE];
+    let n = write_lines::put_unread(&mut out, 0, r.number, r.beside);
+    tell(piece(&out, 0, n));
+    n
+}
+
+const JUDGED_LINE: usize = 8 + DIGITS + (1 + DIGITS) + (1 + DIGITS) + 1;
+
+// A number behind a blank, where one is said.
+fn put_next(out: &mut [u8], from: usize, told: bool, n: usize) -> usize
+    ensures { λ r. ⌜ Put (besideLine told (lesser n greatest)) (1 + digits) from (now (out .entry)) r (now (out .exit)) ⌝ }
+{
+    if !told {
+        return from;
+    }
+    let blank = put_byte(out, from, b' ');
+    put_beside(out, blank, n)
+}
+
+// 10 has nothing beside it, 23 its place, 24 the event's ordinal and its own number.
+fn put_unlawful(out: &mut [u8], r: Judged) -> usize
+    ensures { λ k. ⌜ Put (unlawfulLine (r .number) (lesser (r .beside) greatest) (lesser (r .own) greatest)) judgedMost 0 (now (out .entry)) k (now (out .exit)) ⌝ }
+{
+    let word = put_bytes(out, 0, b"refused ");
+    let told = put_number(out, word, r.number);
+    let place = put_next(out, told, r.number != BAD, r.beside);
+    let all = put_next(out, place, r.number == AT_FAULT, r.own as usize);
+    put_byte(out, all, b'\n')
+}
+
+// Says whether a log is lawful; gives back the length of the line.
+pub fn tell_judged(r: Judged) -> usize
+    ensures { λ k. ⌜ k ≡ length (judgedLine (r .number) (lesser (r .beside) greatest) (lesser (r .own) greatest)) ⌝ }
+{
+    if r.number == 0 {
+        return tell(b"lawful\n");
+    }
+    let mut out = [0u8; JUDGED_LINE];
+    let n = put_unlawful(&mut out, r);
+    tell(piece(&out, 0, n));
+    n
+}
+
+// The line of a step that was taken.
+fn tell_step(n: Name, a: Answer) {
+    let mut out = [0u8; STEP_LINE];
+    let k = write_lines::put_step(&mut out, 0, n, a);
+    tell(piece(&out, 0, k));
+    tell(b"\n");
+}
+
+// Takes the first listed step and says it.
+fn run_once(t: &[Word; TABLE_WORDS], y: &mut [Word; STATE_WORDS]) {
+    let r = engine::list(t, y, 0);
+    if r.number != 0 {
+        return;
+    }
+    let name = r.name;
+    let a = engine::step(t, y, name);
+    tell_step(name, a);
+}
+
+// Takes the first listed step of a copy of the state as often as a run would, and says each.
+fn tell_steps(t: &[Word; TABLE_WORDS], y: &mut [Word; STATE_WORDS], steps: Steps) {
+    let mut n: Steps = 0;
+    while n < steps {
+        run_once(t, y);
+        n += 1;
+    }
+}
+
+fn tell_end(steps: Steps, left: Word) {
+    tell(b"steps ");
+    tell_count(steps as usize);
+    tell(b" left ");
+    tell_count(left as usize);
+    tell(b"\n");
+}
+
+// A run, and a line for each of its steps, taken again on a copy of the state; last the steps and the flag. A refused run says nothing.
+pub fn tell_run(t: &[Word; TABLE_WORDS], z: &mut [Word; STATE_WORDS], limit: Steps) -> Ran
+    ensures { λ r. ⌜ record { number = r .number; steps = r .steps; left = r .left; state = now (z .exit) } ≡ ranTo (now (t .entry)) (now (z .entry)) limit ⌝ }
+{
+    let mut y: [Word; STATE_WORDS] = *z;
+    let r = engine::run(t, z, limit);
+    if r.number != 0 {
+        return r;
+    }
+    tell_steps(t, &mut y, r.steps);
+    tell_end(r.steps, r.left);
+    r
+}

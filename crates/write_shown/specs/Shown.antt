@@ -1,0 +1,136 @@
+-- THE TEXT OF A TABLE: "The writer writes no blanks, keeps the order of the table, ends with one newline." x is the words from a place on, el an element's,
+-- t a table. The parts of an element are those of the table of kinds, as they are read.
+use Prim.Native.Char.{code}
+use Prim.Native.Nat.{ℕ, zero, suc, _+_}
+use mathlib.Core.Bool.{Bool, true, false}
+use mathlib.Core.List.{List, [], _∷_, _++_}
+use lib.Dec.{eqb, ltb}
+use lib.ListN.{drop}
+use Rattle.base_words.specs.Each.{joined}
+use Rattle.base_words.specs.Pick.{if_then_else_}
+use Rattle.base_words.specs.Text.{bytes}
+use Rattle.base_words.specs.Words.{at}
+use Rattle.base_words.specs.Counts.{pools}
+use Rattle.base_kinds.specs.declared.Kind.{Kind}
+use Rattle.base_kinds.specs.Kinds.{kindOf, keywordOf}
+use Rattle.base_kinds.specs.Moves.{a, na-c}
+use Rattle.base_table.specs.Places.{aField, operandNumber, formPlace, leftPlace, rightPlace, plus, minus, binding, always, default, equals, entriesPlace, exitsPlace, assignedIn, poolPlace, limitPlace}
+use Rattle.base_table.specs.Table.{poolCount, elementCount, elementAt, kindIn, taskIn, modeIn, entryAt, exitAt, conditionAt, messageName, messageLength, itemAt, assignmentCount, assignmentAt}
+use Rattle.write_decimals.specs.Decimals.{shown}
+
+-- n pieces with a sign between them
+unfoldable pub lead : ℕ → ℕ → List ℕ
+lead s k = if eqb k 0 then [] else s ∷ []
+
+unfoldable pub separated : ℕ → (ℕ → List ℕ) → ℕ → List ℕ
+separated s f n = joined (λ k. lead s k ++ f k) n
+
+abbrev pub commas : (ℕ → List ℕ) → ℕ → List ℕ
+commas f n = separated (code ",") f n
+
+-- a text between two signs
+abbrev pub between : ℕ → ℕ → List ℕ → List ℕ
+between opener closer w = opener ∷ (w ++ (closer ∷ []))
+
+-- an operand, an expression, an item of a template, a condition
+unfoldable pub shownField : ℕ → List ℕ
+shownField d = code "d" ∷ shown d
+
+unfoldable pub shownOperand : List ℕ → List ℕ
+shownOperand x = if eqb (at x 0) aField then shownField (at x operandNumber) else shown (at x operandNumber)
+
+unfoldable pub shownPair : ℕ → List ℕ → List ℕ
+shownPair s x = shownOperand (drop leftPlace x) ++ (s ∷ shownOperand (drop rightPlace x))
+
+unfoldable pub shownExpression : List ℕ → List ℕ
+shownExpression x =
+    if eqb (at x formPlace) plus then shownPair (code "+") x
+    else if eqb (at x formPlace) minus then shownPair (code "-") x
+    else shownOperand (drop leftPlace x)
+
+unfoldable pub shownItem : List ℕ → List ℕ
+shownItem x = if eqb (at x formPlace) binding then code "?" ∷ shownField (at x (leftPlace + operandNumber)) else shownExpression x
+
+unfoldable pub shownCondition : List ℕ → List ℕ
+shownCondition x =
+    if eqb (at x formPlace) always then bytes "true"
+    else if eqb (at x formPlace) default then bytes "default"
+    else if eqb (at x formPlace) equals then shownPair (code "=") x
+    else shownPair (code "<") x
+
+-- a message `m:<..>` of branch b; n edges `{e,f,..}` of a list
+unfoldable pub shownTuple : List ℕ → ℕ → List ℕ
+shownTuple el b = between (code "<") (code ">") (commas (λ j. shownItem (itemAt el b j)) (messageLength el b))
+
+unfoldable pub shownMessage : List ℕ → ℕ → List ℕ
+shownMessage el b = shown (messageName el b) ++ (code ":" ∷ shownTuple el b)
+
+unfoldable pub shownEntries : List ℕ → List ℕ
+shownEntries el = between (code "{") (code "}") (commas (λ j. shown (entryAt el j)) (at el entriesPlace))
+
+unfoldable pub shownExits : List ℕ → List ℕ
+shownExits el = between (code "{") (code "}") (commas (λ j. shown (exitAt el j)) (at el exitsPlace))
+
+-- branches `(f,C)` and `(m:T,f)`
+unfoldable pub shownGuarded : List ℕ → ℕ → List ℕ
+shownGuarded el b = between (code "(") (code ")") (shown (exitAt el b) ++ (code "," ∷ shownCondition (conditionAt el b)))
+
+unfoldable pub shownGuardedList : List ℕ → List ℕ
+shownGuardedList el = between (code "{") (code "}") (commas (shownGuarded el) (at el exitsPlace))
+
+unfoldable pub shownReceiving : List ℕ → ℕ → List ℕ
+shownReceiving el b = between (code "(") (code ")") (shownMessage el b ++ (code "," ∷ shown (exitAt el b)))
+
+unfoldable pub shownReceivingList : List ℕ → List ℕ
+shownReceivingList el = commas (shownReceiving el) (at el exitsPlace)
+
+-- task number, mode, condition, assignments
+unfoldable pub shownMode : ℕ → List ℕ
+shownMode m = if eqb m a then bytes "a" else if eqb m na-c then bytes "na_c" else bytes "na_nc"
+
+unfoldable pub shownAssignment : List ℕ → List ℕ
+shownAssignment x = shownField (at x 0) ++ (code ":" ∷ code "=" ∷ shownExpression (drop assignedIn x))
+
+unfoldable pub shownAssignments : List ℕ → List ℕ
+shownAssignments el = between (code "{") (code "}") (commas (λ j. shownAssignment (assignmentAt el j)) (assignmentCount el))
+
+unfoldable pub shownTask : List ℕ → List ℕ
+shownTask el = shown (taskIn el) ++ (code "," ∷ (shownMode (modeIn el) ++ (code "," ∷ (shownCondition (conditionAt el 0) ++ (code "," ∷ shownAssignments el)))))
+
+-- the part with a code of the table of kinds; all parts behind a sign, then commas; an element
+unfoldable pub shownPart : ℕ → List ℕ → List ℕ
+shownPart c el =
+    if eqb c (code "E") then shown (entryAt el 0)
+    else if eqb c (code "X") then shown (exitAt el 0)
+    else if eqb c (code "F") then shownEntries el
+    else if eqb c (code "Y") then shownExits el
+    else if eqb c (code "N") then shownTask el
+    else if eqb c (code "T") then shownMessage el 0
+    else if eqb c (code "S") then shownMessage el 0
+    else if eqb c (code "G") then shownGuardedList el
+    else shownReceivingList el
+
+unfoldable pub shownParts : ℕ → List ℕ → List ℕ → List ℕ
+shownParts s [] el = []
+shownParts s (c ∷ cs) el = if eqb c (code " ") then [] else s ∷ (shownPart c el ++ shownParts (code ",") cs el)
+
+unfoldable pub shownElement : List ℕ → List ℕ
+shownElement el = keywordOf (kindIn el) ++ (shownParts (code "(") (kindOf (kindIn el) .parts) el ++ (code ")" ∷ []))
+
+-- the pool at place p; the text: each pool that is in use, with bars between them, and a newline
+unfoldable pub shownElements : List ℕ → ℕ → List ℕ
+shownElements t p = separated (code "|") (λ e. shownElement (elementAt t p e)) (elementCount t p)
+
+unfoldable pub shownLimit : ℕ → List ℕ
+shownLimit n = if eqb n 0 then [] else code "," ∷ shown n
+
+unfoldable pub shownPool : List ℕ → ℕ → List ℕ
+shownPool t p =
+    (if eqb (at t (limitPlace p)) 0 then bytes "pool" else bytes "miPool")
+    ++ between (code "(") (code ")") (shown (at t (poolPlace p)) ++ (code "," ∷ (shownElements t p ++ shownLimit (at t (limitPlace p)))))
+
+unfoldable pub shownPools : List ℕ → List ℕ
+shownPools t = joined (λ p. if ltb p (poolCount t) then lead (code "|") p ++ shownPool t p else []) pools
+
+unfoldable pub shownTable : List ℕ → List ℕ
+shownTable t = shownPools t ++ (code "\n" ∷ [])

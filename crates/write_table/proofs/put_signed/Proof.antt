@@ -1,0 +1,16 @@
+use Rattle.write_buffer.proofs.OverLaws.{after}
+use borrow.Author.Needs.{needs}
+use Rattle.write_table.proofs.put_signed.Statement.{statement}
+use Rattle.write_table.proofs.put_signed.Tie as tie
+
+returns : tie.Need-returns
+returns c = after (c .before .before .before .before .before .before .put-byte .ensures) (c .before .before .put-part .ensures)
+
+pub put-signed-spec : {M : Type 1} → statement M
+put-signed-spec =
+    tie.close
+    (tie.spec
+    (λ c κs. search needs)
+    (λ c κs. search needs)
+    (λ c. search needs)
+    returns)

@@ -1,0 +1,17 @@
+use mathlib.Core.Path.{refl}
+use borrow.Author.Tests.{lt-ltb, le-ltb, eq-eqb, ne-eqb}
+use Rattle.base_words.proofs.PickLaws.{pick-yes, pick-no}
+use Rattle.xml_markup.specs.Staying.{isPlain}
+use borrow.Author.Needs.{needs}
+use Rattle.xml_markup.proofs.staying.is_plain.Statement.{statement}
+use Rattle.xml_markup.proofs.staying.is_plain.Tie as tie
+
+pub is-plain-spec : {M : Type 1} → statement M
+unfolding isPlain
+is-plain-spec =
+    tie.close
+    (tie.spec
+    (λ c. pick-yes _ _ _ _ (lt-ltb _ _ (c .if1 .taken)) refl)
+    (λ c. pick-no _ _ _ _ (le-ltb _ _ (c .before .if1 .left)) (pick-yes _ _ _ _ (eq-eqb _ _ (c .if2 .taken)) refl))
+    (λ c. pick-no _ _ _ _ (le-ltb _ _ (c .before .before .if1 .left)) (pick-no _ _ _ _ (ne-eqb _ _ (c .before .if2 .left)) (pick-yes _ _ _ _ (eq-eqb _ _ (c .if3 .taken)) refl)))
+    (λ c. pick-no _ _ _ _ (le-ltb _ _ (c .before .before .if1 .left)) (pick-no _ _ _ _ (ne-eqb _ _ (c .before .if2 .left)) (pick-no _ _ _ _ (ne-eqb _ _ (c .if3 .left)) refl))))

@@ -1,0 +1,22 @@
+use mathlib.Core.Path.{refl}
+use Rattle.xml_markup.specs.Tokens.{isFaulty}
+use borrow.Author.Needs.{needs}
+use Rattle.xml_markup.proofs.tokens.is_faulty.Statement.{statement}
+use Rattle.xml_markup.proofs.tokens.is_faulty.Tie as tie
+
+pub is-faulty-spec : {M : Type 1} → statement M
+unfolding isFaulty
+is-faulty-spec =
+    tie.close
+    (tie.spec
+    (λ c. search needs)
+    (λ c. search needs)
+    (λ c κs. search needs)
+    (λ c. search needs)
+    (λ c κs. search needs)
+    (λ c. search needs)
+    (λ c κs. search needs)
+    (λ c. rw (c .enum-told .given .1) refl)
+    (λ c. rw (c .before .enum-told2 .given .1) (c .twice .ensures))
+    (λ c. rw (c .before .enum-told3 .given .1) (c .reserved .ensures))
+    (λ c. rw (c .before .enum-told4 .given .1, ← c .speaks .ensures) refl))

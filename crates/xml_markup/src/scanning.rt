@@ -1,0 +1,126 @@
+// A markup read byte by byte.
+ghost use mathlib.Core.Path.{_≡_};
+ghost use lib.ListN.{drop};
+ghost use Rattle.xml_markup.specs.Markup.{advance, scan, beginsAt, closesData, opensMarkup, textFrom, marked, placed, markup};
+use super::Cursor;
+use super::Markup;
+use super::Scan;
+use super::staying::stay;
+use super::tokens::begun;
+use super::tokens::is_faulty;
+use super::tokens::moved;
+use super::tokens::whole;
+use text_lexer::byte;
+use text_lexer::piece;
+use text_numerals::same;
+use xml_characters::is_control;
+use xml_scanner::Sort;
+
+fn advance(text: &[u8], start: usize, c: Cursor, i: usize) -> Scan
+    ensures { λ r. ⌜ r ≡ advance (now (text .entry)) start c i ⌝ }
+{
+    if text.len() <= i {
+        return Scan::Fault(i);
+    }
+    let b = text[i];
+    let s = c.state;
+    let mark = c.mark;
+    if is_faulty(whole(s, b), piece(text, 0, i), start, mark) {
+        return Scan::Fault(mark);
+    }
+    if is_control(b) {
+        return Scan::Fault(i);
+    }
+    moved(c, b, i, i + 1)
+}
+
+// The markup that `<` or `&` opens at a place.
+fn scan(text: &[u8], p: usize) -> Scan
+    ensures { λ r. ⌜ r ≡ scan (now (text .entry)) p ⌝ }
+{
+    let mut c = begun(p);
+    let mut i = p;
+    while i < text.len() {
+        let a = advance(text, p, c, i);
+        let Scan::On(next) = a else {
+            return a;
+        };
+        c = next;
+        let s = next.state;
+        i = stay(s, text, i + 1);
+    }
+    Scan::Fault(i)
+}
+
+// Whether the bytes from a place on begin with these.
+pub fn begins_at(text: &[u8], i: usize, word: &[u8]) -> bool
+    ensures { λ r. ⌜ r ≡ beginsAt (now (text .entry)) i (now (word .entry)) ⌝ }
+{
+    let rest = piece(text, i, text.len());
+    same(piece(rest, 0, word.len()), word)
+}
+
+fn closes_data(text: &[u8], i: usize) -> bool
+    ensures { λ r. ⌜ r ≡ closesData (now (text .entry)) i ⌝ }
+{
+    begins_at(text, i, b"]]>")
+}
+
+fn opens_markup(b: u8) -> bool
+    ensures { λ r. ⌜ r ≡ opensMarkup b ⌝ }
+{
+    b == b'<' || b == b'&'
+}
+
+// Character data from a place on.
+fn text_from(text: &[u8], p: usize) -> Scan
+    ensures { λ r. ⌜ r ≡ textFrom (now (text .entry)) (drop p (now (text .entry))) p ⌝ }
+{
+    let mut i = p;
+    while i < text.len() {
+        let b = text[i];
+        if opens_markup(b) {
+            return Scan::Past(Sort::Text, i);
+        }
+        if is_control(b) {
+            return Scan::Fault(i);
+        }
+        if closes_data(text, i) {
+            return Scan::Fault(i);
+        }
+        i += 1;
+    }
+    Scan::Past(Sort::Text, i)
+}
+
+fn marked(sort: Sort, q: usize) -> Markup
+    ensures { λ r. ⌜ r ≡ marked sort q ⌝ }
+{
+    Markup {
+        sort: sort,
+        next: q,
+    }
+}
+
+fn placed(s: Scan) -> Markup
+    ensures { λ r. ⌜ r ≡ placed s ⌝ }
+{
+    match s {
+        Scan::On(c) => marked(Sort::Fault, c.mark),
+        Scan::Past(sort, q) => marked(sort, q),
+        Scan::Fault(q) => marked(Sort::Fault, q),
+    }
+}
+
+// What stands at a place of a text.
+pub fn markup(text: &[u8], p: usize) -> Markup
+    ensures { λ r. ⌜ r ≡ markup (now (text .entry)) p ⌝ }
+{
+    if text.len() <= p {
+        return marked(Sort::End, text.len());
+    }
+    if opens_markup(text[p]) {
+        return placed(scan(text, p));
+    }
+    placed(text_from(text, p))
+}

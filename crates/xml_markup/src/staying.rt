@@ -1,0 +1,80 @@
+// Bytes that leave a markup where it is, passed together.
+ghost use mathlib.Core.Path.{_≡_};
+ghost use lib.ListN.{drop};
+ghost use Rattle.text_lexer.specs.Lexer.{past};
+ghost use Rattle.xml_markup.specs.Staying.{isPlain, staysInTag, staysInEnd, stays};
+use super::Class;
+use super::spans::run;
+use xml_scanner::InEnd;
+use xml_scanner::InTag;
+use xml_scanner::State;
+
+fn is_plain(q: u8, b: u8) -> bool
+    ensures { λ r. ⌜ r ≡ isPlain q b ⌝ }
+{
+    if b < 32 {
+        return false;
+    }
+    if b == q {
+        return false;
+    }
+    if b == b'&' {
+        return false;
+    }
+    b != b'<'
+}
+
+fn plain_from(q: u8, text: &[u8], from: usize) -> usize
+    ensures { λ r. ⌜ r ≡ past (isPlain q) (drop from (now (text .entry))) from ⌝ }
+{
+    let mut i = from;
+    while i < text.len() {
+        if !is_plain(q, text[i]) {
+            return i;
+        }
+        i += 1;
+    }
+    i
+}
+
+fn stay_in_tag(s: InTag, text: &[u8], i: usize) -> usize
+    ensures { λ r. ⌜ r ≡ past (staysInTag s) (drop i (now (text .entry))) i ⌝ }
+{
+    match s {
+        InTag::Name => run(Class::Name, text, i),
+        InTag::Blank => i,
+        InTag::Attribute => run(Class::Name, text, i),
+        InTag::Named => i,
+        InTag::Equals => i,
+        InTag::Value(q) => plain_from(q, text, i),
+        InTag::Reference(q) => i,
+        InTag::Behind => i,
+        InTag::Slash => i,
+    }
+}
+
+fn stay_in_end(s: InEnd, text: &[u8], i: usize) -> usize
+    ensures { λ r. ⌜ r ≡ past (staysInEnd s) (drop i (now (text .entry))) i ⌝ }
+{
+    match s {
+        InEnd::Opened => i,
+        InEnd::Name => run(Class::Name, text, i),
+        InEnd::Behind => i,
+    }
+}
+
+// The place behind the bytes, from a place on, that leave a markup in this state.
+pub fn stay(s: State, text: &[u8], i: usize) -> usize
+    ensures { λ r. ⌜ r ≡ past (stays s) (drop i (now (text .entry))) i ⌝ }
+{
+    match s {
+        State::Begin => i,
+        State::Opening(o) => i,
+        State::Comment(c) => i,
+        State::Data(d) => i,
+        State::Instruction(x) => i,
+        State::Tag(t) => stay_in_tag(t, text, i),
+        State::EndTag(e) => stay_in_end(e, text, i),
+        State::Reference => i,
+    }
+}
