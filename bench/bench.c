@@ -47,7 +47,7 @@ static __attribute__((noinline)) void engine(const struct job *j, struct blocks 
         a->number = v.number, a->beside = v.beside;
         break;
     }
-    case FRESH: a->number = cv_fresh(b->table, tw, state, sw); break;
+    case FRESH: a->number = cv_fresh(b->table, tw, CV_VERSION_20, state, sw); break;
     case STEP: {
         memcpy(&step, &j->step, sizeof step);
         cv_answer v = cv_step(b->table, tw, state, sw, step);
@@ -95,7 +95,7 @@ static __attribute__((noinline)) void reference(const struct job *j, struct bloc
         a->number = v.number, a->beside = v.beside;
         break;
     }
-    case FRESH: a->number = ref_fresh(b->table, state); break;
+    case FRESH: a->number = ref_fresh(b->table, REF_VERSION_20, state); break;
     case STEP: {
         ref_answer v = ref_step(b->table, state, j->step);
         a->number = v.number, a->beside = v.traffic, a->name.pool = v.name, a->tuple = v.tuple;

@@ -113,6 +113,7 @@ static void fill_state(struct setting *s, bool every) {
             for (unsigned d = 0; d < 4; d++) h[defined_at(d)] = 1, h[value_at(d)] = d ? d : i;
         }
     }
+    s->state[VERSION] = REF_VERSION_20;
     for (unsigned m = 0; m < NAMES; m++) fill_queue(queue_at(s->state, m), m);
 }
 
@@ -140,7 +141,7 @@ void make_settings(void) {
     struct setting *session = &settings[0], *all = &settings[1], *one = &settings[2], *longest = &settings[3];
     print(session, "%s", session_text);
     read_text(session);
-    ref_fresh(session->table, session->state);
+    ref_fresh(session->table, REF_VERSION_20, session->state);
     for (unsigned p = 0; p < POOLS; p++) print_pool(all, p), print_pool(one, p);
     read_text(all), read_text(one);
     fill_state(all, true), fill_state(one, false);

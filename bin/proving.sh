@@ -122,16 +122,18 @@ build() { # NAME
     needs_rt
     stale "$root/target/bin/$1" || return 0
     prove "$1" "check $1" || misused "$1 is not proved, so it is not run"
-    touch "$root/target/bin/$1"
+    touch "$root/target/bin/$name" "$@"
 }
 
 # Starts a program that was built, on standard input.
-start() { # NAME
+start() { # NAME WORDS...
+    local name=$1
+    shift
     local kit tools emulator
     # programs are for x86-64; on another processor the kit has an emulator, beside its compiler
     kit=$(cd "$(dirname "$(readlink -f "$(command -v rt)")")/.." && pwd -P)
     tools=${RATTLE_HOME:-$kit}/on/$(uname -m)/toolchain
     emulator=$tools/bin/qemu-x86_64
     [ -x "$emulator" ] || emulator=
-    ${emulator:+"$emulator"} "$tools/lib/ld-linux-x86-64.so.2" --library-path "$tools/lib" "$root/target/bin/$1"
+    ${emulator:+"$emulator"} "$tools/lib/ld-linux-x86-64.so.2" --library-path "$tools/lib" "$root/target/bin/$name" "$@"
 }

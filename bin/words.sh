@@ -27,6 +27,14 @@ takes_a_file() { # WORDS...
     done
 }
 
+# The version that --version names.
+takes_version() { # WORD
+    case $1 in
+    '' | *[!0-9]* | ??????*) misused "--version wants 10 or 20" ;;
+    esac
+    version=$1
+}
+
 # A model's text as the command that reads it: blanks stand for its newlines, so that every place stays.
 as_command() { # MODEL
     printf 'read '
@@ -67,6 +75,7 @@ meaning() { # NUMBER
     22) echo "a batch of more than 64 items" ;;
     23) echo "not such a log or longer" ;;
     24) echo "event at fault" ;;
+    25) echo "another version than 10 or 20, asked for or in a state" ;;
     *) echo "a number that these words do not have" ;;
     esac
 }

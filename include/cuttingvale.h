@@ -21,6 +21,8 @@ extern "C" {
 
 #define CV_TABLE_WORDS 33549
 #define CV_STATE_WORDS 12341
+#define CV_VERSION_10 10
+#define CV_VERSION_20 20
 #define CV_TEXT_MOST 65536
 #define CV_DRAWING_MOST 65536
 #define CV_LOG_MOST 65536
@@ -54,8 +56,11 @@ extern "C" {
        + e - 1                   tokens on edge e, at most 255
        + 48 + n - 1, 64 + n - 1  active and ready count of task n, at most 255
        + 80 + 2 d, 81 + 2 d      1 where field d is defined; its value
-   7172                          33 words that all instances share; not in use, so 0
-   7205 + 321 m                  how many messages queue m holds, at most 64; then for each, oldest first, its length and 4 values */
+   7172                          32 words not in use, so 0
+   7204                          the version it was made for, 10 or 20, which it keeps
+   7205 + 321 m                  how many messages queue m holds, at most 64; then for each, oldest first, its length and 4 values
+   A state that was saved when there were no versions has 12,308 words, and no call takes it; examples/c/carry.c has the ten lines that carry it over. */
+#define CV_VERSION 7204
 #define CV_INSTANCE(p, i) (4 + 1792 * (p) + 112 * (i))
 #define CV_QUEUE(m) (7205 + 321 * (m))
 
@@ -88,7 +93,8 @@ enum cv_number {
                               exactly one message flow */
     CV_TOO_MANY = 22,      /* poll: more than 64 items */
     CV_NOT_A_LOG = 23,     /* not such a log or longer */
-    CV_AT_FAULT = 24       /* event at fault */
+    CV_AT_FAULT = 24,      /* event at fault */
+    CV_OTHER_VERSION = 25  /* another version than 10 or 20, asked for or in a state */
 };
 
 /* A message: its length, 0 to 4, and its values; what stands behind them is ignored, and 0 in an answer. */
@@ -121,19 +127,20 @@ CV_STATIC_ASSERT(sizeof(cv_reading) == 16 && sizeof(cv_written) == 16 && sizeof(
 /* Checks a table: 10 for a broken limit or an unused place not 0, then 4, else 0. */
 cv_verdict cv_check(const uint32_t *table, size_t table_words);
 
-/* Makes the fresh state of a model: 10, and the state stays; else 0. */
-uint32_t cv_fresh(const uint32_t *table, size_t table_words, uint32_t *state, size_t state_words);
+/* Makes the fresh state of a model for a version, CV_VERSION_10 or CV_VERSION_20: 10, then 25, and the state stays; else 0. Under version 10 phase 1 of an
+   na_c task waits, as of an na_nc task, until no instance of it is active or ready. */
+uint32_t cv_fresh(const uint32_t *table, size_t table_words, uint32_t version, uint32_t *state, size_t state_words);
 
-/* Takes a named step: 10 to 18, and the state stays; else 0, and what was consumed or sent. */
+/* Takes a named step: 10, 25, 11 to 18, and the state stays; else 0, and what was consumed or sent. */
 cv_answer cv_step(const uint32_t *table, size_t table_words, uint32_t *state, size_t state_words, cv_name name);
 
-/* Posts a message from outside: 10, 19 or 17, and the state stays; else 0, and it is queued. */
+/* Posts a message from outside: 10, 25, 19 or 17, and the state stays; else 0, and it is queued. */
 uint32_t cv_post(const uint32_t *table, size_t table_words, uint32_t *state, size_t state_words, uint32_t name, cv_tuple values);
 
-/* The accepted step with an ordinal, from 0: 10, or 6 where there is none; else 0 and its name. */
+/* The accepted step with an ordinal, from 0: 10, 25, or 6 where there is none; else 0 and its name. */
 cv_listed cv_list(const uint32_t *table, size_t table_words, const uint32_t *state, size_t state_words, size_t ordinal);
 
-/* Takes the first listed step until none is accepted or the limit is used up: 10, and the state stays; else 0. */
+/* Takes the first listed step until none is accepted or the limit is used up: 10, 25, and the state stays; else 0. */
 cv_ran cv_run(const uint32_t *table, size_t table_words, uint32_t *state, size_t state_words, uint16_t limit);
 
 /* Reads a text into the table: 1 to 4 (10 for a wrong length of the table), and the table stays; else 0, and every word of it is the model's. */
@@ -146,14 +153,14 @@ cv_reading cv_draw(const uint8_t *text, size_t length, uint32_t *table, size_t t
 /* Writes a table's text, one line: 10, or 5 where the buffer is shorter than it, and the buffer stays; else 0 and its length, at most CV_TEXT_MOST. */
 cv_written cv_write(const uint32_t *table, size_t table_words, uint8_t *buffer, size_t length);
 
-/* A whole poll: takes up to CV_ITEMS named steps and posts one by one until the first refusal. 22 where count is above CV_ITEMS, then 10, with no items too, and nothing is
+/* A whole poll: takes up to CV_ITEMS named steps and posts one by one until the first refusal. 22 where count is above CV_ITEMS, then 10 and 25, with no items too, and nothing is
    done; else the accepted ones stay, the refused one changes nothing, and those behind it are not looked at. Table and state are checked once.
    items_words is CV_POLL_WORDS. */
 cv_polled cv_poll(const uint32_t *table, size_t table_words, uint32_t *state, size_t state_words, const uint32_t *items, size_t items_words, size_t count);
 
-/* Judges the run that an XES log of at most CV_LOG_MOST bytes tells: 10; 23 with the place where it is no such log, 0 where it is longer; 24 with the first event at fault; else 0,
+/* Judges the run that an XES log of at most CV_LOG_MOST bytes tells, under a version: 10; 25; 23 with the place where it is no such log, 0 where it is longer; 24 with the first event at fault; else 0,
    and every step and post of it is accepted in turn from the fresh state, and what each line says was sent or consumed is true. The state it works on, CV_STATE_WORDS words, is its own. */
-cv_judged cv_judge(const uint32_t *table, size_t table_words, const uint8_t *log, size_t length);
+cv_judged cv_judge(const uint32_t *table, size_t table_words, uint32_t version, const uint8_t *log, size_t length);
 
 #ifdef __cplusplus
 }

@@ -53,7 +53,7 @@ int main(void) {
     static const struct arrival requests[] = {{0, {2, {1234567, 2}}}, {0, {2, {1234567, 2}}}}, answers[] = {{2, {2, {1234567, 1}}}, {2, {2, {1234567, 0}}}};
     cv_reading read = cv_read((const uint8_t *)model, strlen(model), TABLE);
     if (read.number) return printf("refused %u at %zu\n", read.number, read.beside), 1;
-    unsigned number = cv_fresh(TABLE, STATE);
+    unsigned number = cv_fresh(TABLE, CV_VERSION_20, STATE);
     if (!number) number = decode(requests, 2);
     printf("two equal requests, %u instances\n", state[0]);
     if (!number) number = decode(answers, 2);

@@ -4,6 +4,7 @@
 mod c {
     pub const TABLE_WORDS: usize = 33549;
     pub const STATE_WORDS: usize = 12341;
+    pub const VERSION_20: u32 = 20;
     pub const NOT_LISTED: u32 = 6;
     pub const CONSUMED: u32 = 1;
     pub const SENT: u32 = 2;
@@ -49,7 +50,7 @@ mod c {
     #[link(name = "cuttingvale", kind = "static")]
     extern "C" {
         pub fn cv_read(text: *const u8, length: usize, table: *mut u32, table_words: usize) -> Reading;
-        pub fn cv_fresh(table: *const u32, table_words: usize, state: *mut u32, state_words: usize) -> u32;
+        pub fn cv_fresh(table: *const u32, table_words: usize, version: u32, state: *mut u32, state_words: usize) -> u32;
         pub fn cv_post(table: *const u32, table_words: usize, state: *mut u32, state_words: usize, name: u32, values: Tuple) -> u32;
         pub fn cv_list(table: *const u32, table_words: usize, state: *const u32, state_words: usize, ordinal: usize) -> Listed;
         pub fn cv_step(table: *const u32, table_words: usize, state: *mut u32, state_words: usize, name: Name) -> Answer;
@@ -93,7 +94,7 @@ impl Engine {
         if r.number != 0 {
             return Err(Refused(r.number, r.beside));
         }
-        accepted(unsafe { c::cv_fresh(e.table.as_ptr(), e.table.len(), e.state.as_mut_ptr(), e.state.len()) })?;
+        accepted(unsafe { c::cv_fresh(e.table.as_ptr(), e.table.len(), c::VERSION_20, e.state.as_mut_ptr(), e.state.len()) })?;
         Ok(e)
     }
 

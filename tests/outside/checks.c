@@ -227,11 +227,15 @@ bool fitting(const word *t, const word *z) {
     if (!valid(t)) return false;
     for (unsigned p = 0; p < POOLS; p++)
         if (!instances_fit(t, z, p)) return false;
-    if (!all_zero(z + SHARED, SHARED_WORDS)) return false;
+    if (!all_zero(z + SHARED, VERSION - SHARED)) return false;
     for (unsigned m = 0; m < NAMES; m++)
         if (!queue_fits(z + QUEUES + QUEUE_WORDS * m)) return false;
     return true;
 }
+
+bool known_version(word version) { return version == REF_VERSION_10 || version == REF_VERSION_20; }
+
+unsigned lent_number(const word *t, const word *z) { return !fitting(t, z) ? 10 : known_version(z[VERSION]) ? 0 : 25; }
 
 ref_verdict ref_check(const word *t) {
     if (!table_fits(t)) return (ref_verdict){10, 0};
@@ -239,9 +243,11 @@ ref_verdict ref_check(const word *t) {
     return (ref_verdict){k ? 4 : 0, k};
 }
 
-word ref_fresh(const word *t, word *z) {
+word ref_fresh(const word *t, word version, word *z) {
     if (!valid(t)) return 10;
+    if (!known_version(version)) return 25;
     memset(z, 0, REF_STATE_WORDS * sizeof *z);
+    z[VERSION] = version;
     for (unsigned p = 0; p < t[0]; p++) {
         const word *pool = pool_at(t, p);
         for (unsigned e = 0; e < pool[POOL_COUNT]; e++) {

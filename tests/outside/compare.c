@@ -129,9 +129,9 @@ static void draw_both(int due) {
 }
 
 /* What is known of the answer is the generator's. */
-static ref_judged judge_both(log_due due) {
+static ref_judged judge_both(word version, log_due due) {
     const uint8_t *log = lent();
-    ref_judged b = ref_judge(theirs.table, log, text_length);
+    ref_judged b = ref_judge(theirs.table, version, log, text_length);
     given[b.number]++;
     if (b.number == 24) owned[b.own]++;
     if (due.number >= 0 && (due.number != (int)b.number || due.beside != b.beside || due.own != b.own)) {
@@ -140,7 +140,7 @@ static ref_judged judge_both(log_due due) {
     }
     known += due.number >= 0;
 #ifdef LOGS
-    cv_judged a = cv_judge(TABLE, log, text_length);
+    cv_judged a = cv_judge(TABLE, version, log, text_length);
     same("judge", "number", a.number, b.number);
     same("judge", "beside", a.beside, b.beside);
     same("judge", "own", a.own, b.own);
@@ -151,11 +151,11 @@ static ref_judged judge_both(log_due due) {
 }
 
 /* A beginning of a text up to where it is at fault, or of one that is not, is 23 at its own end, or a log itself. */
-static void judge_beginning(struct random *r, ref_judged whole) {
+static void judge_beginning(struct random *r, word version, ref_judged whole) {
     size_t right = whole.number == 23 ? whole.beside : text_length;
-    if (whole.number == 10 || text_length > 65536) return;
+    if (whole.number == 10 || whole.number == 25 || text_length > 65536) return;
     text_length = draw(r, right + 1);
-    ref_judged b = judge_both((log_due){-1, 0, 0});
+    ref_judged b = judge_both(version, (log_due){-1, 0, 0});
     if (b.number == 23) same("judge", "the place of what was cut off", b.beside, text_length);
 }
 
@@ -167,8 +167,8 @@ static void check_both(void) {
     same_blocks("check");
 }
 
-static void fresh_both(void) {
-    same("fresh", "number", cv_fresh(TABLE, STATE), ref_fresh(theirs.table, theirs.state));
+static void fresh_both(word version) {
+    same("fresh", "number", cv_fresh(TABLE, version, STATE), ref_fresh(theirs.table, version, theirs.state));
     same_blocks("fresh");
 }
 
@@ -226,9 +226,9 @@ static void wrong_lengths(struct random *r) {
     if (n == CV_TABLE_WORDS || n == CV_STATE_WORDS) return;
     same("check", "wrong length", cv_check(ours.table, n).number, 10);
     same("check", "no block", cv_check(NULL, 0).number, 10);
-    same("fresh", "wrong length", cv_fresh(ours.table, n, STATE), 10);
-    same("fresh", "wrong state", cv_fresh(TABLE, ours.state, n), 10);
-    same("fresh", "no block", cv_fresh(TABLE, NULL, 0), 10);
+    same("fresh", "wrong length", cv_fresh(ours.table, n, CV_VERSION_20, STATE), 10);
+    same("fresh", "wrong state", cv_fresh(TABLE, CV_VERSION_10, ours.state, n), 10);
+    same("fresh", "no block, and another version", cv_fresh(TABLE, 15, NULL, 0), 10);
     same("step", "wrong length", cv_step(TABLE, ours.state, n, name).number, 10);
     same("post", "wrong length", cv_post(ours.table, n, STATE, 0, none), 10);
     same("list", "wrong length", cv_list(TABLE, ours.state, n, 0).number, 10);
@@ -246,9 +246,9 @@ static void wrong_lengths(struct random *r) {
     calls += 2;
 #endif
 #ifdef LOGS
-    same("judge", "wrong length", cv_judge(ours.table, n, (const uint8_t *)text, text_length).number, 10);
-    same("judge", "no table", cv_judge(NULL, 0, NULL, 0).number, 10);
-    same("judge", "no log", cv_judge(TABLE, NULL, 0).number, ref_judge(theirs.table, NULL, 0).number);
+    same("judge", "wrong length", cv_judge(ours.table, n, CV_VERSION_10, (const uint8_t *)text, text_length).number, 10);
+    same("judge", "no table, and another version", cv_judge(NULL, 0, 15, NULL, 0).number, 10);
+    same("judge", "no log", cv_judge(TABLE, CV_VERSION_20, NULL, 0).number, ref_judge(theirs.table, REF_VERSION_20, NULL, 0).number);
     calls += 3;
 #endif
     calls += 15;
@@ -270,6 +270,8 @@ static void damage_both(struct random *r, bool table) {
         unsigned p = draw(r, 2), i = draw(r, 2), e = draw(r, 4);
         if (table && anywhere) damage(r, ours.table, theirs.table, REF_TABLE_WORDS, 0);
         else if (table) damage(r, ours.table, theirs.table, ELEMENT_WORDS, element_at(pool_at(ours.table, p), e) - ours.table);
+        else if (chance(r, 15)) ours.state[VERSION] = theirs.state[VERSION] = some_version(r);
+        else if (chance(r, 10)) damage(r, ours.state, theirs.state, SHARED_WORDS, SHARED);
         else if (anywhere) damage(r, ours.state, theirs.state, REF_STATE_WORDS, 0);
         else damage(r, ours.state, theirs.state, INSTANCE_WORDS, instance_at(ours.state, p, i) - ours.state);
     }
@@ -368,7 +370,7 @@ static void one_call(struct random *r) {
     else if (which < 90) run_both(draw(r, chance(r, 80) ? 4 : 40));
     else if (which < 93) check_both();
     else if (which < 97) write_both(chance(r, 50) ? draw(r, TEXT_ROOM) : text_length + 4 - draw(r, text_length < 4 ? 1 : 8));
-    else if (which < 98) fresh_both();
+    else if (which < 98) fresh_both(some_version(r));
     else wrong_lengths(r);
 }
 
@@ -386,7 +388,7 @@ static void compare_case(struct random *r) {
     if (chance(r, 25)) text_length = spoiled_text(r, text, text_length);
     if (chance(r, 3)) text_length = lengthened(r, text_length);
     if (read_both()) return;
-    fresh_both();
+    fresh_both(chance(r, 50) ? CV_VERSION_10 : CV_VERSION_20);
     if (chance(r, 40)) fill_up(r);
     for (unsigned k = 12 + draw(r, 30); k; k--) {
         one_call(r);
@@ -432,6 +434,13 @@ static int compare_drawings(uint64_t cases, uint64_t seed) {
     return 0;
 }
 
+/* a log under a version that it was not made for; where that is none, nothing else is looked at */
+static void judge_another(word version, log_due due) {
+    if (!known_version(version)) due = (log_due){25, 0, 0};
+    else if (due.number != 0 || version != CV_VERSION_20) due = (log_due){due.number == 23 ? 23 : -1, due.beside, 0};
+    judge_both(version, due);
+}
+
 /* a model, and logs for it; now and then the table is damaged */
 static void log_case(struct random *r) {
     log_due due;
@@ -441,12 +450,16 @@ static void log_case(struct random *r) {
     if (read.number) return;
     memcpy(ours.table, theirs.table, REF_TABLE_WORDS * sizeof *ours.table);
     for (unsigned k = 0; k < 4; k++) {
-        text_length = log_text(r, theirs.table, fills, text, sizeof text, &due);
-        judge_beginning(r, judge_both(due));
+        word version = chance(r, 50) ? CV_VERSION_10 : CV_VERSION_20;
+        text_length = log_text(r, theirs.table, version, fills, text, sizeof text, &due);
+        ref_judged b = judge_both(version, due);
+        if (chance(r, 30)) judge_another(some_version(r), due);
+        if (version == CV_VERSION_10 && b.number == 0) judge_both(CV_VERSION_20, (log_due){0, 0, 0}); /* 10 only refuses more */
+        judge_beginning(r, version, b);
     }
     if (chance(r, 95)) return;
     damage_both(r, true);
-    judge_both((log_due){-1, 0, 0});
+    judge_both(some_version(r), (log_due){-1, 0, 0});
 }
 
 static int compare_logs(uint64_t cases, uint64_t seed) {
@@ -484,11 +497,11 @@ static void time_drawing(const char *name) {
 
 static void time_log(const char *name) {
     clock_t start = clock();
-    ref_judged b = ref_judge(theirs.table, (const uint8_t *)text, text_length);
+    ref_judged b = ref_judge(theirs.table, REF_VERSION_20, (const uint8_t *)text, text_length);
     printf("%-34s %5zu bytes, %2u %5zu %2u, reference %5u ms", name, text_length, b.number, b.beside, b.own, since(start));
 #ifdef LOGS
     start = clock();
-    cv_judged a = cv_judge(TABLE, (const uint8_t *)text, text_length);
+    cv_judged a = cv_judge(TABLE, CV_VERSION_20, (const uint8_t *)text, text_length);
     printf(", engine %5u ms", since(start));
     same("judge", "number", a.number, b.number);
     same("judge", "beside", a.beside, b.beside);
@@ -541,10 +554,11 @@ static void print_log(struct random *r) {
 #ifdef LOGS
     static char log[DRAWING_ROOM];
     log_due due;
-    if (ref_check(theirs.table).number == 0) n = log_text(r, theirs.table, false, log, sizeof log, &due);
+    word version = chance(r, 50) ? REF_VERSION_10 : REF_VERSION_20;
+    if (ref_check(theirs.table).number == 0) n = log_text(r, theirs.table, version, false, log, sizeof log, &due);
     for (size_t k = 0; k < n; k++)
         if (log[k] == '\n') log[k] = ' ';
-    if (n) printf("judge %.*s\n", (int)n, log);
+    if (n) printf("judge %u %.*s\n", chance(r, 80) ? version : some_version(r) % 65536, (int)n, log);
 #else
     (void)r;
 #endif
@@ -580,8 +594,12 @@ static void session_line(struct random *r) {
     } else if (which < 91) puts("write");
     else if (which < 94) print_log(r);
     else if (which < 98) puts("state");
-    else if (which < 99) puts("fresh"), ref_fresh(theirs.table, theirs.state);
-    else puts(chance(r, 50) ? "list 1 " : "stap");
+    else if (which < 99) {
+        word version = chance(r, 30) ? REF_VERSION_20 : some_version(r) % 65536;
+        if (version == REF_VERSION_20 && chance(r, 50)) puts("fresh");
+        else printf("fresh %u\n", version);
+        ref_fresh(theirs.table, version, theirs.state);
+    } else puts(chance(r, 30) ? "list 1 " : chance(r, 50) ? "stap" : chance(r, 50) ? "fresh 010" : "judge <log><trace/></log>");
 }
 
 /* A line that reads a model: a text or, where the consoles know them, now and then a drawing. */
@@ -607,11 +625,12 @@ static void print_session(struct random *r) {
     static const char first[] = "pool(1,start(1,2)|end(2))";
     printf("read %s\n", first);
     ref_read((const uint8_t *)first, strlen(first), theirs.table);
-    ref_fresh(theirs.table, theirs.state);
+    ref_fresh(theirs.table, REF_VERSION_20, theirs.state);
     for (unsigned models = 1 + draw(r, 2); models; models--) {
         bool drawing = print_model(r);
         ref_reading read = drawing ? ref_draw((const uint8_t *)text, text_length, theirs.table) : ref_read((const uint8_t *)text, text_length, theirs.table);
-        if (read.number == 0) ref_fresh(theirs.table, theirs.state);
+        if (read.number == 0) ref_fresh(theirs.table, REF_VERSION_20, theirs.state);
+        if (chance(r, 40)) puts("fresh 10"), ref_fresh(theirs.table, REF_VERSION_10, theirs.state);
         for (unsigned k = 20 + draw(r, 40); k; k--) session_line(r);
     }
 }

@@ -1,5 +1,5 @@
 /* The console's commands over the reference: a session through this and through the engine's console must print the same. With the word `drawing` it takes one
-   drawing, whole, instead; with `log` and the name of a model's file, one log. */
+   drawing, whole, instead; with `log`, the name of a model's file and a version, one log. */
 #include "layout.h"
 #include <stdio.h>
 #include <stdlib.h>
@@ -96,9 +96,13 @@ static void print_pairs(const word *flags, const word *values, unsigned stride, 
     if (!any) putchar('-');
 }
 
+static unsigned at_most(word n, unsigned most) { return n < most ? n : most; }
+
+/* what doesn't fit is told as far as the layout goes */
 static void do_state(void) {
-    for (unsigned p = 0; p < table[0]; p++)
-        for (unsigned i = 0; i < state[p]; i++) {
+    if (state[VERSION] == REF_VERSION_10) puts("version 10");
+    for (unsigned p = 0; p < at_most(table[0], POOLS); p++)
+        for (unsigned i = 0; i < at_most(state[p], INSTANCES); i++) {
             const word *h = instance_at(state, p, i);
             printf("instance %u %u tokens ", pool_at(table, p)[0], i);
             print_pairs(h, h, 1, EDGES, 1);
@@ -114,9 +118,10 @@ static void do_state(void) {
         const word *q = queue_at(state, m);
         if (!q[0]) continue;
         printf("queue %u", m);
-        for (unsigned k = 0; k < q[0]; k++) {
+        for (unsigned k = 0; k < at_most(q[0], MESSAGES); k++) {
             ref_tuple g;
             memcpy(&g, q + 1 + SLOT_WORDS * k, sizeof g);
+            g.length = at_most(g.length, VALUES);
             putchar(' ');
             print_tuple(&g, "-");
         }
@@ -132,15 +137,24 @@ static void do_read(const char *text, size_t n, bool drawing) {
         return;
     }
     loaded = true;
-    print_done(ref_fresh(table, state));
+    print_done(ref_fresh(table, REF_VERSION_20, state));
 }
 
-static void do_judge(const char *text, size_t n) {
-    ref_judged j = ref_judge(table, (const uint8_t *)text, n);
+static void do_judge(word version, const char *text, size_t n) {
+    ref_judged j = ref_judge(table, version, (const uint8_t *)text, n);
     if (!j.number) puts("lawful");
     else if (j.number == 23) printf("refused 23 %zu\n", j.beside);
     else if (j.number == 24) printf("refused 24 %zu %u\n", j.beside, j.own);
     else print_done(j.number);
+}
+
+/* the version, a blank, and the log: every byte behind it */
+static bool judge_line(const char *s, size_t n) {
+    word version;
+    const char *blank = memchr(s, ' ', n);
+    if (!blank || !number_of((struct text){s, blank - s}, &version)) return false;
+    loaded ? do_judge(version, blank + 1, s + n - blank - 1) : (void)puts("no model");
+    return true;
 }
 
 static void do_write(size_t room) {
@@ -263,7 +277,10 @@ static int command(struct text *w, unsigned n) {
     } else if (n == 3 && is(w[0], "state")) {
         return set_word(w, state, REF_STATE_WORDS, loaded);
     } else if (n == 1 && is(w[0], "fresh")) {
-        if (loaded) print_done(ref_fresh(table, state));
+        if (loaded) print_done(ref_fresh(table, REF_VERSION_20, state));
+    } else if (n == 2 && is(w[0], "fresh")) {
+        if (!number_of(w[1], v)) return 0;
+        if (loaded) print_done(ref_fresh(table, v[0], state));
     } else if (n == 1 && is(w[0], "state")) {
         if (loaded) do_state();
     } else return 0;
@@ -301,7 +318,7 @@ static void do_line(const char *s, size_t n) {
 #endif
 #ifdef LOGS
     if (n >= 6 && memcmp(s, "judge ", 6) == 0) {
-        loaded ? do_judge(s + 6, n - 6) : (void)puts("no model");
+        if (!judge_line(s + 6, n - 6)) puts("bad line");
         return;
     }
 #endif
@@ -320,7 +337,7 @@ static int one_drawing(void) {
 }
 
 /* one log, whole, under the model of a file: what the console answers */
-static int one_log(const char *model) {
+static int one_log(const char *model, word version) {
     static char text[WHOLE + 1];
     FILE *file = fopen(model, "rb");
     if (!file) return perror(model), 2;
@@ -328,13 +345,13 @@ static int one_log(const char *model) {
     fclose(file);
     ref_reading r = ref_read((const uint8_t *)text, n, table);
     if (r.number) return printf("refused %u %zu\n", r.number, r.beside), 0;
-    do_judge(text, fread(text, 1, sizeof text, stdin));
+    do_judge(version, text, fread(text, 1, sizeof text, stdin));
     return 0;
 }
 
 int main(int count, char **words) {
     if (count == 2 && !strcmp(words[1], "drawing")) return one_drawing();
-    if (count == 3 && !strcmp(words[1], "log")) return one_log(words[2]);
+    if (count == 4 && !strcmp(words[1], "log")) return one_log(words[2], strtoul(words[3], NULL, 10));
     char *line = NULL;
     size_t room = 0;
     for (ssize_t n; (n = getline(&line, &room, stdin)) >= 0;) do_line(line, n && line[n - 1] == '\n' ? (size_t)n - 1 : (size_t)n);

@@ -18,6 +18,11 @@ word some_end(struct random *r) {
     return chance(r, 60) ? ends[draw(r, sizeof ends / sizeof *ends)] : (1 + draw(r, 65535)) << 16 | draw(r, 4);
 }
 
+word some_version(struct random *r) {
+    static const word others[] = {0, 1, 15, 19, 21, 100, 200, 11, 9, 65546, 65556, 4294967295};
+    return chance(r, 48) ? REF_VERSION_10 : chance(r, 92) ? REF_VERSION_20 : chance(r, 80) ? others[draw(r, sizeof others / sizeof *others)] : any_word(r);
+}
+
 /* A pool under construction: edges still to be taken, edges still to be put, numbers still free. */
 struct draft {
     struct random *r;
@@ -127,6 +132,16 @@ static void task(struct draft *d, unsigned e) {
     print(d, ")");
 }
 
+/* two tokens to one task: the second meets the first one's counts */
+static void doubled_task(struct draft *d, unsigned e) {
+    unsigned f = new_edge(d), g = new_edge(d), h = new_edge(d);
+    begin(d, "andSplit");
+    print_number(d, e), print(d, ",{"), print_number(d, f), print(d, ","), print_number(d, g), print(d, "})");
+    begin(d, "xorJoin");
+    print(d, "{"), print_number(d, f), print(d, ","), print_number(d, g), print(d, "},"), print_number(d, h), print(d, ")");
+    task(d, h);
+}
+
 static void split(struct draft *d, unsigned e) {
     static const char *const words[] = {"eventBased", "andSplit", "xorSplit"};
     unsigned which = draw(d->r, 3), n = 2 + (chance(d->r, 80) ? draw(d->r, 2) : draw(d->r, 7)), fallback = draw(d->r, n + 1);
@@ -178,7 +193,7 @@ static void grow(struct draft *d) {
     else {
         unsigned e = take_from(d, d->open, &d->opens);
         if (which < 6) split(d, e);
-        else if (which < 8 && d->task < TASKS) task(d, e);
+        else if (which < 8 && d->task < TASKS) chance(d->r, 20) ? doubled_task(d, e) : task(d, e);
         else {
             bool receives = chance(d->r, 50);
             begin(d, receives ? "interRcv" : "interSnd");

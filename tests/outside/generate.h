@@ -25,8 +25,10 @@ const char *worst_log(unsigned which, char *text, size_t *length);
 extern const char worst_model[];
 /* what is known of a log's answer: its number, -1 where that is not known, and what stands beside it */
 typedef struct { int number; size_t beside; unsigned own; } log_due;
-/* a log, for a table that passes every check, into a buffer of 80,000 bytes or more: returns its length; filling: the first listed step, again and again */
-size_t log_text(struct random *r, const word *table, bool filling, char *text, size_t room, log_due *due);
+/* a version, mostly 10 or 20 */
+word some_version(struct random *r);
+/* a log, for a table that passes every check and a version, into a buffer of 80,000 bytes or more: returns its length; filling: the first listed step, again and again */
+size_t log_text(struct random *r, const word *table, word version, bool filling, char *text, size_t room, log_due *due);
 /* values that a template is likely to meet */
 ref_tuple some_tuple(struct random *r);
 /* the name of a step: an accepted one where there is one and chance wants it, else any */

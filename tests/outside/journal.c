@@ -77,10 +77,10 @@ static bool do_next(struct journal *j, const word *table, word *state, struct li
     return a.number == 0;
 }
 
-static void do_all(struct journal *j, const word *table, bool filling) {
+static void do_all(struct journal *j, const word *table, word version, bool filling) {
     static word state[REF_STATE_WORDS];
     unsigned turns = filling ? FILLED : chance(j->r, 70) ? draw(j->r, 14) : chance(j->r, 95) ? draw(j->r, 60) : LINES - 10;
-    ref_fresh(table, state);
+    ref_fresh(table, version, state);
     j->steady = filling || chance(j->r, 10);
     for (j->count = 0; turns; turns--)
         if (do_next(j, table, state, &j->lines[j->count])) spell(&j->lines[j->count++]);
@@ -182,10 +182,10 @@ static bool one_more(const word *table, const word *state, ref_name *name) {
 }
 
 /* any step, named in the state that the events before left */
-static log_due spoil_turn(struct journal *j, const word *table) {
+static log_due spoil_turn(struct journal *j, const word *table, word version) {
     static word state[REF_STATE_WORDS];
     struct line l = {.sign = '-'};
-    ref_fresh(table, state);
+    ref_fresh(table, version, state);
     for (unsigned k = 0; k < j->at; k++) {
         struct line *x = &j->lines[k];
         ref_name step = x->step;
@@ -203,13 +203,13 @@ static log_due spoil_turn(struct journal *j, const word *table) {
     return own ? at_fault(j, own) : unknown;
 }
 
-static log_due spoil_line(struct journal *j, const word *table) {
+static log_due spoil_line(struct journal *j, const word *table, word version) {
     if (j->count >= LINES - 4) return j->due;
     j->at = j->count < FILLED ? draw(j->r, j->count + 1) : j->count - 1 - draw(j->r, 30);
     unsigned which = draw(j->r, 100);
     if (j->at == j->count && (which >= 40 || j->steady)) return j->due;
     if (which < 5) return spoil_post(j);
-    if (which < 40 && !j->steady) return spoil_turn(j, table);
+    if (which < 40 && !j->steady) return spoil_turn(j, table, version);
     while (which >= 80 && j->at + 1 < j->count && j->lines[j->at].sign != '!') j->at++; /* one that sent */
     struct line *l = &j->lines[j->at];
     if (which < 50 || l->post || j->steady) return spoil_order(j);
@@ -424,6 +424,17 @@ static size_t next_of(struct journal *j, size_t at, const char *bytes) {
     return found ? (size_t)(found - j->text) : at;
 }
 
+/* the text ends in a reference, that could become a right one or not, or right behind it */
+static log_due cut_reference(struct journal *j, size_t root) {
+    static const char *const cuts[] = {"&", "&1", "&.", "&-", "&#a", "&#xg", "&a#", "&l", "&#", "&#x", "&#x4", "&lt", "&nbsp", "&#99999999", "&#xd800", "&#0", "&:_\xff", "&##", "&l;", "&1;", "&#xg;", "& "};
+    size_t at = draw(j->r, root);
+    const char *piece = ONE_OF(j, cuts);
+    while (at && j->text[at] != '"' && j->text[at] != '\'' && j->text[at] != '>') at--; /* in a value, most likely, or between tags */
+    j->n = ++at;
+    insert(j, at, piece);
+    return unknown;
+}
+
 static log_due cut_off(struct journal *j, size_t at, size_t root) {
     bool early = j->due.number == 23 && j->due.beside < at;
     if (j->due.number < 0 || early || at >= root) return j->n = at, unknown;
@@ -440,7 +451,7 @@ static log_due spoil_bytes(struct journal *j, size_t root) {
     size_t at = draw(j->r, j->n);
     if (chance(j->r, 60)) at = next_of(j, at, ONE_OF(j, marks));
     switch (draw(j->r, 10)) {
-    case 0:
+    case 0: return root && chance(j->r, 40) ? cut_reference(j, root < j->n ? root : j->n) : cut_off(j, draw(j->r, j->n), root);
     case 1: return cut_off(j, draw(j->r, j->n), root);
     case 2:
         for (at = XML_MOST + draw(j->r, 2); j->n < at;) j->text[j->n++] = ' ';
@@ -463,15 +474,15 @@ static log_due spoil_bytes(struct journal *j, size_t root) {
     return unknown;
 }
 
-size_t log_text(struct random *r, const word *table, bool filling, char *text, size_t room, log_due *due) {
+size_t log_text(struct random *r, const word *table, word version, bool filling, char *text, size_t room, log_due *due) {
     static const char *const prefixes[] = {"", "", "", "xes:", "x:y:", "_.:"}, *const gaps[] = {"", "\n", "\r\n", " ", "\n\t", "\t"};
     static struct journal journal;
     struct journal *j = &journal;
     *j = (struct journal){.r = r, .text = text, .room = room};
     j->prefix = ONE_OF(j, prefixes), j->gap = ONE_OF(j, gaps), j->quote = chance(r, 80) ? '"' : '\'', j->plain = chance(r, 20);
-    do_all(j, table, filling);
-    if (chance(r, 50)) j->due = spoil_line(j, table);
-    if (j->due.number == 24 && chance(r, 10)) spoil_line(j, table), j->due = unknown;
+    do_all(j, table, version, filling);
+    if (chance(r, 50)) j->due = spoil_line(j, table, version);
+    if (j->due.number == 24 && chance(r, 10)) spoil_line(j, table, version), j->due = unknown;
     if (chance(r, 30)) { /* 23 goes before 24 */
         j->at = draw(r, j->count + 1), j->fault = draw(r, FAULTS);
         if (j->fault == NO_LINE && j->at < j->count) spoil_text(j, &j->lines[j->at]);

@@ -28,7 +28,7 @@ enum { KIND = 0, TASK_NUMBER = 1, MODE = 2, ENTRIES = 3, EXITS = 12, CONDITIONS 
 enum { POOL_LIMIT = 1, POOL_COUNT = 2, POOL_ELEMENTS = 3, POOL_WORDS = 8387 };
 
 /* An instance's words; a state's. */
-enum { ACTIVE = 48, READY = 64, DEFINED = 80, INSTANCE_WORDS = 112, POOL_INSTANCES = INSTANCE_WORDS * INSTANCES, SHARED = 7172, SHARED_WORDS = 33,
+enum { ACTIVE = 48, READY = 64, DEFINED = 80, INSTANCE_WORDS = 112, POOL_INSTANCES = INSTANCE_WORDS * INSTANCES, SHARED = 7172, SHARED_WORDS = 33, VERSION = 7204,
        QUEUES = SHARED + SHARED_WORDS, SLOT_WORDS = 5, QUEUE_WORDS = 321 };
 
 enum { START = 1, START_RCV, END, TERMINATE, END_SND, INTER_RCV, INTER_SND, EVENT_BASED, AND_SPLIT, AND_JOIN, XOR_JOIN, XOR_SPLIT, TASK, TASK_RCV, TASK_SND,
@@ -78,6 +78,9 @@ bool table_fits(const word *t);
 unsigned lowest_broken(const word *t);
 bool valid(const word *t);
 bool fitting(const word *t, const word *z);
+bool known_version(word version);
+/* 10 or 25 for a table and a state that are lent, else 0 */
+unsigned lent_number(const word *t, const word *z);
 /* a condition of an xorSplit by itself: 2 where the text is none, 3 with the place of the first number outside its range, else 0 */
 unsigned condition_of(const uint8_t *text, size_t length, word *x, size_t *place);
 

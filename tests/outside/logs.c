@@ -193,10 +193,11 @@ static bool done(const word *t, word *z, const struct line *l, unsigned *own) {
     return !a.number && is_true(l, &a);
 }
 
-ref_judged ref_judge(const word *t, const uint8_t *text, size_t length) {
+ref_judged ref_judge(const word *t, word version, const uint8_t *text, size_t length) {
     static struct log g;
     static word state[REF_STATE_WORDS];
-    if (ref_fresh(t, state)) return (ref_judged){10, 0, 0};
+    unsigned number = ref_fresh(t, version, state);
+    if (number) return (ref_judged){number, 0, 0};
     if (length > XML_MOST) return (ref_judged){23, 0, 0};
     if (!is_log(&g, text, length)) return (ref_judged){23, g.xml.place, 0};
     for (unsigned k = 0; k < g.events; k++) {

@@ -1,11 +1,11 @@
-/* An implementation of document 01 in plain C, written from the document alone: the engine's calls are compared with it, and timed against it. */
+/* An implementation of documents 01 and 02 in plain C, written from the documents alone: the engine's calls are compared with it, and timed against it. */
 #ifndef REFERENCE_H
 #define REFERENCE_H
 
 #include <stddef.h>
 #include <stdint.h>
 
-enum { REF_TABLE_WORDS = 33549, REF_STATE_WORDS = 12341, REF_TEXT_MOST = 65536, REF_ITEMS = 64, REF_ITEM_WORDS = 11 };
+enum { REF_TABLE_WORDS = 33549, REF_STATE_WORDS = 12341, REF_TEXT_MOST = 65536, REF_ITEMS = 64, REF_ITEM_WORDS = 11, REF_VERSION_10 = 10, REF_VERSION_20 = 20 };
 
 /* a word of a table or a state, and a value: 0 to 4,294,967,295 */
 typedef uint32_t ref_word;
@@ -23,7 +23,8 @@ typedef struct { ref_word number; size_t accepted; } ref_polled;
 typedef struct { ref_word number; size_t beside; ref_word own; } ref_judged;
 
 ref_verdict ref_check(const ref_word *table);
-ref_word ref_fresh(const ref_word *table, ref_word *state);
+/* document 02's seventh request: the state is of version 10 or 20, and keeps it */
+ref_word ref_fresh(const ref_word *table, ref_word version, ref_word *state);
 ref_answer ref_step(const ref_word *table, ref_word *state, ref_name name);
 ref_word ref_post(const ref_word *table, ref_word *state, ref_word name, ref_tuple values);
 ref_listed ref_list(const ref_word *table, const ref_word *state, size_t ordinal);
@@ -34,7 +35,7 @@ ref_reading ref_draw(const uint8_t *text, size_t length, ref_word *table);
 ref_written ref_write(const ref_word *table, uint8_t *buffer, size_t length);
 /* an item: 1 for a post, else a step; pool or name, instance, element, phase, branch, length, 4 values */
 ref_polled ref_poll(const ref_word *table, ref_word *state, const ref_word *items, size_t count);
-/* document 02's fourth request: the text is a log, judged from the fresh state */
-ref_judged ref_judge(const ref_word *table, const uint8_t *text, size_t length);
+/* document 02's fourth request: the text is a log, judged from the fresh state of a version */
+ref_judged ref_judge(const ref_word *table, ref_word version, const uint8_t *text, size_t length);
 
 #endif

@@ -115,7 +115,8 @@ static bool assign(const word *el, word *h) {
     return true;
 }
 
-static bool counts_permit(const word *el, const word *h, const struct move *m, unsigned b) {
+/* an na_nc task may not begin while an instance of it is active or ready; under version 10 no na task may */
+static bool counts_permit(const word *el, const word *h, const struct move *m, unsigned b, word version) {
     if (m->takes == BRANCH) {
         if (!h[el[ENTRIES + 1 + b] - 1]) return false;
     } else if (m->takes)
@@ -125,7 +126,8 @@ static bool counts_permit(const word *el, const word *h, const struct move *m, u
     word active = h[ACTIVE + el[TASK_NUMBER] - 1], ready = h[READY + el[TASK_NUMBER] - 1];
     if (m->active == DOWN && !active) return false;
     if (m->ready == DOWN && !ready) return false;
-    return !(m->alone && el[MODE] == NA_NC && (active | ready));
+    bool waits = el[MODE] == NA_NC || version == REF_VERSION_10;
+    return !(m->alone && waits && (active | ready));
 }
 
 /* the oldest message equal to one; behind a message's values stands 0 */
@@ -192,7 +194,7 @@ static unsigned decide(const word *el, const word *h, word *z, const struct move
     static const word unmade[INSTANCE_WORDS];
     if (m->makes) h = unmade;
     const word *message = message_at(el, b);
-    if (!counts_permit(el, h, m, b)) return 12;
+    if (!counts_permit(el, h, m, b, z[VERSION])) return 12;
     if (m->asks && !condition_holds(el, h, b)) return 13;
     memset(&plan->message, 0, sizeof plan->message);
     if (m->receives && !work_out(message, h, g, &plan->message)) return 13;
@@ -245,7 +247,10 @@ static ref_answer step_on(const word *t, word *z, const ref_name *n, bool take) 
     return a;
 }
 
-ref_answer ref_step(const word *t, word *z, ref_name n) { return fitting(t, z) ? step_on(t, z, &n, true) : (ref_answer){.number = 10}; }
+ref_answer ref_step(const word *t, word *z, ref_name n) {
+    unsigned number = lent_number(t, z);
+    return number ? (ref_answer){.number = number} : step_on(t, z, &n, true);
+}
 
 static word post_on(word *z, word name, ref_tuple g) {
     if (name >= NAMES || g.length > VALUES) return 19;
@@ -255,7 +260,10 @@ static word post_on(word *z, word name, ref_tuple g) {
     return 0;
 }
 
-word ref_post(const word *t, word *z, word name, ref_tuple g) { return fitting(t, z) ? post_on(z, name, g) : 10; }
+word ref_post(const word *t, word *z, word name, ref_tuple g) {
+    unsigned number = lent_number(t, z);
+    return number ? number : post_on(z, name, g);
+}
 
 /* An element with no token on an entry and no count cannot move. */
 static bool idle(const word *el, const word *h) {
@@ -305,7 +313,7 @@ static bool search_element(struct search *s, const word *el, const word *h, unsi
         unsigned branches = branch_count(el, m);
         for (unsigned b = 0; b < branches; b++) {
             s->name.branch = b;
-            if (!m->makes && !counts_permit(el, h, m, b)) continue;
+            if (!m->makes && !counts_permit(el, h, m, b, s->z[VERSION])) continue;
             if (m->receives ? offer_messages(s, el, h, m, made, limit) : offer(s, el, h, m, made, limit)) return true;
         }
     }
@@ -338,8 +346,8 @@ static bool search_all(struct search *s) {
 }
 
 ref_listed ref_list(const word *t, const word *z, size_t k) {
-    ref_listed r = {.number = 10};
-    if (!fitting(t, z)) return r;
+    ref_listed r = {.number = lent_number(t, z)};
+    if (r.number) return r;
     struct search s = {.t = t, .z = (word *)z, .left = k};
     r.number = search_all(&s) ? 0 : 6;
     if (!r.number) r.name = s.name;
@@ -347,7 +355,8 @@ ref_listed ref_list(const word *t, const word *z, size_t k) {
 }
 
 ref_ran ref_run(const word *t, word *z, uint16_t limit) {
-    if (!fitting(t, z)) return (ref_ran){10, 0, 0};
+    unsigned number = lent_number(t, z);
+    if (number) return (ref_ran){number, 0, 0};
     for (unsigned steps = 0;; steps++) {
         struct search s = {.t = t, .z = z, .left = 0};
         if (!search_all(&s)) return (ref_ran){0, steps, 0};
@@ -359,7 +368,8 @@ ref_ran ref_run(const word *t, word *z, uint16_t limit) {
 /* document 02, wish 2: given one by one until the first refusal */
 ref_polled ref_poll(const word *t, word *z, const word *items, size_t count) {
     if (count > REF_ITEMS) return (ref_polled){22, 0};
-    if (!fitting(t, z)) return (ref_polled){10, 0};
+    unsigned number = lent_number(t, z);
+    if (number) return (ref_polled){number, 0};
     for (size_t k = 0; k < count; k++) {
         const word *w = items + REF_ITEM_WORDS * k;
         ref_tuple g = {w[6], {w[7], w[8], w[9], w[10]}};

@@ -109,7 +109,6 @@ static bool numbered(struct xml *w, size_t at, uint32_t *code) {
         else break;
         if (c > 0x110000) c = 0x110000;
     }
-    if (k == w->n) return cut(w);
     if (w->s[k] != ';' || k == begin) return broken(w, at, k);
     if (!allowed(c)) return fault(w, at);
     *code = c;
@@ -117,13 +116,18 @@ static bool numbered(struct xml *w, size_t at, uint32_t *code) {
     return true;
 }
 
+/* letters, digits, `#`, `.`, `-`, `_`, `:` and bytes from 128, and nothing else, up to the end */
+static bool runs_out(const struct xml *w, size_t at) {
+    while (at < w->n && (in_name(w->s[at]) || w->s[at] == '#')) at++;
+    return at == w->n;
+}
+
 bool reference(struct xml *w, size_t at, uint32_t *code) {
     static const struct { const char *name; uint8_t code; } known[] = {{"lt", '<'}, {"gt", '>'}, {"amp", '&'}, {"quot", '"'}, {"apos", '\''}};
-    if (at + 1 == w->n) return cut(w);
+    if (runs_out(w, at + 1)) return cut(w);
     if (w->s[at + 1] == '#') return numbered(w, at, code);
     if (!is_letter(w->s[at + 1])) return broken(w, at, at + 1);
     struct span name = {at + 1, name_end(w, at + 1), true};
-    if (name.to == w->n) return cut(w);
     if (w->s[name.to] != ';') return broken(w, at, name.to);
     for (unsigned k = 0; k < 5; k++)
         if (is(w, name, known[k].name)) {

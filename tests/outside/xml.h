@@ -39,7 +39,7 @@ bool instruction(struct xml *w, struct span target);
 /* a start tag behind its name: its attributes, and whether it is empty */
 bool tag(struct xml *w, size_t from, attribute_judge judge, bool *empty);
 bool end_tag(struct xml *w, struct span begun, struct span name);
-/* a reference from its `&` on, and the character it stands for */
+/* a reference from its `&` on, and the character it stands for; what the end cuts off is not judged, whether or not it could become a right one */
 bool reference(struct xml *w, size_t at, uint32_t *code);
 /* what is wrong where only markup may stand: a reference too, but for one that runs up to the end */
 bool no_markup(struct xml *w, size_t at);

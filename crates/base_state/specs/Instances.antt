@@ -5,7 +5,7 @@ use mathlib.Core.List.{List}
 use lib.ListN.{set, take, drop}
 use Rattle.base_words.specs.Words.{at}
 use Rattle.base_words.specs.Writes.{writes}
-use Rattle.base_state.specs.Places.{tokenPlace, activePlace, readyPlace, definedPlace, valuePlace, madePlace, instancePlace, instanceWords, storeWords, sharedPlace, instancesWords}
+use Rattle.base_state.specs.Places.{tokenPlace, activePlace, readyPlace, definedPlace, valuePlace, madePlace, instancePlace, instanceWords, storeWords, sharedPlace, versionPlace, versionAt, instancesWords}
 
 -- the two parts of a state
 abbrev pub instancesOf : List ℕ → List ℕ
@@ -29,6 +29,13 @@ activeCount h task = at h (activePlace task)
 
 abbrev pub readyCount : List ℕ → ℕ → ℕ
 readyCount h task = at h (readyPlace task)
+
+-- the version of a state, and as a step sees it
+abbrev pub versionOf : List ℕ → ℕ
+versionOf s = at s versionAt
+
+abbrev pub versionSeen : List ℕ → ℕ
+versionSeen h = at h versionPlace
 
 -- the instance with another number of tokens, another count, a field defined
 abbrev pub withTokens : List ℕ → ℕ → ℕ → List ℕ

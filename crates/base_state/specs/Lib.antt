@@ -1,2 +1,3 @@
 pub mod Places
 pub mod Instances
+pub mod Versions

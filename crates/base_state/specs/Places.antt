@@ -41,6 +41,10 @@ sharedWords = versionIn + 1
 abbrev pub sharedPlace : ℕ
 sharedPlace = instancePlace pools 0
 
+-- where the version stands in a state
+abbrev pub versionAt : ℕ
+versionAt = sharedPlace + versionIn
+
 abbrev pub instancesWords : ℕ
 instancesWords = sharedPlace + sharedWords
 
@@ -48,6 +52,7 @@ instancesWords = sharedPlace + sharedWords
 abbrev pub copyWords : ℕ
 copyWords = instanceWords + sharedWords
 
+-- where a step sees the version
 abbrev pub versionPlace : ℕ
 versionPlace = instanceWords + versionIn
 

@@ -11,6 +11,7 @@ use base_words::wide;
 use base_words::word;
 
 pub mod places;
+pub mod versions;
 
 use places::ACTIVE;
 use places::DEFINED;

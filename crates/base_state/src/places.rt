@@ -31,10 +31,14 @@ pub const STORE_WORDS: usize = 2 * FIELDS as usize;
 
 pub const SHARED_WORDS: usize = STORE_WORDS + 1;
 
+pub const VERSION: usize = SHARED + STORE_WORDS;
+
 pub const INSTANCES_WORDS: usize = SHARED + SHARED_WORDS;
 
 // What a step sees: an instance, and behind it what all share.
 pub const COPY_WORDS: usize = INSTANCE_WORDS + SHARED_WORDS;
+
+pub const VERSION_SEEN: usize = INSTANCE_WORDS + STORE_WORDS;
 
 // The queues, from their own start: for each name the count of its messages, then the messages.
 // Of a message: its length, then its values; of a queue: its count, then its messages.

@@ -1,6 +1,6 @@
--- The laws of a choice and of `&&`, in the direction of a contract's `r ≡ spec`. Assumes nothing.
+-- The laws of a choice, of `&&` and of `||`, in the direction of a contract's `r ≡ spec`. Assumes nothing.
 use mathlib.Core.Path.{_≡_, _∙_, refl, sym, ap}
-use mathlib.Core.Bool.{Bool, true, false, not, _&&_}
+use mathlib.Core.Bool.{Bool, true, false, not, _&&_, _||_}
 use Prim.Native.Nat.{ℕ}
 use lib.Dec.{leb, eqb}
 use Rattle.base_words.specs.Pick.{if_then_else_}
@@ -19,6 +19,12 @@ and-yes a b w e h = rw e h
 
 pub and-no : (a b : Bool) → a ≡ false → false ≡ a && b
 and-no a b e = rw e
+
+pub or-yes : (a b : Bool) → a ≡ true → true ≡ a || b
+or-yes a b e = rw e
+
+pub or-no : (a b w : Bool) → a ≡ false → w ≡ b → w ≡ a || b
+or-no a b w e h = rw e h
 
 -- a Bool b that a call's result r is known to equal, from the test on r, or on `!r`
 pub flag-is : (r b t : Bool) → r ≡ b → r ≡ t → b ≡ t

@@ -1,4 +1,4 @@
-// "Numbers given back" of document 01, each once.
+// "Numbers given back" of document 01, and those of document 02, each once.
 use super::Word;
 
 // accepted
@@ -66,3 +66,18 @@ pub const NOT_A_LOG: Word = 23;
 
 // judge: the event at fault
 pub const AT_FAULT: Word = 24;
+
+// another version than 10 or 20, asked for or in a state
+pub const OTHER_VERSION: Word = 25;
+
+// the number of records isn't the number of pools, or they don't agree with the state
+pub const NOT_COUNTED: Word = 26;
+
+// repair: the text breaks off before the trace opens, is no such log at an earlier place than its end, or is longer
+pub const NOT_CUT: Word = 27;
+
+// reading: no edge or element number free for an endSnd
+pub const NONE_FREE: Word = 28;
+
+// nested: the pool that is not nested
+pub const NOT_NESTED: Word = 29;

@@ -46,7 +46,7 @@ fn behind(line: &[u8], i: usize) -> usize {
 }
 
 // Where word k of a line starts, k from 0.
-fn start_of(line: &[u8], k: usize) -> usize {
+pub(super) fn start_of(line: &[u8], k: usize) -> usize {
     let mut from: usize = 0;
     let mut n: usize = 0;
     while n < k {
@@ -95,6 +95,14 @@ pub(super) fn number_at(line: &[u8], k: usize) -> u16 {
         return n as u16;
     }
     0
+}
+
+// Whether word k of a line is a number, and a blank stands behind it.
+pub(super) fn is_number_before(line: &[u8], k: usize) -> bool {
+    if !is_number(as_argument(word_of(line, k))) {
+        return false;
+    }
+    next_of(line, BLANK, start_of(line, k)) < line.len()
 }
 
 // Word k of a line as a value.

@@ -1,6 +1,8 @@
 // The commands of a session, a function each. Those that make a table answer whether there is one to work on.
 use super::arguments::is_command;
+use super::arguments::is_number_before;
 use super::arguments::number_at;
+use super::arguments::start_of;
 use super::arguments::values_at;
 use super::batch::do_batch;
 use super::batch::is_batch;
@@ -18,6 +20,7 @@ use super::output::tell_refused;
 use super::output::tell_traffic;
 use super::report::report;
 use base_state::places::STATE_WORDS;
+use base_state::versions::PRESENT;
 use base_table::places::TABLE_WORDS;
 use base_words::Word;
 use base_words::counts::TEXT_MOST;
@@ -52,7 +55,7 @@ fn begin(r: Reading, loaded: bool, t: &[Word; TABLE_WORDS], z: &mut [Word; STATE
         tell_unread(r);
         return loaded;
     }
-    tell_done(engine::fresh(t, z));
+    tell_done(engine::fresh(t, PRESENT, z));
     true
 }
 
@@ -145,8 +148,12 @@ fn do_run(line: &[u8], loaded: bool, t: &[Word; TABLE_WORDS], z: &mut [Word; STA
 // The bytes of `judge` and its blank.
 const JUDGE: usize = 6;
 
+// The version, a number, stands before the log.
 fn is_judge(line: &[u8]) -> bool {
-    same(piece(line, 0, JUDGE), b"judge ")
+    if !same(piece(line, 0, JUDGE), b"judge ") {
+        return false;
+    }
+    is_number_before(line, 1)
 }
 
 fn do_judge(line: &[u8], loaded: bool, t: &[Word; TABLE_WORDS]) {
@@ -154,17 +161,18 @@ fn do_judge(line: &[u8], loaded: bool, t: &[Word; TABLE_WORDS]) {
         no_model();
         return;
     }
-    tell_judged(engine::judge(t, piece(line, JUDGE, line.len())));
+    let log = piece(line, start_of(line, 2), line.len());
+    tell_judged(engine::judge(t, number_at(line, 1) as Word, log));
 }
 
 // fresh, state
 
-fn do_fresh(loaded: bool, t: &[Word; TABLE_WORDS], z: &mut [Word; STATE_WORDS]) {
+fn do_fresh(version: Word, loaded: bool, t: &[Word; TABLE_WORDS], z: &mut [Word; STATE_WORDS]) {
     if !loaded {
         no_model();
         return;
     }
-    tell_done(engine::fresh(t, z));
+    tell_done(engine::fresh(t, version, z));
 }
 
 fn do_state(loaded: bool, t: &[Word; TABLE_WORDS], z: &[Word; STATE_WORDS]) {
@@ -224,7 +232,11 @@ fn on_table(line: &[u8], loaded: bool, t: &[Word; TABLE_WORDS]) {
 // The commands on a state as a whole, then those on a table.
 fn on_state(line: &[u8], loaded: bool, t: &[Word; TABLE_WORDS], z: &mut [Word; STATE_WORDS]) {
     if is_command(line, b"fresh", b"") {
-        do_fresh(loaded, t, z);
+        do_fresh(PRESENT, loaded, t, z);
+        return;
+    }
+    if is_command(line, b"fresh", b"n") {
+        do_fresh(number_at(line, 1) as Word, loaded, t, z);
         return;
     }
     if is_command(line, b"state", b"") {

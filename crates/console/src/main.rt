@@ -7,12 +7,12 @@
 //   post M V           ok, or refused N
 //   list K             P I E F B V of the K-th accepted step, or refused N
 //   batch ITEM;ITEM;.. accepted N refused R of a poll; an item is a step or a post as above, `batch` alone has none
-//   judge TEXT         lawful, refused 23 PLACE or refused 24 ORDINAL NUMBER of a log, which is every byte behind the one blank
+//   judge V TEXT       lawful, refused 25, refused 23 PLACE or refused 24 ORDINAL NUMBER of a log under version V; the log is every byte behind the one blank
 //   run N              the line of each step, then: steps N left F; or refused N
 //   write              the text of the model, or refused N
 //   write N            the same, into a buffer of N bytes
-//   fresh              a fresh state: ok, or refused N
-//   state              a line for each made instance and each queue that is not empty, then: end
+//   fresh, fresh V     a fresh state for version 20 or V: ok, or refused N
+//   state              version 10 where it is that, a line for each made instance and each queue that is not empty, then: end
 //   again              the text of the model is read into a second table and written from there: same N, the length of the text; or table differs,
 //                      text differs, refused N
 //   clear              every word of the table is 0: ok

@@ -1,4 +1,4 @@
-// The lines of a state: its made instances and its queues.
+// The lines of a state: its version, its made instances and its queues. Counts of a state that does not fit are bounded by the layout.
 use super::output::tell_number;
 use super::output::tell_tuple;
 use base_state::defined_at;
@@ -9,6 +9,8 @@ use base_state::places::INSTANCES_WORDS;
 use base_state::places::READY;
 use base_state::places::STATE_WORDS;
 use base_state::value_at;
+use base_state::versions::FORMER;
+use base_state::versions::version_of;
 use base_table::places::FIRST_POOL;
 use base_table::places::POOL_WORDS;
 use base_table::places::TABLE_WORDS;
@@ -16,8 +18,12 @@ use base_table::pool_count;
 use base_words::Word;
 use base_words::counts::EDGES;
 use base_words::counts::FIELDS;
+use base_words::counts::INSTANCES;
+use base_words::counts::MESSAGES;
 use base_words::counts::NAMES;
+use base_words::counts::POOLS;
 use base_words::counts::TASKS;
+use base_words::counts::VALUES;
 use base_words::tail;
 use base_words::word;
 use meaning::Tuple;
@@ -89,7 +95,7 @@ fn tell_instance(number: Word, i: Word, h: &[Word]) {
 
 fn tell_pool(t: &[Word], z: &[Word], p: Word) {
     let number = word(t, FIRST_POOL + POOL_WORDS * (p as usize));
-    let made = made_count(z, p);
+    let made = at_most(made_count(z, p), INSTANCES);
     let mut i: Word = 0;
     while i < made {
         tell_instance(number, i, instance_at(z, p, i));
@@ -98,12 +104,16 @@ fn tell_pool(t: &[Word], z: &[Word], p: Word) {
 }
 
 fn tell_message(g: Tuple) {
+    let values = g.values;
     tell(b" ");
-    tell_tuple(g);
+    tell_tuple(Tuple {
+        length: at_most(g.length, VALUES),
+        values: values,
+    });
 }
 
 fn tell_queue(q: &[Word], m: Word) {
-    let n = queued_in(q, m);
+    let n = at_most(queued_in(q, m), MESSAGES);
     if n == 0 {
         return;
     }
@@ -118,7 +128,7 @@ fn tell_queue(q: &[Word], m: Word) {
 }
 
 fn tell_pools(t: &[Word], z: &[Word]) {
-    let n = pool_count(t);
+    let n = at_most(pool_count(t), POOLS);
     let mut p: Word = 0;
     while p < n {
         tell_pool(t, z, p);
@@ -134,7 +144,20 @@ fn tell_queues(q: &[Word]) {
     }
 }
 
+// A count, as far as there is room in the layout.
+fn at_most(n: Word, most: Word) -> Word {
+    if n < most { n } else { most }
+}
+
+// The present version is not said.
+fn tell_version(z: &[Word]) {
+    if version_of(z) == FORMER {
+        tell(b"version 10\n");
+    }
+}
+
 pub(super) fn report(t: &[Word; TABLE_WORDS], z: &[Word; STATE_WORDS]) {
+    tell_version(z);
     tell_pools(t, z);
     tell_queues(tail(z, INSTANCES_WORDS));
     tell(b"end\n");

@@ -30,8 +30,8 @@ areWhole n m = eqb n tableWords && eqb m stateWords
 unfoldable pub checkedBy : List ℕ → ℕ → Verdict
 checkedBy t n = if eqb n tableWords then verdictOf t else record { number = 10; beside = 0 }
 
-unfoldable pub freshenedBy : List ℕ → ℕ → List ℕ → ℕ → Left
-freshenedBy t n z m = if areWhole n m then freshened t z else record { number = 10; state = z }
+unfoldable pub freshenedBy : List ℕ → ℕ → ℕ → List ℕ → ℕ → Left
+freshenedBy t n v z m = if areWhole n m then freshened t v z else record { number = 10; state = z }
 
 -- what a step did to the queues, as a number
 unfoldable pub trafficNumber : Traffic → ℕ
@@ -86,5 +86,5 @@ lentWrong count = if ltb itemsMost count then 22 else 10
 unfoldable pub polledAt : List ℕ → ℕ → List ℕ → ℕ → List ℕ → ℕ → ℕ → Polling
 polledAt t n z m w k count = if areLent n m k then polledTo t z w count else record { number = lentWrong count; accepted = 0; state = z }
 
-unfoldable pub judgedBy : List ℕ → ℕ → List ℕ → Judged
-judgedBy t n log = if eqb n tableWords then judgedTo t log else record { number = 10; beside = 0; own = 0 }
+unfoldable pub judgedBy : List ℕ → ℕ → ℕ → List ℕ → Judged
+judgedBy t n v log = if eqb n tableWords then judgedTo t v log else record { number = 10; beside = 0; own = 0 }

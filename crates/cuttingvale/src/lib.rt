@@ -66,15 +66,16 @@ fn are_whole(tablelength: usize, statelength: usize) -> bool
 pub extern "C" fn cv_fresh(
     table: &[Word; TABLE_WORDS],
     tablelength: usize,
+    version: Word,
     state: &mut [Word; STATE_WORDS],
     statelength: usize,
 ) -> Word
-    ensures { λ r. ⌜ record { number = r; state = now (state .exit) } ≡ freshenedBy (now (table .entry)) tablelength (now (state .entry)) statelength ⌝ }
+    ensures { λ r. ⌜ record { number = r; state = now (state .exit) } ≡ freshenedBy (now (table .entry)) tablelength version (now (state .entry)) statelength ⌝ }
 {
     if !are_whole(tablelength, statelength) {
         return BAD;
     }
-    engine::fresh(table, state)
+    engine::fresh(table, version, state)
 }
 
 fn number_of(traffic: Traffic) -> Word
@@ -283,8 +284,13 @@ pub extern "C" fn cv_poll(
 }
 
 #[no_mangle]
-pub extern "C" fn cv_judge(table: &[Word; TABLE_WORDS], tablelength: usize, log: &[u8]) -> Judged
-    ensures { λ r. ⌜ r ≡ judgedBy (now (table .entry)) tablelength (now (log .entry)) ⌝ }
+pub extern "C" fn cv_judge(
+    table: &[Word; TABLE_WORDS],
+    tablelength: usize,
+    version: Word,
+    log: &[u8],
+) -> Judged
+    ensures { λ r. ⌜ r ≡ judgedBy (now (table .entry)) tablelength version (now (log .entry)) ⌝ }
 {
     if tablelength != TABLE_WORDS {
         return Judged {
@@ -293,5 +299,5 @@ pub extern "C" fn cv_judge(table: &[Word; TABLE_WORDS], tablelength: usize, log:
             own: 0,
         };
     }
-    engine::judge(table, log)
+    engine::judge(table, version, log)
 }

@@ -12,7 +12,7 @@ use Rattle.meaning.specs.declared.Tuple.{Tuple}
 use Rattle.state_fits.specs.Fresh.{fresh}
 use Rattle.log_judge.specs.declared.Judged.{Judged}
 use Rattle.log_judge.specs.Judge.{answered, taken, judgedFrom}
-use Rattle.engine.specs.Engine.{valid, Left, fitting, lentNumber, stepped, postedTo}
+use Rattle.engine.specs.Engine.{Left, askedNumber, fitting, lentNumber, stepped, postedTo}
 pub use Rattle.step_poll.specs.Items.{Act, aStep, aPost}
 use Rattle.step_poll.specs.Poll.{Polling, polledFrom}
 
@@ -34,16 +34,18 @@ unfoldable pub after : List ℕ → List Act → List ℕ → List ℕ
 after t [] z = z
 after t (a ∷ rest) z = after t rest (did t a z .state)
 
--- "valid states of one model": as long as the type of a lent state says, and it fits its valid table
+-- "valid states of one model": as long as the type of a lent state says, it fits its valid table, and its version is one that there is
 pub record Valid (t z : List ℕ) : Type 0 where
   pub long : length z ≡ stateWords
   pub fits : fitting t z ≡ true
 
--- A WHOLE POLL out of the lent words w: "22 more than 64 items, checked first, nothing done; then 10, with no items too", else one by one until the
+-- A WHOLE POLL out of the lent words w: "22 more than 64 items, checked first, nothing done; then 10, with no items too", and 25, else one by one until the
 -- first refusal
 unfoldable pub polledTo : List ℕ → List ℕ → List ℕ → ℕ → Polling
 polledTo t z w count = polledFrom (did t) (lentNumber t z) w count z
 
--- WHETHER A LOG'S RUN WAS LAWFUL: "every step and post is accepted in turn from the fresh state, and what each line says was sent or consumed is true"; 10 goes before 23 and 24
-unfoldable pub judgedTo : List ℕ → List ℕ → Judged
-judgedTo t log = if valid t then judgedFrom (taken (stepped t) (postedTo t)) log (fresh t) else answered 10 0 0
+-- WHETHER A LOG'S RUN WAS LAWFUL: "every step and post is accepted in turn from the fresh state, and what each line says was sent or consumed is true"; "a log is judged under the version its caller names";
+-- 10 and 25 go before 23 and 24
+unfoldable pub judgedTo : List ℕ → ℕ → List ℕ → Judged
+judgedTo t v log =
+    if eqb (askedNumber t v) 0 then judgedFrom (taken (stepped t) (postedTo t)) log (fresh t v) else answered (askedNumber t v) 0 0

@@ -5,7 +5,8 @@ use mathlib.Core.List.{List, _++_}
 use lib.Dec.{eqb, ltb}
 use lib.ListN.{length, drop}
 use Rattle.base_words.specs.Pick.{if_then_else_}
-use Rattle.base_state.specs.Instances.{instancesOf, queuesOf}
+use Rattle.base_state.specs.Instances.{instancesOf, queuesOf, versionOf}
+use Rattle.base_state.specs.Versions.{isVersion}
 use Rattle.meaning.specs.declared.Name.{Name}
 use Rattle.meaning.specs.declared.Tuple.{Tuple}
 use Rattle.meaning.specs.declared.Traffic.the-variants.{Nothing}
@@ -36,16 +37,23 @@ verdictOf t =
     if eqb (lowest (modelOf t)) 0 then record { number = 0; beside = 0 } else record { number = 4; beside = lowest (modelOf t) }
     else record { number = 10; beside = 0 }
 
--- "every other call gives 10 for all of these"
-unfoldable pub freshened : List ℕ → List ℕ → Left
-freshened t z = if valid t then record { number = 0; state = fresh t } else record { number = 10; state = z }
+-- "25 another version, asked for or in a state"
+unfoldable pub versionNumber : ℕ → ℕ
+versionNumber v = if isVersion v then 0 else 25
 
--- "10: the table breaks a limit or check, or the state doesn't fit the table and the limits"
-unfoldable pub fitting : List ℕ → List ℕ → Bool
-fitting t z = valid t && stateFits t (instancesOf z) (queuesOf z)
+-- "every other call gives 10 for all of these", 25 "after 10": of a lent table, for the version v that is asked for
+unfoldable pub askedNumber : List ℕ → ℕ → ℕ
+askedNumber t v = if valid t then versionNumber v else 10
 
+unfoldable pub freshened : List ℕ → ℕ → List ℕ → Left
+freshened t v z = if eqb (askedNumber t v) 0 then record { number = 0; state = fresh t v } else record { number = askedNumber t v; state = z }
+
+-- of a lent table and state: "10: the table breaks a limit or check, or the state doesn't fit the table and the limits"
 unfoldable pub lentNumber : List ℕ → List ℕ → ℕ
-lentNumber t z = if fitting t z then 0 else 10
+lentNumber t z = if valid t && stateFits t (instancesOf z) (queuesOf z) then versionNumber (versionOf (instancesOf z)) else 10
+
+unfoldable pub fitting : List ℕ → List ℕ → Bool
+fitting t z = eqb (lentNumber t z) 0
 
 unfoldable pub leaving : Outcome → Stepped
 leaving o = record { answer = o .answer; state = o .instances ++ o .queues }
@@ -53,16 +61,16 @@ leaving o = record { answer = o .answer; state = o .instances ++ o .queues }
 unfoldable pub stepped : List ℕ → List ℕ → Name → Stepped
 stepped t z n =
     if fitting t z then leaving (step t (instancesOf z) (queuesOf z) n)
-    else record { answer = record { number = 10; traffic = Nothing; name = 0; tuple = empty }; state = z }
+    else record { answer = record { number = lentNumber t z; traffic = Nothing; name = 0; tuple = empty }; state = z }
 
 unfoldable pub postedTo : List ℕ → List ℕ → ℕ → Tuple → Left
 postedTo t z name g =
     if fitting t z then record { number = post (queuesOf z) name g .number; state = instancesOf z ++ post (queuesOf z) name g .queues }
-    else record { number = 10; state = z }
+    else record { number = lentNumber t z; state = z }
 
--- "6: listing: no accepted step with that ordinal"; 10 goes before it
+-- "6: listing: no accepted step with that ordinal"; 10 and 25 go before it
 unfoldable pub listedAt : List ℕ → List ℕ → ℕ → Listed
-listedAt t z k = if fitting t z then chosen (listed t (instancesOf z) (queuesOf z)) k else record { number = 10; name = blank }
+listedAt t z k = if fitting t z then chosen (listed t (instancesOf z) (queuesOf z)) k else record { number = lentNumber t z; name = blank }
 
 -- a number given back, the steps taken, 1 or 0 for whether one is still accepted, and the state that is left
 pub record RanTo : Type 0 where
@@ -75,7 +83,7 @@ unfoldable pub ended : Run → RanTo
 ended r = record { number = 0; steps = r .steps; left = r .left; state = r .instances ++ r .queues }
 
 unfoldable pub ranTo : List ℕ → List ℕ → ℕ → RanTo
-ranTo t z limit = if fitting t z then ended (ran t limit (instancesOf z) (queuesOf z)) else record { number = 10; steps = 0; left = 0; state = z }
+ranTo t z limit = if fitting t z then ended (ran t limit (instancesOf z) (queuesOf z)) else record { number = lentNumber t z; steps = 0; left = 0; state = z }
 
 -- "5: the writer's buffer is shorter than the text", and 10 goes before it; else the text, "and returns the length; the buffer's later bytes stay"
 pub record WrittenTo : Type 0 where

@@ -4,7 +4,7 @@ ghost use mathlib.Core.Bool.{true};
 ghost use lib.Dec.{leb};
 ghost use lib.ListN.{length};
 ghost use Rattle.base_state.specs.Places.{stateWords};
-ghost use Rattle.engine.specs.Engine.{valid, verdictOf, Left, freshened, lentNumber, Stepped, stepped, postedTo, listedAt, RanTo, ranTo, WrittenTo, writtenTo};
+ghost use Rattle.engine.specs.Engine.{valid, verdictOf, Left, versionNumber, askedNumber, freshened, lentNumber, Stepped, stepped, postedTo, listedAt, RanTo, ranTo, WrittenTo, writtenTo};
 ghost use Rattle.engine.specs.Calls.{polledTo, judgedTo};
 ghost use Rattle.step_poll.specs.Poll.{Polling};
 ghost use Rattle.step_names.specs.Names.{blank};
@@ -13,12 +13,15 @@ ghost use Rattle.draw_read.specs.Drawings.{drawInto};
 ghost use Rattle.write_buffer.specs.Buffers.{lesser, lastPlace};
 ghost use Rattle.write_shown.specs.Shown.{shownTable};
 use base_state::places::STATE_WORDS;
+use base_state::versions::is_version;
+use base_state::versions::version_of;
 use base_table::places::TABLE_WORDS;
 use base_words::Word;
 use base_words::counts::TEXT_MOST;
 use base_words::numbers::ACCEPTED;
 use base_words::numbers::BAD;
 use base_words::numbers::CHECK_BROKEN;
+use base_words::numbers::OTHER_VERSION;
 use base_words::numbers::TOO_SHORT;
 use log_judge::Judged;
 use meaning::Answer;
@@ -71,14 +74,34 @@ fn is_valid(t: &[Word; TABLE_WORDS]) -> bool
     check_lowest::lowest_broken(t) == 0
 }
 
-// Makes a fresh state: 10 where the table is bad, and the state stays; else 0.
-pub fn fresh(t: &[Word; TABLE_WORDS], z: &mut [Word; STATE_WORDS]) -> Word
-    ensures { λ r. ⌜ record { number = r; state = now (z .exit) } ≡ freshened (now (t .entry)) (now (z .entry)) ⌝ }
+fn version_number(v: Word) -> Word
+    ensures { λ r. ⌜ r ≡ versionNumber v ⌝ }
+{
+    if is_version(v) {
+        return ACCEPTED;
+    }
+    OTHER_VERSION
+}
+
+// The number that a lent table and a version asked for are refused with, or 0.
+fn asked_number(t: &[Word; TABLE_WORDS], v: Word) -> Word
+    ensures { λ r. ⌜ r ≡ askedNumber (now (t .entry)) v ⌝ }
 {
     if !is_valid(t) {
         return BAD;
     }
-    state_fresh::begin(t, z);
+    version_number(v)
+}
+
+// Makes a fresh state for version 10 or 20: 10 where the table is bad, 25 for another version, and the state stays; else 0.
+pub fn fresh(t: &[Word; TABLE_WORDS], v: Word, z: &mut [Word; STATE_WORDS]) -> Word
+    ensures { λ r. ⌜ record { number = r; state = now (z .exit) } ≡ freshened (now (t .entry)) v (now (z .entry)) ⌝ }
+{
+    let number = asked_number(t, v);
+    if number != ACCEPTED {
+        return number;
+    }
+    state_fresh::begin(t, v, z);
     ACCEPTED
 }
 
@@ -92,10 +115,10 @@ fn lent_number(t: &[Word; TABLE_WORDS], z: &[Word; STATE_WORDS]) -> Word
     if !state_check::state_fits(t, z) {
         return BAD;
     }
-    ACCEPTED
+    version_number(version_of(z))
 }
 
-// Takes a named step: 10 where the table or the state is bad, 11 to 18 where it is refused, and the state stays; else 0, and what was consumed or sent.
+// Takes a named step: 10 where the table or the state is bad, 25 for another version, 11 to 18 where it is refused, and the state stays; else 0, and what was consumed or sent.
 pub fn step(t: &[Word; TABLE_WORDS], z: &mut [Word; STATE_WORDS], n: Name) -> Answer
     ensures { λ r. ⌜ record { answer = r; state = now (z .exit) } ≡ stepped (now (t .entry)) (now (z .entry)) n ⌝ }
 {
@@ -106,7 +129,7 @@ pub fn step(t: &[Word; TABLE_WORDS], z: &mut [Word; STATE_WORDS], n: Name) -> An
     step_take::step_on(t, z, n)
 }
 
-// Posts a message from outside: 10, 19 or 17, and the state stays; else 0.
+// Posts a message from outside: 10, 25, 19 or 17, and the state stays; else 0.
 pub fn post(t: &[Word; TABLE_WORDS], z: &mut [Word; STATE_WORDS], name: Word, g: Tuple) -> Word
     ensures { λ r. ⌜ record { number = r; state = now (z .exit) } ≡ postedTo (now (t .entry)) (now (z .entry)) name g ⌝ }
 {
@@ -133,7 +156,7 @@ fn unlisted(number: Word) -> Listed
     }
 }
 
-// The k-th accepted step, k from 0: 10 where the table or the state is bad, 6 where there is none with that ordinal; else 0 and its name.
+// The k-th accepted step, k from 0: 10 where the table or the state is bad, 25 for another version, 6 where there is none with that ordinal; else 0 and its name.
 pub fn list(t: &[Word; TABLE_WORDS], z: &[Word; STATE_WORDS], k: usize) -> Listed
     ensures { λ r. ⌜ r ≡ listedAt (now (t .entry)) (now (z .entry)) k ⌝ }
 {
@@ -152,7 +175,8 @@ pub struct Ran {
     pub left: Word,
 }
 
-// Takes the first listed step until none is accepted or the limit is used up: 10 where the table or the state is bad, and the state stays; else 0.
+// Takes the first listed step until none is accepted or the limit is used up: 10 where the table or the state is bad, 25 for another version, and the
+// state stays; else 0.
 pub fn run(t: &[Word; TABLE_WORDS], z: &mut [Word; STATE_WORDS], limit: Steps) -> Ran
     ensures { λ r. ⌜ record { number = r .number; steps = r .steps; left = r .left; state = now (z .exit) } ≡ ranTo (now (t .entry)) (now (z .entry)) limit ⌝ }
 {
@@ -235,7 +259,7 @@ pub fn write(t: &[Word; TABLE_WORDS], out: &mut [u8]) -> Written
     }
 }
 
-// Takes up to 64 named steps and posts out of lent words (`polling`), one by one until the first refusal: 22 where there are more, then 10, and the state stays; else
+// Takes up to 64 named steps and posts out of lent words (`step_poll`), one by one until the first refusal: 22 where there are more, then 10 and 25, and the state stays; else
 // how many were accepted, and the number of the refusal.
 pub fn poll(
     t: &[Word; TABLE_WORDS],
@@ -249,19 +273,20 @@ pub fn poll(
     step_poll::poll_on(t, z, items, count, number)
 }
 
-// Judges the run that a log tells: 10 where the table is bad; 23 with its place where it is no such log; 24 with the first event at fault and its number; else 0. The state
+// Judges the run that a log tells, under version 10 or 20: 10 where the table is bad; 25 for another version; 23 with its place where it is no such log; 24 with the first event at fault and its number; else 0. The state
 // that it works on is its own.
-pub fn judge(t: &[Word; TABLE_WORDS], log: &[u8]) -> Judged
-    ensures { λ r. ⌜ r ≡ judgedTo (now (t .entry)) (now (log .entry)) ⌝ }
+pub fn judge(t: &[Word; TABLE_WORDS], v: Word, log: &[u8]) -> Judged
+    ensures { λ r. ⌜ r ≡ judgedTo (now (t .entry)) v (now (log .entry)) ⌝ }
 {
-    if !is_valid(t) {
+    let number = asked_number(t, v);
+    if number != ACCEPTED {
         return Judged {
-            number: BAD,
+            number: number,
             beside: 0,
             own: 0,
         };
     }
     let mut z: [Word; STATE_WORDS] = [0; STATE_WORDS];
-    state_fresh::begin(t, &mut z);
+    state_fresh::begin(t, v, &mut z);
     log_judge::judge_on(t, &mut z, log)
 }

@@ -1,4 +1,5 @@
-// Reads from standard input a line with the length of a model's text, the text and behind it a log, and says whether the run that the log tells was lawful.
+// Reads from standard input a line with the length of a model's text, the text and behind it a log, and says whether the run that the log tells was lawful. The version is its
+// first argument, 20 where it has none.
 use base_table::places::TABLE_WORDS;
 use base_words::DIGITS;
 use base_words::Word;
@@ -7,6 +8,7 @@ use libc::STDIN_FILENO;
 use text_lexer::piece;
 use text_numerals::Number;
 use text_numerals::numeral_at;
+use tool_print::asked_version;
 use tool_print::tell_judged;
 use tool_print::tell_unread;
 use write_buffer::further;
@@ -24,7 +26,7 @@ fn judge(text: &[u8], log: &[u8], t: &mut [Word; TABLE_WORDS]) {
         tell_unread(r);
         return;
     }
-    tell_judged(engine::judge(t, log));
+    tell_judged(engine::judge(t, asked_version(), log));
 }
 
 // A line that is no number says that the text is empty.

@@ -1,8 +1,9 @@
-// Reads a model's text from standard input, runs it and writes the run as an XES log.
+// Reads a model's text from standard input, runs it and writes the run as an XES log. The version is its first argument, 20 where it has none.
 use base_state::places::STATE_WORDS;
 use base_table::places::TABLE_WORDS;
 use base_words::Word;
 use base_words::counts::TEXT_MOST;
+use base_words::numbers::ACCEPTED;
 use libc::STDIN_FILENO;
 use log_write::EVENT;
 use log_write::FOOTER;
@@ -11,6 +12,8 @@ use meaning::Answer;
 use meaning::Name;
 use step_run::Steps;
 use text_lexer::piece;
+use text_read::Reading;
+use tool_print::asked_version;
 use tool_print::tell;
 use tool_print::tell_unread;
 
@@ -72,7 +75,14 @@ fn log(text: &[u8], t: &mut [Word; TABLE_WORDS], z: &mut [Word; STATE_WORDS]) {
         tell_unread(r);
         return;
     }
-    engine::fresh(t, z);
+    let number = engine::fresh(t, asked_version(), z);
+    if number != ACCEPTED {
+        tell_unread(Reading {
+            number: number,
+            beside: 0,
+        });
+        return;
+    }
     log_run(t, z);
 }
 

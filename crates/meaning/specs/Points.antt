@@ -1,19 +1,20 @@
 -- The starred points of document 01 ('Points to try'): one table. Each row says in the document's words what is tried, and tries it by a step on a
 -- small table and state: pool 1 with one element, its instance 0, messages under name 0. Rows behind them try what else is easily got wrong.
--- A second table has the branches of document 02's wish 6.
+-- A second table has the branches of document 02's wish 6, a third the versions of its wish 7.
 use Prim.Native.Nat.{ℕ, _+_, _-_, _*_}
 use Prim.Native.String.{String}
 use mathlib.Core.Path.{_≡_}
 use mathlib.Core.Bool.{Bool, true, false}
 use mathlib.Core.List.{List, [], _∷_, _++_}
-use lib.ListN.{length, replicate}
+use lib.ListN.{length, replicate, getD}
 use Rattle.base_words.specs.Each.{tab}
 use Rattle.base_words.specs.Words.{greatest}
 use Rattle.base_words.specs.Counts.{branches, values, pools}
-use Rattle.base_kinds.specs.Kinds.{startRcv, terminate, interRcv, xorSplit, task}
-use Rattle.base_kinds.specs.Moves.{o, a, na-c, na-nc}
+use Rattle.base_kinds.specs.Kinds.{startRcv, terminate, interRcv, xorSplit, task, taskRcv}
+use Rattle.base_kinds.specs.Moves.{o, a, na-c, na-nc, moves, noMove}
 use Rattle.base_table.specs.Places.{aField, single, plus, minus, binding, always, default, equals, below, expressionWords, messageWords}
-use Rattle.base_state.specs.Places.{instanceWords, instancePlace, queueWords}
+use Rattle.base_state.specs.Places.{instanceWords, instancePlace, storeWords, queueWords}
+use Rattle.base_state.specs.Versions.{former, present}
 use Rattle.base_state.specs.Instances.{madeCount, instanceAt, tokens, activeCount, readyCount, withTokens, withActive, withReady, withField}
 use Rattle.meaning.specs.declared.Tuple.{Tuple}
 use Rattle.meaning.specs.declared.Name.{Name}
@@ -23,6 +24,7 @@ use Rattle.meaning.specs.Messages.{times}
 use Rattle.meaning.specs.Queues.{messagesOf}
 use Rattle.meaning.specs.Expressions.{fieldOf}
 use Rattle.meaning.specs.Conditions.{holds}
+use Rattle.meaning.specs.Requirements.{isAlone}
 use Rattle.meaning.specs.Post.{post}
 use Rattle.meaning.specs.Step.{Outcome, step}
 
@@ -253,3 +255,34 @@ choices =
 abbrev pub Chosen : List Choice → Type 0
 Chosen [] = Unit {0}
 Chosen (x ∷ xs) = (x .permits ≡ x .due) × Chosen xs
+
+-- PHASE 1 UNDER A VERSION of taskRcv(1,1,k,true,{},0:<>,2) in an instance h: document 02, wish 7. Behind the words of the instance a step sees the stores and the version.
+abbrev seenUnder : ℕ → List ℕ → List ℕ
+seenUnder version h = h ++ (replicate storeWords 0 ++ (version ∷ []))
+
+abbrev begins : ℕ → ℕ → List ℕ → Bool
+begins version k h = isAlone (taskRcv ∷ 1 ∷ k ∷ []) (seenUnder version h) (getD moves 16 noMove)  -- P-TaskRcv-N1
+
+pub record Wait : Type 0 where
+  pub says : String
+  pub permits : List Bool
+  pub due : List Bool
+
+-- under 10, under 20
+infix 70 _waiting_having_being_
+abbrev _waiting_having_being_ : String → ℕ → List ℕ → List Bool → Wait
+s waiting k having h being bs = record { says = s; permits = begins former k h ∷ begins present k h ∷ []; due = bs }
+
+abbrev pub versions : List Wait
+versions =
+    "na_c with active 1: 12 under 10, accepted under 20" waiting na-c having (withActive fresh 1 1) being (false ∷ true ∷ []) ∷
+    "with ready 1 alone: the same" waiting na-c having (withReady fresh 1 1) being (false ∷ true ∷ []) ∷
+    "with both counts 0: accepted" waiting na-c having fresh being (true ∷ true ∷ []) ∷
+    "na_nc with active 1: 12 under both" waiting na-nc having (withActive fresh 1 1) being (false ∷ false ∷ []) ∷
+    "with ready 1 alone: the same" waiting na-nc having (withReady fresh 1 1) being (false ∷ false ∷ []) ∷
+    "with both counts 0: accepted" waiting na-nc having fresh being (true ∷ true ∷ []) ∷
+    "counts of another task: accepted" waiting na-c having (withActive fresh 2 1) being (true ∷ true ∷ []) ∷ []
+
+abbrev pub Waited : List Wait → Type 0
+Waited [] = Unit {0}
+Waited (x ∷ xs) = (x .permits ≡ x .due) × Waited xs

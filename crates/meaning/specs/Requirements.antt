@@ -1,6 +1,6 @@
 -- What a move m (a row of the table of moves) asks for at an element el, in an instance h, for a branch b.
 use Prim.Native.Nat.{ℕ, _+_}
-use mathlib.Core.Bool.{Bool, true, _&&_}
+use mathlib.Core.Bool.{Bool, true, _&&_, _||_}
 use mathlib.Core.List.{List}
 use lib.Dec.{eqb, ltb}
 use Rattle.base_words.specs.All.{all}
@@ -9,7 +9,8 @@ use Rattle.base_words.specs.Counts.{countMost}
 use Rattle.base_kinds.specs.declared.moves.Move.{Move}
 use Rattle.base_kinds.specs.Moves.{every, branch, on, up, down, na-nc, making}
 use Rattle.base_table.specs.Table.{taskIn, modeIn, entryCount, exitCount, entryAt, exitAt}
-use Rattle.base_state.specs.Instances.{tokens, activeCount, readyCount}
+use Rattle.base_state.specs.Instances.{tokens, activeCount, readyCount, versionSeen}
+use Rattle.base_state.specs.Versions.{former}
 use Rattle.meaning.specs.Conditions.{holds}
 
 -- Which edges of a list a cell of the table of moves means: as many as there are, the branch's alone, or none; from which one on.
@@ -38,11 +39,14 @@ hasTokens el h m b = all (hasToken el h (first (m .takes) b)) (touched (m .takes
 unfoldable pub canLower : ℕ → ℕ → Bool
 canLower cell count = if eqb cell down then ltb 0 count else true
 
--- "na_nc needs both counts 0".
+-- "na_nc needs both counts 0"; "under 10 an `na_c` task waits for both counts to be 0, as `na_nc` does".
+unfoldable pub waits : List ℕ → List ℕ → Bool
+waits el h = eqb (modeIn el) na-nc || eqb (versionSeen h) former
+
 unfoldable pub isAlone : List ℕ → List ℕ → Move → Bool
 isAlone el h m =
     if eqb (m .alone) on then
-    if eqb (modeIn el) na-nc then eqb (activeCount h (taskIn el)) 0 && eqb (readyCount h (taskIn el)) 0 else true
+    if waits el h then eqb (activeCount h (taskIn el)) 0 && eqb (readyCount h (taskIn el)) 0 else true
     else true
 
 unfoldable pub countsPermit : List ℕ → List ℕ → Move → ℕ → Bool

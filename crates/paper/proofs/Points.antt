@@ -1,24 +1,25 @@
--- Points of the rules at named values: where a token goes, what shuts the default and a later branch out, what na_nc asks, what a message taken leaves. Assumes nothing.
-use Prim.Native.Nat.{ℕ}
+-- Points of the rules at named values: where a token goes, what shuts the default and a later branch out, what na_nc and, by version, na_c ask, what a message taken leaves. Assumes nothing.
+use Prim.Native.Nat.{ℕ, _<_}
 use mathlib.Core.Path.{_≡_, refl, sym, ap, subst}
 use mathlib.Core.Bool.{false≢true}
 use mathlib.Core.List.{List, [], _∷_}
+use mathlib.Core.Logic.{inl, inr, ⊎-elim}
 use native.Mathlib.Omega.{arith}
 use lib.Dec.{eqb}
 use Rattle.base_words.specs.Pick.{if_then_else_}
 use Rattle.meaning.specs.declared.Truth.the-variants.{True, False, Neither}
 use Rattle.meaning.specs.Values.{equalOf, isTrue, isFalse}
-use Rattle.paper.specs.Syntax.{number, field, equal, always, default, ε, na-nc, Choice, start, xorSplit, task, Stands, here, there}
-use Rattle.paper.specs.States.{Local, unset, unmarked, put, same, _without_}
+use Rattle.paper.specs.Syntax.{number, field, equal, always, default, ε, Mode, a, na-c, na-nc, Choice, start, xorSplit, task, Stands, here, there}
+use Rattle.paper.specs.States.{Local, unset, unmarked, _edges:_, _active:_, put, inc, dec, same, _without_}
 use Rattle.paper.specs.Evaluation.{operand, truth}
-use Rattle.paper.specs.Processes.{Label, Moves, P-Start, P-XorSplit1, P-XorSplit2, P-Task-N1}
+use Rattle.paper.specs.Processes.{Internal, Label, waits, Moves, P-Start, P-XorSplit1, P-XorSplit2, P-Task-N1}
 
 -- one token on edge 1; task 1 is ready once
 abbrev marked : Local
 marked = record { σe = λ e. if eqb e 1 then 1 else 0; σd = unset; active = unmarked; ready = λ n. if eqb n 1 then 1 else 0 }
 
 -- start(1,2): the token is on edge 2 afterwards, and no longer on edge 1
-pub start-moves : {l : Label} {σ : Local} → Moves (start 1 2) 0 0 marked l σ → (σ .σe 2 ≡ 1) × (σ .σe 1 ≡ 0)
+pub start-moves : {v : ℕ} {l : Label} {σ : Local} → Moves v (start 1 2) 0 0 marked l σ → (σ .σe 2 ≡ 1) × (σ .σe 1 ≡ 0)
 unfolding put if_then_else_
 start-moves (P-Start t r) = (refl, refl)
 
@@ -40,7 +41,7 @@ first here = refl
 second : {g c d : Choice} {ds : List Choice} → Stands g 1 (c ∷ d ∷ ds) → g ≡ d
 second (there s) = first s
 
-pub default-shut : {l : Label} {σ : Local} → Moves (xorSplit 1 choices) 0 1 marked l σ → ⊥
+pub default-shut : {v : ℕ} {l : Label} {σ : Local} → Moves v (xorSplit 1 choices) 0 1 marked l σ → ⊥
 unfolding truth operand equalOf
 default-shut (P-XorSplit1 s t h o r) = not-true (subst (λ (g : Choice). truth unset (g .condition) ≡ True) (second s) h)
 default-shut (P-XorSplit2 s d t h r) = not-false (h 0 (record { exit = 2; condition = equal (field 0) (number 1) }) here (λ z. omega arith))
@@ -53,15 +54,42 @@ not-default : always ≡ default → ⊥
 unfolding truth
 not-default e = not-true (sym (ap (truth unset) e))
 
-pub later-shut : {l : Label} {σ : Local} → Moves (xorSplit 1 both) 0 1 marked l σ → ⊥
+pub later-shut : {v : ℕ} {l : Label} {σ : Local} → Moves v (xorSplit 1 both) 0 1 marked l σ → ⊥
 unfolding truth isTrue
 later-shut (P-XorSplit1 s t h o r) = false≢true (ap isTrue (sym (o 0 (record { exit = 2; condition = always }) here (omega arith) not-default)))
 later-shut (P-XorSplit2 s d t h r) = not-default (subst (λ (g : Choice). g .condition ≡ default) (second s) d)
 
 -- "na_nc needs both counts 0": task 1 is ready
-pub na-nc-shut : {l : Label} {σ : Local} → Moves (task 1 1 na-nc always ε 2) 1 0 marked l σ → ⊥
+pub na-nc-shut : {v : ℕ} {l : Label} {σ : Local} → Moves v (task 1 1 na-nc always ε 2) 1 0 marked l σ → ⊥
 unfolding if_then_else_
-na-nc-shut (P-Task-N1 n t g i r) = let z : _≡_ {A = ℕ} 1 0 = i refl .1 in omega arith
+na-nc-shut (P-Task-N1 n t g i r) = let z : _≡_ {A = ℕ} 1 0 = i (inl refl) .1 in omega arith
+
+-- "under 10 an `na_c` task waits for both counts to be 0, as `na_nc` does"
+pub na-c-shut : {l : Label} {σ : Local} → Moves 10 (task 1 1 na-c always ε 2) 1 0 marked l σ → ⊥
+unfolding if_then_else_
+na-c-shut (P-Task-N1 n t g i r) = let z : _≡_ {A = ℕ} 1 0 = i (inr refl) .1 in omega arith
+
+-- the modes differ
+mode-number : Mode → ℕ
+mode-number a = 1
+mode-number na-c = 2
+mode-number na-nc = 3
+
+not-waiting : waits 20 na-c → ⊥
+unfolding mode-number
+not-waiting = ⊎-elim (λ e. let z : _≡_ {A = ℕ} 2 3 = ap mode-number e in omega arith) (λ e. omega arith)
+
+not-atomic : na-c ≡ a → ⊥
+unfolding mode-number
+not-atomic e = let z : _≡_ {A = ℕ} 2 1 = ap mode-number e in omega arith
+
+-- under 20 it does not
+pub na-c-open : Moves 20 (task 1 1 na-c always ε 2) 1 0 marked (Label.τ Internal.ε) (marked edges: dec (marked .σe) 1 active: inc (marked .active) 1)
+unfolding if_then_else_ truth
+na-c-open =
+    let there : 0 < 1 = omega arith in
+    let few : 0 < 255 = omega arith in
+    P-Task-N1 {e = 1} {n = 1} {e′ = 2} {N = na-c} {c = always} {A = ε} {σ = marked} not-atomic there refl (λ w. absurd (not-waiting w)) few
 
 -- "Two equal messages, one consumed: one stays."
 pub one-stays : (record { times = λ vs. 2; size = 2 } without (7 ∷ [])) .times (7 ∷ []) ≡ 1

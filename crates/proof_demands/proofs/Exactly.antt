@@ -21,10 +21,11 @@ use Rattle.meaning.specs.Refusals.{Refusal, firstRefusal}
 use Rattle.meaning.specs.Post.{Posted, postRefusals, post}
 use Rattle.meaning.specs.Step.{Outcome, siteOf, traffic, instancesAfter, queuesAfter, refusalsAt, refusals, refused, step}
 use Rattle.proof_steps.proofs.Choices.{chosen}
-use Rattle.engine.specs.Engine.{Left, fitting, Stepped, leaving, stepped, postedTo}
+use Rattle.engine.specs.Engine.{Left, lentNumber, fitting, Stepped, leaving, stepped, postedTo}
 use Rattle.engine.specs.Calls.{Act, aStep, aPost, did}
 use Rattle.proof_demands.specs.Demands.{numberGiven, allHold, permitted, given, stateGiven}
 use Rattle.proof_valid.proofs.NumberGiven.{stepped-number, posted-number}
+use Rattle.proof_demands.proofs.Numbers.{unfit-number}
 
 -- no refusal is given just where all conditions hold
 abbrev Numbered : List Refusal → Bool
@@ -47,11 +48,11 @@ post-none : (q : List ℕ) (name : ℕ) (g : Tuple) → eqb (firstRefusal (postR
 unfolding postRefusals each
 post-none q name g = none-exactly (postRefusals q name g) refl
 
--- a number that is 10 where table or state are bad
-ten-exactly : (b c : Bool) (k : ℕ) → eqb k 0 ≡ c → eqb (if b then k else 10) 0 ≡ b && c
+-- a number that is j where table or state are bad
+bad-exactly : (b c : Bool) (j k : ℕ) → (b ≡ false → j ≡ 0 → ⊥) → eqb k 0 ≡ c → eqb (if b then k else j) 0 ≡ b && c
 unfolding if_then_else_
-ten-exactly true c k e = e
-ten-exactly false c k e = refl
+bad-exactly true c j k bad e = e
+bad-exactly false c j k bad e = ne-eqb j 0 (bad refl)
 
 whole : (z : List ℕ) → instancesOf z ++ queuesOf z ≡ z
 whole z = take-append-drop instancesWords z
@@ -85,10 +86,10 @@ module _ (t : List ℕ) where
   unfolding did permitted
   accepted-exactly (aStep n) z =
       ap (λ (k : ℕ). eqb k 0) (stepped-number t z n)
-      ∙ ten-exactly (fitting t z) (allHold (refusals t (instancesOf z) (queuesOf z) n)) (firstRefusal (refusals t (instancesOf z) (queuesOf z) n)) (step-none t (instancesOf z) (queuesOf z) n)
+      ∙ bad-exactly (fitting t z) (allHold (refusals t (instancesOf z) (queuesOf z) n)) (lentNumber t z) (firstRefusal (refusals t (instancesOf z) (queuesOf z) n)) (unfit-number t z) (step-none t (instancesOf z) (queuesOf z) n)
   accepted-exactly (aPost name g) z =
       ap (λ (k : ℕ). eqb k 0) (posted-number t z name g)
-      ∙ ten-exactly (fitting t z) (allHold (postRefusals (queuesOf z) name g)) (firstRefusal (postRefusals (queuesOf z) name g)) (post-none (queuesOf z) name g)
+      ∙ bad-exactly (fitting t z) (allHold (postRefusals (queuesOf z) name g)) (lentNumber t z) (firstRefusal (postRefusals (queuesOf z) name g)) (unfit-number t z) (post-none (queuesOf z) name g)
 
   -- the state is the one that the rules give, and as it was where it is not permitted
   pub state-exactly : (a : Act) (z : List ℕ) → did t a z .state ≡ stateGiven t a z
@@ -96,7 +97,7 @@ module _ (t : List ℕ) where
   state-exactly (aStep n) z = go (fitting t z)
     where
       o : Bool → Stepped
-      o b = if b then leaving (step t (instancesOf z) (queuesOf z) n) else record { answer = record { number = 10; traffic = Nothing; name = 0; tuple = empty }; state = z }
+      o b = if b then leaving (step t (instancesOf z) (queuesOf z) n) else record { answer = record { number = lentNumber t z; traffic = Nothing; name = 0; tuple = empty }; state = z }
 
       go : (b : Bool) → o b .state ≡ (if b && allHold (refusals t (instancesOf z) (queuesOf z) n) then instancesAfter t (instancesOf z) n ++ queuesAfter (siteOf t (instancesOf z) n) (queuesOf z) else z)
       go true =
@@ -106,7 +107,7 @@ module _ (t : List ℕ) where
   state-exactly (aPost name g) z = go (fitting t z)
     where
       o : Bool → Left
-      o b = if b then record { number = post (queuesOf z) name g .number; state = instancesOf z ++ post (queuesOf z) name g .queues } else record { number = 10; state = z }
+      o b = if b then record { number = post (queuesOf z) name g .number; state = instancesOf z ++ post (queuesOf z) name g .queues } else record { number = lentNumber t z; state = z }
 
       go : (b : Bool) → o b .state ≡ (if b && allHold (postRefusals (queuesOf z) name g) then instancesOf z ++ sending (queuesOf z) name g else z)
       go true =

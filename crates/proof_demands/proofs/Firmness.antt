@@ -37,9 +37,10 @@ pub check-firm : (κ : One) (t t₁ t₂ : Lent) (r₁ r₂ : Verdict) → check
 check-firm κ t t₁ t₂ r₁ r₂ p₁ p₂ = p₁ ∙ sym p₂
 
 module _ (κ : Two) where
-  pub fresh-firm : (t z t₁ t₂ z₁ z₂ : Lent) (r₁ r₂ : ℕ) → fresh.Post κ (t, (z, tt)) r₁ (t₁, (z₁, tt)) → fresh.Post κ (t, (z, tt)) r₂ (t₂, (z₂, tt))
+  pub fresh-firm : (t z t₁ t₂ z₁ z₂ : Lent) (v v₁ v₂ : ℕ) (r₁ r₂ : ℕ)
+      → fresh.Post κ (t, (v, (z, tt))) r₁ (t₁, (v₁, (z₁, tt))) → fresh.Post κ (t, (v, (z, tt))) r₂ (t₂, (v₂, (z₂, tt)))
       → (r₁ ≡ r₂) × (now z₁ ≡ now z₂)
-  fresh-firm t z t₁ t₂ z₁ z₂ r₁ r₂ p₁ p₂ = let p = p₁ ∙ sym p₂ in (ap (λ (o : Left). o .number) p, ap (λ (o : Left). o .state) p)
+  fresh-firm t z t₁ t₂ z₁ z₂ v v₁ v₂ r₁ r₂ p₁ p₂ = let p = p₁ ∙ sym p₂ in (ap (λ (o : Left). o .number) p, ap (λ (o : Left). o .state) p)
 
   pub step-firm : (t z t₁ t₂ z₁ z₂ : Lent) (n n₁ n₂ : Name) (r₁ r₂ : Answer)
       → step.Post κ (t, (z, (n, tt))) r₁ (t₁, (z₁, (n₁, tt))) → step.Post κ (t, (z, (n, tt))) r₂ (t₂, (z₂, (n₂, tt)))
@@ -83,10 +84,10 @@ module _ (κ : Two) where
   write-firm t out t₁ t₂ out₁ out₂ r₁ r₂ p₁ p₂ =
       let p = p₁ ∙ sym p₂ in (ap (λ (o : WrittenTo). record { number = o .number; length = o .length }) p, ap (λ (o : WrittenTo). o .buffer) p)
 
-  pub judge-firm : (t log t₁ t₂ log₁ log₂ : Lent) (r₁ r₂ : Judged)
-      → judge.Post κ (t, (log, tt)) r₁ (t₁, (log₁, tt)) → judge.Post κ (t, (log, tt)) r₂ (t₂, (log₂, tt))
+  pub judge-firm : (t log t₁ t₂ log₁ log₂ : Lent) (v v₁ v₂ : ℕ) (r₁ r₂ : Judged)
+      → judge.Post κ (t, (v, (log, tt))) r₁ (t₁, (v₁, (log₁, tt))) → judge.Post κ (t, (v, (log, tt))) r₂ (t₂, (v₂, (log₂, tt)))
       → r₁ ≡ r₂
-  judge-firm t log t₁ t₂ log₁ log₂ r₁ r₂ p₁ p₂ = p₁ ∙ sym p₂
+  judge-firm t log t₁ t₂ log₁ log₂ v v₁ v₂ r₁ r₂ p₁ p₂ = p₁ ∙ sym p₂
 
 pub poll-firm : (κ : Three) (t z w t₁ t₂ z₁ z₂ w₁ w₂ : Lent) (count count₁ count₂ : ℕ) (r₁ r₂ : Polled)
     → poll.Post κ (t, (z, (w, (count, tt)))) r₁ (t₁, (z₁, (w₁, (count₁, tt)))) → poll.Post κ (t, (z, (w, (count, tt)))) r₂ (t₂, (z₂, (w₂, (count₂, tt))))

@@ -7,9 +7,11 @@ use mathlib.Core.Path.{_≡_, refl, sym, _∙_, ap, subst}
 use mathlib.Core.Bool.{true, false}
 use mathlib.Core.List.{List}
 use native.Mathlib.Omega.{arith}
+use lib.Dec.{eqb}
 use borrow.Author.Tests.{eq-eqb, ne-eqb}
 use Rattle.base_words.specs.Pick.{if_then_else_}
 use Rattle.base_state.specs.Instances.{instancesOf, queuesOf}
+use Rattle.base_state.specs.Versions.{isVersion}
 use Rattle.meaning.specs.declared.Name.{Name}
 use Rattle.meaning.specs.declared.Answer.{Answer}
 use Rattle.meaning.specs.declared.Tuple.{Tuple}
@@ -22,11 +24,12 @@ use Rattle.check_limits.specs.Limits.{tableFits}
 use Rattle.check_model.specs.Checks.{lowest}
 use Rattle.check_lowest.specs.Model.{modelOf}
 use Rattle.state_fits.specs.Fresh.{fresh}
-use Rattle.proof_steps.proofs.Choices.{by-choice, passed}
-use Rattle.engine.specs.Engine.{Left, valid, verdictOf, freshened, fitting, Stepped, stepped, postedTo}
+use Rattle.proof_steps.proofs.Choices.{by-choice, chosen, passed}
+use Rattle.engine.specs.Engine.{Left, valid, versionNumber, askedNumber, lentNumber, verdictOf, freshened, fitting, Stepped, stepped, postedTo}
 use Rattle.engine.specs.Calls.{Act, aStep, aPost, did}
 use Rattle.proof_demands.specs.Promises.{Freshens, Steps, Posts}
 use Rattle.proof_demands.specs.Demands.{among, checkNumbers, freshNumbers, stepNumbers, postNumbers, permitted, given, stateGiven}
+use Rattle.engine.proofs.CallLaws.{asked-invalid, asked-valid, asked-known}
 use Rattle.proof_valid.proofs.NumberGiven.{stepped-number, posted-number}
 use Rattle.proof_demands.proofs.Numbers.{Plain, stepped-plain, fresh-number, check-numbers, fresh-numbers, step-numbers, post-numbers}
 use Rattle.proof_demands.proofs.Exactly.{accepted-exactly, state-exactly}
@@ -56,38 +59,43 @@ module _ (t : List ℕ) where
   check-number-is = check-numbers t
 
 -- FRESH
-module _ (t z : List ℕ) (r : ℕ) (y : List ℕ) (promise : Freshens t z r y) where
-  fresh-is : r ≡ freshened t z .number
+module _ (t : List ℕ) (v : ℕ) (z : List ℕ) (r : ℕ) (y : List ℕ) (promise : Freshens t v z r y) where
+  fresh-is : r ≡ freshened t v z .number
   fresh-is = ap (λ (o : Left). o .number) promise
 
-  pub fresh-number-is : (r ≡ (if valid t then 0 else 10)) × (among freshNumbers r ≡ true)
-  fresh-number-is = (fresh-is ∙ fresh-number t z, subst (λ (k : ℕ). among freshNumbers k ≡ true) (sym fresh-is) (fresh-numbers t z))
+  pub fresh-number-is : (r ≡ askedNumber t v) × (among freshNumbers r ≡ true)
+  fresh-number-is = (fresh-is ∙ fresh-number t v z, subst (λ (k : ℕ). among freshNumbers k ≡ true) (sym fresh-is) (fresh-numbers t v z))
+
+  -- "10, then 25 for a version that is not 10 or 20"
+  pub fresh-bad : valid t ≡ false → r ≡ 10
+  fresh-bad h = fresh-number-is .0 ∙ sym (asked-invalid t v h)
+
+  pub fresh-other : valid t ≡ true → isVersion v ≡ false → r ≡ 25
+  unfolding askedNumber versionNumber if_then_else_
+  fresh-other h k = fresh-number-is .0 ∙ rw (h, k)
 
   pub fresh-refused : (r ≡ 0 → ⊥) → y ≡ z
   unfolding freshened
   fresh-refused n =
       ap (λ (o : Left). o .state) promise
-      ∙ by-choice (λ (o : Left). (o .number ≡ 0 → ⊥) → o .state ≡ z) (valid t) (record { number = 0; state = fresh t }) (record { number = 10; state = z })
+      ∙ by-choice (λ (o : Left). (o .number ≡ 0 → ⊥) → o .state ≡ z) (eqb (askedNumber t v) 0) (record { number = 0; state = fresh t v })
+      (record { number = askedNumber t v; state = z })
       (λ e k. absurd (k refl))
       (λ e k. refl)
       (λ e. n (fresh-is ∙ e))
 
-  pub fresh-made : r ≡ 0 → (valid t ≡ true) × (y ≡ fresh t)
+  pub fresh-made : r ≡ 0 → (valid t ≡ true) × (isVersion v ≡ true) × (y ≡ fresh t v)
   unfolding freshened
   fresh-made n =
-      let made =
-      by-choice (λ (o : Left). o .number ≡ 0 → (valid t ≡ true) × (o .state ≡ fresh t)) (valid t) (record { number = 0; state = fresh t }) (record { number = 10; state = z })
-      (λ e k. (e, refl))
-      (λ e k. absurd (omega arith))
-      (sym fresh-is ∙ n) in
-      (made .0, ap (λ (o : Left). o .state) promise ∙ made .1)
+      let asked : askedNumber t v ≡ 0 = sym (fresh-number-is .0) ∙ n in
+      (asked-valid t v asked, asked-known t v asked, ap (λ (o : Left). o .state) (promise ∙ chosen (eqb (askedNumber t v) 0) _ _ (eq-eqb (askedNumber t v) 0 asked)))
 
 -- STEP
 module _ (t z : List ℕ) (n : Name) (r : Answer) (y : List ℕ) (promise : Steps t z n r y) where
   step-is : r .number ≡ stepped t z n .answer .number
   step-is = ap (λ (o : Stepped). o .answer .number) promise
 
-  pub step-number-is : (r .number ≡ (if fitting t z then firstRefusal (refusals t (instancesOf z) (queuesOf z) n) else 10)) × (among stepNumbers (r .number) ≡ true)
+  pub step-number-is : (r .number ≡ (if fitting t z then firstRefusal (refusals t (instancesOf z) (queuesOf z) n) else lentNumber t z)) × (among stepNumbers (r .number) ≡ true)
   step-number-is = (step-is ∙ stepped-number t z n, subst (λ (k : ℕ). among stepNumbers k ≡ true) (sym step-is) (step-numbers t z n))
 
   pub step-refused : (r .number ≡ 0 → ⊥) → (y ≡ z) × (r ≡ record { number = r .number; traffic = Nothing; name = 0; tuple = empty })
@@ -102,7 +110,7 @@ module _ (t z : List ℕ) (name : ℕ) (g : Tuple) (r : ℕ) (y : List ℕ) (pro
   post-is : r ≡ postedTo t z name g .number
   post-is = ap (λ (o : Left). o .number) promise
 
-  pub post-number-is : (r ≡ (if fitting t z then firstRefusal (postRefusals (queuesOf z) name g) else 10)) × (among postNumbers r ≡ true)
+  pub post-number-is : (r ≡ (if fitting t z then firstRefusal (postRefusals (queuesOf z) name g) else lentNumber t z)) × (among postNumbers r ≡ true)
   post-number-is = (post-is ∙ posted-number t z name g, subst (λ (k : ℕ). among postNumbers k ≡ true) (sym post-is) (post-numbers t z name g))
 
   pub post-refused : (r ≡ 0 → ⊥) → y ≡ z

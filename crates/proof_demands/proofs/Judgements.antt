@@ -1,24 +1,26 @@
--- WHAT THE JUDGE ANSWERS: which numbers can come, and that 10 comes exactly where the table is not valid. t is a table, z a state, log a text. Assumes nothing.
+-- WHAT THE JUDGE ANSWERS: which numbers can come, that 10 comes exactly where the table is not valid and 25 behind it for another version. t is a table, z a state, log a text. Assumes nothing.
 use Prim.Native.Nat.{ℕ, _+_}
-use mathlib.Core.Path.{_≡_, refl, ap}
+use mathlib.Core.Path.{_≡_, refl, _∙_, ap}
 use mathlib.Core.Bool.{Bool, true, false}
 use mathlib.Core.List.{List, [], _∷_}
 use lib.Dec.{eqb}
+use borrow.Author.Tests.{eqb-true, eqb-false, eq-eqb, ne-eqb}
 use Rattle.base_words.specs.Each.{each}
 use Rattle.base_words.specs.Pick.{if_then_else_}
 use Rattle.base_state.specs.Instances.{instancesOf, queuesOf}
 use Rattle.meaning.specs.Post.{postRefusals}
 use Rattle.meaning.specs.Step.{refusalsAt, refusals}
 use Rattle.state_fits.specs.Fresh.{fresh}
-use Rattle.proof_steps.proofs.Choices.{by-choice, chosen, passed}
+use Rattle.proof_steps.proofs.Choices.{by-test, by-choice, chosen, passed}
 use Rattle.xml_skip.specs.declared.Skipped.{Skipped}
 use Rattle.xml_skip.specs.declared.Skipped.the-variants.{Past, Fault}
 use Rattle.log_lines.specs.Entries.{entryOf}
 use Rattle.log_text.specs.Logs.{scan, linesOf}
 use Rattle.log_judge.specs.declared.Judged.{Judged}
 use Rattle.log_judge.specs.Judge.{Taking, takenBy, taken, answered, judgedBy, judgedEnd, judgedFrom}
-use Rattle.engine.specs.Engine.{valid, stepped, postedTo}
+use Rattle.engine.specs.Engine.{askedNumber, stepped, postedTo}
 use Rattle.engine.specs.Calls.{Act, aStep, aPost, did, Valid, judgedTo}
+use Rattle.engine.proofs.CallLaws.{by-asked}
 use Rattle.engine.proofs.KeepsValid.{did-valid, fresh-valid}
 use Rattle.proof_demands.specs.Demands.{among, judgeNumbers, ownNumbers}
 use Rattle.proof_demands.proofs.Numbers.{first-among}
@@ -42,27 +44,30 @@ module _ (f : ℕ → Bool) (none : f 0 ≡ true) (event : f 24 ≡ true) where
   end-among text (Past q) j h = h
   end-among text (Fault q) j h = text
 
-module _ (t log : List ℕ) where
-  pub judged-among : (f : ℕ → Bool) → f 0 ≡ true → f 24 ≡ true → f 23 ≡ true → valid t ≡ true → f (judgedTo t log .number) ≡ true
+module _ (t : List ℕ) (v : ℕ) (log : List ℕ) where
+  pub judged-among : (f : ℕ → Bool) → f 0 ≡ true → f 24 ≡ true → f 23 ≡ true → askedNumber t v ≡ 0 → f (judgedTo t v log .number) ≡ true
   unfolding judgedTo judgedFrom
-  judged-among f none event text v =
-      rw (chosen (valid t) (judgedEnd (scan log .end) (judgedBy (taken (stepped t) (postedTo t)) (linesOf log) 0 (fresh t))) (answered 10 0 0) v)
-      (end-among f none event text (scan log .end) (judgedBy (taken (stepped t) (postedTo t)) (linesOf log) 0 (fresh t))
-      (lines-among f none event (taken (stepped t) (postedTo t)) (linesOf log) 0 (fresh t)))
+  judged-among f none event text asked =
+      rw
+      (chosen (eqb (askedNumber t v) 0) (judgedEnd (scan log .end) (judgedBy (taken (stepped t) (postedTo t)) (linesOf log) 0 (fresh t v))) (answered (askedNumber t v) 0 0)
+      (eq-eqb (askedNumber t v) 0 asked))
+      (end-among f none event text (scan log .end) (judgedBy (taken (stepped t) (postedTo t)) (linesOf log) 0 (fresh t v))
+      (lines-among f none event (taken (stepped t) (postedTo t)) (linesOf log) 0 (fresh t v)))
 
-  -- "10" for a table that is not valid, whatever the text
-  pub judge-bad : valid t ≡ false → judgedTo t log ≡ answered 10 0 0
+  -- "10" for a table that is not valid, "25" for another version, whatever the text
+  pub judge-bad : (askedNumber t v ≡ 0 → ⊥) → judgedTo t v log ≡ answered (askedNumber t v) 0 0
   unfolding judgedTo
-  judge-bad h = passed (valid t) (judgedFrom (taken (stepped t) (postedTo t)) log (fresh t)) (answered 10 0 0) h
+  judge-bad h =
+      passed (eqb (askedNumber t v) 0) (judgedFrom (taken (stepped t) (postedTo t)) log (fresh t v)) (answered (askedNumber t v) 0 0) (ne-eqb (askedNumber t v) 0 h)
 
   -- WHICH NUMBERS CAN COME
-  pub judge-numbers : among judgeNumbers (judgedTo t log .number) ≡ true
+  pub judge-numbers : among judgeNumbers (judgedTo t v log .number) ≡ true
   unfolding among if_then_else_
-  judge-numbers = go (valid t) refl
-    where
-      go : (b : Bool) → valid t ≡ b → among judgeNumbers (judgedTo t log .number) ≡ true
-      go true e = judged-among (among judgeNumbers) refl refl refl e
-      go false e = ap (λ (j : Judged). among judgeNumbers (j .number)) (judge-bad e)
+  judge-numbers =
+      by-test (eqb (askedNumber t v) 0) (λ e. judged-among (among judgeNumbers) refl refl refl (eqb-true (askedNumber t v) 0 e))
+      (λ e.
+      ap (λ (j : Judged). among judgeNumbers (j .number)) (judge-bad (eqb-false (askedNumber t v) 0 e))
+      ∙ by-asked (λ k. among judgeNumbers k ≡ true) t v refl refl refl)
 
 -- and which a step or a post at fault gives by itself
 module _ (t : List ℕ) where
@@ -101,9 +106,10 @@ module _ (t : List ℕ) where
   end-own (Past q) j h = h
   end-own (Fault q) j h = refl
 
-  pub judge-own : (log : List ℕ) → among ownNumbers (judgedTo t log .own) ≡ true
+  pub judge-own : (v : ℕ) (log : List ℕ) → among ownNumbers (judgedTo t v log .own) ≡ true
   unfolding judgedTo judgedFrom among if_then_else_
-  judge-own log =
-      by-choice Own (valid t) (judgedEnd (scan log .end) (judgedBy (taken (stepped t) (postedTo t)) (linesOf log) 0 (fresh t))) (answered 10 0 0)
-      (λ e. end-own (scan log .end) _ (lines-own (linesOf log) 0 (fresh t) (fresh-valid t e)))
+  judge-own v log =
+      by-choice Own (eqb (askedNumber t v) 0) (judgedEnd (scan log .end) (judgedBy (taken (stepped t) (postedTo t)) (linesOf log) 0 (fresh t v)))
+      (answered (askedNumber t v) 0 0)
+      (λ e. end-own (scan log .end) _ (lines-own (linesOf log) 0 (fresh t v) (fresh-valid t v (eqb-true (askedNumber t v) 0 e))))
       (λ e. refl)

@@ -18,7 +18,7 @@ pub mod RunSteps
 pub mod ReaderNumbers
 pub mod ReadAndWrite
 pub mod TextsAndTables
-pub mod NeverTen
+pub mod NeverBad
 pub mod PollSteps
 pub mod Polls
 pub mod Judgements

@@ -24,8 +24,8 @@ use Rattle.proof_listing.proofs.SameValues.{withGiven}
 use Rattle.proof_listing.proofs.ListedAll.{listed-all}
 use Rattle.proof_listing.proofs.ListedOnce.{listed-once}
 use Rattle.engine.specs.declared.Ran.{Ran}
-use Rattle.engine.specs.Engine.{fitting, listedAt, RanTo, ended, ranTo}
-use Rattle.engine.proofs.CallLaws.{table-fits, checks-hold, state-fits}
+use Rattle.engine.specs.Engine.{lentNumber, fitting, listedAt, RanTo, ended, ranTo}
+use Rattle.engine.proofs.CallLaws.{table-fits, checks-hold, state-fits, by-lent, lent-zero}
 use Rattle.engine.specs.Calls.{Act, aStep, did, allAccepted, after, Valid}
 use Rattle.proof_demands.specs.Promises.{Lists, Runs}
 use Rattle.proof_demands.specs.Demands.{among, listNumbers, runNumbers, acceptedSteps, runSteps, runLeft, ranGiven}
@@ -53,26 +53,26 @@ chosen-number (n ∷ ns) (suc k) = chosen-number ns k ∙ ap (λ b. if b then 0 
 
 -- LIST: refusals
 module _ (t z : List ℕ) (k : ℕ) where
-  by-listed : (P : Listed → Type 0) → ((n : Name) → P (record { number = 0; name = n })) → P (record { number = 6; name = blank }) → P (record { number = 10; name = blank }) → P (listedAt t z k)
+  by-listed : (P : Listed → Type 0) → ((n : Name) → P (record { number = 0; name = n })) → P (record { number = 6; name = blank }) → P (record { number = lentNumber t z; name = blank }) → P (listedAt t z k)
   unfolding listedAt
   by-listed P f g h =
-      by-choice P (fitting t z) (chosen (listed t (instancesOf z) (queuesOf z)) k) (record { number = 10; name = blank })
+      by-choice P (fitting t z) (chosen (listed t (instancesOf z) (queuesOf z)) k) (record { number = lentNumber t z; name = blank })
       (λ e. chosen-or P f g (listed t (instancesOf z) (queuesOf z)) k)
       (λ e. h)
 
   module _ (r : Listed) (promise : Lists t z k r) where
     pub list-number-is : among listNumbers (r .number) ≡ true
     unfolding among if_then_else_
-    list-number-is = rw promise (by-listed (λ (y : Listed). among listNumbers (y .number) ≡ true) (λ n. refl) refl refl)
+    list-number-is = rw promise (by-listed (λ (y : Listed). among listNumbers (y .number) ≡ true) (λ n. refl) refl (by-lent (λ k. among listNumbers k ≡ true) t z refl refl refl))
 
     pub list-refused : (r .number ≡ 0 → ⊥) → r ≡ record { number = r .number; name = blank }
     list-refused =
         rw promise
         (by-listed (λ (y : Listed). (y .number ≡ 0 → ⊥) → y ≡ record { number = y .number; name = blank }) (λ n e. absurd (e refl)) (λ e. refl) (λ e. refl))
 
-    pub list-bad : fitting t z ≡ false → r ≡ record { number = 10; name = blank }
+    pub list-bad : fitting t z ≡ false → r ≡ record { number = lentNumber t z; name = blank }
     unfolding listedAt
-    list-bad e = promise ∙ passed (fitting t z) (chosen (listed t (instancesOf z) (queuesOf z)) k) (record { number = 10; name = blank }) e
+    list-bad e = promise ∙ passed (fitting t z) (chosen (listed t (instancesOf z) (queuesOf z)) k) (record { number = lentNumber t z; name = blank }) e
 
 -- LIST: the steps that the public step accepts
 module _ (t z : List ℕ) (v : Valid t z) where
@@ -102,14 +102,15 @@ module _ (t z : List ℕ) (v : Valid t z) where
 
 -- RUN
 module _ (t z : List ℕ) (limit : ℕ) (r : Ran) (y : List ℕ) (promise : Runs t z limit r y) where
-  by-ran : (P : RanTo → Type 0) → (fitting t z ≡ true → P (ended (ran t limit (instancesOf z) (queuesOf z)))) → (fitting t z ≡ false → P (record { number = 10; steps = 0; left = 0; state = z }))
+  by-ran : (P : RanTo → Type 0) → (fitting t z ≡ true → P (ended (ran t limit (instancesOf z) (queuesOf z)))) → (fitting t z ≡ false → P (record { number = lentNumber t z; steps = 0; left = 0; state = z }))
       → P (record { number = r .number; steps = r .steps; left = r .left; state = y })
   unfolding ranTo
-  by-ran P f g = subst P (sym promise) (by-choice P (fitting t z) (ended (ran t limit (instancesOf z) (queuesOf z))) (record { number = 10; steps = 0; left = 0; state = z }) f g)
+  by-ran P f g = subst P (sym promise) (by-choice P (fitting t z) (ended (ran t limit (instancesOf z) (queuesOf z))) (record { number = lentNumber t z; steps = 0; left = 0; state = z }) f g)
 
-  pub run-number-is : (r .number ≡ (if fitting t z then 0 else 10)) × (among runNumbers (r .number) ≡ true)
+  pub run-number-is : (r .number ≡ lentNumber t z) × (among runNumbers (r .number) ≡ true)
   unfolding among if_then_else_ ended
-  run-number-is = by-ran (λ (o : RanTo). (o .number ≡ (if fitting t z then 0 else 10)) × (among runNumbers (o .number) ≡ true)) (λ e. rw e (refl, refl)) (λ e. rw e (refl, refl))
+  run-number-is = by-ran (λ (o : RanTo). (o .number ≡ lentNumber t z) × (among runNumbers (o .number) ≡ true)) (λ e. (sym (lent-zero t z e), refl))
+      (λ e. (refl, by-lent (λ k. among runNumbers k ≡ true) t z refl refl refl))
 
   pub run-refused : (r .number ≡ 0 → ⊥) → (y ≡ z) × (r .steps ≡ 0) × (r .left ≡ 0)
   unfolding ended
@@ -124,7 +125,7 @@ module _ (t z : List ℕ) (limit : ℕ) (r : Ran) (y : List ℕ) (promise : Runs
     unfolding ranTo
     run-exactly =
         promise
-        ∙ picked (fitting t z) (ended (ran t limit (instancesOf z) (queuesOf z))) (record { number = 10; steps = 0; left = 0; state = z }) (v .fits)
+        ∙ picked (fitting t z) (ended (ran t limit (instancesOf z) (queuesOf z))) (record { number = lentNumber t z; steps = 0; left = 0; state = z }) (v .fits)
         ∙ run-is-steps t limit z v
 
     pub run-steps : (r .steps ≡ length acts) × (y ≡ after t acts z) × (r .left ≡ runLeft t y) × (allAccepted t acts z ≡ true)

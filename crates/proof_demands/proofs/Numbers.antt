@@ -1,11 +1,11 @@
 -- The number that each public call gives back: as one equation, what stands beside it, and which numbers can come. Assumes nothing.
 use Prim.Native.Nat.{ℕ}
-use mathlib.Core.Path.{_≡_, refl}
+use mathlib.Core.Path.{_≡_, refl, sym}
 use mathlib.Core.Bool.{Bool, true, false}
 use mathlib.Core.List.{List, [], _∷_}
 use native.Mathlib.Omega.{arith}
 use lib.Dec.{eqb}
-use borrow.Author.Tests.{eqb-false}
+use borrow.Author.Tests.{eqb-true, eqb-false}
 use Rattle.base_words.specs.Each.{each}
 use Rattle.base_words.specs.Pick.{if_then_else_}
 use Rattle.base_words.proofs.AllLaws.{and-left, and-right}
@@ -24,7 +24,8 @@ use Rattle.check_lowest.specs.Model.{modelOf}
 use Rattle.check_limits.specs.Limits.{tableFits}
 use Rattle.state_fits.specs.Fresh.{fresh}
 use Rattle.engine.specs.declared.Verdict.{Verdict}
-use Rattle.engine.specs.Engine.{Left, valid, verdictOf, freshened, fitting, Stepped, leaving, stepped, postedTo}
+use Rattle.engine.specs.Engine.{Left, askedNumber, lentNumber, verdictOf, freshened, fitting, Stepped, leaving, stepped, postedTo}
+use Rattle.engine.proofs.CallLaws.{by-lent, by-asked}
 use Rattle.proof_valid.proofs.NumberGiven.{traffic-zero, stepped-number, posted-number}
 use Rattle.proof_demands.specs.Demands.{among, checkNumbers, freshNumbers, stepNumbers, postNumbers}
 
@@ -45,9 +46,14 @@ pub stepped-plain : (t z : List ℕ) (n : Name) → Plain (stepped t z n .answer
 unfolding stepped leaving
 stepped-plain t z n =
     by-choice (λ (o : Stepped). Plain (o .answer)) (fitting t z) (leaving (step t (instancesOf z) (queuesOf z) n))
-    (record { answer = record { number = 10; traffic = Nothing; name = 0; tuple = empty }; state = z })
+    (record { answer = record { number = lentNumber t z; traffic = Nothing; name = 0; tuple = empty }; state = z })
     (λ e. step-plain t (instancesOf z) (queuesOf z) n)
     (λ e k. refl)
+
+-- the number of what does not fit is not 0
+pub unfit-number : (t z : List ℕ) → fitting t z ≡ false → lentNumber t z ≡ 0 → ⊥
+unfolding fitting
+unfit-number t z e = eqb-false (lentNumber t z) 0 e
 
 -- an accepted one says what was consumed or sent
 step-traffic : (t s q : List ℕ) (n : Name) → step t s q n .answer .number ≡ 0 → step t s q n .answer ≡ traffic (siteOf t s n)
@@ -64,20 +70,15 @@ unfolding stepped leaving
 stepped-traffic t z n =
     by-choice (λ (o : Stepped). o .answer .number ≡ 0 → o .answer ≡ traffic (siteOf t (instancesOf z) n)) (fitting t z)
     (leaving (step t (instancesOf z) (queuesOf z) n))
-    (record { answer = record { number = 10; traffic = Nothing; name = 0; tuple = empty }; state = z })
+    (record { answer = record { number = lentNumber t z; traffic = Nothing; name = 0; tuple = empty }; state = z })
     (λ e. step-traffic t (instancesOf z) (queuesOf z) n)
-    (λ e k. absurd (omega arith))
+    (λ e k. absurd (unfit-number t z e k))
 
-pub fresh-number : (t z : List ℕ) → freshened t z .number ≡ (if valid t then 0 else 10)
-unfolding freshened if_then_else_
-fresh-number t z = go (valid t)
-  where
-    o : Bool → Left
-    o b = if b then record { number = 0; state = fresh t } else record { number = 10; state = z }
-
-    go : (b : Bool) → o b .number ≡ (if b then 0 else 10)
-    go true = refl
-    go false = refl
+pub fresh-number : (t : List ℕ) (v : ℕ) (z : List ℕ) → freshened t v z .number ≡ askedNumber t v
+unfolding freshened
+fresh-number t v z =
+    by-choice (λ (o : Left). o .number ≡ askedNumber t v) (eqb (askedNumber t v) 0) (record { number = 0; state = fresh t v })
+    (record { number = askedNumber t v; state = z }) (λ e. sym (eqb-true (askedNumber t v) 0 e)) (λ e. refl)
 
 -- a number of one of the refusals, or 0
 pub first-among : (f : ℕ → Bool) (rs : List Refusal) → f 0 ≡ true → each (λ (r : Refusal). f (r .number)) rs ≡ true → f (firstRefusal rs) ≡ true
@@ -98,24 +99,22 @@ check-numbers t =
     (record { number = 4; beside = lowest (modelOf t) }) (λ f. refl) (λ f. refl))
     (λ e. refl)
 
-pub fresh-numbers : (t z : List ℕ) → among freshNumbers (freshened t z .number) ≡ true
-unfolding freshened among if_then_else_
-fresh-numbers t z =
-    by-choice (λ (o : Left). among freshNumbers (o .number) ≡ true) (valid t) (record { number = 0; state = fresh t }) (record { number = 10; state = z })
-    (λ e. refl) (λ e. refl)
+pub fresh-numbers : (t : List ℕ) (v : ℕ) (z : List ℕ) → among freshNumbers (freshened t v z .number) ≡ true
+unfolding among if_then_else_
+fresh-numbers t v z = rw (fresh-number t v z) (by-asked (λ k. among freshNumbers k ≡ true) t v refl refl refl)
 
 pub step-numbers : (t z : List ℕ) (n : Name) → among stepNumbers (stepped t z n .answer .number) ≡ true
 unfolding among refusals refusalsAt each if_then_else_
 step-numbers t z n =
     rw (stepped-number t z n)
-    (by-choice (λ (k : ℕ). among stepNumbers k ≡ true) (fitting t z) (firstRefusal (refusals t (instancesOf z) (queuesOf z) n)) 10
+    (by-choice (λ (k : ℕ). among stepNumbers k ≡ true) (fitting t z) (firstRefusal (refusals t (instancesOf z) (queuesOf z) n)) (lentNumber t z)
     (λ e. first-among (among stepNumbers) (refusals t (instancesOf z) (queuesOf z) n) refl refl)
-    (λ e. refl))
+    (λ e. by-lent (λ k. among stepNumbers k ≡ true) t z refl refl refl))
 
 pub post-numbers : (t z : List ℕ) (name : ℕ) (g : Tuple) → among postNumbers (postedTo t z name g .number) ≡ true
 unfolding among postRefusals each if_then_else_
 post-numbers t z name g =
     rw (posted-number t z name g)
-    (by-choice (λ (k : ℕ). among postNumbers k ≡ true) (fitting t z) (firstRefusal (postRefusals (queuesOf z) name g)) 10
+    (by-choice (λ (k : ℕ). among postNumbers k ≡ true) (fitting t z) (firstRefusal (postRefusals (queuesOf z) name g)) (lentNumber t z)
     (λ e. first-among (among postNumbers) (postRefusals (queuesOf z) name g) refl refl)
-    (λ e. refl))
+    (λ e. by-lent (λ k. among postNumbers k ≡ true) t z refl refl refl))

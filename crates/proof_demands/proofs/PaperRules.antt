@@ -7,6 +7,7 @@ use Rattle.meaning.specs.declared.Name.{Name}
 use Rattle.meaning.specs.declared.Answer.{Answer}
 use Rattle.meaning.specs.declared.Tuple.{Tuple}
 use Rattle.engine.specs.Engine.{Left, Stepped, stepped, postedTo}
+use Rattle.base_state.specs.Instances.{instancesOf, versionOf}
 use Rattle.engine.specs.Calls.{aStep, aPost, did, Valid}
 use Rattle.paper.specs.States.{Configuration}
 use Rattle.paper.specs.Collaborations.{Seen, Steps as Transition, Posts as Delivery}
@@ -25,14 +26,14 @@ module _ (t z : List ℕ) (valid : Valid t z) where
     state-is = ap (λ (o : Stepped). o .state) promise
 
     -- what is accepted is a transition of that pool, instance, element, phase, branch and message, to the state left, and its label is what was told
-    pub accepted-by-rules : r .number ≡ 0 → (l : Seen) × Transition (collaborationOf t) (namedOf n) (stateOf t z) l (stateOf t y) × (seenAs l ≡ toldOf r)
+    pub accepted-by-rules : r .number ≡ 0 → (l : Seen) × Transition (versionOf (instancesOf z)) (collaborationOf t) (namedOf n) (stateOf t z) l (stateOf t y) × (seenAs l ≡ toldOf r)
     unfolding did
     accepted-by-rules e =
         let (l, w, told) = step-sound t z valid n (sym (ap (λ (a : Answer). a .number) answer-is) ∙ e) in
-        (l, subst (λ (x : List ℕ). Transition (collaborationOf t) (namedOf n) (stateOf t z) l (stateOf t x)) (sym state-is) w, told ∙ sym (ap toldOf answer-is))
+        (l, subst (λ (x : List ℕ). Transition (versionOf (instancesOf z)) (collaborationOf t) (namedOf n) (stateOf t z) l (stateOf t x)) (sym state-is) w, told ∙ sym (ap toldOf answer-is))
 
     -- what the rules permit is accepted, and leaves that state
-    pub permitted-by-rules : {l : Seen} {κ : Configuration} → Transition (collaborationOf t) (namedOf n) (stateOf t z) l κ
+    pub permitted-by-rules : {l : Seen} {κ : Configuration} → Transition (versionOf (instancesOf z)) (collaborationOf t) (namedOf n) (stateOf t z) l κ
         → (r .number ≡ 0) × (κ ≡ stateOf t y) × (seenAs l ≡ toldOf r)
     unfolding did
     permitted-by-rules w =

@@ -21,31 +21,27 @@ use Rattle.step_poll.specs.Items.{itemWords, itemsMost, actsIn}
 use Rattle.step_poll.specs.Poll.{Polling, oneBefore, polledBy, polledFrom}
 use Rattle.step_poll.proofs.PollLaws.{too-many, not-right, all-right}
 use Rattle.engine.specs.Engine.{fitting, lentNumber}
+use Rattle.engine.proofs.CallLaws.{by-lent, lent-zero}
 use Rattle.engine.specs.Calls.{Act, aStep, aPost, did, numbers, allAccepted, after, Valid, polledTo}
 use Rattle.proof_valid.proofs.NumberGiven.{stepped-number, posted-number}
 use Rattle.proof_demands.specs.Promises.{Polls}
 use Rattle.proof_demands.specs.Polls.{untilRefused, thenPoll, pollNumbers}
 use Rattle.proof_demands.specs.Demands.{among, allPermitted, numbersGiven, givenAfter, Further, neverPasses, AllAllowed}
-use Rattle.proof_demands.proofs.Numbers.{first-among}
+use Rattle.proof_demands.proofs.Numbers.{first-among, unfit-number}
 use Rattle.proof_demands.proofs.Firmness.{all-allowed-is}
 use Rattle.proof_demands.proofs.SecondDemand.{steps-exactly, numbers-exactly, after-exactly}
 use Rattle.proof_demands.proofs.ThirdDemand.{more-messages}
 use Rattle.proof_demands.proofs.PollSteps.{by-first, accepted-count, number-at, state-after, accepted-part, whole-poll, poll-valid, two-polls, two-lists}
 
--- the number of a table and a state that are right
-pub lent-zero : (t z : List ℕ) → fitting t z ≡ true → lentNumber t z ≡ 0
-unfolding lentNumber
-lent-zero t z h = chosen (fitting t z) 0 10 h
-
 module _ (t z w : List ℕ) (count : ℕ) where
-  -- "22 more than 64 items, checked first, nothing done; then 10, with no items too"
+  -- "22 more than 64 items, checked first, nothing done; then 10, with no items too", then 25
   pub poll-many : itemsMost < count → polledTo t z w count ≡ record { number = 22; accepted = 0; state = z }
   unfolding polledTo
   poll-many h = sym (too-many (did t) (lentNumber t z) w count z h)
 
-  pub poll-bad : count ≤ itemsMost → fitting t z ≡ false → polledTo t z w count ≡ record { number = 10; accepted = 0; state = z }
-  unfolding polledTo lentNumber if_then_else_
-  poll-bad few h = rw h (sym (not-right (did t) 10 w count z few (λ e. omega (arith, e))))
+  pub poll-bad : count ≤ itemsMost → fitting t z ≡ false → polledTo t z w count ≡ record { number = lentNumber t z; accepted = 0; state = z }
+  unfolding polledTo
+  poll-bad few h = sym (not-right (did t) (lentNumber t z) w count z few (unfit-number t z h))
 
   -- else the items, one by one
   pub poll-is : count ≤ itemsMost → fitting t z ≡ true → polledTo t z w count ≡ polledBy (did t) (actsIn w count) z
@@ -60,14 +56,14 @@ act-known : (t : List ℕ) (a : Act) (z : List ℕ) → Known (did t a z .number
 unfolding did among refusals refusalsAt postRefusals each if_then_else_
 act-known t (aStep n) z =
     rw (stepped-number t z n)
-    (by-choice Known (fitting t z) (firstRefusal (refusals t (instancesOf z) (queuesOf z) n)) 10
+    (by-choice Known (fitting t z) (firstRefusal (refusals t (instancesOf z) (queuesOf z) n)) (lentNumber t z)
     (λ e. first-among (among pollNumbers) (refusals t (instancesOf z) (queuesOf z) n) refl refl)
-    (λ e. refl))
+    (λ e. by-lent Known t z refl refl refl))
 act-known t (aPost name g) z =
     rw (posted-number t z name g)
-    (by-choice Known (fitting t z) (firstRefusal (postRefusals (queuesOf z) name g)) 10
+    (by-choice Known (fitting t z) (firstRefusal (postRefusals (queuesOf z) name g)) (lentNumber t z)
     (λ e. first-among (among pollNumbers) (postRefusals (queuesOf z) name g) refl refl)
-    (λ e. refl))
+    (λ e. by-lent Known t z refl refl refl))
 
 polled-known : (t : List ℕ) (acts : List Act) (z : List ℕ) → Known (polledBy (did t) acts z .number)
 unfolding polledBy oneBefore among if_then_else_
@@ -76,14 +72,14 @@ polled-known t (a ∷ rest) z =
     by-first t (λ (p : Polling). Known (p .number)) a rest z (λ e. polled-known t rest (did t a z .state)) (λ e. act-known t a z)
 
 pub poll-numbers : (t z w : List ℕ) (count : ℕ) → among pollNumbers (polledTo t z w count .number) ≡ true
-unfolding polledTo polledFrom lentNumber among if_then_else_
+unfolding polledTo polledFrom among if_then_else_
 poll-numbers t z w count =
     by-choice (λ (p : Polling). Known (p .number)) (ltb itemsMost count) (record { number = 22; accepted = 0; state = z }) _ (λ b. refl)
     (λ b.
     by-choice (λ (p : Polling). Known (p .number)) (eqb (lentNumber t z) 0) (polledBy (did t) (actsIn w count) z)
     (record { number = lentNumber t z; accepted = 0; state = z })
     (λ b. polled-known t (actsIn w count) z)
-    (λ b. by-choice Known (fitting t z) 0 10 (λ b. refl) (λ b. refl)))
+    (λ b. by-lent Known t z refl refl refl))
 
 -- A POLL EQUALS THE CALLS ONE BY ONE
 module _ (t z w : List ℕ) (count : ℕ) (few : count ≤ itemsMost) (fits : fitting t z ≡ true) (r : Polled) (y : List ℕ) (promise : Polls t z w count r y) where

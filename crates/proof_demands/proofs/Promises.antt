@@ -49,8 +49,8 @@ pub check-promise : (κ : One) (t t₁ : Lent) (r : Verdict) → check.Post κ (
 check-promise κ t t₁ r = refl
 
 module _ (κ : Two) where
-  pub fresh-promise : (t z t₁ z₁ : Lent) (r : ℕ) → fresh.Post κ (t, (z, tt)) r (t₁, (z₁, tt)) ≡ Freshens (now t) (now z) r (now z₁)
-  fresh-promise t z t₁ z₁ r = refl
+  pub fresh-promise : (t z t₁ z₁ : Lent) (v v₁ : ℕ) (r : ℕ) → fresh.Post κ (t, (v, (z, tt))) r (t₁, (v₁, (z₁, tt))) ≡ Freshens (now t) v (now z) r (now z₁)
+  fresh-promise t z t₁ z₁ v v₁ r = refl
 
   pub step-promise : (t z t₁ z₁ : Lent) (n n₁ : Name) (r : Answer) → step.Post κ (t, (z, (n, tt))) r (t₁, (z₁, (n₁, tt))) ≡ Steps (now t) (now z) n r (now z₁)
   step-promise t z t₁ z₁ n n₁ r = refl
@@ -74,8 +74,8 @@ module _ (κ : Two) where
   pub write-promise : (t out t₁ out₁ : Lent) (r : Written) → write.Post κ (t, (out, tt)) r (t₁, (out₁, tt)) ≡ Writes (now t) (now out) r (now out₁)
   write-promise t out t₁ out₁ r = refl
 
-  pub judge-promise : (t log t₁ log₁ : Lent) (r : Judged) → judge.Post κ (t, (log, tt)) r (t₁, (log₁, tt)) ≡ Judges (now t) (now log) r
-  judge-promise t log t₁ log₁ r = refl
+  pub judge-promise : (t log t₁ log₁ : Lent) (v v₁ : ℕ) (r : Judged) → judge.Post κ (t, (v, (log, tt))) r (t₁, (v₁, (log₁, tt))) ≡ Judges (now t) v (now log) r
+  judge-promise t log t₁ log₁ v v₁ r = refl
 
   -- so too what the demands say that a step and a post are allowed
   pub step-allowed : (t z t₁ z₁ : Lent) (n n₁ : Name) (k : ℕ)

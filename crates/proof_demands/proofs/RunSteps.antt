@@ -23,7 +23,7 @@ use Rattle.step_list.specs.Listing.{listed, chosen}
 use Rattle.step_run.specs.Run.{Run, whether, oneStep, ranBy, ran}
 use Rattle.step_run.proofs.RunLaws.{none-listed, first-listed}
 use Rattle.proof_listing.proofs.ListedAll.{listed-accepted}
-use Rattle.engine.specs.Engine.{fitting, listedAt, RanTo, ended}
+use Rattle.engine.specs.Engine.{lentNumber, fitting, listedAt, RanTo, ended}
 use Rattle.engine.proofs.KeepsValid.{did-valid}
 use Rattle.engine.specs.Calls.{Act, aStep, did, allAccepted, after, Valid}
 use Rattle.proof_demands.specs.Demands.{runSteps, runLeft, ranGiven}
@@ -49,7 +49,7 @@ module _ (t : List ℕ) where
     -- THE FIRST LISTED STEP
     pub listed-is : (k : ℕ) → listedAt t z k ≡ chosen (listed t s q) k
     unfolding listedAt
-    listed-is k = picked (fitting t z) (chosen (listed t s q) k) (record { number = 10; name = blank }) (v .fits)
+    listed-is k = picked (fitting t z) (chosen (listed t s q) k) (record { number = lentNumber t z; name = blank }) (v .fits)
 
     first-none : listed t s q ≡ [] → listedAt t z 0 ≡ record { number = 6; name = blank }
     unfolding chosen

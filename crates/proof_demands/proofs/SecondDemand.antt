@@ -17,19 +17,19 @@ use Rattle.meaning.specs.Post.{postRefusals}
 use Rattle.meaning.specs.Step.{siteOf, exists, traffic, instancesAfter, queuesAfter, refusals}
 use Rattle.proof_steps.proofs.AcceptedParts.{Accepted, accepted-parts, parts-accepted}
 use Rattle.proof_steps.proofs.Choices.{chosen}
-use Rattle.engine.specs.Engine.{Left, fitting, Stepped, stepped, postedTo}
+use Rattle.engine.specs.Engine.{Left, lentNumber, fitting, Stepped, stepped, postedTo}
 use Rattle.engine.specs.Calls.{Act, aStep, aPost, did, numbers, allAccepted, after}
 use Rattle.proof_demands.specs.Promises.{Steps, Posts}
 use Rattle.proof_demands.specs.Demands.{allHold, permitted, given, stateGiven, allPermitted, numbersGiven, givenAfter, AllAllowed}
 use Rattle.proof_valid.proofs.NumberGiven.{stepped-number}
-use Rattle.proof_demands.proofs.Numbers.{stepped-traffic}
+use Rattle.proof_demands.proofs.Numbers.{stepped-traffic, unfit-number}
 use Rattle.proof_demands.proofs.Exactly.{accepted-exactly, state-exactly, number-exactly, accepted-gives}
 use Rattle.proof_demands.proofs.Firmness.{all-allowed-is}
 
-number-fits : (b : Bool) (k : ℕ) → (if b then k else 10) ≡ 0 → b ≡ true
+number-fits : (b : Bool) (j k : ℕ) → (b ≡ false → j ≡ 0 → ⊥) → (if b then k else j) ≡ 0 → b ≡ true
 unfolding if_then_else_
-number-fits true k e = refl
-number-fits false k e = absurd (omega arith)
+number-fits true j k bad e = refl
+number-fits false j k bad e = absurd (bad refl e)
 
 module _ (t z : List ℕ) where
   -- A STEP: accepted exactly when table and state are right and every condition of its refusals holds; then it says what was consumed or sent, and the
@@ -60,15 +60,15 @@ module _ (t z : List ℕ) where
       pub step-permits : r .number ≡ 0 → (fitting t z ≡ true) × (exists t s n ≡ true) × Accepted (siteOf t s n) q
       step-permits e =
           let k = sym (stepped-number t z n) ∙ sym step-is ∙ e in
-          let f : fitting t z ≡ true = number-fits (fitting t z) (firstRefusal (refusals t s q n)) k in
-          let p = accepted-parts t s q n (sym (chosen (fitting t z) (firstRefusal (refusals t s q n)) 10 f) ∙ k) in
+          let f : fitting t z ≡ true = number-fits (fitting t z) (lentNumber t z) (firstRefusal (refusals t s q n)) (unfit-number t z) k in
+          let p = accepted-parts t s q n (sym (chosen (fitting t z) (firstRefusal (refusals t s q n)) (lentNumber t z) f) ∙ k) in
           (f, p .0, p .1)
 
       pub step-accepts : fitting t z ≡ true → exists t s n ≡ true → Accepted (siteOf t s n) q → r .number ≡ 0
       step-accepts f e a =
           step-is
           ∙ stepped-number t z n
-          ∙ chosen (fitting t z) (firstRefusal (refusals t s q n)) 10 f
+          ∙ chosen (fitting t z) (firstRefusal (refusals t s q n)) (lentNumber t z) f
           ∙ parts-accepted t s q n e a
 
   -- A POST

@@ -39,11 +39,11 @@ module _ (t : List ℕ) where
     -- the number, where table and state are right
     pub step-number : (n : Name) → did t (aStep n) z .number ≡ firstRefusal (refusals t (instancesOf z) (queuesOf z) n)
     unfolding did
-    step-number n = stepped-number t z n ∙ chosen (fitting t z) (firstRefusal (refusals t (instancesOf z) (queuesOf z) n)) 10 (v .fits)
+    step-number n = stepped-number t z n ∙ chosen (fitting t z) (firstRefusal (refusals t (instancesOf z) (queuesOf z) n)) _ (v .fits)
 
     pub post-number : (name : ℕ) (g : Tuple) → did t (aPost name g) z .number ≡ firstRefusal (postRefusals (queuesOf z) name g)
     unfolding did
-    post-number name g = posted-number t z name g ∙ chosen (fitting t z) (firstRefusal (postRefusals (queuesOf z) name g)) 10 (v .fits)
+    post-number name g = posted-number t z name g ∙ chosen (fitting t z) (firstRefusal (postRefusals (queuesOf z) name g)) _ (v .fits)
 
     -- WHAT AN ACCEPTED STEP LEAVES
     module _ (n : Name) (accepted : did t (aStep n) z .number ≡ 0) where

@@ -16,6 +16,8 @@ use Rattle.check_model.specs.Checks.{lowest}
 use Rattle.check_lowest.specs.Model.{modelOf}
 use Rattle.text_read.specs.Notation.{ReadInto, model, tableOf, readInto}
 use Rattle.write_shown.specs.Shown.{shownTable}
+use Rattle.base_state.specs.Versions.{isVersion}
+use Rattle.engine.proofs.CallLaws.{asked-good}
 use Rattle.engine.specs.Engine.{valid, verdictOf, freshened, WrittenTo, written, writtenTo}
 use Rattle.proof_steps.proofs.Choices.{by-choice, chosen, passed}
 use Rattle.proof_valid.proofs.ChecksHold.{valid-fits, valid-sound}
@@ -100,8 +102,8 @@ module _ (text t₀ : List ℕ) (n : readInto text t₀ .number ≡ 0) where
   pub read-then-check : verdictOf (readInto text t₀ .table) ≡ record { number = 0; beside = 0 }
   read-then-check = let t : List ℕ = readInto text t₀ .table in check-passed t (valid-fits t (read-valid .0)) (valid-sound t (read-valid .0))
 
-  pub read-then-fresh : (z : List ℕ) → freshened (readInto text t₀ .table) z .number ≡ 0
-  read-then-fresh z = fresh-number (readInto text t₀ .table) z ∙ chosen (valid (readInto text t₀ .table)) 0 10 (read-valid .0)
+  pub read-then-fresh : (v : ℕ) → isVersion v ≡ true → (z : List ℕ) → freshened (readInto text t₀ .table) v z .number ≡ 0
+  read-then-fresh v known z = fresh-number (readInto text t₀ .table) v z ∙ asked-good (readInto text t₀ .table) v (read-valid .0) known
 
   -- and its own text, however the text that was read is spelled, is read as the same table
   pub read-write-read : (out t₁ : List ℕ) → writtenTo (readInto text t₀ .table) out .number ≡ 0

@@ -1,5 +1,5 @@
 -- The words of the mission's three demands, over the public calls: t is a table, z a state. The theorems stand in proofs/. They are over every valid table, and a table that was drawn is one
--- (`transcripts`), so that they hold of it with nothing to add.
+-- (`proof_drawings`), so that they hold of it with nothing to add.
 use Prim.Native.Nat.{ℕ, zero, suc, _+_, _<_, _≤_}
 use mathlib.Core.Path.{_≡_}
 use mathlib.Core.Bool.{Bool, true, false, _&&_}
@@ -14,6 +14,7 @@ use Rattle.base_words.specs.Counts.{names, messages}
 use Rattle.base_words.specs.Words.{at, greatest}
 use Rattle.base_table.specs.Places.{tableWords}
 use Rattle.base_state.specs.Instances.{instancesOf, queuesOf}
+use Rattle.base_state.specs.Versions.{isVersion}
 use Rattle.meaning.specs.declared.Name.{Name}
 use Rattle.meaning.specs.declared.Answer.{Answer}
 use Rattle.meaning.specs.declared.Tuple.{Tuple}
@@ -23,15 +24,15 @@ use Rattle.meaning.specs.Refusals.{Refusal, firstRefusal}
 use Rattle.meaning.specs.Step.{siteOf, refusals, instancesAfter, queuesAfter}
 use Rattle.meaning.specs.Post.{postRefusals}
 use Rattle.step_list.specs.Listing.{listed}
-use Rattle.engine.specs.Engine.{verdictOf, freshened, fitting, stepped, postedTo, listedAt, RanTo, ranTo, WrittenTo, writtenTo}
+use Rattle.engine.specs.Engine.{verdictOf, freshened, lentNumber, fitting, stepped, postedTo, listedAt, RanTo, ranTo, WrittenTo, writtenTo}
 use Rattle.engine.specs.Calls.{Act, aStep, aPost, did, after, polledTo, judgedTo}
 use Rattle.proof_demands.specs.Promises.{Steps, Posts}
 
--- DEMAND 1. "Bad ones are refused with the number document 01 gives": 10 where table or state are bad, else that of the first condition that does
--- not hold
+-- DEMAND 1. "Bad ones are refused with the number document 01 gives": 10 where table or state are bad, 25 for another version, else that of the first
+-- condition that does not hold
 unfoldable pub numberGiven : List ℕ → Act → List ℕ → ℕ
-numberGiven t (aStep n) z = if fitting t z then firstRefusal (refusals t (instancesOf z) (queuesOf z) n) else 10
-numberGiven t (aPost name g) z = if fitting t z then firstRefusal (postRefusals (queuesOf z) name g) else 10
+numberGiven t (aStep n) z = if fitting t z then firstRefusal (refusals t (instancesOf z) (queuesOf z) n) else lentNumber t z
+numberGiven t (aPost name g) z = if fitting t z then firstRefusal (postRefusals (queuesOf z) name g) else lentNumber t z
 
 -- the numbers that each call can give
 unfoldable pub among : List ℕ → ℕ → Bool
@@ -42,19 +43,19 @@ abbrev pub checkNumbers : List ℕ
 checkNumbers = 0 ∷ 4 ∷ 10 ∷ []
 
 abbrev pub freshNumbers : List ℕ
-freshNumbers = 0 ∷ 10 ∷ []
+freshNumbers = 0 ∷ 10 ∷ 25 ∷ []
 
 abbrev pub stepNumbers : List ℕ
-stepNumbers = 0 ∷ 10 ∷ 11 ∷ 12 ∷ 13 ∷ 14 ∷ 15 ∷ 16 ∷ 17 ∷ 18 ∷ []
+stepNumbers = 0 ∷ 10 ∷ 11 ∷ 12 ∷ 13 ∷ 14 ∷ 15 ∷ 16 ∷ 17 ∷ 18 ∷ 25 ∷ []
 
 abbrev pub postNumbers : List ℕ
-postNumbers = 0 ∷ 10 ∷ 17 ∷ 19 ∷ []
+postNumbers = 0 ∷ 10 ∷ 17 ∷ 19 ∷ 25 ∷ []
 
 abbrev pub listNumbers : List ℕ
-listNumbers = 0 ∷ 6 ∷ 10 ∷ []
+listNumbers = 0 ∷ 6 ∷ 10 ∷ 25 ∷ []
 
 abbrev pub runNumbers : List ℕ
-runNumbers = 0 ∷ 10 ∷ []
+runNumbers = 0 ∷ 10 ∷ 25 ∷ []
 
 abbrev pub readNumbers : List ℕ
 readNumbers = 0 ∷ 1 ∷ 2 ∷ 3 ∷ 4 ∷ []
@@ -63,7 +64,7 @@ abbrev pub writeNumbers : List ℕ
 writeNumbers = 0 ∷ 5 ∷ 10 ∷ []
 
 abbrev pub judgeNumbers : List ℕ
-judgeNumbers = 0 ∷ 10 ∷ 23 ∷ 24 ∷ []
+judgeNumbers = 0 ∷ 10 ∷ 23 ∷ 24 ∷ 25 ∷ []
 
 -- beside 24: the step's or post's own, 0 where only the text is untrue
 abbrev pub ownNumbers : List ℕ
@@ -121,7 +122,7 @@ ranGiven t limit z =
     }
 
 -- DEMAND 3. "two valid states of one model, alike but for further messages in the second's queues": equal instances, and in each queue exactly the
--- further messages e more, "equal ones counted singly"
+-- further messages e more, "equal ones counted singly". The version stands with the instances, so that "states of one version" is said by `alike`
 pub record Further (e : ℕ → List Tuple) (z₁ z₂ : List ℕ) : Type 0 where
   pub alike : instancesOf z₁ ≡ instancesOf z₂
   pub more : (m : ℕ) → m < names → (g : Tuple) → times g (messagesOf (queuesOf z₂) m) ≡ times g (messagesOf (queuesOf z₁) m) + times g (e m)
@@ -144,24 +145,28 @@ pub record Table (t : List ℕ) : Type 0 where
 abbrev pub textIn : WrittenTo → List ℕ
 textIn w = take (w .length) (w .buffer)
 
--- WHAT THE ENGINE MADE of a table: a fresh state, and what steps, posts, runs and polls leave of it, accepted or not; z is what stood in the block that was lent
+-- WHAT THE ENGINE MADE of a table: a fresh state for version 10 or 20, and what steps, posts, runs and polls leave of it, accepted or not; z is what stood in the block that was lent
 pub data Made (t : List ℕ) : List ℕ → Type 0 where
-  afresh : (z : List ℕ) → Made t (freshened t z .state)
+  afresh : (v : ℕ) → isVersion v ≡ true → (z : List ℕ) → Made t (freshened t v z .state)
   byAct : {z : List ℕ} (a : Act) → Made t z → Made t (did t a z .state)
   byRun : {z : List ℕ} (limit : ℕ) → Made t z → Made t (ranTo t z limit .state)
   byPoll : {z : List ℕ} (w : List ℕ) (count : ℕ) → Made t z → Made t (polledTo t z w count .state)
 
--- no call answers 10 to a table and a state
-pub record NeverTen (t z : List ℕ) : Type 0 where
-  pub check : verdictOf t .number ≡ 10 → ⊥
-  pub fresh : (y : List ℕ) → freshened t y .number ≡ 10 → ⊥
-  pub step : (n : Name) → stepped t z n .answer .number ≡ 10 → ⊥
-  pub post : (name : ℕ) (g : Tuple) → postedTo t z name g .number ≡ 10 → ⊥
-  pub list : (k : ℕ) → listedAt t z k .number ≡ 10 → ⊥
-  pub run : (limit : ℕ) → ranTo t z limit .number ≡ 10 → ⊥
-  pub write : (out : List ℕ) → writtenTo t out .number ≡ 10 → ⊥
-  pub poll : (w : List ℕ) (count : ℕ) → polledTo t z w count .number ≡ 10 → ⊥
-  pub judge : (log : List ℕ) → judgedTo t log .number ≡ 10 → ⊥
+-- neither 10 nor 25
+abbrev pub Right : ℕ → Type 0
+Right k = (k ≡ 10 → ⊥) × (k ≡ 25 → ⊥)
+
+-- no call answers 10 or 25 to a table and a state, nor for a version that there is
+pub record NeverBad (t z : List ℕ) : Type 0 where
+  pub check : Right (verdictOf t .number)
+  pub fresh : (v : ℕ) → isVersion v ≡ true → (y : List ℕ) → Right (freshened t v y .number)
+  pub step : (n : Name) → Right (stepped t z n .answer .number)
+  pub post : (name : ℕ) (g : Tuple) → Right (postedTo t z name g .number)
+  pub list : (k : ℕ) → Right (listedAt t z k .number)
+  pub run : (limit : ℕ) → Right (ranTo t z limit .number)
+  pub write : (out : List ℕ) → Right (writtenTo t out .number)
+  pub poll : (w : List ℕ) (count : ℕ) → Right (polledTo t z w count .number)
+  pub judge : (v : ℕ) → isVersion v ≡ true → (log : List ℕ) → Right (judgedTo t v log .number)
 
 -- how many steps are accepted
 unfoldable pub acceptedSteps : List ℕ → List ℕ → ℕ

@@ -22,8 +22,8 @@ use Rattle.engine.specs.Engine.{Left, Stepped, RanTo, WrittenTo, verdictOf, fre
 abbrev pub Checks : List ℕ → Verdict → Type 0
 Checks t r = r ≡ verdictOf t
 
-abbrev pub Freshens : List ℕ → List ℕ → ℕ → List ℕ → Type 0
-Freshens t z r y = _≡_ {A = Left} (record { number = r; state = y }) (freshened t z)
+abbrev pub Freshens : List ℕ → ℕ → List ℕ → ℕ → List ℕ → Type 0
+Freshens t v z r y = _≡_ {A = Left} (record { number = r; state = y }) (freshened t v z)
 
 abbrev pub Steps : List ℕ → List ℕ → Name → Answer → List ℕ → Type 0
 Steps t z n r y = _≡_ {A = Stepped} (record { answer = r; state = y }) (stepped t z n)
@@ -49,5 +49,5 @@ Writes t out r y = _≡_ {A = WrittenTo} (record { number = r .number; length = 
 abbrev pub Polls : List ℕ → List ℕ → List ℕ → ℕ → Polled → List ℕ → Type 0
 Polls t z w count r y = _≡_ {A = Polling} (record { number = r .number; accepted = r .accepted; state = y }) (polledTo t z w count)
 
-abbrev pub Judges : List ℕ → List ℕ → Judged → Type 0
-Judges t log r = r ≡ judgedTo t log
+abbrev pub Judges : List ℕ → ℕ → List ℕ → Judged → Type 0
+Judges t v log r = r ≡ judgedTo t v log

@@ -14,7 +14,8 @@ use Rattle.check_lowest.specs.Model.{modelOf}
 use Rattle.text_read.specs.Notation.{ReadInto, tableOf, readInto}
 use Rattle.write_shown.specs.Shown.{shownTable}
 use Rattle.engine.specs.Engine.{valid, verdictOf, freshened, writtenTo}
-use Rattle.proof_steps.proofs.Choices.{chosen}
+use Rattle.base_state.specs.Versions.{isVersion}
+use Rattle.engine.proofs.CallLaws.{asked-good}
 use Rattle.proof_valid.proofs.ChecksHold.{valid-fits, valid-sound}
 use Rattle.draw_model.specs.Content.{content}
 use Rattle.draw_read.specs.Drawings.{walked, thingsOf, drawInto}
@@ -23,10 +24,10 @@ use Rattle.proof_roundtrip.proofs.LowestLaws.{lowest-same}
 use Rattle.proof_roundtrip.proofs.ReadPools.{Model}
 use Rattle.proof_roundtrip.proofs.ReadTables.{table-small, table-fits, table-long, blocks-are}
 use Rattle.proof_roundtrip.proofs.RoundTrip.{read-back}
-use Rattle.proof_demands.specs.Demands.{Table, textIn, Made, NeverTen}
+use Rattle.proof_demands.specs.Demands.{Table, textIn, Made, NeverBad}
 use Rattle.proof_demands.proofs.Numbers.{fresh-number}
 use Rattle.proof_demands.proofs.FirstDemand.{check-passed}
-use Rattle.proof_demands.proofs.NeverTen.{never-ten}
+use Rattle.proof_demands.proofs.NeverBad.{never-bad}
 use Rattle.proof_demands.proofs.TextsAndTables.{write-fits, read-what-was-written}
 use Rattle.proof_drawings.proofs.ContentModel.{content-model}
 use Rattle.proof_drawings.proofs.PlacedLaws.{things-placed}
@@ -71,8 +72,8 @@ module _ (text t : List ℕ) (h : drawInto text t .number ≡ 0) where
   pub draw-then-check : verdictOf (drawInto text t .table) ≡ record { number = 0; beside = 0 }
   draw-then-check = let y : List ℕ = drawInto text t .table in check-passed y (valid-fits y (draw-valid .0)) (valid-sound y (draw-valid .0))
 
-  pub draw-then-fresh : (z : List ℕ) → freshened (drawInto text t .table) z .number ≡ 0
-  draw-then-fresh z = fresh-number (drawInto text t .table) z ∙ chosen (valid (drawInto text t .table)) 0 10 (draw-valid .0)
+  pub draw-then-fresh : (v : ℕ) → isVersion v ≡ true → (z : List ℕ) → freshened (drawInto text t .table) v z .number ≡ 0
+  draw-then-fresh v known z = fresh-number (drawInto text t .table) v z ∙ asked-good (drawInto text t .table) v (draw-valid .0) known
 
   -- its text is written into every buffer of 65,536 bytes
   pub draw-then-write : (out : List ℕ) → textMost ≤ length out → writtenTo (drawInto text t .table) out .number ≡ 0
@@ -94,8 +95,8 @@ module _ (text t : List ℕ) (h : drawInto text t .number ≡ 0) where
       ∙ ap (λ (x : List ℕ). record { number = 0; beside = 0; table = x }) (sym table-is)
       ∙ sym accepted-table
 
-  -- so what is proved of every table that was read is proved of one that was drawn: no call answers 10 to it
-  pub draw-never-ten : (z : List ℕ) → Made (drawInto text t .table) z → NeverTen (drawInto text t .table) z
-  draw-never-ten =
-      subst (λ (r : ReadInto). (z : List ℕ) → Made (r .table) z → NeverTen (r .table) z) (as-read t)
-      (never-ten (shownTable (drawInto text t .table)) t (ap (λ (r : ReadInto). r .number) (as-read t) ∙ h))
+  -- so what is proved of every table that was read is proved of one that was drawn: no call answers 10 or 25 to it
+  pub draw-never-bad : (z : List ℕ) → Made (drawInto text t .table) z → NeverBad (drawInto text t .table) z
+  draw-never-bad =
+      subst (λ (r : ReadInto). (z : List ℕ) → Made (r .table) z → NeverBad (r .table) z) (as-read t)
+      (never-bad (shownTable (drawInto text t .table)) t (ap (λ (r : ReadInto). r .number) (as-read t) ∙ h))

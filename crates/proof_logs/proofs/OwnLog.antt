@@ -1,4 +1,4 @@
--- THE LOG OF A RUN'S OWN LINES IS LAWFUL: of calls that were accepted from the fresh state, and of the run behind them. t is a valid table, b a log that has those lines. Assumes nothing.
+-- THE LOG OF A RUN'S OWN LINES IS LAWFUL: of calls that were accepted from the fresh state, and of the run behind them. t is a valid table, v version 10 or 20, b a log that has those lines. Assumes nothing.
 use Prim.Native.Nat.{ℕ, zero, suc, _≤_}
 use mathlib.Core.Path.{_≡_, _∙_, refl, ap}
 use mathlib.Core.Bool.{true}
@@ -13,14 +13,15 @@ use Rattle.xml_skip.specs.declared.Skipped.the-variants.{Past}
 use Rattle.proof_steps.proofs.Choices.{by-choice}
 use Rattle.log_text.specs.Logs.{scan, linesOf}
 use Rattle.log_judge.specs.Judge.{taken, lawful, judgedBy, judgedEnd, judgedFrom}
-use Rattle.engine.specs.Engine.{valid, stepped, postedTo, listedAt}
+use Rattle.engine.specs.Engine.{askedNumber, stepped, postedTo, listedAt}
 use Rattle.engine.specs.Calls.{Act, aStep, aPost, did, allAccepted, after, Valid, judgedTo}
+use Rattle.engine.proofs.CallLaws.{asked-known}
 use Rattle.engine.proofs.KeepsValid.{after-valid, fresh-valid}
 use Rattle.proof_demands.specs.Demands.{runSteps}
 use Rattle.proof_demands.proofs.RunSteps.{run-accepted}
 use Rattle.proof_logs.specs.Told.{told, AllPosted, AllWords}
 use Rattle.proof_logs.proofs.ToldLawful.{told-lawful}
-use Rattle.proof_logs.proofs.WordSteps.{fresh-worded, whole-words, words-hold}
+use Rattle.proof_logs.proofs.WordSteps.{version-small, fresh-worded, whole-words, words-hold}
 
 module _ (t : List ℕ) where
   -- calls, and others behind them
@@ -47,36 +48,39 @@ module _ (t : List ℕ) where
       (λ e. tt)
 
   -- a text that is a log is judged by its lines
-  pub log-judged : valid t ≡ true → (b : List ℕ) (q : ℕ) → scan b .end ≡ Past q → judgedTo t b ≡ judgedBy (taken (stepped t) (postedTo t)) (linesOf b) 0 (fresh t)
+  pub log-judged : (v : ℕ) → askedNumber t v ≡ 0 → (b : List ℕ) (q : ℕ) → scan b .end ≡ Past q → judgedTo t v b ≡ judgedBy (taken (stepped t) (postedTo t)) (linesOf b) 0 (fresh t v)
   unfolding judgedTo judgedFrom judgedEnd if_then_else_
-  log-judged right b q e = rw (right, e) refl
+  log-judged v asked b q e = rw (asked, e) refl
 
-  -- small is what the type of a lent table says
-  module _ (right : valid t ≡ true) (small : (i : ℕ) → at t i ≤ greatest) where
-    pub fresh-words : (acts : List Act) → allAccepted t acts (fresh t) ≡ true → AllPosted acts → AllWords t acts (fresh t)
-    fresh-words acts h posted = words-hold t small acts (fresh t) (fresh-valid t right) (whole-words (fresh t) (fresh-worded t)) h posted
+  -- the table is valid and v a version that there is; small is what the type of a lent table says
+  module _ (v : ℕ) (asked : askedNumber t v ≡ 0) (small : (i : ℕ) → at t i ≤ greatest) where
+    known : v ≤ greatest
+    known = version-small v (asked-known t v asked)
+
+    pub fresh-words : (acts : List Act) → allAccepted t acts (fresh t v) ≡ true → AllPosted acts → AllWords t acts (fresh t v)
+    fresh-words acts h posted = words-hold t small acts (fresh t v) (fresh-valid t v asked) (whole-words (fresh t v) (fresh-worded t v known)) h posted
 
     -- calls that were accepted from the fresh state
-    pub told-log : (acts : List Act) → allAccepted t acts (fresh t) ≡ true → AllPosted acts
-        → (b : List ℕ) (q : ℕ) → scan b .end ≡ Past q → linesOf b ≡ told t acts (fresh t) → judgedTo t b ≡ lawful
+    pub told-log : (acts : List Act) → allAccepted t acts (fresh t v) ≡ true → AllPosted acts
+        → (b : List ℕ) (q : ℕ) → scan b .end ≡ Past q → linesOf b ≡ told t acts (fresh t v) → judgedTo t v b ≡ lawful
     told-log acts h posted b q e lines =
-        log-judged right b q e
-        ∙ ap (λ (ws : List (List ℕ)). judgedBy (taken (stepped t) (postedTo t)) ws 0 (fresh t)) lines
-        ∙ told-lawful t acts 0 (fresh t) (fresh-valid t right) h (fresh-words acts h posted)
+        log-judged v asked b q e
+        ∙ ap (λ (ws : List (List ℕ)). judgedBy (taken (stepped t) (postedTo t)) ws 0 (fresh t v)) lines
+        ∙ told-lawful t acts 0 (fresh t v) (fresh-valid t v asked) h (fresh-words acts h posted)
 
     -- "a log made of a run's own lines .. is lawful (for every model, state reached from fresh, and limit)"
-    module _ (acts : List Act) (accepted : allAccepted t acts (fresh t) ≡ true) (posted : AllPosted acts) (limit : ℕ) where
+    module _ (acts : List Act) (accepted : allAccepted t acts (fresh t v) ≡ true) (posted : AllPosted acts) (limit : ℕ) where
       abbrev whole : List Act
-      whole = acts ++ runSteps t limit (after t acts (fresh t))
+      whole = acts ++ runSteps t limit (after t acts (fresh t v))
 
-      reached : Valid t (after t acts (fresh t))
-      reached = after-valid t acts (fresh t) (fresh-valid t right)
+      reached : Valid t (after t acts (fresh t v))
+      reached = after-valid t acts (fresh t v) (fresh-valid t v asked)
 
-      pub whole-accepted : allAccepted t whole (fresh t) ≡ true
-      whole-accepted = both-accepted acts (runSteps t limit (after t acts (fresh t))) (fresh t) accepted (run-accepted t limit (after t acts (fresh t)) reached)
+      pub whole-accepted : allAccepted t whole (fresh t v) ≡ true
+      whole-accepted = both-accepted acts (runSteps t limit (after t acts (fresh t v))) (fresh t v) accepted (run-accepted t limit (after t acts (fresh t v)) reached)
 
       pub whole-posted : AllPosted whole
-      whole-posted = both-posted acts (runSteps t limit (after t acts (fresh t))) posted (run-posted limit (after t acts (fresh t)))
+      whole-posted = both-posted acts (runSteps t limit (after t acts (fresh t v))) posted (run-posted limit (after t acts (fresh t v)))
 
-      pub own-log-lawful : (b : List ℕ) (q : ℕ) → scan b .end ≡ Past q → linesOf b ≡ told t whole (fresh t) → judgedTo t b ≡ lawful
+      pub own-log-lawful : (b : List ℕ) (q : ℕ) → scan b .end ≡ Past q → linesOf b ≡ told t whole (fresh t v) → judgedTo t v b ≡ lawful
       own-log-lawful b q e lines = told-log whole whole-accepted whole-posted b q e lines

@@ -30,7 +30,7 @@ use Rattle.proof_steps.proofs.AcceptedParts.{first-holds}
 use Rattle.log_lines.specs.declared.Entry.{Entry}
 use Rattle.log_lines.specs.Entries.{numberMost, entryOf}
 use Rattle.log_judge.specs.Judge.{takenBy, taken, lawful, judgedBy}
-use Rattle.engine.specs.Engine.{Left, Stepped, fitting, leaving, stepped, postedTo}
+use Rattle.engine.specs.Engine.{Left, Stepped, lentNumber, fitting, leaving, stepped, postedTo}
 use Rattle.engine.specs.Calls.{Act, aStep, aPost, did, allAccepted, Valid}
 use Rattle.engine.proofs.CallLaws.{table-fits, state-fits}
 use Rattle.engine.proofs.KeepsValid.{did-valid}
@@ -90,7 +90,7 @@ module _ (t : List ℕ) where
       named-again : stepped t z k ≡ stepped t z n
       unfolding stepped
       named-again =
-          ap (λ (o : Outcome). if fitting t z then leaving o else record { answer = record { number = 10; traffic = Nothing; name = 0; tuple = empty }; state = z })
+          ap (λ (o : Outcome). if fitting t z then leaving o else record { answer = record { number = lentNumber t z; traffic = Nothing; name = 0; tuple = empty }; state = z })
           (step-same t (instancesOf z) (queuesOf z) n (tidied (n .given)) same allowed)
 
       line-again : stepLine k a ≡ stepLine n a
@@ -122,7 +122,7 @@ module _ (t : List ℕ) where
       posted-again : postedTo t z name (tidied g) ≡ postedTo t z name g
       unfolding postedTo
       posted-again =
-          ap (λ (o : Posted). if fitting t z then record { number = o .number; state = instancesOf z ++ o .queues } else record { number = 10; state = z })
+          ap (λ (o : Posted). if fitting t z then record { number = o .number; state = instancesOf z ++ o .queues } else record { number = lentNumber t z; state = z })
           (post-same g short (queuesOf z) name)
 
       post-again : ((j : ℕ) → at (g .values) j ≤ greatest) → Retaken (aPost name g) z

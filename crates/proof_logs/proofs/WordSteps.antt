@@ -2,6 +2,7 @@
 use Prim.Native.Nat.{ℕ, zero, suc, _+_, _-_, _<_, _≤_}
 use mathlib.Core.Path.{_≡_, _∙_, sym, subst}
 use mathlib.Core.Bool.{true, _&&_, false≢true}
+use mathlib.Core.Logic.{⊎-elim}
 use mathlib.Core.List.{List, [], _∷_, _++_}
 use native.Mathlib.Omega.{arith}
 use lib.Dec.{eqb, leb, ltb}
@@ -12,13 +13,15 @@ use Rattle.base_words.specs.Each.{tab}
 use Rattle.base_words.specs.Pick.{if_then_else_}
 use Rattle.base_words.specs.Words.{at, greatest}
 use Rattle.base_words.proofs.AllLaws.{and-left, and-right}
+use Rattle.base_words.specs.Iter.{iter}
 use Rattle.base_words.proofs.IterLaws.{iter-keeps}
 use Rattle.base_words.proofs.ListLaws.{length-tab}
 use Rattle.base_kinds.specs.Moves.{on, making}
 use Rattle.base_table.specs.Places.{elementPlace}
 use Rattle.base_table.specs.Table.{poolCount}
-use Rattle.base_state.specs.Places.{stateWords, instancesWords, instanceWords, instancePlace, madePlace, storeWords, sharedWords, sharedPlace, tokenPlace, valuesIn, slotsIn, slotWords, queueWords, queuePlace, slotPlace}
+use Rattle.base_state.specs.Places.{stateWords, instancesWords, instanceWords, instancePlace, madePlace, storeWords, sharedWords, sharedPlace, versionAt, tokenPlace, valuesIn, slotsIn, slotWords, queueWords, queuePlace, slotPlace}
 use Rattle.base_state.specs.Instances.{instancesOf, queuesOf, madeCount, withInstance, withStores}
+use Rattle.base_state.specs.Versions.{former, present, isVersion}
 use Rattle.check_limits.specs.Limits.{tableFits}
 use Rattle.state_fits.specs.Fits.{hasStart}
 use Rattle.state_fits.specs.Fresh.{firstEdge, begun, fresh}
@@ -38,7 +41,7 @@ use Rattle.meaning.specs.Post.{postRefusals}
 use Rattle.meaning.specs.Step.{Site, siteOf, poolNamed, elementNamed, moveNamed, instanceOf, sharedOf, before, receives, sends, messageNamed, template, work, sent, afterTaking, instanceAfter, madeAfter, instancesAfter, queuesAfter, traffic, refusals}
 use Rattle.step_values.proofs.TupleLaws.{same-value}
 use Rattle.proof_steps.proofs.AcceptedParts.{first-holds}
-use Rattle.proof_steps.proofs.Choices.{by-test, by-choice, passed-true}
+use Rattle.proof_steps.proofs.Choices.{by-test, by-choice, passed-true, or-either}
 use Rattle.proof_steps.proofs.Traffic.{received-there, sent-space, sent-short}
 use Rattle.engine.specs.Engine.{stepped}
 use Rattle.engine.specs.Calls.{Act, aStep, aPost, did, allAccepted, Valid}
@@ -233,15 +236,23 @@ module _ (t s q : List ℕ) (n : Name) (tw : Worded t) (sw : Worded s) (qw : Wor
       (λ d. qw))
 
 -- A FRESH STATE
-pub fresh-worded : (t : List ℕ) → Worded (fresh t)
+pub version-small : (v : ℕ) → isVersion v ≡ true → v ≤ greatest
+unfolding isVersion
+version-small v e =
+    ⊎-elim (λ h. let is : v ≡ former = eqb-true v former h in omega arith) (λ h. let is : v ≡ present = eqb-true v present h in omega arith)
+    (or-either (eqb v former) (eqb v present) e)
+
+pub fresh-worded : (t : List ℕ) (v : ℕ) → v ≤ greatest → Worded (fresh t v)
 unfolding fresh begun
-fresh-worded t =
-    iter-keeps (begun t) (replicate stateWords 0) Worded (poolCount t)
+fresh-worded t v few =
+    set-worded (iter (begun t) (replicate stateWords 0) (poolCount t)) versionAt v
+    (iter-keeps (begun t) (replicate stateWords 0) Worded (poolCount t)
     (λ k z l w.
     by-choice Worded (hasStart t k) (set (set z (madePlace k) 1) (instancePlace k 0 + tokenPlace (firstEdge t k)) 1) z
     (λ e. set-worded (set z (madePlace k) 1) (instancePlace k 0 + tokenPlace (firstEdge t k)) 1 (set-worded z (madePlace k) 1 w (omega arith)) (omega arith))
     (λ e. w))
-    (zeros-worded stateWords)
+    (zeros-worded stateWords))
+    few
 
 -- CALLS ONE AFTER THE OTHER
 pub record Words (z : List ℕ) : Type 0 where

@@ -49,12 +49,13 @@ width (task e n N c A e′) = 1
 width (taskRcv e n N c A m ts e′) = 1
 width (taskSnd e n N c A m xs e′) = 1
 
--- the parts of the element of words el that a row m means by branch b
-abbrev pub partsAt : List ℕ → Move → ℕ → Parts
-partsAt el m b = record {
+-- the parts of the element of words el that a row m means by branch b, under version v
+abbrev pub partsAt : ℕ → List ℕ → Move → ℕ → Parts
+partsAt v el m b = record {
   takes = takenEdges el m b;
   puts = putEdges el m b;
   task = taskIn el;
+  version = v;
   mode = modeAt el;
   assigns = assignmentsOf el;
   name = messageName el b;
@@ -69,11 +70,11 @@ Grants el b L =
     × ((j : ℕ) → j < b → (condAt (conditionAt el j) ≡ default → ⊥) → truth (L .σd) (condAt (conditionAt el j)) ≡ False))
     ⊎ ((condAt (conditionAt el b) ≡ default) × ((j : ℕ) → j < exitCount el → (j ≡ b → ⊥) → truth (L .σd) (condAt (conditionAt el j)) ≡ False))
 
-module _ (el : List ℕ) (fits : elementFits el ≡ true) (L : Local) where
+module _ (v : ℕ) (el : List ℕ) (fits : elementFits el ≡ true) (L : Local) where
   -- the row and the rule have the same transitions
   pub record Same (m : Move) (b : ℕ) : Type 0 where
-    pub to : (l : Label) (σ : Local) → Goes m (partsAt el m b) (Grants el b L) L l σ → Moves (elementOf el) (m .phase) b L l σ
-    pub from : (l : Label) (σ : Local) → Moves (elementOf el) (m .phase) b L l σ → Goes m (partsAt el m b) (Grants el b L) L l σ
+    pub to : (l : Label) (σ : Local) → Goes m (partsAt v el m b) (Grants el b L) L l σ → Moves v (elementOf el) (m .phase) b L l σ
+    pub from : (l : Label) (σ : Local) → Moves v (elementOf el) (m .phase) b L l σ → Goes m (partsAt v el m b) (Grants el b L) L l σ
 
   abbrev Law : Move → Type 0
   Law m = kindIn el ≡ m .kind → modeOf (modeIn el) ≡ m .mode → (width (elementOf el) ≡ branchCount el m) × ((b : ℕ) → b < branchCount el m → Same m b)
@@ -83,6 +84,7 @@ module _ (el : List ℕ) (fits : elementFits el ≡ true) (L : Local) where
     takes = takes;
     puts = puts;
     task = taskIn el;
+    version = v;
     mode = modeAt el;
     assigns = assignmentsOf el;
     name = messageName el b;
@@ -91,14 +93,14 @@ module _ (el : List ℕ) (fits : elementFits el ≡ true) (L : Local) where
   }
 
   by-parts : (m : Move) (b : ℕ) (E : Element) (takes puts : List ℕ) → elementOf el ≡ E → takenEdges el m b ≡ takes → putEdges el m b ≡ puts
-      → ((l : Label) (σ : Local) → Goes m (with-edges takes puts b) (Grants el b L) L l σ → Moves E (m .phase) b L l σ)
-      → ((l : Label) (σ : Local) → Moves E (m .phase) b L l σ → Goes m (with-edges takes puts b) (Grants el b L) L l σ)
+      → ((l : Label) (σ : Local) → Goes m (with-edges takes puts b) (Grants el b L) L l σ → Moves v E (m .phase) b L l σ)
+      → ((l : Label) (σ : Local) → Moves v E (m .phase) b L l σ → Goes m (with-edges takes puts b) (Grants el b L) L l σ)
       → Same m b
   by-parts m b E takes puts e t p to from =
-      let q : partsAt el m b ≡ with-edges takes puts b = λ i. with-edges (t i) (p i) b in
+      let q : partsAt v el m b ≡ with-edges takes puts b = λ i. with-edges (t i) (p i) b in
       record {
-        to = λ l σ x. subst (λ y. Moves y (m .phase) b L l σ) (sym e) (to l σ (subst (λ y. Goes m y (Grants el b L) L l σ) q x));
-        from = λ l σ x. subst (λ y. Goes m y (Grants el b L) L l σ) (sym q) (from l σ (subst (λ y. Moves y (m .phase) b L l σ) e x));
+        to = λ l σ x. subst (λ y. Moves v y (m .phase) b L l σ) (sym e) (to l σ (subst (λ y. Goes m y (Grants el b L) L l σ) q x));
+        from = λ l σ x. subst (λ y. Goes m y (Grants el b L) L l σ) (sym q) (from l σ (subst (λ y. Moves v y (m .phase) b L l σ) e x));
       }
 
   -- a row of one branch
@@ -145,160 +147,160 @@ module _ (el : List ℕ) (fits : elementFits el ≡ true) (L : Local) where
   start-law k q =
       by-one (row 0) (start (entryAt el 0) (exitAt el 0)) refl refl (element-is 1 k)
       (by-parts (row 0) 0 (start (entryAt el 0) (exitAt el 0)) (entryAt el 0 ∷ []) (exitAt el 0 ∷ []) (element-is 1 k) (one-entry 1 k refl (λ j. entryAt el (0 + j))) (one-exit 1 k refl (λ j. exitAt el (0 + j)))
-      (λ l σ x. start-to (entryAt el 0) (exitAt el 0) (taskIn el) [] (modeAt el) (guardOf el) (assignmentsOf el) (messageName el 0) (templateOf el 0) (messageOf el 0) (Grants el 0 L) L x)
-      (λ l σ x. start-from (entryAt el 0) (exitAt el 0) (taskIn el) [] (modeAt el) (guardOf el) (assignmentsOf el) (messageName el 0) (templateOf el 0) (messageOf el 0) (Grants el 0 L) L x))
+      (λ l σ x. start-to v (entryAt el 0) (exitAt el 0) (taskIn el) [] (modeAt el) (guardOf el) (assignmentsOf el) (messageName el 0) (templateOf el 0) (messageOf el 0) (Grants el 0 L) L x)
+      (λ l σ x. start-from v (entryAt el 0) (exitAt el 0) (taskIn el) [] (modeAt el) (guardOf el) (assignmentsOf el) (messageName el 0) (templateOf el 0) (messageOf el 0) (Grants el 0 L) L x))
 
   start-rcv-law : Law (row 1)
   unfolding touched first if_then_else_ branchCount ofEachKind kindOf used width span
   start-rcv-law k q =
       by-one (row 1) (startRcv (messageName el 0) (templateOf el 0) (exitAt el 0)) refl refl (element-is 2 k)
       (by-parts (row 1) 0 (startRcv (messageName el 0) (templateOf el 0) (exitAt el 0)) [] (exitAt el 0 ∷ []) (element-is 2 k) refl (one-exit 2 k refl (λ j. exitAt el (0 + j)))
-      (λ l σ x. start-rcv-to (entryAt el 0) (exitAt el 0) (taskIn el) [] (modeAt el) (guardOf el) (assignmentsOf el) (messageName el 0) (templateOf el 0) (messageOf el 0) (Grants el 0 L) L x)
-      (λ l σ x. start-rcv-from (entryAt el 0) (exitAt el 0) (taskIn el) [] (modeAt el) (guardOf el) (assignmentsOf el) (messageName el 0) (templateOf el 0) (messageOf el 0) (Grants el 0 L) L x))
+      (λ l σ x. start-rcv-to v (entryAt el 0) (exitAt el 0) (taskIn el) [] (modeAt el) (guardOf el) (assignmentsOf el) (messageName el 0) (templateOf el 0) (messageOf el 0) (Grants el 0 L) L x)
+      (λ l σ x. start-rcv-from v (entryAt el 0) (exitAt el 0) (taskIn el) [] (modeAt el) (guardOf el) (assignmentsOf el) (messageName el 0) (templateOf el 0) (messageOf el 0) (Grants el 0 L) L x))
 
   end-law : Law (row 2)
   unfolding touched first if_then_else_ branchCount ofEachKind kindOf used width span
   end-law k q =
       by-one (row 2) (end (entryAt el 0)) refl refl (element-is 3 k)
       (by-parts (row 2) 0 (end (entryAt el 0)) (entryAt el 0 ∷ []) [] (element-is 3 k) (one-entry 3 k refl (λ j. entryAt el (0 + j))) refl
-      (λ l σ x. end-to (entryAt el 0) (exitAt el 0) (taskIn el) [] (modeAt el) (guardOf el) (assignmentsOf el) (messageName el 0) (templateOf el 0) (messageOf el 0) (Grants el 0 L) L x)
-      (λ l σ x. end-from (entryAt el 0) (exitAt el 0) (taskIn el) [] (modeAt el) (guardOf el) (assignmentsOf el) (messageName el 0) (templateOf el 0) (messageOf el 0) (Grants el 0 L) L x))
+      (λ l σ x. end-to v (entryAt el 0) (exitAt el 0) (taskIn el) [] (modeAt el) (guardOf el) (assignmentsOf el) (messageName el 0) (templateOf el 0) (messageOf el 0) (Grants el 0 L) L x)
+      (λ l σ x. end-from v (entryAt el 0) (exitAt el 0) (taskIn el) [] (modeAt el) (guardOf el) (assignmentsOf el) (messageName el 0) (templateOf el 0) (messageOf el 0) (Grants el 0 L) L x))
 
   terminate-law : Law (row 3)
   unfolding touched first if_then_else_ branchCount ofEachKind kindOf used width span
   terminate-law k q =
       by-one (row 3) (terminate (entryAt el 0)) refl refl (element-is 4 k)
       (by-parts (row 3) 0 (terminate (entryAt el 0)) (entryAt el 0 ∷ []) [] (element-is 4 k) (one-entry 4 k refl (λ j. entryAt el (0 + j))) refl
-      (λ l σ x. terminate-to (entryAt el 0) (exitAt el 0) (taskIn el) [] (modeAt el) (guardOf el) (assignmentsOf el) (messageName el 0) (templateOf el 0) (messageOf el 0) (Grants el 0 L) L x)
-      (λ l σ x. terminate-from (entryAt el 0) (exitAt el 0) (taskIn el) [] (modeAt el) (guardOf el) (assignmentsOf el) (messageName el 0) (templateOf el 0) (messageOf el 0) (Grants el 0 L) L x))
+      (λ l σ x. terminate-to v (entryAt el 0) (exitAt el 0) (taskIn el) [] (modeAt el) (guardOf el) (assignmentsOf el) (messageName el 0) (templateOf el 0) (messageOf el 0) (Grants el 0 L) L x)
+      (λ l σ x. terminate-from v (entryAt el 0) (exitAt el 0) (taskIn el) [] (modeAt el) (guardOf el) (assignmentsOf el) (messageName el 0) (templateOf el 0) (messageOf el 0) (Grants el 0 L) L x))
 
   end-snd-law : Law (row 4)
   unfolding touched first if_then_else_ branchCount ofEachKind kindOf used width span
   end-snd-law k q =
       by-one (row 4) (endSnd (entryAt el 0) (messageName el 0) (messageOf el 0)) refl refl (element-is 5 k)
       (by-parts (row 4) 0 (endSnd (entryAt el 0) (messageName el 0) (messageOf el 0)) (entryAt el 0 ∷ []) [] (element-is 5 k) (one-entry 5 k refl (λ j. entryAt el (0 + j))) refl
-      (λ l σ x. end-snd-to (entryAt el 0) (exitAt el 0) (taskIn el) [] (modeAt el) (guardOf el) (assignmentsOf el) (messageName el 0) (templateOf el 0) (messageOf el 0) (Grants el 0 L) L x)
-      (λ l σ x. end-snd-from (entryAt el 0) (exitAt el 0) (taskIn el) [] (modeAt el) (guardOf el) (assignmentsOf el) (messageName el 0) (templateOf el 0) (messageOf el 0) (Grants el 0 L) L x))
+      (λ l σ x. end-snd-to v (entryAt el 0) (exitAt el 0) (taskIn el) [] (modeAt el) (guardOf el) (assignmentsOf el) (messageName el 0) (templateOf el 0) (messageOf el 0) (Grants el 0 L) L x)
+      (λ l σ x. end-snd-from v (entryAt el 0) (exitAt el 0) (taskIn el) [] (modeAt el) (guardOf el) (assignmentsOf el) (messageName el 0) (templateOf el 0) (messageOf el 0) (Grants el 0 L) L x))
 
   inter-rcv-law : Law (row 5)
   unfolding touched first if_then_else_ branchCount ofEachKind kindOf used width span
   inter-rcv-law k q =
       by-one (row 5) (interRcv (entryAt el 0) (messageName el 0) (templateOf el 0) (exitAt el 0)) refl refl (element-is 6 k)
       (by-parts (row 5) 0 (interRcv (entryAt el 0) (messageName el 0) (templateOf el 0) (exitAt el 0)) (entryAt el 0 ∷ []) (exitAt el 0 ∷ []) (element-is 6 k) (one-entry 6 k refl (λ j. entryAt el (0 + j))) (one-exit 6 k refl (λ j. exitAt el (0 + j)))
-      (λ l σ x. inter-rcv-to (entryAt el 0) (exitAt el 0) (taskIn el) [] (modeAt el) (guardOf el) (assignmentsOf el) (messageName el 0) (templateOf el 0) (messageOf el 0) (Grants el 0 L) L x)
-      (λ l σ x. inter-rcv-from (entryAt el 0) (exitAt el 0) (taskIn el) [] (modeAt el) (guardOf el) (assignmentsOf el) (messageName el 0) (templateOf el 0) (messageOf el 0) (Grants el 0 L) L x))
+      (λ l σ x. inter-rcv-to v (entryAt el 0) (exitAt el 0) (taskIn el) [] (modeAt el) (guardOf el) (assignmentsOf el) (messageName el 0) (templateOf el 0) (messageOf el 0) (Grants el 0 L) L x)
+      (λ l σ x. inter-rcv-from v (entryAt el 0) (exitAt el 0) (taskIn el) [] (modeAt el) (guardOf el) (assignmentsOf el) (messageName el 0) (templateOf el 0) (messageOf el 0) (Grants el 0 L) L x))
 
   inter-snd-law : Law (row 6)
   unfolding touched first if_then_else_ branchCount ofEachKind kindOf used width span
   inter-snd-law k q =
       by-one (row 6) (interSnd (entryAt el 0) (messageName el 0) (messageOf el 0) (exitAt el 0)) refl refl (element-is 7 k)
       (by-parts (row 6) 0 (interSnd (entryAt el 0) (messageName el 0) (messageOf el 0) (exitAt el 0)) (entryAt el 0 ∷ []) (exitAt el 0 ∷ []) (element-is 7 k) (one-entry 7 k refl (λ j. entryAt el (0 + j))) (one-exit 7 k refl (λ j. exitAt el (0 + j)))
-      (λ l σ x. inter-snd-to (entryAt el 0) (exitAt el 0) (taskIn el) [] (modeAt el) (guardOf el) (assignmentsOf el) (messageName el 0) (templateOf el 0) (messageOf el 0) (Grants el 0 L) L x)
-      (λ l σ x. inter-snd-from (entryAt el 0) (exitAt el 0) (taskIn el) [] (modeAt el) (guardOf el) (assignmentsOf el) (messageName el 0) (templateOf el 0) (messageOf el 0) (Grants el 0 L) L x))
+      (λ l σ x. inter-snd-to v (entryAt el 0) (exitAt el 0) (taskIn el) [] (modeAt el) (guardOf el) (assignmentsOf el) (messageName el 0) (templateOf el 0) (messageOf el 0) (Grants el 0 L) L x)
+      (λ l σ x. inter-snd-from v (entryAt el 0) (exitAt el 0) (taskIn el) [] (modeAt el) (guardOf el) (assignmentsOf el) (messageName el 0) (templateOf el 0) (messageOf el 0) (Grants el 0 L) L x))
 
   and-split-law : Law (row 8)
   unfolding exitsOf touched first if_then_else_ branchCount ofEachKind kindOf used width span
   and-split-law k q =
       by-one (row 8) (andSplit (entryAt el 0) (exitsOf el)) refl refl (element-is 9 k)
       (by-parts (row 8) 0 (andSplit (entryAt el 0) (exitsOf el)) (entryAt el 0 ∷ []) (exitsOf el) (element-is 9 k) (one-entry 9 k refl (λ j. entryAt el (0 + j))) (from-zero (exitAt el) (exitCount el))
-      (λ l σ x. and-split-to (entryAt el 0) (exitAt el 0) (taskIn el) (exitsOf el) (modeAt el) (guardOf el) (assignmentsOf el) (messageName el 0) (templateOf el 0) (messageOf el 0) (Grants el 0 L) L x)
-      (λ l σ x. and-split-from (entryAt el 0) (exitAt el 0) (taskIn el) (exitsOf el) (modeAt el) (guardOf el) (assignmentsOf el) (messageName el 0) (templateOf el 0) (messageOf el 0) (Grants el 0 L) L x))
+      (λ l σ x. and-split-to v (entryAt el 0) (exitAt el 0) (taskIn el) (exitsOf el) (modeAt el) (guardOf el) (assignmentsOf el) (messageName el 0) (templateOf el 0) (messageOf el 0) (Grants el 0 L) L x)
+      (λ l σ x. and-split-from v (entryAt el 0) (exitAt el 0) (taskIn el) (exitsOf el) (modeAt el) (guardOf el) (assignmentsOf el) (messageName el 0) (templateOf el 0) (messageOf el 0) (Grants el 0 L) L x))
 
   and-join-law : Law (row 9)
   unfolding entriesOf touched first if_then_else_ branchCount ofEachKind kindOf used width span
   and-join-law k q =
       by-one (row 9) (andJoin (entriesOf el) (exitAt el 0)) refl refl (element-is 10 k)
       (by-parts (row 9) 0 (andJoin (entriesOf el) (exitAt el 0)) (entriesOf el) (exitAt el 0 ∷ []) (element-is 10 k) (from-zero (entryAt el) (entryCount el)) (one-exit 10 k refl (λ j. exitAt el (0 + j)))
-      (λ l σ x. and-join-to (entryAt el 0) (exitAt el 0) (taskIn el) (entriesOf el) (modeAt el) (guardOf el) (assignmentsOf el) (messageName el 0) (templateOf el 0) (messageOf el 0) (Grants el 0 L) L x)
-      (λ l σ x. and-join-from (entryAt el 0) (exitAt el 0) (taskIn el) (entriesOf el) (modeAt el) (guardOf el) (assignmentsOf el) (messageName el 0) (templateOf el 0) (messageOf el 0) (Grants el 0 L) L x))
+      (λ l σ x. and-join-to v (entryAt el 0) (exitAt el 0) (taskIn el) (entriesOf el) (modeAt el) (guardOf el) (assignmentsOf el) (messageName el 0) (templateOf el 0) (messageOf el 0) (Grants el 0 L) L x)
+      (λ l σ x. and-join-from v (entryAt el 0) (exitAt el 0) (taskIn el) (entriesOf el) (modeAt el) (guardOf el) (assignmentsOf el) (messageName el 0) (templateOf el 0) (messageOf el 0) (Grants el 0 L) L x))
 
   task-a-law : Law (row 12)
   unfolding touched first if_then_else_ branchCount ofEachKind kindOf used width span
   task-a-law k q =
       by-one (row 12) (task (entryAt el 0) (taskIn el) a (guardOf el) (assignmentsOf el) (exitAt el 0)) refl refl (element-is 13 k ∙ ap (λ N. task (entryAt el 0) (taskIn el) N (guardOf el) (assignmentsOf el) (exitAt el 0)) (mode-is-a el q))
       (by-parts (row 12) 0 (task (entryAt el 0) (taskIn el) a (guardOf el) (assignmentsOf el) (exitAt el 0)) (entryAt el 0 ∷ []) (exitAt el 0 ∷ []) (element-is 13 k ∙ ap (λ N. task (entryAt el 0) (taskIn el) N (guardOf el) (assignmentsOf el) (exitAt el 0)) (mode-is-a el q)) (one-entry 13 k refl (λ j. entryAt el (0 + j))) (one-exit 13 k refl (λ j. exitAt el (0 + j)))
-      (λ l σ x. task-a-to (entryAt el 0) (exitAt el 0) (taskIn el) [] (modeAt el) (guardOf el) (assignmentsOf el) (messageName el 0) (templateOf el 0) (messageOf el 0) (Grants el 0 L) L (guarded-by 13 k refl) guard-by x)
-      (λ l σ x. task-a-from (entryAt el 0) (exitAt el 0) (taskIn el) [] (modeAt el) (guardOf el) (assignmentsOf el) (messageName el 0) (templateOf el 0) (messageOf el 0) (Grants el 0 L) L (guarded-by 13 k refl) guard-by x))
+      (λ l σ x. task-a-to v (entryAt el 0) (exitAt el 0) (taskIn el) [] (modeAt el) (guardOf el) (assignmentsOf el) (messageName el 0) (templateOf el 0) (messageOf el 0) (Grants el 0 L) L (guarded-by 13 k refl) guard-by x)
+      (λ l σ x. task-a-from v (entryAt el 0) (exitAt el 0) (taskIn el) [] (modeAt el) (guardOf el) (assignmentsOf el) (messageName el 0) (templateOf el 0) (messageOf el 0) (Grants el 0 L) L (guarded-by 13 k refl) guard-by x))
 
   task-rcv-a-law : Law (row 13)
   unfolding touched first if_then_else_ branchCount ofEachKind kindOf used width span
   task-rcv-a-law k q =
       by-one (row 13) (taskRcv (entryAt el 0) (taskIn el) a (guardOf el) (assignmentsOf el) (messageName el 0) (templateOf el 0) (exitAt el 0)) refl refl (element-is 14 k ∙ ap (λ N. taskRcv (entryAt el 0) (taskIn el) N (guardOf el) (assignmentsOf el) (messageName el 0) (templateOf el 0) (exitAt el 0)) (mode-is-a el q))
       (by-parts (row 13) 0 (taskRcv (entryAt el 0) (taskIn el) a (guardOf el) (assignmentsOf el) (messageName el 0) (templateOf el 0) (exitAt el 0)) (entryAt el 0 ∷ []) (exitAt el 0 ∷ []) (element-is 14 k ∙ ap (λ N. taskRcv (entryAt el 0) (taskIn el) N (guardOf el) (assignmentsOf el) (messageName el 0) (templateOf el 0) (exitAt el 0)) (mode-is-a el q)) (one-entry 14 k refl (λ j. entryAt el (0 + j))) (one-exit 14 k refl (λ j. exitAt el (0 + j)))
-      (λ l σ x. task-rcv-a-to (entryAt el 0) (exitAt el 0) (taskIn el) [] (modeAt el) (guardOf el) (assignmentsOf el) (messageName el 0) (templateOf el 0) (messageOf el 0) (Grants el 0 L) L (guarded-by 14 k refl) guard-by x)
-      (λ l σ x. task-rcv-a-from (entryAt el 0) (exitAt el 0) (taskIn el) [] (modeAt el) (guardOf el) (assignmentsOf el) (messageName el 0) (templateOf el 0) (messageOf el 0) (Grants el 0 L) L (guarded-by 14 k refl) guard-by x))
+      (λ l σ x. task-rcv-a-to v (entryAt el 0) (exitAt el 0) (taskIn el) [] (modeAt el) (guardOf el) (assignmentsOf el) (messageName el 0) (templateOf el 0) (messageOf el 0) (Grants el 0 L) L (guarded-by 14 k refl) guard-by x)
+      (λ l σ x. task-rcv-a-from v (entryAt el 0) (exitAt el 0) (taskIn el) [] (modeAt el) (guardOf el) (assignmentsOf el) (messageName el 0) (templateOf el 0) (messageOf el 0) (Grants el 0 L) L (guarded-by 14 k refl) guard-by x))
 
   task-snd-a-law : Law (row 14)
   unfolding touched first if_then_else_ branchCount ofEachKind kindOf used width span
   task-snd-a-law k q =
       by-one (row 14) (taskSnd (entryAt el 0) (taskIn el) a (guardOf el) (assignmentsOf el) (messageName el 0) (messageOf el 0) (exitAt el 0)) refl refl (element-is 15 k ∙ ap (λ N. taskSnd (entryAt el 0) (taskIn el) N (guardOf el) (assignmentsOf el) (messageName el 0) (messageOf el 0) (exitAt el 0)) (mode-is-a el q))
       (by-parts (row 14) 0 (taskSnd (entryAt el 0) (taskIn el) a (guardOf el) (assignmentsOf el) (messageName el 0) (messageOf el 0) (exitAt el 0)) (entryAt el 0 ∷ []) (exitAt el 0 ∷ []) (element-is 15 k ∙ ap (λ N. taskSnd (entryAt el 0) (taskIn el) N (guardOf el) (assignmentsOf el) (messageName el 0) (messageOf el 0) (exitAt el 0)) (mode-is-a el q)) (one-entry 15 k refl (λ j. entryAt el (0 + j))) (one-exit 15 k refl (λ j. exitAt el (0 + j)))
-      (λ l σ x. task-snd-a-to (entryAt el 0) (exitAt el 0) (taskIn el) [] (modeAt el) (guardOf el) (assignmentsOf el) (messageName el 0) (templateOf el 0) (messageOf el 0) (Grants el 0 L) L (guarded-by 15 k refl) guard-by x)
-      (λ l σ x. task-snd-a-from (entryAt el 0) (exitAt el 0) (taskIn el) [] (modeAt el) (guardOf el) (assignmentsOf el) (messageName el 0) (templateOf el 0) (messageOf el 0) (Grants el 0 L) L (guarded-by 15 k refl) guard-by x))
+      (λ l σ x. task-snd-a-to v (entryAt el 0) (exitAt el 0) (taskIn el) [] (modeAt el) (guardOf el) (assignmentsOf el) (messageName el 0) (templateOf el 0) (messageOf el 0) (Grants el 0 L) L (guarded-by 15 k refl) guard-by x)
+      (λ l σ x. task-snd-a-from v (entryAt el 0) (exitAt el 0) (taskIn el) [] (modeAt el) (guardOf el) (assignmentsOf el) (messageName el 0) (templateOf el 0) (messageOf el 0) (Grants el 0 L) L (guarded-by 15 k refl) guard-by x))
 
   task-n1-law : Law (row 15)
   unfolding touched first if_then_else_ branchCount ofEachKind kindOf used width span
   task-n1-law k q =
       by-one (row 15) (task (entryAt el 0) (taskIn el) (modeAt el) (guardOf el) (assignmentsOf el) (exitAt el 0)) refl refl (element-is 13 k)
       (by-parts (row 15) 0 (task (entryAt el 0) (taskIn el) (modeAt el) (guardOf el) (assignmentsOf el) (exitAt el 0)) (entryAt el 0 ∷ []) [] (element-is 13 k) (one-entry 13 k refl (λ j. entryAt el (0 + j))) refl
-      (λ l σ x. task-n1-to (entryAt el 0) (exitAt el 0) (taskIn el) [] (modeAt el) (guardOf el) (assignmentsOf el) (messageName el 0) (templateOf el 0) (messageOf el 0) (Grants el 0 L) L (guarded-by 13 k refl) guard-by (mode-not-a el q) x)
-      (λ l σ x. task-n1-from (entryAt el 0) (exitAt el 0) (taskIn el) [] (modeAt el) (guardOf el) (assignmentsOf el) (messageName el 0) (templateOf el 0) (messageOf el 0) (Grants el 0 L) L (guarded-by 13 k refl) guard-by x))
+      (λ l σ x. task-n1-to v (entryAt el 0) (exitAt el 0) (taskIn el) [] (modeAt el) (guardOf el) (assignmentsOf el) (messageName el 0) (templateOf el 0) (messageOf el 0) (Grants el 0 L) L (guarded-by 13 k refl) guard-by (mode-not-a el q) x)
+      (λ l σ x. task-n1-from v (entryAt el 0) (exitAt el 0) (taskIn el) [] (modeAt el) (guardOf el) (assignmentsOf el) (messageName el 0) (templateOf el 0) (messageOf el 0) (Grants el 0 L) L (guarded-by 13 k refl) guard-by x))
 
   task-rcv-n1-law : Law (row 16)
   unfolding touched first if_then_else_ branchCount ofEachKind kindOf used width span
   task-rcv-n1-law k q =
       by-one (row 16) (taskRcv (entryAt el 0) (taskIn el) (modeAt el) (guardOf el) (assignmentsOf el) (messageName el 0) (templateOf el 0) (exitAt el 0)) refl refl (element-is 14 k)
       (by-parts (row 16) 0 (taskRcv (entryAt el 0) (taskIn el) (modeAt el) (guardOf el) (assignmentsOf el) (messageName el 0) (templateOf el 0) (exitAt el 0)) (entryAt el 0 ∷ []) [] (element-is 14 k) (one-entry 14 k refl (λ j. entryAt el (0 + j))) refl
-      (λ l σ x. task-rcv-n1-to (entryAt el 0) (exitAt el 0) (taskIn el) [] (modeAt el) (guardOf el) (assignmentsOf el) (messageName el 0) (templateOf el 0) (messageOf el 0) (Grants el 0 L) L (guarded-by 14 k refl) guard-by (mode-not-a el q) x)
-      (λ l σ x. task-rcv-n1-from (entryAt el 0) (exitAt el 0) (taskIn el) [] (modeAt el) (guardOf el) (assignmentsOf el) (messageName el 0) (templateOf el 0) (messageOf el 0) (Grants el 0 L) L (guarded-by 14 k refl) guard-by x))
+      (λ l σ x. task-rcv-n1-to v (entryAt el 0) (exitAt el 0) (taskIn el) [] (modeAt el) (guardOf el) (assignmentsOf el) (messageName el 0) (templateOf el 0) (messageOf el 0) (Grants el 0 L) L (guarded-by 14 k refl) guard-by (mode-not-a el q) x)
+      (λ l σ x. task-rcv-n1-from v (entryAt el 0) (exitAt el 0) (taskIn el) [] (modeAt el) (guardOf el) (assignmentsOf el) (messageName el 0) (templateOf el 0) (messageOf el 0) (Grants el 0 L) L (guarded-by 14 k refl) guard-by x))
 
   task-snd-n1-law : Law (row 17)
   unfolding touched first if_then_else_ branchCount ofEachKind kindOf used width span
   task-snd-n1-law k q =
       by-one (row 17) (taskSnd (entryAt el 0) (taskIn el) (modeAt el) (guardOf el) (assignmentsOf el) (messageName el 0) (messageOf el 0) (exitAt el 0)) refl refl (element-is 15 k)
       (by-parts (row 17) 0 (taskSnd (entryAt el 0) (taskIn el) (modeAt el) (guardOf el) (assignmentsOf el) (messageName el 0) (messageOf el 0) (exitAt el 0)) (entryAt el 0 ∷ []) [] (element-is 15 k) (one-entry 15 k refl (λ j. entryAt el (0 + j))) refl
-      (λ l σ x. task-snd-n1-to (entryAt el 0) (exitAt el 0) (taskIn el) [] (modeAt el) (guardOf el) (assignmentsOf el) (messageName el 0) (templateOf el 0) (messageOf el 0) (Grants el 0 L) L (guarded-by 15 k refl) guard-by (mode-not-a el q) x)
-      (λ l σ x. task-snd-n1-from (entryAt el 0) (exitAt el 0) (taskIn el) [] (modeAt el) (guardOf el) (assignmentsOf el) (messageName el 0) (templateOf el 0) (messageOf el 0) (Grants el 0 L) L (guarded-by 15 k refl) guard-by x))
+      (λ l σ x. task-snd-n1-to v (entryAt el 0) (exitAt el 0) (taskIn el) [] (modeAt el) (guardOf el) (assignmentsOf el) (messageName el 0) (templateOf el 0) (messageOf el 0) (Grants el 0 L) L (guarded-by 15 k refl) guard-by (mode-not-a el q) x)
+      (λ l σ x. task-snd-n1-from v (entryAt el 0) (exitAt el 0) (taskIn el) [] (modeAt el) (guardOf el) (assignmentsOf el) (messageName el 0) (templateOf el 0) (messageOf el 0) (Grants el 0 L) L (guarded-by 15 k refl) guard-by x))
 
   task-n2-law : Law (row 18)
   unfolding touched first if_then_else_ branchCount ofEachKind kindOf used width span
   task-n2-law k q =
       by-one (row 18) (task (entryAt el 0) (taskIn el) (modeAt el) (guardOf el) (assignmentsOf el) (exitAt el 0)) refl refl (element-is 13 k)
       (by-parts (row 18) 0 (task (entryAt el 0) (taskIn el) (modeAt el) (guardOf el) (assignmentsOf el) (exitAt el 0)) [] (exitAt el 0 ∷ []) (element-is 13 k) refl (one-exit 13 k refl (λ j. exitAt el (0 + j)))
-      (λ l σ x. task-n2-to (entryAt el 0) (exitAt el 0) (taskIn el) [] (modeAt el) (guardOf el) (assignmentsOf el) (messageName el 0) (templateOf el 0) (messageOf el 0) (Grants el 0 L) L (mode-not-a el q) x)
-      (λ l σ x. task-n2-from (entryAt el 0) (exitAt el 0) (taskIn el) [] (modeAt el) (guardOf el) (assignmentsOf el) (messageName el 0) (templateOf el 0) (messageOf el 0) (Grants el 0 L) L x))
+      (λ l σ x. task-n2-to v (entryAt el 0) (exitAt el 0) (taskIn el) [] (modeAt el) (guardOf el) (assignmentsOf el) (messageName el 0) (templateOf el 0) (messageOf el 0) (Grants el 0 L) L (mode-not-a el q) x)
+      (λ l σ x. task-n2-from v (entryAt el 0) (exitAt el 0) (taskIn el) [] (modeAt el) (guardOf el) (assignmentsOf el) (messageName el 0) (templateOf el 0) (messageOf el 0) (Grants el 0 L) L x))
 
   task-rcv-n2-law : Law (row 19)
   unfolding touched first if_then_else_ branchCount ofEachKind kindOf used width span
   task-rcv-n2-law k q =
       by-one (row 19) (taskRcv (entryAt el 0) (taskIn el) (modeAt el) (guardOf el) (assignmentsOf el) (messageName el 0) (templateOf el 0) (exitAt el 0)) refl refl (element-is 14 k)
       (by-parts (row 19) 0 (taskRcv (entryAt el 0) (taskIn el) (modeAt el) (guardOf el) (assignmentsOf el) (messageName el 0) (templateOf el 0) (exitAt el 0)) [] [] (element-is 14 k) refl refl
-      (λ l σ x. task-rcv-n2-to (entryAt el 0) (exitAt el 0) (taskIn el) [] (modeAt el) (guardOf el) (assignmentsOf el) (messageName el 0) (templateOf el 0) (messageOf el 0) (Grants el 0 L) L (mode-not-a el q) x)
-      (λ l σ x. task-rcv-n2-from (entryAt el 0) (exitAt el 0) (taskIn el) [] (modeAt el) (guardOf el) (assignmentsOf el) (messageName el 0) (templateOf el 0) (messageOf el 0) (Grants el 0 L) L x))
+      (λ l σ x. task-rcv-n2-to v (entryAt el 0) (exitAt el 0) (taskIn el) [] (modeAt el) (guardOf el) (assignmentsOf el) (messageName el 0) (templateOf el 0) (messageOf el 0) (Grants el 0 L) L (mode-not-a el q) x)
+      (λ l σ x. task-rcv-n2-from v (entryAt el 0) (exitAt el 0) (taskIn el) [] (modeAt el) (guardOf el) (assignmentsOf el) (messageName el 0) (templateOf el 0) (messageOf el 0) (Grants el 0 L) L x))
 
   task-rcv-n3-law : Law (row 20)
   unfolding touched first if_then_else_ branchCount ofEachKind kindOf used width span
   task-rcv-n3-law k q =
       by-one (row 20) (taskRcv (entryAt el 0) (taskIn el) (modeAt el) (guardOf el) (assignmentsOf el) (messageName el 0) (templateOf el 0) (exitAt el 0)) refl refl (element-is 14 k)
       (by-parts (row 20) 0 (taskRcv (entryAt el 0) (taskIn el) (modeAt el) (guardOf el) (assignmentsOf el) (messageName el 0) (templateOf el 0) (exitAt el 0)) [] (exitAt el 0 ∷ []) (element-is 14 k) refl (one-exit 14 k refl (λ j. exitAt el (0 + j)))
-      (λ l σ x. task-rcv-n3-to (entryAt el 0) (exitAt el 0) (taskIn el) [] (modeAt el) (guardOf el) (assignmentsOf el) (messageName el 0) (templateOf el 0) (messageOf el 0) (Grants el 0 L) L (mode-not-a el q) x)
-      (λ l σ x. task-rcv-n3-from (entryAt el 0) (exitAt el 0) (taskIn el) [] (modeAt el) (guardOf el) (assignmentsOf el) (messageName el 0) (templateOf el 0) (messageOf el 0) (Grants el 0 L) L x))
+      (λ l σ x. task-rcv-n3-to v (entryAt el 0) (exitAt el 0) (taskIn el) [] (modeAt el) (guardOf el) (assignmentsOf el) (messageName el 0) (templateOf el 0) (messageOf el 0) (Grants el 0 L) L (mode-not-a el q) x)
+      (λ l σ x. task-rcv-n3-from v (entryAt el 0) (exitAt el 0) (taskIn el) [] (modeAt el) (guardOf el) (assignmentsOf el) (messageName el 0) (templateOf el 0) (messageOf el 0) (Grants el 0 L) L x))
 
   task-snd-n2-law : Law (row 21)
   unfolding touched first if_then_else_ branchCount ofEachKind kindOf used width span
   task-snd-n2-law k q =
       by-one (row 21) (taskSnd (entryAt el 0) (taskIn el) (modeAt el) (guardOf el) (assignmentsOf el) (messageName el 0) (messageOf el 0) (exitAt el 0)) refl refl (element-is 15 k)
       (by-parts (row 21) 0 (taskSnd (entryAt el 0) (taskIn el) (modeAt el) (guardOf el) (assignmentsOf el) (messageName el 0) (messageOf el 0) (exitAt el 0)) [] [] (element-is 15 k) refl refl
-      (λ l σ x. task-snd-n2-to (entryAt el 0) (exitAt el 0) (taskIn el) [] (modeAt el) (guardOf el) (assignmentsOf el) (messageName el 0) (templateOf el 0) (messageOf el 0) (Grants el 0 L) L (mode-not-a el q) x)
-      (λ l σ x. task-snd-n2-from (entryAt el 0) (exitAt el 0) (taskIn el) [] (modeAt el) (guardOf el) (assignmentsOf el) (messageName el 0) (templateOf el 0) (messageOf el 0) (Grants el 0 L) L x))
+      (λ l σ x. task-snd-n2-to v (entryAt el 0) (exitAt el 0) (taskIn el) [] (modeAt el) (guardOf el) (assignmentsOf el) (messageName el 0) (templateOf el 0) (messageOf el 0) (Grants el 0 L) L (mode-not-a el q) x)
+      (λ l σ x. task-snd-n2-from v (entryAt el 0) (exitAt el 0) (taskIn el) [] (modeAt el) (guardOf el) (assignmentsOf el) (messageName el 0) (templateOf el 0) (messageOf el 0) (Grants el 0 L) L x))
 
   task-snd-n3-law : Law (row 22)
   unfolding touched first if_then_else_ branchCount ofEachKind kindOf used width span
   task-snd-n3-law k q =
       by-one (row 22) (taskSnd (entryAt el 0) (taskIn el) (modeAt el) (guardOf el) (assignmentsOf el) (messageName el 0) (messageOf el 0) (exitAt el 0)) refl refl (element-is 15 k)
       (by-parts (row 22) 0 (taskSnd (entryAt el 0) (taskIn el) (modeAt el) (guardOf el) (assignmentsOf el) (messageName el 0) (messageOf el 0) (exitAt el 0)) [] (exitAt el 0 ∷ []) (element-is 15 k) refl (one-exit 15 k refl (λ j. exitAt el (0 + j)))
-      (λ l σ x. task-snd-n3-to (entryAt el 0) (exitAt el 0) (taskIn el) [] (modeAt el) (guardOf el) (assignmentsOf el) (messageName el 0) (templateOf el 0) (messageOf el 0) (Grants el 0 L) L (mode-not-a el q) x)
-      (λ l σ x. task-snd-n3-from (entryAt el 0) (exitAt el 0) (taskIn el) [] (modeAt el) (guardOf el) (assignmentsOf el) (messageName el 0) (templateOf el 0) (messageOf el 0) (Grants el 0 L) L x))
+      (λ l σ x. task-snd-n3-to v (entryAt el 0) (exitAt el 0) (taskIn el) [] (modeAt el) (guardOf el) (assignmentsOf el) (messageName el 0) (templateOf el 0) (messageOf el 0) (Grants el 0 L) L (mode-not-a el q) x)
+      (λ l σ x. task-snd-n3-from v (entryAt el 0) (exitAt el 0) (taskIn el) [] (modeAt el) (guardOf el) (assignmentsOf el) (messageName el 0) (templateOf el 0) (messageOf el 0) (Grants el 0 L) L x))
 
   -- WHERE A LINE HAS A CHOICE
   xor-join-law : Law (row 10)
@@ -307,9 +309,9 @@ module _ (el : List ℕ) (fits : elementFits el ≡ true) (L : Local) where
     ap width (element-is 11 k) ∙ length-span (entryAt el) 0 (entryCount el),
     (λ b l.
         by-parts (row 10) b (xorJoin (entriesOf el) (exitAt el 0)) (entryAt el b ∷ []) (exitAt el 0 ∷ []) (element-is 11 k) (just-one (entryAt el) b) (one-exit 11 k refl (λ j. exitAt el (0 + j)))
-        (λ m σ x. xor-join-to (entryAt el b) (exitAt el 0) (taskIn el) b (modeAt el) (assignmentsOf el) (messageName el b) (templateOf el b) (messageOf el b) (Grants el b L) L (stands-from-zero (entryAt el) (entryCount el) b l) x)
+        (λ m σ x. xor-join-to v (entryAt el b) (exitAt el 0) (taskIn el) b (modeAt el) (assignmentsOf el) (messageName el b) (templateOf el b) (messageOf el b) (Grants el b L) L (stands-from-zero (entryAt el) (entryCount el) b l) x)
         (λ m σ x.
-        let (d, s, g) = xor-join-from (entryAt el b) (exitAt el 0) (taskIn el) b (modeAt el) (assignmentsOf el) (messageName el b) (templateOf el b) (messageOf el b) (Grants el b L) L x in
+        let (d, s, g) = xor-join-from v (entryAt el b) (exitAt el 0) (taskIn el) b (modeAt el) (assignmentsOf el) (messageName el b) (templateOf el b) (messageOf el b) (Grants el b L) L x in
         let z : d ≡ entryAt el b = zero-stands (entryAt el) d (entryCount el) b s .1 in
         subst (λ y. Goes (row 10) (with-edges (y ∷ []) (exitAt el 0 ∷ []) b) (Grants el b L) L m σ) z g)),
   )
@@ -320,11 +322,21 @@ module _ (el : List ℕ) (fits : elementFits el ≡ true) (L : Local) where
     ap width (element-is 8 k) ∙ length-span (receiptOf el) 0 (exitCount el),
     (λ b l.
         by-parts (row 7) b (eventBased (entryAt el 0) (span (receiptOf el) 0 (exitCount el))) (entryAt el 0 ∷ []) (exitAt el b ∷ []) (element-is 8 k) (one-entry 8 k refl (λ j. entryAt el (0 + j))) (just-one (exitAt el) b)
-        (λ m σ x. event-to (entryAt el 0) (exitAt el 0) (taskIn el) b (modeAt el) (assignmentsOf el) (messageName el b) (templateOf el b) (messageOf el b) (Grants el b L) L (receiptOf el b) (stands-from-zero (receiptOf el) (exitCount el) b l) x)
+        (λ m σ x. event-to v (entryAt el 0) (exitAt el 0) (taskIn el) b (modeAt el) (assignmentsOf el) (messageName el b) (templateOf el b) (messageOf el b) (Grants el b L) L (receiptOf el b) (stands-from-zero (receiptOf el) (exitCount el) b l) x)
         (λ m σ x.
-        let (d, s, g) = event-from (entryAt el 0) (exitAt el 0) (taskIn el) b (modeAt el) (assignmentsOf el) (messageName el b) (templateOf el b) (messageOf el b) (Grants el b L) L x in
+        let (d, s, g) = event-from v (entryAt el 0) (exitAt el 0) (taskIn el) b (modeAt el) (assignmentsOf el) (messageName el b) (templateOf el b) (messageOf el b) (Grants el b L) L x in
         let z : d ≡ receiptOf el b = zero-stands (receiptOf el) d (exitCount el) b s .1 in
-        subst (λ (y : Receipt). Goes (row 7) (record { takes = (entryAt el 0 ∷ []); puts = y .exit ∷ []; task = taskIn el; mode = modeAt el; assigns = assignmentsOf el; name = y .name; template = y .template; message = messageOf el b }) (Grants el b L) L m σ) z g)),
+        subst (λ (y : Receipt). Goes (row 7) (record {
+          takes = (entryAt el 0 ∷ []);
+          puts = y .exit ∷ [];
+          task = taskIn el;
+          version = v;
+          mode = modeAt el;
+          assigns = assignmentsOf el;
+          name = y .name;
+          template = y .template;
+          message = messageOf el b;
+        }) (Grants el b L) L m σ) z g)),
   )
 
   abbrev Picked : ℕ → Choice → Type 0
@@ -338,9 +350,9 @@ module _ (el : List ℕ) (fits : elementFits el ≡ true) (L : Local) where
     ap width (element-is 12 k) ∙ length-span (choiceOf el) 0 (exitCount el),
     (λ b l.
         by-parts (row 11) b (xorSplit (entryAt el 0) (span (choiceOf el) 0 (exitCount el))) (entryAt el 0 ∷ []) (exitAt el b ∷ []) (element-is 12 k) (one-entry 12 k refl (λ j. entryAt el (0 + j))) (just-one (exitAt el) b)
-        (λ m σ x. xor-split-to (entryAt el 0) (exitAt el 0) (taskIn el) b (modeAt el) (assignmentsOf el) (messageName el b) (templateOf el b) (messageOf el b) (Grants el b L) L (choiceOf el b) (stands-from-zero (choiceOf el) (exitCount el) b l) (chooses b) x)
+        (λ m σ x. xor-split-to v (entryAt el 0) (exitAt el 0) (taskIn el) b (modeAt el) (assignmentsOf el) (messageName el b) (templateOf el b) (messageOf el b) (Grants el b L) L (choiceOf el b) (stands-from-zero (choiceOf el) (exitCount el) b l) (chooses b) x)
         (λ m σ x.
-        let (d, s, g) = xor-split-from (entryAt el 0) (exitAt el 0) (taskIn el) b (modeAt el) (assignmentsOf el) (messageName el b) (templateOf el b) (messageOf el b) (Grants el b L) L (grants b) x in
+        let (d, s, g) = xor-split-from v (entryAt el 0) (exitAt el 0) (taskIn el) b (modeAt el) (assignmentsOf el) (messageName el b) (templateOf el b) (messageOf el b) (Grants el b L) L (grants b) x in
         let z : d ≡ choiceOf el b = zero-stands (choiceOf el) d (exitCount el) b s .1 in
         subst (λ (y : Choice). Goes (row 11) (with-edges (entryAt el 0 ∷ []) (y .exit ∷ []) b) (Grants el b L) L m σ) z g)),
   )

@@ -23,21 +23,23 @@ use Rattle.base_table.specs.Places.{exitsPlace}
 use Rattle.base_table.specs.Places as Places
 use Rattle.base_table.specs.Table.{kindIn, taskIn, modeIn, entryCount, exitCount, entryAt, exitAt, conditionAt}
 use Rattle.base_state.specs.Places.{tokenPlace, copyWords}
-use Rattle.base_state.specs.Instances.{tokens, activeCount, readyCount}
+use Rattle.base_state.specs.Instances.{tokens, activeCount, readyCount, versionSeen}
+use Rattle.base_state.specs.Versions.{former}
 use Rattle.check_limits.specs.Limits.{conditionFits, elementFits}
 use Rattle.meaning.specs.declared.Value.{Value}
 use Rattle.meaning.specs.Values.{isTrue, isFalse}
 use Rattle.meaning.specs.Conditions.{conditionOf, defaultAt, leftOut, otherFalse, holds}
+use Rattle.meaning.specs.Requirements as Needs
 use Rattle.meaning.specs.Requirements.{touched, first, hasToken, hasTokens, canLower, isAlone, countsPermit, granted, hasRoom, hasRooms, canRaise, roomy}
 use Rattle.meaning.specs.Changes.{taken, activeChanged, readyChanged, puts, cleared, moved}
-use Rattle.proof_steps.proofs.Choices.{by-test, chosen, passed, chosen-true, passed-true}
+use Rattle.proof_steps.proofs.Choices.{by-test, chosen, passed, chosen-true, passed-true, or-left, or-right, or-either}
 use Rattle.proof_steps.proofs.Elements.{task-few, entry-within, exit-within}
 use Rattle.proof_steps.proofs.ChangesFit.{touched-within}
 use Rattle.proof_steps.proofs.NoSaturation.{ExitsApart}
-use Rattle.paper.specs.Syntax.{default, na-nc, Each}
+use Rattle.paper.specs.Syntax.{default, Each}
 use Rattle.paper.specs.States.{Local, unmarked, incs, decs, _edges:_, _fields:_, _active:_, _ready:_}
 use Rattle.paper.specs.Evaluation.{truth}
-use Rattle.paper.specs.Processes.{room}
+use Rattle.paper.specs.Processes.{waits, room}
 use Rattle.proof_paper.specs.Decoders.{condAt, modeAt, localOf}
 use Rattle.proof_paper.proofs.Stores.{cleared-is}
 use Rattle.proof_paper.proofs.Spans.{each-from-zero, at-from-zero}
@@ -111,6 +113,22 @@ module _ (el : List ℕ) (m : Move) (b : ℕ) (site : Site el m b) (h : List ℕ
   abbrev readied : Bool
   readied = canLower (m .ready) (readyCount h n)
 
+  -- under the version that it sees the task waits until it is inactive
+  abbrev Waits : Type 0
+  Waits = waits (versionSeen h) (modeAt el)
+
+  waits-there : Waits → Needs.waits el h ≡ true
+  unfolding Needs.waits
+  waits-there =
+      ⊎-elim (λ e. or-left (eqb (modeIn el) Row.na-nc) _ (eq-eqb (modeIn el) Row.na-nc (mode-na-nc-is el (mode-few el (site .fits)) e)))
+      (λ e. or-right (eqb (modeIn el) Row.na-nc) (eqb (versionSeen h) former) (eq-eqb (versionSeen h) former e))
+
+  waits-back : Needs.waits el h ≡ true → Waits
+  unfolding Needs.waits
+  waits-back q =
+      ⊎-elim (λ e. inl (mode-is-na-nc el (eqb-true (modeIn el) Row.na-nc e))) (λ e. inr (eqb-true (versionSeen h) former e))
+      (or-either (eqb (modeIn el) Row.na-nc) (eqb (versionSeen h) former) q)
+
   module _ (p : countsPermit el h m b ≡ true) where
     first-three : tokened && lowered && readied ≡ true
     unfolding countsPermit
@@ -136,16 +154,16 @@ module _ (el : List ℕ) (m : Move) (b : ℕ) (site : Site el m b) (h : List ℕ
         let t = ltb-true 0 (readyCount h n) (chosen-true (eqb (m .ready) down) _ true (and-right (tokened && lowered) readied first-three) e) in
         subst (λ v. 0 < v) (sym (ready-is h n (site .task (inr (lowers-task (m .ready) e))) few)) t
 
-    pub alone-there : (eqb (m .alone) on ≡ true → 1 ≤ n) → eqb (m .alone) on ≡ true → modeAt el ≡ na-nc → (L .active n ≡ 0) × (L .ready n ≡ 0)
+    pub alone-there : (eqb (m .alone) on ≡ true → 1 ≤ n) → eqb (m .alone) on ≡ true → Waits → (L .active n ≡ 0) × (L .ready n ≡ 0)
     unfolding countsPermit isAlone
     alone-there low e q =
-        let s = chosen-true (eqb (modeIn el) Row.na-nc) _ true (chosen-true (eqb (m .alone) on) _ true (and-right (tokened && lowered && readied) (isAlone el h m) p) e) (eq-eqb (modeIn el) Row.na-nc (mode-na-nc-is el (mode-few el (site .fits)) q)) in (
+        let s = chosen-true (Needs.waits el h) _ true (chosen-true (eqb (m .alone) on) _ true (and-right (tokened && lowered && readied) (isAlone el h m) p) e) (waits-there q) in (
           active-is h n (low e) few ∙ eqb-true (activeCount h n) 0 (and-left (eqb (activeCount h n) 0) (eqb (readyCount h n) 0) s),
           ready-is h n (low e) few ∙ eqb-true (readyCount h n) 0 (and-right (eqb (activeCount h n) 0) (eqb (readyCount h n) 0) s),
         )
 
   pub permits-back : (eqb (m .alone) on ≡ true → 1 ≤ n) → Each (λ e. 0 < L .σe e) (takenEdges el m b) → (eqb (m .active) down ≡ true → 0 < L .active n) → (eqb (m .ready) down ≡ true → 0 < L .ready n)
-      → (eqb (m .alone) on ≡ true → modeAt el ≡ na-nc → (L .active n ≡ 0) × (L .ready n ≡ 0)) → countsPermit el h m b ≡ true
+      → (eqb (m .alone) on ≡ true → Waits → (L .active n ≡ 0) × (L .ready n ≡ 0)) → countsPermit el h m b ≡ true
   unfolding countsPermit hasTokens hasToken canLower isAlone
   permits-back low t a r o =
       and-true (tokened && lowered && readied) (isAlone el h m)
@@ -154,8 +172,8 @@ module _ (el : List ℕ) (m : Move) (b : ℕ) (site : Site el m b) (h : List ℕ
       (all-of (hasToken el h (first (m .takes) b)) taking (λ j l. let w = entry-in j l in lt-ltb 0 (tokens h (entry j)) (subst (λ v. 0 < v) (tokens-are h (entry j) (w .0) (w .1)) (at-from-zero entry (λ e. 0 < L .σe e) taking t j l))))
       (when (eqb (m .active) down) _ (λ e. lt-ltb 0 (activeCount h n) (subst (λ v. 0 < v) (active-is h n (site .task (inl (lowers-task (m .active) e))) few) (a e)))))
       (when (eqb (m .ready) down) _ (λ e. lt-ltb 0 (readyCount h n) (subst (λ v. 0 < v) (ready-is h n (site .task (inr (lowers-task (m .ready) e))) few) (r e)))))
-      (when (eqb (m .alone) on) _ (λ e. when (eqb (modeIn el) Row.na-nc) _ (λ q.
-      let w = o e (mode-is-na-nc el (eqb-true (modeIn el) Row.na-nc q)) in
+      (when (eqb (m .alone) on) _ (λ e. when (Needs.waits el h) _ (λ q.
+      let w = o e (waits-back q) in
       and-true (eqb (activeCount h n) 0) (eqb (readyCount h n) 0)
       (eq-eqb (activeCount h n) 0 (sym (active-is h n (low e) few) ∙ w .0)) (eq-eqb (readyCount h n) 0 (sym (ready-is h n (low e) few) ∙ w .1)))))
 
@@ -299,7 +317,7 @@ module _ (el : List ℕ) (m : Move) (b : ℕ) (site : Site el m b) (h : List ℕ
       abbrev counted : List ℕ
       counted = readyChanged el m (activeChanged el m T)
 
-      clearing-is : c ≡ true → localOf (moved el m b T) ≡ effect m (partsAt el m b) L F
+      clearing-is : c ≡ true → localOf (moved el m b T) ≡ effect m (partsAt (versionSeen h) el m b) L F
       unfolding moved
       clearing-is e =
           ap localOf (chosen c (cleared T) _ e)
@@ -312,7 +330,7 @@ module _ (el : List ℕ) (m : Move) (b : ℕ) (site : Site el m b) (h : List ℕ
           counts-are el m b (site .task) few T T-long (λ e. active-room (eq-eqb (m .active) up e)) (λ e. ready-room (eq-eqb (m .ready) up e))
           ∙ ap (λ (K : Local). K active: changed (m .active) (K .active) n ready: changed (m .ready) (K .ready) n) T-is
 
-      moving-is : c ≡ false → localOf (moved el m b T) ≡ effect m (partsAt el m b) L F
+      moving-is : c ≡ false → localOf (moved el m b T) ≡ effect m (partsAt (versionSeen h) el m b) L F
       unfolding moved
       moving-is e =
           ap localOf (passed c (cleared T) _ e)
@@ -321,7 +339,7 @@ module _ (el : List ℕ) (m : Move) (b : ℕ) (site : Site el m b) (h : List ℕ
           ∙ ap (λ (K : Local). K edges: incs (K .σe) (putEdges el m b)) counted-is
           ∙ (λ i. record { σe = sym (passed c unmarked (incs (decs (L .σe) (takenEdges el m b)) (putEdges el m b)) e) i; σd = F; active = sym (passed c unmarked (changed (m .active) (L .active) n) e) i; ready = sym (passed c unmarked (changed (m .ready) (L .ready) n) e) i })
 
-      pub moved-is : localOf (moved el m b T) ≡ effect m (partsAt el m b) L F
+      pub moved-is : localOf (moved el m b T) ≡ effect m (partsAt (versionSeen h) el m b) L F
       moved-is = by-test c clearing-is moving-is
 
     pub rooms-back : Each (room (decs (L .σe) (takenEdges el m b))) (putEdges el m b) → (eqb (m .active) up ≡ true → room (L .active) n) → (eqb (m .ready) up ≡ true → room (L .ready) n) → roomy el T m b ≡ true

@@ -10,16 +10,17 @@ use Rattle.base_words.specs.Pick.{if_then_else_}
 use Rattle.base_kinds.specs.declared.moves.Move.{Move}
 use Rattle.base_kinds.specs.Moves.{on, up, down, making, clearing}
 use Rattle.meaning.specs.declared.Value.{Value}
-use Rattle.paper.specs.Syntax.{Exp, Item, Evaluated, Assignments, ε, Mode, na-nc, Each}
+use Rattle.paper.specs.Syntax.{Exp, Item, Evaluated, Assignments, ε, Mode, Each}
 use Rattle.paper.specs.States.{Local, unmarked, incs, decs}
 use Rattle.paper.specs.Evaluation.{Evals, Templates, Updates}
-use Rattle.paper.specs.Processes.{Internal, kill, Label, isInactive, room}
+use Rattle.paper.specs.Processes.{Internal, kill, Label, isInactive, waits, room}
 use Rattle.proof_paper.proofs.Changes.{changed}
 
 pub record Parts : Type 0 where
   pub takes : List ℕ
   pub puts : List ℕ
   pub task : ℕ
+  pub version : ℕ
   pub mode : Mode
   pub assigns : Assignments
   pub name : ℕ
@@ -31,7 +32,7 @@ pub record Fires (m : Move) (P : Parts) (G : Type 0) (L : Local) : Type 0 where
   pub taking : Each (λ e. 0 < L .σe e) (P .takes)
   pub lowers-active : eqb (m .active) down ≡ true → 0 < L .active (P .task)
   pub lowers-ready : eqb (m .ready) down ≡ true → 0 < L .ready (P .task)
-  pub alone : eqb (m .alone) on ≡ true → P .mode ≡ na-nc → isInactive L (P .task)
+  pub alone : eqb (m .alone) on ≡ true → waits (P .version) (P .mode) → isInactive L (P .task)
   pub grants : eqb (m .asks) on ≡ true → G
   pub putting : Each (room (decs (L .σe) (P .takes))) (P .puts)
   pub raises-active : eqb (m .active) up ≡ true → room (L .active) (P .task)

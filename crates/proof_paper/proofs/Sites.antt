@@ -5,6 +5,7 @@ use mathlib.Core.Path.{_≡_, refl, sym, _∙_, ap, subst}
 use mathlib.Core.Bool.{Bool, true, false, not, _||_}
 use mathlib.Core.List.{List, _++_}
 use mathlib.Core.Logic.{_⊎_, ⊎-elim}
+use native.Mathlib.Omega.{arith}
 use lib.Dec.{eqb}
 use lib.ListN.{length, replicate, length-replicate}
 use borrow.Author.Tests.{eqb-true, ne-eqb, not-true}
@@ -19,7 +20,8 @@ use Rattle.base_kinds.specs.Kinds.{one, kindOf, used}
 use Rattle.base_kinds.specs.Moves.{branch, on, making, moves, noMove, ruleOf, moveOf}
 use Rattle.base_table.specs.Places.{exitsPlace, formPlace, leftPlace, operandNumber, binding}
 use Rattle.base_table.specs.Table.{kindIn, taskIn, modeIn, exitCount, messageLength, itemAt}
-use Rattle.base_state.specs.Places.{instanceWords, copyWords}
+use Rattle.base_state.specs.Places.{instanceWords, copyWords, versionIn}
+use Rattle.base_state.specs.Instances.{versionOf, versionSeen}
 use Rattle.check_limits.specs.Limits.{elementFits}
 use Rattle.meaning.specs.declared.Value.{Value}
 use Rattle.meaning.specs.declared.Tuple.{Tuple}
@@ -34,7 +36,7 @@ use Rattle.engine.specs.Engine.{valid}
 use Rattle.proof_steps.proofs.Choices.{by-test, by-choice, chosen, passed, chosen-true, passed-true}
 use Rattle.proof_steps.proofs.Rows.{row-kind, row-one-way}
 use Rattle.proof_steps.proofs.Elements.{bound-field, assigned-field}
-use Rattle.proof_steps.proofs.Seen.{seen-long}
+use Rattle.proof_steps.proofs.Seen.{seen-long, seen-shared}
 use Rattle.proof_steps.proofs.Found.{Found, element-named, message-there, length-few}
 use Rattle.proof_steps.proofs.InstanceAfter.{branch-entry, branch-exit}
 use Rattle.proof_valid.proofs.ChecksHold.{valid-fits}
@@ -72,7 +74,7 @@ module _ (t s : List ℕ) (v : valid t ≡ true) (n : Name) (f : Found t s n) wh
   kind = kindOf (kindIn el)
 
   abbrev P : Parts
-  P = partsAt el m b
+  P = partsAt (versionOf s) el m b
 
   pub fits : elementFits el ≡ true
   fits = element-named t s n (valid-fits t v) f
@@ -83,6 +85,14 @@ module _ (t s : List ℕ) (v : valid t ≡ true) (n : Name) (f : Found t s n) wh
       by-choice (λ (y : List ℕ). length (y ++ sharedOf s) ≡ copyWords) (eqb (moveNamed t n .also) making) (replicate instanceWords 0) (instanceOf s (poolNamed t n) (n .instance))
       (λ e. seen-long s (replicate instanceWords 0) (length-replicate {A = ℕ} instanceWords 0))
       (λ e. seen-long s (instanceOf s (poolNamed t n) (n .instance)) (instance-long s (poolNamed t n) (n .instance)))
+
+  -- the version that the step sees is the state's
+  pub version-is : versionSeen h ≡ versionOf s
+  unfolding before
+  version-is =
+      by-choice (λ (y : List ℕ). versionSeen (y ++ sharedOf s) ≡ versionOf s) (eqb (moveNamed t n .also) making) (replicate instanceWords 0) (instanceOf s (poolNamed t n) (n .instance))
+      (λ e. seen-shared s (replicate instanceWords 0) (length-replicate {A = ℕ} instanceWords 0) versionIn (omega arith))
+      (λ e. seen-shared s (instanceOf s (poolNamed t n) (n .instance)) (instance-long s (poolNamed t n) (n .instance)) versionIn (omega arith))
 
   -- what every row has
   every-row : (test : Move → Bool) → each test moves ≡ true → test noMove ≡ true → test m ≡ true

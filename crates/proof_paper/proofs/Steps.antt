@@ -20,7 +20,7 @@ use Rattle.base_kinds.specs.Moves.{on, making, clearing, moves, noMove, ruleOf,
 use Rattle.base_table.specs.Places.{poolPlace}
 use Rattle.base_table.specs.Table.{poolCount, elementCount, elementAt, poolOf, limitOf, kindIn, modeIn, messageName, messageLength}
 use Rattle.base_state.specs.Places.{instanceWords, copyWords}
-use Rattle.base_state.specs.Instances.{madeCount}
+use Rattle.base_state.specs.Instances.{madeCount, versionOf}
 use Rattle.check_limits.specs.Limits.{tableFits, elementFits}
 use Rattle.meaning.specs.declared.Value.{Value}
 use Rattle.meaning.specs.declared.Tuple.{Tuple}
@@ -37,7 +37,7 @@ use Rattle.meaning.specs.Requirements.{branchCount, instanceNamed, belowLimit}
 use Rattle.meaning.specs.Changes.{expected, received, worked, messageSent, more}
 use Rattle.meaning.specs.Step.{Site, siteOf, before, instanceOf, sharedOf, poolNamed, elementNamed, moveNamed, exists, receives, sends, template, work, sent, defined, matches, afterTaking, instanceAfter, madeAfter, instancesAfter, queued, space, queuesAfter, refusals, traffic}
 use Rattle.engine.specs.Engine.{valid}
-use Rattle.proof_steps.proofs.Choices.{by-test, by-choice, chosen, passed, chosen-true}
+use Rattle.proof_steps.proofs.Choices.{by-test, by-choice, chosen, passed, chosen-true, or-right}
 use Rattle.proof_steps.proofs.Elements.{pools-few, limit-few, element-fits}
 use Rattle.proof_steps.proofs.Found.{Found, found, name-few}
 use Rattle.proof_steps.proofs.AcceptedParts.{Accepted, accepted-parts, parts-accepted}
@@ -52,9 +52,9 @@ use Rattle.proof_valid.proofs.ChecksHold.{valid-fits, valid-sound, starts-once}
 use Rattle.paper.specs.Syntax.{Evaluated, Assignments, ε, _&_, Element, Pool, Stands}
 use Rattle.paper.specs.States.{Local, unset, blank, _fields:_, put, inc, Multiset, Configuration, updInst, addInst, add, rm, _without_}
 use Rattle.paper.specs.Evaluation.{Evals, Matches, Updates, both}
-use Rattle.paper.specs.Processes.{Internal, kill, Label, Moves}
+use Rattle.paper.specs.Processes.{Internal, kill, Label, waits as Waits, Moves}
 use Rattle.paper.specs.Collaborations.{Seen, Runs, Steps, C-Create, C-Internal, C-Receive, C-Deliver}
-use Rattle.proof_paper.specs.Decoders.{span, chain, messageOf, assignmentsOf, elementOf, processOf, poolAt, collaborationOf, localOf, isPool, configurationOf, namedOf, valuesOf, seenAs, toldOf}
+use Rattle.proof_paper.specs.Decoders.{span, chain, messageOf, assignmentsOf, modeAt, elementOf, processOf, poolAt, collaborationOf, localOf, isPool, configurationOf, namedOf, valuesOf, seenAs, toldOf}
 use Rattle.proof_paper.proofs.Stores.{put-is}
 use Rattle.proof_paper.proofs.Spans.{stands-from-zero, zero-stands}
 use Rattle.proof_paper.proofs.Fields.{FieldsOnly, fields-start, fields-then, none-only, bindingOf}
@@ -66,13 +66,12 @@ use Rattle.proof_paper.proofs.Mail.{mailOf, mail-consumed, mail-sent, h
 use Rattle.proof_paper.proofs.Pools.{instance-long, seen-local, blank-is, pool-number, instances-after, made-after}
 use Rattle.proof_paper.proofs.Sites as Sites
 
-or-right : (a c : Bool) → c ≡ true → a || c ≡ true
-or-right true c e = refl
-or-right false c e = e
-
 module _ (t s q : List ℕ) (v : valid t ≡ true) (state : Fitting t s q) (n : Name) where
   abbrev κ : Configuration
   κ = configurationOf t s q
+
+  abbrev version : ℕ
+  version = versionOf s
 
   abbrev p₀ : ℕ
   p₀ = poolNamed t n
@@ -176,7 +175,7 @@ module _ (t s q : List ℕ) (v : valid t ≡ true) (state : Fitting t s q) (n : 
   after = configurationOf t (instancesAfter t s n) (queuesAfter x q)
 
   abbrev Result : Type 0
-  Result = Steps (collaborationOf t) (namedOf n) κ label after × (seenAs label ≡ toldOf (traffic x))
+  Result = Steps version (collaborationOf t) (namedOf n) κ label after × (seenAs label ≡ toldOf (traffic x))
 
   -- A STEP THAT FOUND ITS PLACE
   module _ (f : Found t s n) where
@@ -184,7 +183,7 @@ module _ (t s q : List ℕ) (v : valid t ≡ true) (state : Fitting t s q) (n : 
     L = localOf h
 
     abbrev P : Parts
-    P = partsAt el m b
+    P = partsAt version el m b
 
     abbrev W : List ℕ
     W = worked el (received el h m b g) m .instance
@@ -272,7 +271,7 @@ module _ (t s q : List ℕ) (v : valid t ≡ true) (state : Fitting t s q) (n : 
       taking = Process.takes-there el m b S h long (a .permits);
       lowers-active = Process.active-there el m b S h long (a .permits);
       lowers-ready = Process.ready-there el m b S h long (a .permits);
-      alone = Process.alone-there el m b S h long (a .permits) (Sites.alone-tasked t s v n f);
+      alone = λ e w. Process.alone-there el m b S h long (a .permits) (Sites.alone-tasked t s v n f) e (subst (λ y. Waits y (modeAt el)) (sym (Sites.version-is t s v n f)) w);
       grants = Process.grants-there el m b S h long (a .grants);
       putting = Process.puts-room el m b S h long W own (a .roomed);
       raises-active = Process.active-up el m b S h long W own (a .roomed);
@@ -283,9 +282,9 @@ module _ (t s q : List ℕ) (v : valid t ≡ true) (state : Fitting t s q) (n : 
     unfolding siteOf instanceAfter afterTaking work
     result-is a = Process.moved-is el m b S h long W own (a .roomed)
 
-    move-by : {l : Label} {τ : ℕ → Value} → Fires m P (Grants el b L) L → Says m P (L .σd) l τ → Moves (elementOf el) (n .phase) b L l (effect m P L τ)
+    move-by : {l : Label} {τ : ℕ → Value} → Fires m P (Grants el b L) L → Says m P (L .σd) l τ → Moves version (elementOf el) (n .phase) b L l (effect m P L τ)
     unfolding moveNamed
-    move-by {l} {τ} y z = process-sound el (Sites.fits t s v n f) (n .phase) (f .move) L b (f .branch) (record { left = τ; fires = y; says = z; gives = refl })
+    move-by {l} {τ} y z = process-sound el (Sites.fits t s v n f) (n .phase) (f .move) version L b (f .branch) (record { left = τ; fires = y; says = z; gives = refl })
 
     -- AND WHAT IS ACCEPTED
     accept-by : Fires m P (Grants el b L) L → template x .defined ≡ true → matches x ≡ true → worked el W₀ m .defined ≡ true → sent x .defined ≡ true → queued x q ≡ true
@@ -294,7 +293,7 @@ module _ (t s q : List ℕ) (v : valid t ≡ true) (state : Fitting t s q) (n : 
     accept-by y d c w e k l r =
         let z : defined x ≡ true = and-true (work x .defined) (sent x .defined) w e in
         record {
-          permits = Process.permits-back el m b S h long (Sites.alone-tasked t s v n f) (y .taking) (y .lowers-active) (y .lowers-ready) (y .alone);
+          permits = Process.permits-back el m b S h long (Sites.alone-tasked t s v n f) (y .taking) (y .lowers-active) (y .lowers-ready) (λ e w. y .alone e (subst (λ y. Waits y (modeAt el)) (Sites.version-is t s v n f) w));
           grants = Process.grants-back el m b S h long (y .grants);
           templated = d;
           outright = or-right (receives x) (defined x) z;
@@ -430,15 +429,15 @@ module _ (t s q : List ℕ) (v : valid t ≡ true) (state : Fitting t s q) (n : 
     label-create : eqb (m .receives) on ≡ true → eqb (m .also) making ≡ true → label ≡ Seen.new name (valuesOf g)
     label-create er em = chosen (eqb (m .receives) on) _ _ er ∙ chosen (eqb (m .also) making) _ _ em
 
-    told-by : (l : Seen) → label ≡ l → Steps (collaborationOf t) (namedOf n) κ l after → seenAs l ≡ toldOf (traffic x) → Result
-    told-by l e y z = subst (λ k. Steps (collaborationOf t) (namedOf n) κ k after × (seenAs k ≡ toldOf (traffic x))) (sym e) (y, z)
+    told-by : (l : Seen) → label ≡ l → Steps version (collaborationOf t) (namedOf n) κ l after → seenAs l ≡ toldOf (traffic x) → Result
+    told-by l e y z = subst (λ k. Steps version (collaborationOf t) (namedOf n) κ k after × (seenAs k ≡ toldOf (traffic x))) (sym e) (y, z)
 
     module _ (a : Accepted x q) (em : eqb (m .also) making ≡ false) where
       made-below : n .instance < κ .made (n .pool)
       made-below = subst (λ y. n .instance < y) (sym (made-is (f .pool))) (named-made t s n f em)
 
-      from-held : {l : Label} {σ : Local} → Moves (elementOf el) (n .phase) b L l σ → Moves (elementOf el) (n .phase) b (κ .σi (n .pool) (n .instance)) l σ
-      from-held {l} {σ} y = subst (λ K. Moves (elementOf el) (n .phase) b K l σ) (sym (found-is em (f .pool) (named-made t s n f em))) y
+      from-held : {l : Label} {σ : Local} → Moves version (elementOf el) (n .phase) b L l σ → Moves version (elementOf el) (n .phase) b (κ .σi (n .pool) (n .instance)) l σ
+      from-held {l} {σ} y = subst (λ K. Moves version (elementOf el) (n .phase) b K l σ) (sym (found-is em (f .pool) (named-made t s n f em))) y
 
       no-values : eqb (m .receives) on ≡ false → valuesOf g ≡ []
       unfolding matches siteOf
@@ -447,7 +446,7 @@ module _ (t s q : List ℕ) (v : valid t ≡ true) (state : Fitting t s q) (n : 
       internal-sound : eqb (m .receives) on ≡ false → eqb (m .sends) on ≡ false → Result
       internal-sound er es =
           told-by (Seen.τ quiet) (label-internal er es)
-          (subst (Steps (collaborationOf t) (namedOf n) κ (Seen.τ quiet)) (sym (internal-path er es em a))
+          (subst (Steps version (collaborationOf t) (namedOf n) κ (Seen.τ quiet)) (sym (internal-path er es em a))
           (C-Internal (runs-there (f .pool) (f .element)) made-below (no-values er) (from-held (move-by (fires-by a) (says-internal m P (L .σd) er es (refl, deaf-updates er (work-defined a)))))))
           (internal-told er es em a quiet)
 
@@ -457,7 +456,7 @@ module _ (t s q : List ℕ) (v : valid t ≡ true) (state : Fitting t s q) (n : 
           let e = Sites.send-sound t s v n f es W (ap (λ (y : Gathered). y .defined) (sym (speaks-sent es)) ∙ sent-defined a) in
           let z : κ .σm name .size ≡ length (messagesOf q name) = ap (λ (M : Multiset). M .size) (chosen (ltb name names) _ _ (lt-ltb name names (name-low (speaking er es em a)))) in
           told-by (Seen.sends name vs) (label-deliver er es)
-          (subst (Steps (collaborationOf t) (namedOf n) κ (Seen.sends name vs)) (sym (deliver-path er es em a))
+          (subst (Steps version (collaborationOf t) (namedOf n) κ (Seen.sends name vs)) (sym (deliver-path er es em a))
           (C-Deliver (runs-there (f .pool) (f .element)) made-below (no-values er) (from-held (move-by (fires-by a) (says-sends m P (L .σd) er es (vs, refl, deaf-updates er (work-defined a), e))))
           (subst (λ y. y < 64) (sym z) (has-space er es em a))))
           (deliver-told er es em a)
@@ -481,7 +480,7 @@ module _ (t s q : List ℕ) (v : valid t ≡ true) (state : Fitting t s q) (n : 
           let (us, i, c) = Sites.receive-sound t s v n f er hears-defined hears-same in
           let w = Sites.receive-complete t s v n f er i c in
           told-by (Seen.receives name (valuesOf g)) (label-receive er em)
-          (subst (Steps (collaborationOf t) (namedOf n) κ (Seen.receives name (valuesOf g))) (sym (receive-path er a em))
+          (subst (Steps version (collaborationOf t) (namedOf n) κ (Seen.receives name (valuesOf g))) (sym (receive-path er a em))
           (C-Receive (runs-there (f .pool) (f .element)) (made-below a em) (from-held a em (move-by (fires-by a) (says-receives m P (L .σd) er em (us, refl, i, refl)))) waits c
           (both (Sites.bind-sound t s v n f er (w .2)) bound-work)))
           (consumed-told er a)
@@ -495,14 +494,14 @@ module _ (t s q : List ℕ) (v : valid t ≡ true) (state : Fitting t s q) (n : 
           let e : n .instance ≡ κ .made (n .pool) = eqb-true (n .instance) (madeCount s p₀) (chosen-true (eqb (m .also) making) _ _ (f .instance) em) ∙ sym (made-is (f .pool)) in
           let l : madeCount s p₀ < limitOf t p₀ = ltb-true (madeCount s p₀) (limitOf t p₀) (chosen-true (eqb (m .also) making) _ true (a .limited) em) in
           told-by (Seen.new name (valuesOf g)) (label-create er em)
-          (subst (Steps (collaborationOf t) (namedOf n) κ (Seen.new name (valuesOf g))) (sym (create-path er a em e))
+          (subst (Steps version (collaborationOf t) (namedOf n) κ (Seen.new name (valuesOf g))) (sym (create-path er a em e))
           (C-Create (runs-there (f .pool) (f .element)) e (subst (λ y. y < limitOf t p₀) (sym (made-is (f .pool))) l)
-          (subst (λ K. Moves (elementOf el) (n .phase) b K (Label.new name us) (effect m P L (L .σd))) (sym (begun-is em)) (move-by (fires-by a) (says-new m P (L .σd) er em (us, refl, i, refl)))) waits c
+          (subst (λ K. Moves version (elementOf el) (n .phase) b K (Label.new name us) (effect m P L (L .σd))) (sym (begun-is em)) (move-by (fires-by a) (says-new m P (L .σd) er em (us, refl, i, refl)))) waits c
           (subst (Updates (L .σd) (chain (bindingOf el b g) 0 (messageLength el b))) (sym z) (Sites.bind-sound t s v n f er (w .2)))))
           (consumed-told er a)
 
   -- SOUNDNESS: what the engine accepts is a transition of the paper's rules, and its state and traffic afterwards are the transition's
-  pub sound : firstRefusal (refusals t s q n) ≡ 0 → Steps (collaborationOf t) (namedOf n) κ label after × (seenAs label ≡ toldOf (traffic x))
+  pub sound : firstRefusal (refusals t s q n) ≡ 0 → Steps version (collaborationOf t) (namedOf n) κ label after × (seenAs label ≡ toldOf (traffic x))
   sound e =
       let r = accepted-parts t s q n e in
       let f = found t s n (r .0) in
@@ -533,18 +532,18 @@ module _ (t s q : List ℕ) (v : valid t ≡ true) (state : Fitting t s q) (n : 
   element-right l r = element-fits t fits p₀ l (n .element) r
 
   abbrev Gone : Local → Label → Local → Type 0
-  Gone K l σ = (m .kind ≡ 0 → ⊥) × (b < branchCount el m) × Goes m (partsAt el m b) (Grants el b K) K l σ
+  Gone K l σ = (m .kind ≡ 0 → ⊥) × (b < branchCount el m) × Goes m (partsAt version el m b) (Grants el b K) K l σ
 
-  gone : {e : Element} {K : Local} {l : Label} {σ : Local} → p₀ < poolCount t → n .element < elementCount t p₀ → e ≡ elementOf el → Moves e (n .phase) b K l σ → Gone K l σ
+  gone : {e : Element} {K : Local} {l : Label} {σ : Local} → p₀ < poolCount t → n .element < elementCount t p₀ → e ≡ elementOf el → Moves version e (n .phase) b K l σ → Gone K l σ
   unfolding moveNamed
-  gone {e} {K} {l} {σ} i j z y = process-complete el (element-right i j) (subst (λ d. Moves d (n .phase) b K l σ) z y)
+  gone {e} {K} {l} {σ} i j z y = process-complete el (element-right i j) (subst (λ d. Moves version d (n .phase) b K l σ) z y)
 
   split : {σ τ : ℕ → Value} {A B : Assignments} → Updates σ (A & B) τ → (ρ : ℕ → Value) × Updates σ A ρ × Updates ρ B τ
   split (both {σ′ = ρ} u w) = (ρ, u, w)
 
   -- of an instance that is made
   module _ {Q : Pool} {e : Element} (r : Runs (collaborationOf t) (namedOf n) Q e) (lt : n .instance < κ .made (n .pool)) {l : Label} {σ : Local}
-      (mv : Moves e (n .phase) b (κ .σi (n .pool) (n .instance)) l σ) where
+      (mv : Moves version e (n .phase) b (κ .σi (n .pool) (n .instance)) l σ) where
     abbrev at-pool : p₀ < poolCount t
     at-pool = runs-found r .0
 
@@ -571,8 +570,8 @@ module _ (t s q : List ℕ) (v : valid t ≡ true) (state : Fitting t s q) (n : 
       held-there : κ .σi (n .pool) (n .instance) ≡ localOf h
       held-there = found-is em at-pool is-made
 
-      goes : Goes m (partsAt el m b) (Grants el b (localOf h)) (localOf h) l σ
-      goes = subst (λ K. Goes m (partsAt el m b) (Grants el b K) K l σ) held-there (went .2)
+      goes : Goes m (partsAt version el m b) (Grants el b (localOf h)) (localOf h) l σ
+      goes = subst (λ K. Goes m (partsAt version el m b) (Grants el b K) K l σ) held-there (went .2)
 
       no-limit : belowLimit m (madeCount s p₀) (limitOf t p₀) ≡ true
       unfolding belowLimit
@@ -591,33 +590,33 @@ module _ (t s q : List ℕ) (v : valid t ≡ true) (state : Fitting t s q) (n : 
   none-matches f er e = subst (λ (y : Gathered). sameTuple (y .tuple) g ≡ true) (sym (deaf-template f er)) (given-none g e)
 
   internal-back : {Q : Pool} {e : Element} {i : Internal} {σ : Local} → Runs (collaborationOf t) (namedOf n) Q e → n .instance < κ .made (n .pool) → valuesOf g ≡ []
-      → Moves e (n .phase) b (κ .σi (n .pool) (n .instance)) (Label.τ i) σ → Forced (Seen.τ i) (updInst κ (n .pool) (n .instance) σ)
+      → Moves version e (n .phase) b (κ .σi (n .pool) (n .instance)) (Label.τ i) σ → Forced (Seen.τ i) (updInst κ (n .pool) (n .instance) σ)
   internal-back {i = i} r lt val mv =
-      let y = means-internal m (partsAt el m b) (κ .σi (n .pool) (n .instance) .σd) (went r lt mv .2 .left) i (went r lt mv .2 .says) in
+      let y = means-internal m (partsAt version el m b) (κ .σi (n .pool) (n .instance) .σd) (went r lt mv .2 .left) i (went r lt mv .2 .says) in
       let er = y .0 in
       let es = y .1 in
       let em = deaf-makes-none er in
       let f = at-site r lt mv em in
       let go = goes r lt mv em in
-      let u = means-internal m (partsAt el m b) (localOf h .σd) (go .left) i (go .says) .2 in
+      let u = means-internal m (partsAt version el m b) (localOf h .σd) (go .left) i (go .says) .2 in
       let w = deaf-only f er u in
       let a = accept-by f (go .fires) (ap (λ (y : Gathered). y .defined) (deaf-template f er)) (none-matches f er val) (w .0) (ap (λ (y : Gathered). y .defined) (mute-sent f es)) (none-waits er) (no-limit r lt mv em) (none-sent es) in (
         parts-accepted t s q n (exists-by f) a,
-        ap (updInst κ (n .pool) (n .instance)) (go .gives ∙ ap (effect m (partsAt el m b) (localOf h)) (w .1)) ∙ sym (internal-path f er es em a),
+        ap (updInst κ (n .pool) (n .instance)) (go .gives ∙ ap (effect m (partsAt version el m b) (localOf h)) (w .1)) ∙ sym (internal-path f er es em a),
         ap Seen.τ (y .3) ∙ sym (label-internal f er es),
       )
 
   deliver-back : {Q : Pool} {e : Element} {k : ℕ} {vs : List ℕ} {σ : Local} → Runs (collaborationOf t) (namedOf n) Q e → n .instance < κ .made (n .pool) → valuesOf g ≡ []
-      → Moves e (n .phase) b (κ .σi (n .pool) (n .instance)) (Label.sends k vs) σ → κ .σm k .size < 64 → Forced (Seen.sends k vs) (add (updInst κ (n .pool) (n .instance) σ) k vs)
+      → Moves version e (n .phase) b (κ .σi (n .pool) (n .instance)) (Label.sends k vs) σ → κ .σm k .size < 64 → Forced (Seen.sends k vs) (add (updInst κ (n .pool) (n .instance) σ) k vs)
   unfolding space siteOf
   deliver-back {k = k} {vs = vs} r lt val mv room =
-      let y = means-sends m (partsAt el m b) (κ .σi (n .pool) (n .instance) .σd) (went r lt mv .2 .left) k vs (went r lt mv .2 .says) in
+      let y = means-sends m (partsAt version el m b) (κ .σi (n .pool) (n .instance) .σd) (went r lt mv .2 .left) k vs (went r lt mv .2 .says) in
       let er = y .0 in
       let es = y .1 in
       let em = deaf-makes-none er in
       let f = at-site r lt mv em in
       let go = goes r lt mv em in
-      let (er′, es′, nm, u, ev) = means-sends m (partsAt el m b) (localOf h .σd) (go .left) k vs (go .says) in
+      let (er′, es′, nm, u, ev) = means-sends m (partsAt version el m b) (localOf h .σd) (go .left) k vs (go .says) in
       let w = deaf-only f er u in
       let c = Sites.send-complete t s v n f es (W f) (subst (λ τ. Evals τ (messageOf el b) vs) (w .1) ev) in
       let low : name < names = name-low f (or-right (receives x) (sends x) es) in
@@ -625,23 +624,23 @@ module _ (t s q : List ℕ) (v : valid t ≡ true) (state : Fitting t s q) (n : 
       let full : length (messagesOf q name) < messages = subst (λ j. j < 64) z (subst (λ j. κ .σm j .size < 64) (sym nm) room) in
       let sp : space x q ≡ true = chosen (sends x) _ true es ∙ lt-ltb (length (messagesOf q name)) messages full in
       let a = accept-by f (go .fires) (ap (λ (y : Gathered). y .defined) (deaf-template f er)) (none-matches f er val) (w .0) (ap (λ (y : Gathered). y .defined) (speaks-sent f es) ∙ c .0) (none-waits er) (no-limit r lt mv em) sp in
-      let sp = go .gives ∙ ap (effect m (partsAt el m b) (localOf h)) (w .1) in (
+      let sp = go .gives ∙ ap (effect m (partsAt version el m b) (localOf h)) (w .1) in (
         parts-accepted t s q n (exists-by f) a,
         (λ i. add (updInst κ (n .pool) (n .instance) (sp i)) (sym nm i) (c .1 i)) ∙ sym (deliver-path f er es em a),
         (λ i. Seen.sends (sym nm i) (c .1 i)) ∙ sym (label-deliver f er es),
       )
 
   receive-back : {Q : Pool} {e : Element} {k : ℕ} {us : List Evaluated} {A A′ : Assignments} {σ : Local} {τ : ℕ → Value} → Runs (collaborationOf t) (namedOf n) Q e → n .instance < κ .made (n .pool)
-      → Moves e (n .phase) b (κ .σi (n .pool) (n .instance)) (Label.receives k us A) σ → 0 < κ .σm k .times (valuesOf g) → Matches us (valuesOf g) A′ → Updates (σ .σd) (A′ & A) τ
+      → Moves version e (n .phase) b (κ .σi (n .pool) (n .instance)) (Label.receives k us A) σ → 0 < κ .σm k .times (valuesOf g) → Matches us (valuesOf g) A′ → Updates (σ .σd) (A′ & A) τ
       → Forced (Seen.receives k (valuesOf g)) (rm (updInst κ (n .pool) (n .instance) (σ fields: τ)) k (valuesOf g))
   unfolding queued matches siteOf
   receive-back {k = k} {us = us} {A = A} {A′ = A′} {σ = σ} {τ = τ} r lt mv waits c u =
-      let y = means-receives m (partsAt el m b) (κ .σi (n .pool) (n .instance) .σd) (went r lt mv .2 .left) k us A (went r lt mv .2 .says) in
+      let y = means-receives m (partsAt version el m b) (κ .σi (n .pool) (n .instance) .σd) (went r lt mv .2 .left) k us A (went r lt mv .2 .says) in
       let er = y .0 in
       let em = y .1 in
       let f = at-site r lt mv em in
       let go = goes r lt mv em in
-      let (er′, em′, nm, tt, aw, fs) = means-receives m (partsAt el m b) (localOf h .σd) (go .left) k us A (go .says) in
+      let (er′, em′, nm, tt, aw, fs) = means-receives m (partsAt version el m b) (localOf h .σd) (go .left) k us A (go .says) in
       let w = Sites.receive-complete t s v n f er tt c in
       let d : σ .σd ≡ localOf h .σd = ap (λ (K : Local). K .σd) (go .gives) ∙ fs in
       let (ρ, u₁, u₂) = split (subst (λ K. Updates K (A′ & A) τ) d u) in
@@ -650,20 +649,20 @@ module _ (t s q : List ℕ) (v : valid t ≡ true) (state : Fitting t s q) (n : 
       let qd : queued x q ≡ true = chosen (receives x) _ true er ∙ times-has g (messagesOf q name) (subst (λ j. 0 < j) (there-is f er) (subst (λ j. 0 < κ .σm j .times (valuesOf g)) (sym nm) waits)) in
       let nosend : eqb (m .sends) on ≡ false = hears-mute f er in
       let a = accept-by f (go .fires) (ap (λ (y : Gathered). y .defined) (hears-template f er) ∙ w .0) (subst (λ (y : Gathered). sameTuple (y .tuple) g ≡ true) (sym (hears-template f er)) (w .1)) (o .0) (ap (λ (y : Gathered). y .defined) (mute-sent f nosend)) qd (no-limit r lt mv em) (none-sent nosend) in
-      let e = ap (λ (K : Local). K fields: τ) (go .gives) ∙ ap (effect m (partsAt el m b) (localOf h)) (o .1) in (
+      let e = ap (λ (K : Local). K fields: τ) (go .gives) ∙ ap (effect m (partsAt version el m b) (localOf h)) (o .1) in (
         parts-accepted t s q n (exists-by f) a,
         (λ i. rm (updInst κ (n .pool) (n .instance) (e i)) (sym nm i) (valuesOf g)) ∙ sym (receive-path f er a em),
         (λ i. Seen.receives (sym nm i) (valuesOf g)) ∙ sym (label-receive f er em),
       )
 
   create-back : {Q : Pool} {e : Element} {k : ℕ} {us : List Evaluated} {A : Assignments} {σ : Local} {τ : ℕ → Value} → Runs (collaborationOf t) (namedOf n) Q e → n .instance ≡ κ .made (n .pool) → κ .made (n .pool) < Q .limit
-      → Moves e (n .phase) b blank (Label.new k us) σ → 0 < κ .σm k .times (valuesOf g) → Matches us (valuesOf g) A → Updates (σ .σd) A τ
+      → Moves version e (n .phase) b blank (Label.new k us) σ → 0 < κ .σm k .times (valuesOf g) → Matches us (valuesOf g) A → Updates (σ .σd) A τ
       → Forced (Seen.new k (valuesOf g)) (rm (addInst κ (n .pool) (σ fields: τ)) k (valuesOf g))
   unfolding queued matches siteOf instanceNamed belowLimit
   create-back {k = k} {us = us} {A = A} {σ = σ} {τ = τ} r next lim mv waits c u =
       let (pl, ep, ee, ll) = runs-found r in
       let went₀ = gone pl ep ee mv in
-      let y = means-new m (partsAt el m b) unset (went₀ .2 .left) k us (went₀ .2 .says) in
+      let y = means-new m (partsAt version el m b) unset (went₀ .2 .left) k us (went₀ .2 .says) in
       let er = y .0 in
       let em = y .1 in
       let nx : n .instance ≡ madeCount s p₀ = next ∙ made-is pl in
@@ -674,8 +673,8 @@ module _ (t s q : List ℕ) (v : valid t ≡ true) (state : Fitting t s q) (n : 
         branch = went₀ .1;
         instance = chosen (eqb (m .also) making) _ _ em ∙ eq-eqb (n .instance) (madeCount s p₀) nx;
       } in
-      let go = subst (λ K. Goes m (partsAt el m b) (Grants el b K) K (Label.new k us) σ) (begun-is em) (went₀ .2) in
-      let (er′, em′, nm, tt, fs) = means-new m (partsAt el m b) (localOf h .σd) (go .left) k us (go .says) in
+      let go = subst (λ K. Goes m (partsAt version el m b) (Grants el b K) K (Label.new k us) σ) (begun-is em) (went₀ .2) in
+      let (er′, em′, nm, tt, fs) = means-new m (partsAt version el m b) (localOf h .σd) (go .left) k us (go .says) in
       let w = Sites.receive-complete t s v n f er tt c in
       let d : σ .σd ≡ localOf h .σd = ap (λ (K : Local). K .σd) (go .gives) ∙ fs in
       let z : τ ≡ localOf (W₀ f) .σd = Sites.bind-complete t s v n f er (w .2) (subst (λ B. Updates (localOf h .σd) B τ) (w .3) (subst (λ K. Updates K A τ) d u)) ∙ ap (λ y. localOf y .σd) (sym (hears-bound f er)) in
@@ -684,14 +683,14 @@ module _ (t s q : List ℕ) (v : valid t ≡ true) (state : Fitting t s q) (n : 
       let nosend : eqb (m .sends) on ≡ false = hears-mute f er in
       let below : belowLimit m (madeCount s p₀) (limitOf t p₀) ≡ true = chosen (eqb (m .also) making) _ true em ∙ lt-ltb (madeCount s p₀) (limitOf t p₀) (subst (λ j. j < limitOf t p₀) (made-is pl) (subst (λ j. κ .made (n .pool) < j) ll lim)) in
       let a = accept-by f (go .fires) (ap (λ (y : Gathered). y .defined) (hears-template f er) ∙ w .0) (subst (λ (y : Gathered). sameTuple (y .tuple) g ≡ true) (sym (hears-template f er)) (w .1)) (o .0) (ap (λ (y : Gathered). y .defined) (mute-sent f nosend)) qd below (none-sent nosend) in
-      let e = ap (λ (K : Local). K fields: τ) (go .gives) ∙ ap (effect m (partsAt el m b) (localOf h)) (z ∙ o .1) in (
+      let e = ap (λ (K : Local). K fields: τ) (go .gives) ∙ ap (effect m (partsAt version el m b) (localOf h)) (z ∙ o .1) in (
         parts-accepted t s q n (exists-by f) a,
         (λ i. rm (addInst κ (n .pool) (e i)) (sym nm i) (valuesOf g)) ∙ sym (create-path f er a em next),
         (λ i. Seen.new (sym nm i) (valuesOf g)) ∙ sym (label-create f er em),
       )
 
   -- COMPLETENESS: every transition of the paper's rules is accepted by the engine, and the state and the label are what the engine gives
-  pub complete : {l : Seen} {κ′ : Configuration} → Steps (collaborationOf t) (namedOf n) κ l κ′ → (firstRefusal (refusals t s q n) ≡ 0) × (κ′ ≡ after) × (l ≡ label)
+  pub complete : {l : Seen} {κ′ : Configuration} → Steps version (collaborationOf t) (namedOf n) κ l κ′ → (firstRefusal (refusals t s q n) ≡ 0) × (κ′ ≡ after) × (l ≡ label)
   complete (C-Create r next lim mv waits c u) = create-back r next lim mv waits c u
   complete (C-Internal r lt val mv) = internal-back r lt val mv
   complete (C-Receive r lt mv waits c u) = receive-back r lt mv waits c u

@@ -14,7 +14,7 @@ use Rattle.base_words.specs.Counts.{names, values, messages}
 use Rattle.base_words.proofs.AllLaws.{and-left, and-right}
 use Rattle.base_words.proofs.PickLaws.{and-true}
 use Rattle.base_state.specs.Places.{instancesWords}
-use Rattle.base_state.specs.Instances.{instancesOf, queuesOf}
+use Rattle.base_state.specs.Instances.{instancesOf, queuesOf, versionOf}
 use Rattle.meaning.specs.declared.Name.{Name}
 use Rattle.meaning.specs.declared.Answer.{Answer}
 use Rattle.meaning.specs.declared.Tuple.{Tuple}
@@ -31,8 +31,8 @@ use Rattle.proof_steps.proofs.OnlyOwn.{length-after}
 use Rattle.proof_steps.proofs.QueueFits.{fits-tidy}
 use Rattle.proof_steps.proofs.Traffic.{state-queues}
 use Rattle.proof_steps.proofs.KeepsFits.{posted-right}
-use Rattle.engine.proofs.CallLaws.{state-fits, long-instances, long-queues}
-use Rattle.engine.proofs.KeepsValid.{did-valid}
+use Rattle.engine.proofs.CallLaws.{fitting-table, lent-fits}
+use Rattle.engine.proofs.KeepsValid.{did-valid, did-version}
 use Rattle.paper.specs.States.{Configuration, Multiset, add}
 use Rattle.paper.specs.Collaborations.{Seen, Steps, Posts, posted}
 use Rattle.proof_paper.specs.Decoders.{collaborationOf, configurationOf, namedOf, valuesOf, seenAs, toldOf}
@@ -58,11 +58,14 @@ module _ (t z : List ℕ) (s : Valid t z) where
   queues = queuesOf z
 
   v : valid t ≡ true
-  unfolding fitting
-  v = and-left (valid t) (stateFits t instances queues) (s .fits)
+  v = fitting-table t z (s .fits)
 
   fit : Fitting t instances queues
-  fit = record { long = long-instances z (s .long); wide = long-queues z (s .long); fits = state-fits t z (s .fits) }
+  fit = lent-fits t z (s .long) (s .fits)
+
+  -- the version that the state was made for
+  abbrev version : ℕ
+  version = versionOf instances
 
   -- A STEP
   module _ (n : Name) where
@@ -95,15 +98,15 @@ module _ (t z : List ℕ) (s : Valid t z) where
     -- SOUNDNESS: a step that is accepted is a transition of that pool, instance, element, phase, branch and message; the state afterwards is the
     -- transition's, and what was sent or consumed is its label
     pub step-sound : did t (aStep n) z .number ≡ 0
-        → (l : Seen) × Steps (collaborationOf t) (namedOf n) (stateOf t z) l (stateOf t (did t (aStep n) z .state)) × (seenAs l ≡ toldOf (stepped t z n .answer))
+        → (l : Seen) × Steps version (collaborationOf t) (namedOf n) (stateOf t z) l (stateOf t (did t (aStep n) z .state)) × (seenAs l ≡ toldOf (stepped t z n .answer))
     unfolding did
     step-sound e =
         let k = none-refused e in
         let r = sound t instances queues v fit n k in
-        (label t instances queues v fit n, subst (Steps (collaborationOf t) (namedOf n) (stateOf t z) (label t instances queues v fit n)) (sym (left-is k)) (r .0), r .1 ∙ ap (λ (o : Stepped). toldOf (o .answer)) (sym (step-is k)))
+        (label t instances queues v fit n, subst (Steps version (collaborationOf t) (namedOf n) (stateOf t z) (label t instances queues v fit n)) (sym (left-is k)) (r .0), r .1 ∙ ap (λ (o : Stepped). toldOf (o .answer)) (sym (step-is k)))
 
     -- COMPLETENESS: a transition is accepted, and gives this state and this traffic
-    pub step-complete : {l : Seen} {κ : Configuration} → Steps (collaborationOf t) (namedOf n) (stateOf t z) l κ
+    pub step-complete : {l : Seen} {κ : Configuration} → Steps version (collaborationOf t) (namedOf n) (stateOf t z) l κ
         → (did t (aStep n) z .number ≡ 0) × (κ ≡ stateOf t (did t (aStep n) z .state)) × (seenAs l ≡ toldOf (stepped t z n .answer))
     unfolding did
     step-complete y =
@@ -112,12 +115,12 @@ module _ (t z : List ℕ) (s : Valid t z) where
         (ap (λ (o : Stepped). o .answer .number) (step-is k) ∙ number-none, r .1 ∙ sym (left-is k), ap seenAs (r .2) ∙ sound t instances queues v fit n k .1 ∙ ap (λ (o : Stepped). toldOf (o .answer)) (sym (step-is k)))
 
     -- ACCEPTED EXACTLY WHERE THERE IS A TRANSITION
-    pub step-exactly : (did t (aStep n) z .number ≡ 0 → (l : Seen) × ((κ : Configuration) × Steps (collaborationOf t) (namedOf n) (stateOf t z) l κ))
-        × ((l : Seen) (κ : Configuration) → Steps (collaborationOf t) (namedOf n) (stateOf t z) l κ → did t (aStep n) z .number ≡ 0)
+    pub step-exactly : (did t (aStep n) z .number ≡ 0 → (l : Seen) × ((κ : Configuration) × Steps version (collaborationOf t) (namedOf n) (stateOf t z) l κ))
+        × ((l : Seen) (κ : Configuration) → Steps version (collaborationOf t) (namedOf n) (stateOf t z) l κ → did t (aStep n) z .number ≡ 0)
     step-exactly = ((λ e. let r = step-sound e in (r .0, (stateOf t (did t (aStep n) z .state), r .1))), (λ l κ y. step-complete y .0))
 
     -- ONE TRANSITION: once pool, instance, element, phase, branch and message are named, label and configuration are determined
-    pub step-one : {l l′ : Seen} {κ κ′ : Configuration} → Steps (collaborationOf t) (namedOf n) (stateOf t z) l κ → Steps (collaborationOf t) (namedOf n) (stateOf t z) l′ κ′ → (l ≡ l′) × (κ ≡ κ′)
+    pub step-one : {l l′ : Seen} {κ κ′ : Configuration} → Steps version (collaborationOf t) (namedOf n) (stateOf t z) l κ → Steps version (collaborationOf t) (namedOf n) (stateOf t z) l′ κ′ → (l ≡ l′) × (κ ≡ κ′)
     step-one y y′ =
         let r = complete t instances queues v fit n y in
         let r′ = complete t instances queues v fit n y′ in
@@ -169,31 +172,39 @@ module _ (t z : List ℕ) (s : Valid t z) where
         let k = post-accepted queues name g l (subst (λ y. y ≤ values) (length-values g) r) (subst (λ y. y < messages) (size-is l) w) in
         (posted-number ∙ ap (λ (o : Posted). o .number) (post-is k), sym (posted-is k))
 
--- CALLS ONE AFTER THE OTHER: the traces of the engine are the traces of the relation
+-- CALLS ONE AFTER THE OTHER: the traces of the engine are the traces of the relation, under the version of the state that they begin in
 module _ (t : List ℕ) where
-  pub trace-sound : (acts : List Act) (z : List ℕ) → Valid t z → allAccepted t acts z ≡ true
-      → (ls : List Seen) × Trace (collaborationOf t) acts (stateOf t z) ls (stateOf t (after t acts z)) × (map seenAs ls ≡ told t acts z)
+  traced : (v : ℕ) (acts : List Act) (z : List ℕ) → Valid t z → versionOf (instancesOf z) ≡ v → allAccepted t acts z ≡ true
+      → (ls : List Seen) × Trace v (collaborationOf t) acts (stateOf t z) ls (stateOf t (after t acts z)) × (map seenAs ls ≡ told t acts z)
   unfolding allAccepted after told
-  trace-sound [] z s e = ([], Trace.none, refl)
-  trace-sound (aStep n ∷ rest) z s e =
+  traced v [] z s is e = ([], Trace.none, refl)
+  traced v (aStep n ∷ rest) z s is e =
       let k = eqb-true (did t (aStep n) z .number) 0 (and-left (eqb (did t (aStep n) z .number) 0) (allAccepted t rest (did t (aStep n) z .state)) e) in
       let (l, y, w) = step-sound t z s n k in
-      let (ls, r, u) = trace-sound rest (did t (aStep n) z .state) (did-valid t (aStep n) z s) (and-right (eqb (did t (aStep n) z .number) 0) (allAccepted t rest (did t (aStep n) z .state)) e) in
-      (l ∷ ls, Trace.step y r, ap₂ _∷_ w u)
-  trace-sound (aPost name g ∷ rest) z s e =
+      let (ls, r, u) = traced v rest (did t (aStep n) z .state) (did-valid t (aStep n) z s) (did-version t (aStep n) z s ∙ is) (and-right (eqb (did t (aStep n) z .number) 0) (allAccepted t rest (did t (aStep n) z .state)) e) in
+      (l ∷ ls, Trace.step (subst (λ k. Steps k (collaborationOf t) (namedOf n) (stateOf t z) l (stateOf t (did t (aStep n) z .state))) is y) r, ap₂ _∷_ w u)
+  traced v (aPost name g ∷ rest) z s is e =
       let k = eqb-true (did t (aPost name g) z .number) 0 (and-left (eqb (did t (aPost name g) z .number) 0) (allAccepted t rest (did t (aPost name g) z .state)) e) in
-      let (ls, r, u) = trace-sound rest (did t (aPost name g) z .state) (did-valid t (aPost name g) z s) (and-right (eqb (did t (aPost name g) z .number) 0) (allAccepted t rest (did t (aPost name g) z .state)) e) in
+      let (ls, r, u) = traced v rest (did t (aPost name g) z .state) (did-valid t (aPost name g) z s) (did-version t (aPost name g) z s ∙ is) (and-right (eqb (did t (aPost name g) z .number) 0) (allAccepted t rest (did t (aPost name g) z .state)) e) in
       (ls, Trace.post (post-sound t z s name g k) r, u)
 
-  pub trace-complete : (acts : List Act) (z : List ℕ) → Valid t z → {ls : List Seen} {κ : Configuration} → Trace (collaborationOf t) acts (stateOf t z) ls κ
+  pub trace-sound : (acts : List Act) (z : List ℕ) → Valid t z → allAccepted t acts z ≡ true
+      → (ls : List Seen) × Trace (versionOf (instancesOf z)) (collaborationOf t) acts (stateOf t z) ls (stateOf t (after t acts z)) × (map seenAs ls ≡ told t acts z)
+  trace-sound acts z s e = traced (versionOf (instancesOf z)) acts z s refl e
+
+  followed : (v : ℕ) (acts : List Act) (z : List ℕ) → Valid t z → versionOf (instancesOf z) ≡ v → {ls : List Seen} {κ : Configuration} → Trace v (collaborationOf t) acts (stateOf t z) ls κ
       → (allAccepted t acts z ≡ true) × (κ ≡ stateOf t (after t acts z)) × (map seenAs ls ≡ told t acts z)
   unfolding allAccepted after told
-  trace-complete [] z s Trace.none = (refl, refl, refl)
-  trace-complete (aStep n ∷ rest) z s {κ = κ} (Trace.step {ls = ls} y r) =
-      let (k, p, w) = step-complete t z s n y in
-      let (e, q, u) = trace-complete rest (did t (aStep n) z .state) (did-valid t (aStep n) z s) (subst (λ c. Trace (collaborationOf t) rest c ls κ) p r) in
+  followed v [] z s is Trace.none = (refl, refl, refl)
+  followed v (aStep n ∷ rest) z s is {κ = κ} (Trace.step {κ′ = κ′} {l = l} {ls = ls} y r) =
+      let (k, p, w) = step-complete t z s n (subst (λ k. Steps k (collaborationOf t) (namedOf n) (stateOf t z) l κ′) (sym is) y) in
+      let (e, q, u) = followed v rest (did t (aStep n) z .state) (did-valid t (aStep n) z s) (did-version t (aStep n) z s ∙ is) (subst (λ c. Trace v (collaborationOf t) rest c ls κ) p r) in
       (and-true (eqb (did t (aStep n) z .number) 0) (allAccepted t rest (did t (aStep n) z .state)) (eq-eqb (did t (aStep n) z .number) 0 k) e, q, ap₂ _∷_ w u)
-  trace-complete (aPost name g ∷ rest) z s {ls = ls} {κ = κ} (Trace.post y r) =
+  followed v (aPost name g ∷ rest) z s is {ls = ls} {κ = κ} (Trace.post y r) =
       let (k, p) = post-complete t z s name g y in
-      let (e, q, u) = trace-complete rest (did t (aPost name g) z .state) (did-valid t (aPost name g) z s) (subst (λ c. Trace (collaborationOf t) rest c ls κ) p r) in
+      let (e, q, u) = followed v rest (did t (aPost name g) z .state) (did-valid t (aPost name g) z s) (did-version t (aPost name g) z s ∙ is) (subst (λ c. Trace v (collaborationOf t) rest c ls κ) p r) in
       (and-true (eqb (did t (aPost name g) z .number) 0) (allAccepted t rest (did t (aPost name g) z .state)) (eq-eqb (did t (aPost name g) z .number) 0 k) e, q, u)
+
+  pub trace-complete : (acts : List Act) (z : List ℕ) → Valid t z → {ls : List Seen} {κ : Configuration} → Trace (versionOf (instancesOf z)) (collaborationOf t) acts (stateOf t z) ls κ
+      → (allAccepted t acts z ≡ true) × (κ ≡ stateOf t (after t acts z)) × (map seenAs ls ≡ told t acts z)
+  trace-complete acts z s y = followed (versionOf (instancesOf z)) acts z s refl y

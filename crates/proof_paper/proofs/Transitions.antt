@@ -79,7 +79,7 @@ na-row k p x y a ne = absurd (ne refl)
 na-row k p x y na-c ne = x
 na-row k p x y na-nc ne = y
 
-row-there : {E : Element} {p b : ℕ} {L : Local} {l : Label} {σ : Local} → Moves E p b L l σ → (moveOf (kindNumber E) (modeNumber E) p .kind ≡ kindNumber E) × (b < width E)
+row-there : {v : ℕ} {E : Element} {p b : ℕ} {L : Local} {l : Label} {σ : Local} → Moves v E p b L l σ → (moveOf (kindNumber E) (modeNumber E) p .kind ≡ kindNumber E) × (b < width E)
 unfolding kindNumber modeNumber width numberOf isRule modeOf seek if_then_else_
 row-there (P-Start _ _) = (row-by 1 0 0 0 (omega arith) refl refl refl, omega arith)
 row-there (P-End _) = (row-by 3 0 0 2 (omega arith) refl refl refl, omega arith)
@@ -175,19 +175,19 @@ module _ (el : List ℕ) (fits : elementFits el ≡ true) where
         let r : isRule (kindIn el) (modeIn el) p (ruleOf (kindIn el) (modeIn el) p) ≡ true = ⊎-elim (λ e. absurd (is (rw e))) (λ h. s .1 h) (eq-or-lt-of-le (s .0)) in
         eqb-true _ p (and-right (eqb (found p .kind) (kindIn el) && eqb (found p .mode) (modeOf (modeIn el))) (eqb (found p .phase) p) r)
 
-    both : (L : Local) → (width (elementOf el) ≡ branchCount el (found p)) × ((b : ℕ) → b < branchCount el (found p) → Same el fits L (found p) b)
-    both L = law el fits L p (sym (row-kind (kindIn el) (modeIn el) p is)) (sym (row-mode (kindIn el) (modeIn el) p is))
+    both : (v : ℕ) (L : Local) → (width (elementOf el) ≡ branchCount el (found p)) × ((b : ℕ) → b < branchCount el (found p) → Same v el fits L (found p) b)
+    both v L = law v el fits L p (sym (row-kind (kindIn el) (modeIn el) p is)) (sym (row-mode (kindIn el) (modeIn el) p is))
 
     -- FROM THE ROW TO THE RULE
-    pub process-sound : (L : Local) (b : ℕ) → b < branchCount el (found p) → {l : Label} {σ : Local} → Goes (found p) (partsAt el (found p) b) (Grants el b L) L l σ → Moves (elementOf el) p b L l σ
-    process-sound L b r {l} {σ} x = subst (λ y. Moves (elementOf el) y b L l σ) phase-is (both L .1 b r .to l σ x)
+    pub process-sound : (v : ℕ) (L : Local) (b : ℕ) → b < branchCount el (found p) → {l : Label} {σ : Local} → Goes (found p) (partsAt v el (found p) b) (Grants el b L) L l σ → Moves v (elementOf el) p b L l σ
+    process-sound v L b r {l} {σ} x = subst (λ y. Moves v (elementOf el) y b L l σ) phase-is (both v L .1 b r .to l σ x)
 
   -- FROM THE RULE TO THE ROW
-  pub process-complete : {p b : ℕ} {L : Local} {l : Label} {σ : Local} → Moves (elementOf el) p b L l σ
-      → (found p .kind ≡ 0 → ⊥) × (b < branchCount el (found p)) × Goes (found p) (partsAt el (found p) b) (Grants el b L) L l σ
-  process-complete {p} {b} {L} {l} {σ} x =
+  pub process-complete : {v p b : ℕ} {L : Local} {l : Label} {σ : Local} → Moves v (elementOf el) p b L l σ
+      → (found p .kind ≡ 0 → ⊥) × (b < branchCount el (found p)) × Goes (found p) (partsAt v el (found p) b) (Grants el b L) L l σ
+  process-complete {v} {p} {b} {L} {l} {σ} x =
       let (k, w) = row-there x in
       let k′ : found p .kind ≡ kindIn el = subst (λ y. moveOf y (modeIn el) p .kind ≡ y) kind-is (subst (λ y. moveOf (kindNumber (elementOf el)) y p .kind ≡ kindNumber (elementOf el)) mode-is k) in
       let is : found p .kind ≡ 0 → ⊥ = λ z. kind-some (sym k′ ∙ z) in
-      let r : b < branchCount el (found p) = subst (λ y. b < y) (both p is L .0) w in
-      (is, r, both p is L .1 b r .from l σ (subst (λ y. Moves (elementOf el) y b L l σ) (sym (phase-is p is)) x))
+      let r : b < branchCount el (found p) = subst (λ y. b < y) (both p is v L .0) w in
+      (is, r, both p is v L .1 b r .from l σ (subst (λ y. Moves v (elementOf el) y b L l σ) (sym (phase-is p is)) x))

@@ -21,8 +21,8 @@ told t [] z = []
 told t (aStep n ∷ rest) z = toldOf (stepped t z n .answer) ∷ told t rest (did t (aStep n) z .state)
 told t (aPost name g ∷ rest) z = told t rest (did t (aPost name g) z .state)
 
--- a trace of the paper's rules: its steps are named, its posts come from outside, ls are the labels of the steps
-pub data Trace (C : List Pool) : List Act → Configuration → List Seen → Configuration → Type 0 where
-  none : {κ : Configuration} → Trace C [] κ [] κ
-  step : {n : Name} {rest : List Act} {κ κ′ κ″ : Configuration} {l : Seen} {ls : List Seen} → Steps C (namedOf n) κ l κ′ → Trace C rest κ′ ls κ″ → Trace C (aStep n ∷ rest) κ (l ∷ ls) κ″
-  post : {name : ℕ} {g : Tuple} {rest : List Act} {κ κ′ κ″ : Configuration} {ls : List Seen} → Posts κ name (valuesOf g) κ′ → Trace C rest κ′ ls κ″ → Trace C (aPost name g ∷ rest) κ ls κ″
+-- a trace of the paper's rules under version v: its steps are named, its posts come from outside, ls are the labels of the steps
+pub data Trace (v : ℕ) (C : List Pool) : List Act → Configuration → List Seen → Configuration → Type 0 where
+  none : {κ : Configuration} → Trace v C [] κ [] κ
+  step : {n : Name} {rest : List Act} {κ κ′ κ″ : Configuration} {l : Seen} {ls : List Seen} → Steps v C (namedOf n) κ l κ′ → Trace v C rest κ′ ls κ″ → Trace v C (aStep n ∷ rest) κ (l ∷ ls) κ″
+  post : {name : ℕ} {g : Tuple} {rest : List Act} {κ κ′ κ″ : Configuration} {ls : List Seen} → Posts κ name (valuesOf g) κ′ → Trace v C rest κ′ ls κ″ → Trace v C (aPost name g ∷ rest) κ ls κ″

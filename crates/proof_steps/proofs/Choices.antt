@@ -1,6 +1,7 @@
 -- A choice, by its test. Assumes nothing.
 use mathlib.Core.Path.{_≡_, refl, sym, _∙_}
-use mathlib.Core.Bool.{Bool, true, false}
+use mathlib.Core.Bool.{Bool, true, false, _||_}
+use mathlib.Core.Logic.{_⊎_, inl, inr}
 use Rattle.base_words.specs.Pick.{if_then_else_}
 
 pub by-test : {C : Type 0} (b : Bool) → (b ≡ true → C) → (b ≡ false → C) → C
@@ -28,3 +29,15 @@ chosen-true b x y h e = sym (chosen b x y e) ∙ h
 
 pub passed-true : (b x y : Bool) → (if b then x else y) ≡ true → b ≡ false → y ≡ true
 passed-true b x y h e = sym (passed b x y e) ∙ h
+
+-- of one or the other
+pub or-left : (a c : Bool) → a ≡ true → a || c ≡ true
+or-left a c e = rw e
+
+pub or-right : (a c : Bool) → c ≡ true → a || c ≡ true
+or-right true c e = refl
+or-right false c e = e
+
+pub or-either : (a c : Bool) → a || c ≡ true → (a ≡ true) ⊎ (c ≡ true)
+or-either true c e = inl refl
+or-either false c e = inr e

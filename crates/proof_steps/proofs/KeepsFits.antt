@@ -15,8 +15,8 @@ use Rattle.base_words.specs.Counts.{pools, names, values, messages, instances}
 use Rattle.base_words.proofs.AllLaws.{all-of, and-left, and-right}
 use Rattle.base_words.proofs.PickLaws.{and-true}
 use Rattle.base_kinds.specs.Moves.{making}
-use Rattle.base_state.specs.Places.{instanceWords, storeWords, versionIn, sharedWords, sharedPlace, instancesWords, queueWords}
-use Rattle.base_state.specs.Instances.{madeCount}
+use Rattle.base_state.specs.Places.{instanceWords, storeWords, sharedPlace, instancesWords, queueWords}
+use Rattle.base_state.specs.Instances.{madeCount, versionOf}
 use Rattle.check_limits.specs.Limits.{zeros, tableFits}
 use Rattle.meaning.specs.declared.Name.{Name}
 use Rattle.meaning.specs.declared.Tuple.{Tuple}
@@ -101,18 +101,16 @@ module _ (t s q : List ℕ) (n : Name) (fits : tableFits t ≡ true) (once : Sta
   pub keeps-instances : (o : ℕ) → o < pools → instancesFit t r o ≡ true
   keeps-instances o l = pool-back t r o (pool-after o l)
 
-  -- WHAT ALL SHARE: the stores are those that it leaves, the version is as it was
-  shared-after : (k : ℕ) → k < sharedWords → at r (sharedPlace + k) ≡ 0
-  shared-after k l =
-      by-below k storeWords
-      (λ a. own-stores t s n (omega (arith, few)) (omega (arith, long)) k a ∙ fit .unstored (instanceWords + k) (omega arith) (omega arith))
-      (λ a.
-      let e : sharedPlace + k ≡ sharedPlace + versionIn = omega arith in
-      ap (at r) e ∙ same-version t s n (omega (arith, few)) (omega (arith, few, named)) ∙ state-shared t s q state versionIn (omega arith))
+  -- WHAT ALL SHARE: the stores are those that it leaves; the version is as it was
+  shared-after : (k : ℕ) → k < storeWords → at r (sharedPlace + k) ≡ 0
+  shared-after k l = own-stores t s n (omega (arith, few)) (omega (arith, long)) k l ∙ fit .unstored (instanceWords + k) (omega arith) (omega arith)
+
+  pub keeps-version : versionOf r ≡ versionOf s
+  keeps-version = same-version t s n (omega (arith, few)) (omega (arith, few, named))
 
   pub keeps-shared : sharedFits r ≡ true
   unfolding sharedFits zeros
-  keeps-shared = all-of (λ k. eqb (at (drop sharedPlace r) k) 0) sharedWords (λ k l. eq-eqb _ 0 (getD-drop sharedPlace r k 0 ∙ shared-after k l))
+  keeps-shared = all-of (λ k. eqb (at (drop sharedPlace r) k) 0) storeWords (λ k l. eq-eqb _ 0 (getD-drop sharedPlace r k 0 ∙ shared-after k l))
 
   -- EVERY QUEUE
   pub keeps-queues : length q ≡ queueWords * names → (m : ℕ) → m < names → queueFits (queuesAfter x q) m ≡ true

@@ -11,8 +11,8 @@ use Rattle.base_words.specs.Words.{at}
 use Rattle.base_words.specs.Writes.{writes}
 use Rattle.base_words.specs.Counts.{messages}
 use Rattle.base_words.proofs.WritesLaws.{length-writes, writes-in, writes-below, writes-above}
-use Rattle.base_state.specs.Places.{instanceWords, madePlace, instancePlace, storeWords, versionIn, sharedPlace, queueWords, queuePlace}
-use Rattle.base_state.specs.Instances.{madeCount}
+use Rattle.base_state.specs.Places.{instanceWords, madePlace, instancePlace, storeWords, sharedPlace, versionAt, queueWords, queuePlace}
+use Rattle.base_state.specs.Instances.{madeCount, versionOf}
 use Rattle.meaning.specs.declared.Name.{Name}
 use Rattle.meaning.specs.Messages.{appended, without}
 use Rattle.meaning.specs.Queues.{messageCount, messagesOf}
@@ -88,8 +88,8 @@ module _ (t s : List ℕ) (n : Name) where
   own-made = stored-made (at after) (λ k. at after (instanceWords + k)) s ownPlace instanceWords sharedPlace storeWords (poolNamed t n) (madeAfter (siteOf t s n))
 
   -- the version is as it was
-  pub same-version : poolNamed t n < sharedPlace → ownPlace + instanceWords ≤ sharedPlace → at (instancesAfter t s n) (sharedPlace + versionIn) ≡ at s (sharedPlace + versionIn)
-  same-version l o = untouched (sharedPlace + versionIn) (inr (omega arith)) (inr (omega arith)) (λ e. omega arith)
+  pub same-version : poolNamed t n < sharedPlace → ownPlace + instanceWords ≤ sharedPlace → versionOf (instancesAfter t s n) ≡ versionOf s
+  same-version l o = untouched versionAt (inr (omega arith)) (inr (omega arith)) (λ e. omega arith)
 
 module _ (x : Site) (q : List ℕ) (m : ℕ) (other : m ≡ messageNamed x → ⊥) where
   -- another queue: its words, and its messages

@@ -15,7 +15,7 @@ use Rattle.base_words.specs.Counts.{pools, names, values, messages}
 use Rattle.base_words.proofs.AllLaws.{and-left, and-right, all-at}
 use Rattle.base_kinds.specs.Moves.{on}
 use Rattle.base_table.specs.Table.{kindIn, modeIn}
-use Rattle.base_state.specs.Places.{sharedWords, sharedPlace}
+use Rattle.base_state.specs.Places.{storeWords, sharedPlace}
 use Rattle.check_limits.specs.Limits.{zeros, tableFits}
 use Rattle.meaning.specs.declared.Name.{Name}
 use Rattle.meaning.specs.Messages.{has}
@@ -43,11 +43,11 @@ module _ (t s q : List ℕ) (h : stateFits t s q ≡ true) where
   pub state-instances : (p : ℕ) → p < pools → instancesFit t s p ≡ true
   state-instances = all-at (instancesFit t s) pools (and-left (all (instancesFit t s) pools) (sharedFits s) state-own)
 
-  pub state-shared : (k : ℕ) → k < sharedWords → at s (sharedPlace + k) ≡ 0
+  pub state-shared : (k : ℕ) → k < storeWords → at s (sharedPlace + k) ≡ 0
   unfolding sharedFits zeros
   state-shared k l =
       sym (getD-drop sharedPlace s k 0)
-      ∙ eqb-true _ 0 (all-at (λ k. eqb (at (drop sharedPlace s) k) 0) sharedWords (and-right (all (instancesFit t s) pools) (sharedFits s) state-own) k l)
+      ∙ eqb-true _ 0 (all-at (λ k. eqb (at (drop sharedPlace s) k) 0) storeWords (and-right (all (instancesFit t s) pools) (sharedFits s) state-own) k l)
 
 or-left : (a b : Bool) → a ≡ true → a || b ≡ true
 or-left a b e = rw e

@@ -17,7 +17,7 @@ use Rattle.proof_steps.proofs.Found.{Found}
 use Rattle.proof_steps.proofs.NoSaturation.{ExitsApart, no-saturation, active-raised, ready-raised}
 use Rattle.proof_steps.proofs.Traffic.{here}
 use Rattle.engine.specs.Engine.{valid, fitting, stepped}
-use Rattle.engine.proofs.CallLaws.{table-fits, state-fits}
+use Rattle.engine.proofs.CallLaws.{fitting-table, table-fits, state-fits}
 use Rattle.proof_valid.proofs.ExitsOnce.{exits-apart}
 use Rattle.proof_valid.proofs.NumberGiven.{stepped-number}
 
@@ -30,17 +30,17 @@ module _ (t z : List ℕ) (n : Name) (fits : fitting t z ≡ true) (accepted : s
 
   -- the number 0 says that nothing was refused
   pub none-refused : firstRefusal (refusals t s q n) ≡ 0
-  none-refused = sym (chosen (fitting t z) (firstRefusal (refusals t s q n)) 10 fits) ∙ sym (stepped-number t z n) ∙ accepted
+  none-refused = sym (chosen (fitting t z) (firstRefusal (refusals t s q n)) _ fits) ∙ sym (stepped-number t z n) ∙ accepted
 
   abbrev x : Site
   x = siteOf t s n
 
   -- the exits of its element differ
   pub named-apart : ExitsApart (elementNamed t n)
-  unfolding elementNamed fitting
+  unfolding elementNamed
   named-apart =
       let f : Found t s n = here t s q n (table-fits t z fits) none-refused in
-      exits-apart t (and-left (valid t) (stateFits t s q) fits) (poolNamed t n) (f .pool) (n .element) (f .element)
+      exits-apart t (fitting-table t z fits) (poolNamed t n) (f .pool) (n .element) (f .element)
 
   -- TOKENS
   pub never-saturates : (j : ℕ) → j < touched (moveNamed t n .puts) (exitCount (elementNamed t n))

@@ -17,7 +17,7 @@ use Rattle.meaning.specs.Refusals.{firstRefusal}
 use Rattle.meaning.specs.Post.{Posted, postRefusals, post}
 use Rattle.meaning.specs.Step.{Outcome, Site, siteOf, receives, sends, messageNamed, template, sent, instancesAfter, queuesAfter, traffic, refusals, refused, step}
 use Rattle.proof_steps.proofs.Choices.{by-choice}
-use Rattle.engine.specs.Engine.{Left, fitting, Stepped, leaving, stepped, postedTo}
+use Rattle.engine.specs.Engine.{Left, lentNumber, fitting, Stepped, leaving, stepped, postedTo}
 
 -- an accepted step gives 0
 pub traffic-zero : (x : Site) → traffic x .number ≡ 0
@@ -47,25 +47,25 @@ post-number q name g =
     (λ e. sym (eqb-true (firstRefusal (postRefusals q name g)) 0 e))
     (λ e. refl)
 
--- THE NUMBER of a step and of a post: 10 where table or state are bad, else that of the first condition that does not hold, 0 where all hold
-pub stepped-number : (t z : List ℕ) (n : Name) → stepped t z n .answer .number ≡ (if fitting t z then firstRefusal (refusals t (instancesOf z) (queuesOf z) n) else 10)
+-- THE NUMBER of a step and of a post: 10 or 25 where table or state are bad, else that of the first condition that does not hold, 0 where all hold
+pub stepped-number : (t z : List ℕ) (n : Name) → stepped t z n .answer .number ≡ (if fitting t z then firstRefusal (refusals t (instancesOf z) (queuesOf z) n) else lentNumber t z)
 unfolding stepped leaving if_then_else_
 stepped-number t z n = go (fitting t z)
   where
     o : Bool → Stepped
-    o b = if b then leaving (step t (instancesOf z) (queuesOf z) n) else record { answer = record { number = 10; traffic = Nothing; name = 0; tuple = empty }; state = z }
+    o b = if b then leaving (step t (instancesOf z) (queuesOf z) n) else record { answer = record { number = lentNumber t z; traffic = Nothing; name = 0; tuple = empty }; state = z }
 
-    go : (b : Bool) → o b .answer .number ≡ (if b then firstRefusal (refusals t (instancesOf z) (queuesOf z) n) else 10)
+    go : (b : Bool) → o b .answer .number ≡ (if b then firstRefusal (refusals t (instancesOf z) (queuesOf z) n) else lentNumber t z)
     go true = step-number t (instancesOf z) (queuesOf z) n
     go false = refl
 
-pub posted-number : (t z : List ℕ) (name : ℕ) (g : Tuple) → postedTo t z name g .number ≡ (if fitting t z then firstRefusal (postRefusals (queuesOf z) name g) else 10)
+pub posted-number : (t z : List ℕ) (name : ℕ) (g : Tuple) → postedTo t z name g .number ≡ (if fitting t z then firstRefusal (postRefusals (queuesOf z) name g) else lentNumber t z)
 unfolding postedTo if_then_else_
 posted-number t z name g = go (fitting t z)
   where
     o : Bool → Left
-    o b = if b then record { number = post (queuesOf z) name g .number; state = instancesOf z ++ post (queuesOf z) name g .queues } else record { number = 10; state = z }
+    o b = if b then record { number = post (queuesOf z) name g .number; state = instancesOf z ++ post (queuesOf z) name g .queues } else record { number = lentNumber t z; state = z }
 
-    go : (b : Bool) → o b .number ≡ (if b then firstRefusal (postRefusals (queuesOf z) name g) else 10)
+    go : (b : Bool) → o b .number ≡ (if b then firstRefusal (postRefusals (queuesOf z) name g) else lentNumber t z)
     go true = post-number (queuesOf z) name g
     go false = refl

@@ -1,10 +1,13 @@
-// Reads a model's text from standard input, runs it and writes a line for each step.
+// Reads a model's text from standard input, runs it from its fresh state and writes a line for each step. The version is its first argument, 20 where it has none.
 use base_state::places::STATE_WORDS;
 use base_table::places::TABLE_WORDS;
 use base_words::Word;
 use base_words::counts::TEXT_MOST;
+use base_words::numbers::ACCEPTED;
 use libc::STDIN_FILENO;
 use step_run::Steps;
+use text_read::Reading;
+use tool_print::asked_version;
 use tool_print::tell_run;
 use tool_print::tell_unread;
 
@@ -20,7 +23,14 @@ fn run(text: &[u8], t: &mut [Word; TABLE_WORDS], z: &mut [Word; STATE_WORDS]) {
         tell_unread(r);
         return;
     }
-    engine::fresh(t, z);
+    let number = engine::fresh(t, asked_version(), z);
+    if number != ACCEPTED {
+        tell_unread(Reading {
+            number: number,
+            beside: 0,
+        });
+        return;
+    }
     tell_run(t, z, STEPS);
 }
 

@@ -9,8 +9,8 @@ ghost use Rattle.base_state.specs.Instances.{instancesOf, queuesOf};
 ghost use Rattle.state_fits.specs.Fits.{instancesFit, sharedFits, queueFits, stateFits};
 use base_state::places::INSTANCES_WORDS;
 use base_state::places::SHARED;
-use base_state::places::SHARED_WORDS;
 use base_state::places::STATE_WORDS;
+use base_state::places::STORE_WORDS;
 use base_words::Word;
 use base_words::counts::NAMES;
 use base_words::counts::POOLS;
@@ -40,7 +40,7 @@ fn all_instances_fit(t: &[Word], s: &[Word]) -> bool
 fn shared_fits(s: &[Word]) -> bool
     ensures { λ r. ⌜ r ≡ sharedFits (now (s .entry)) ⌝ }
 {
-    zero_words(tail(s, SHARED), SHARED_WORDS)
+    zero_words(tail(s, SHARED), STORE_WORDS)
 }
 
 fn queues_fit(q: &[Word]) -> bool

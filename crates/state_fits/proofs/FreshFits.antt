@@ -5,8 +5,8 @@ use mathlib.Core.Bool.{Bool, true, false, not, _&&_}
 use mathlib.Core.List.{List}
 use native.Mathlib.Omega.{arith}
 use lib.Dec.{eqb, leb}
-use lib.ListN.{drop}
-use lib.Seq.{getD-drop, getD-take, drop-drop}
+use lib.ListN.{drop, length, length-set}
+use lib.Seq.{getD-drop, getD-take, getD-set-same, getD-set-other, drop-drop}
 use borrow.Author.Tests.{eqb-true, eqb-false, leb-true, eq-eqb, ne-eqb, le-leb, lt-leb}
 use Rattle.base_words.specs.All.{all}
 use Rattle.base_words.specs.Pick.{if_then_else_}
@@ -20,13 +20,13 @@ use Rattle.base_kinds.specs.Kinds.{kindOf, start}
 use Rattle.base_table.specs.Places.{entriesPlace, exitsPlace, elementWords, poolPlace, limitPlace, elementPlace}
 use Rattle.base_table.specs.Table.{poolCount, elementCount, elementAt, limitOf, kindIn, entryAt}
 use Rattle.base_state.specs.Instances.{instancesOf, queuesOf, instanceAt}
-use Rattle.base_state.specs.Places.{definedPlace, valuePlace, instanceWords, instancePlace, sharedWords, sharedPlace, instancesWords, slotWords, slotPlace, queuePlace}
+use Rattle.base_state.specs.Places.{definedPlace, valuePlace, instanceWords, instancePlace, storeWords, sharedPlace, versionAt, instancesWords, stateWords, slotWords, slotPlace, queuePlace}
 use Rattle.check_limits.specs.Limits.{within, zeros, things, countFits as edgeCountFits, edgeFits, edgesFit, taskFits, conditionsFit, messagesFit, partsFit, elementFits, poolFits, tableFits}
 use Rattle.step_queues.proofs.SlotLaws.{by-below}
 use Rattle.state_fits.specs.Fits.{startPlace, hasStart, madeFits, usable, placeFits, fieldFits, instanceFits, instancesFit, slotFits, sharedFits, queueFits, stateFits}
 use Rattle.state_fits.specs.Fresh.{firstEdge, fresh}
 use Rattle.state_fits.proofs.PartLaws.{Firsts, parted, shared}
-use Rattle.state_fits.proofs.FreshLaws.{Holds, Startable, firstPlace, pools-blank, pools-begun, pools-behind}
+use Rattle.state_fits.proofs.FreshLaws.{Holds, Startable, Pools, firstPlace, pools-long, pools-blank, pools-begun, pools-behind}
 use Rattle.state_fits.proofs.UsableLaws.{start-in, start-kind, first-usable}
 
 zeros-of : (x : List ℕ) (n : ℕ) → ((k : ℕ) → k < n → at x k ≡ 0) → zeros x n ≡ true
@@ -108,48 +108,65 @@ queue-blank q m h =
     (and-true (leb 0 messages) (all (slotFits q m) 0) refl (all-none (slotFits q m)))
     (zeros-of (drop (slotPlace m 0) q) (slotWords * (messages - 0)) (λ k l. getD-drop (slotPlace m 0) q k 0 ∙ h (slotPlace m 0 + k)))
 
--- THE FRESH STATE of a table with at most 4 pools, and the first edge of each start from 1 to 48
-module _ (t : List ℕ) (ask : Startable t) where
-  held : (z : List ℕ) (p c : ℕ) (f : ℕ → ℕ) → p < pools → Holds z p c f → Holds (instancesOf z) p c f
-  held z p c f l h =
-      (getD-take instancesWords z p 0 (omega arith) ∙ h .0, (λ k r. getD-take instancesWords z (instancePlace p 0 + k) 0 (omega arith) ∙ h .1 k r))
-
-  pool-fresh : (p : ℕ) → p < pools → instancesFit t (instancesOf (fresh t)) p ≡ true
+-- THE FRESH STATE, for version v, of a table with at most 4 pools, and the first edge of each start from 1 to 48
+module _ (t : List ℕ) (v : ℕ) (ask : Startable t) where
+  -- its words but the version are those of the pools begun
+  pub fresh-word : (j : ℕ) → (j ≡ versionAt → ⊥) → at (fresh t v) j ≡ at (Pools t ask (poolCount t)) j
   unfolding fresh
+  fresh-word j other = getD-set-other (Pools t ask (poolCount t)) versionAt j v 0 other
+
+  pub fresh-version : at (fresh t v) versionAt ≡ v
+  unfolding fresh
+  fresh-version = getD-set-same (Pools t ask (poolCount t)) versionAt v 0 (omega (arith, pools-long t ask (poolCount t)))
+
+  pub fresh-long : length (fresh t v) ≡ stateWords
+  unfolding fresh
+  fresh-long = length-set (Pools t ask (poolCount t)) versionAt v ∙ pools-long t ask (poolCount t)
+
+  held : (p c : ℕ) (f : ℕ → ℕ) → p < pools → Holds (Pools t ask (poolCount t)) p c f → Holds (instancesOf (fresh t v)) p c f
+  held p c f l h = (
+    getD-take instancesWords (fresh t v) p 0 (omega arith) ∙ fresh-word p (λ e. omega arith) ∙ h .0,
+    (λ k r. getD-take instancesWords (fresh t v) (instancePlace p 0 + k) 0 (omega arith) ∙ fresh-word (instancePlace p 0 + k) (λ e. omega arith) ∙ h .1 k r),
+  )
+
+  pool-fresh : (p : ℕ) → p < pools → instancesFit t (instancesOf (fresh t v)) p ≡ true
   pool-fresh p l =
       by-below p (poolCount t) (λ r. go r (hasStart t p) refl)
       (λ r.
-      blank-fits t (instancesOf (fresh t)) p (held (fresh t) p 0 (λ k. 0) l (pools-blank t ask (poolCount t) p (omega arith) l (λ m. absurd (omega arith))))
+      blank-fits t (instancesOf (fresh t v)) p (held p 0 (λ k. 0) l (pools-blank t ask (poolCount t) p (omega arith) l (λ m. absurd (omega arith))))
       (made-behind t p r))
     where
-      go : p < poolCount t → (b : Bool) → hasStart t p ≡ b → instancesFit t (instancesOf (fresh t)) p ≡ true
+      go : p < poolCount t → (b : Bool) → hasStart t p ≡ b → instancesFit t (instancesOf (fresh t v)) p ≡ true
       go r true e =
           let d = ask .first p r e in
-          begun-fits t (instancesOf (fresh t)) p (firstPlace t p) (omega (arith, d .0, d .1)) (first-usable t p e (d .1))
-          (held (fresh t) p 1 (λ k. hit k (firstPlace t p)) l (pools-begun t ask (poolCount t) p (omega arith) r e)) (made-one t p r e)
+          begun-fits t (instancesOf (fresh t v)) p (firstPlace t p) (omega (arith, d .0, d .1)) (first-usable t p e (d .1))
+          (held p 1 (λ k. hit k (firstPlace t p)) l (pools-begun t ask (poolCount t) p (omega arith) r e)) (made-one t p r e)
       go r false e =
-          blank-fits t (instancesOf (fresh t)) p (held (fresh t) p 0 (λ k. 0) l (pools-blank t ask (poolCount t) p (omega arith) l (λ m. e)))
+          blank-fits t (instancesOf (fresh t v)) p (held p 0 (λ k. 0) l (pools-blank t ask (poolCount t) p (omega arith) l (λ m. e)))
           (made-none t p r e)
 
-  queue-fresh : (j : ℕ) → at (queuesOf (fresh t)) j ≡ 0
-  unfolding fresh
-  queue-fresh j = getD-drop instancesWords (fresh t) j 0 ∙ pools-behind t ask (poolCount t) (instancesWords + j) (omega arith) (omega arith)
+  pub queue-fresh : (j : ℕ) → at (queuesOf (fresh t v)) j ≡ 0
+  queue-fresh j =
+      getD-drop instancesWords (fresh t v) j 0
+      ∙ fresh-word (instancesWords + j) (λ e. omega arith)
+      ∙ pools-behind t ask (poolCount t) (instancesWords + j) (omega arith) (omega arith)
 
-  shared-fresh : sharedFits (instancesOf (fresh t)) ≡ true
-  unfolding fresh sharedFits
+  shared-fresh : sharedFits (instancesOf (fresh t v)) ≡ true
+  unfolding sharedFits
   shared-fresh =
-      zeros-of (drop sharedPlace (instancesOf (fresh t))) sharedWords
+      zeros-of (drop sharedPlace (instancesOf (fresh t v))) storeWords
       (λ k l.
-      getD-drop sharedPlace (instancesOf (fresh t)) k 0
-      ∙ getD-take instancesWords (fresh t) (sharedPlace + k) 0 (omega arith)
+      getD-drop sharedPlace (instancesOf (fresh t v)) k 0
+      ∙ getD-take instancesWords (fresh t v) (sharedPlace + k) 0 (omega arith)
+      ∙ fresh-word (sharedPlace + k) (λ e. omega arith)
       ∙ pools-behind t ask (poolCount t) (sharedPlace + k) (omega arith) (omega arith))
 
-  pub startable-fits : stateFits t (instancesOf (fresh t)) (queuesOf (fresh t)) ≡ true
+  pub startable-fits : stateFits t (instancesOf (fresh t v)) (queuesOf (fresh t v)) ≡ true
   unfolding stateFits
   startable-fits =
-      and-true (all (instancesFit t (instancesOf (fresh t))) pools && sharedFits (instancesOf (fresh t))) (all (queueFits (queuesOf (fresh t))) names)
-      (and-true (all (instancesFit t (instancesOf (fresh t))) pools) (sharedFits (instancesOf (fresh t))) (all-of (instancesFit t (instancesOf (fresh t))) pools pool-fresh) shared-fresh)
-      (all-of (queueFits (queuesOf (fresh t))) names (λ m l. queue-blank (queuesOf (fresh t)) m queue-fresh))
+      and-true (all (instancesFit t (instancesOf (fresh t v))) pools && sharedFits (instancesOf (fresh t v))) (all (queueFits (queuesOf (fresh t v))) names)
+      (and-true (all (instancesFit t (instancesOf (fresh t v))) pools) (sharedFits (instancesOf (fresh t v))) (all-of (instancesFit t (instancesOf (fresh t v))) pools pool-fresh) shared-fresh)
+      (all-of (queueFits (queuesOf (fresh t v))) names (λ m l. queue-blank (queuesOf (fresh t v)) m queue-fresh))
 
 -- A TABLE WITHIN THE LIMITS is such a table. An element of kind start has one entry, and that is an edge
 module _ (x : List ℕ) (fit : edgesFit 1 x ≡ true) where
@@ -234,5 +251,5 @@ module _ (t : List ℕ) (fit : tableFits t ≡ true) where
   }
 
   -- THE FRESH STATE OF A TABLE WITHIN THE LIMITS FITS
-  pub fresh-fits : stateFits t (instancesOf (fresh t)) (queuesOf (fresh t)) ≡ true
-  fresh-fits = startable-fits t startable
+  pub fresh-fits : (v : ℕ) → stateFits t (instancesOf (fresh t v)) (queuesOf (fresh t v)) ≡ true
+  fresh-fits v = startable-fits t v startable

@@ -96,7 +96,7 @@ module _ (t : List ℕ) (ask : Startable t) where
   abbrev pub Pools : ℕ → List ℕ
   Pools n = iter (begun t) (replicate stateWords 0) n
 
-  pools-long : (n : ℕ) → length (Pools n) ≡ stateWords
+  pub pools-long : (n : ℕ) → length (Pools n) ≡ stateWords
   pools-long n =
       iter-keeps (begun t) (replicate stateWords 0) (λ z. length z ≡ stateWords) n (λ k z l e. begun-length t k z ∙ e) (length-replicate {A = ℕ} stateWords 0)
 

@@ -15,7 +15,7 @@ use Rattle.base_words.specs.Counts.{pools, names, instances, fields, values, me
 use Rattle.base_kinds.specs.Kinds.{start, kindOf}
 use Rattle.base_kinds.specs.Moves.{a}
 use Rattle.base_table.specs.Table.{poolCount, elementCount, elementAt, limitOf, kindIn, taskIn, modeIn, entryCount, exitCount, entryAt, exitAt}
-use Rattle.base_state.specs.Places.{tokenPlace, activePlace, readyPlace, definedPlace, valuePlace, instanceWords, sharedWords, sharedPlace, slotWords, slotPlace}
+use Rattle.base_state.specs.Places.{tokenPlace, activePlace, readyPlace, definedPlace, valuePlace, instanceWords, storeWords, sharedPlace, slotWords, slotPlace}
 use Rattle.base_state.specs.Instances.{madeCount, instanceAt}
 use Rattle.check_limits.specs.Limits.{zeros}
 use Rattle.meaning.specs.Tuples.{valueOf}
@@ -73,9 +73,9 @@ instancesFit t s p =
     && all (λ i. instanceFits (usable t p) (instanceAt s p i)) (madeCount s p)
     && zeros (instanceAt s p (madeCount s p)) (instanceWords * (instances - madeCount s p))
 
--- what all instances share: nothing yet
+-- what all instances share: the stores, not in use yet; the version is not looked at here (25)
 unfoldable pub sharedFits : List ℕ → Bool
-sharedFits s = zeros (drop sharedPlace s) sharedWords
+sharedFits s = zeros (drop sharedPlace s) storeWords
 
 -- A QUEUE: at most 64 messages, each of at most 4 values, 0 behind them and behind the last
 unfoldable pub slotFits : List ℕ → ℕ → ℕ → Bool

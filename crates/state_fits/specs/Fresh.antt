@@ -1,11 +1,12 @@
--- "Fresh state: empty queues; a pool with `start` has instance 0, with one token on start's first edge; a pool with `startRcv` has none."
+-- "Fresh state: empty queues; a pool with `start` has instance 0, with one token on start's first edge; a pool with `startRcv` has none." "A fresh state is
+-- made for version 10 or 20 and keeps it."
 use Prim.Native.Nat.{ℕ, _+_}
 use mathlib.Core.List.{List}
 use lib.ListN.{set, replicate}
 use Rattle.base_words.specs.Iter.{iter}
 use Rattle.base_words.specs.Pick.{if_then_else_}
 use Rattle.base_table.specs.Table.{poolCount, elementAt, entryAt}
-use Rattle.base_state.specs.Places.{tokenPlace, madePlace, instancePlace, stateWords}
+use Rattle.base_state.specs.Places.{tokenPlace, madePlace, instancePlace, versionAt, stateWords}
 use Rattle.state_fits.specs.Fits.{startPlace, hasStart}
 
 -- the first edge of the pool's start
@@ -16,5 +17,6 @@ firstEdge t p = entryAt (elementAt t p (startPlace t p)) 0
 unfoldable pub begun : List ℕ → ℕ → List ℕ → List ℕ
 begun t p z = if hasStart t p then set (set z (madePlace p) 1) (instancePlace p 0 + tokenPlace (firstEdge t p)) 1 else z
 
-unfoldable pub fresh : List ℕ → List ℕ
-fresh t = iter (begun t) (replicate stateWords 0) (poolCount t)
+-- the fresh state for version v
+unfoldable pub fresh : List ℕ → ℕ → List ℕ
+fresh t v = set (iter (begun t) (replicate stateWords 0) (poolCount t)) versionAt v

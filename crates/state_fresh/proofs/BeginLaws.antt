@@ -7,7 +7,7 @@ use lib.ListN.{length, set, replicate}
 use Rattle.base_words.specs.Iter.{iter}
 use Rattle.base_words.proofs.PickLaws.{flag-yes, flag-no, pick-yes, pick-no}
 use Rattle.base_table.specs.Table.{poolCount}
-use Rattle.base_state.specs.Places.{madePlace, instancePlace, stateWords}
+use Rattle.base_state.specs.Places.{madePlace, instancePlace, versionAt, stateWords}
 use Rattle.state_fits.specs.Fits.{hasStart}
 use Rattle.state_fits.specs.Fresh.{firstEdge, begun, fresh}
 
@@ -21,7 +21,7 @@ module _ (t : List ℕ) (p : ℕ) (z : List ℕ) (b : Bool) (is : b ≡ hasStart
   unfolding begun
   begin-yes h e d v u first less one k two place = pick-yes _ u _ z (flag-yes b (hasStart t p) is h) (two ∙ rw (one, place, less, first))
 
--- A STATE BEGUN: all words 0, then the pools
-pub begin-all : (t z v u : List ℕ) → v ≡ replicate (length z) 0 → u ≡ iter (begun t) v (poolCount t) → length z ≡ stateWords → u ≡ fresh t
+-- A STATE BEGUN: all words 0, then the pools, then its version
+pub begin-all : (t z u w y : List ℕ) (v : ℕ) → u ≡ replicate (length z) 0 → w ≡ iter (begun t) u (poolCount t) → y ≡ set w versionAt v → length z ≡ stateWords → y ≡ fresh t v
 unfolding fresh
-begin-all t z v u e h l = h ∙ ap (λ x. iter (begun t) x (poolCount t)) (e ∙ ap (λ n. replicate n 0) l)
+begin-all t z u w y v e h f l = f ∙ ap (λ x. set x versionAt v) (h ∙ ap (λ x. iter (begun t) x (poolCount t)) (e ∙ ap (λ n. replicate n 0) l))

@@ -7,6 +7,7 @@ ghost use Rattle.state_fits.specs.Fresh.{firstEdge, begun, fresh};
 use base_state::places::FIRST_INSTANCE;
 use base_state::places::POOL_INSTANCES;
 use base_state::places::STATE_WORDS;
+use base_state::places::VERSION;
 use base_table::edge_at;
 use base_table::element_at;
 use base_table::places::ENTRIES;
@@ -48,10 +49,11 @@ fn begin_pools(t: &[Word], z: &mut [Word])
     }
 }
 
-// Makes the state fresh, whatever it was.
-pub fn begin(t: &[Word], z: &mut [Word; STATE_WORDS])
-    ensures { λ _. ⌜ now (z .exit) ≡ fresh (now (t .entry)) ⌝ }
+// Makes the state fresh for version v, whatever it was.
+pub fn begin(t: &[Word], v: Word, z: &mut [Word; STATE_WORDS])
+    ensures { λ _. ⌜ now (z .exit) ≡ fresh (now (t .entry)) v ⌝ }
 {
     clear(z);
     begin_pools(t, z);
+    put(z, VERSION, v);
 }

@@ -30,12 +30,6 @@ lt-with p r a e h = lt-ltb p a (omega arith)
 pub le-with : (p r a : ℕ) → r ≡ a → r ≤ p → ltb p a ≡ false
 le-with p r a e h = le-ltb p a (omega arith)
 
-pub or-yes : (a b : Bool) → a ≡ true → true ≡ a || b
-or-yes a b e = rw e
-
-pub or-no : (a b : Bool) → a ≡ false → b ≡ a || b
-or-no a b e = rw e
-
 -- 15 and 17, as the code tests them
 pub present-by : (q : List ℕ) (m : ℕ) (g : Tuple) (r n : ℕ) → r ≡ oldest q m g → n ≡ messageCount q m → ltb r n ≡ has g (messagesOf q m)
 present-by q m g r n e f = rw (e, f) (present-is q m g)

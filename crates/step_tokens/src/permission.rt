@@ -1,7 +1,7 @@
 // Whether tokens and counts permit a move (12), and whether there is room for what it puts and raises (18).
 ghost use mathlib.Core.Path.{_≡_};
 ghost use Rattle.base_words.specs.All.{all};
-ghost use Rattle.meaning.specs.Requirements.{first, touched, hasTokens, canLower, isAlone, countsPermit, hasRooms, canRaise, roomy};
+ghost use Rattle.meaning.specs.Requirements.{first, touched, hasTokens, canLower, waits, isAlone, countsPermit, hasRooms, canRaise, roomy};
 ghost use Rattle.step_tokens.specs.Edges.{allows};
 use super::edge_from;
 use super::first_edge;
@@ -14,6 +14,8 @@ use base_kinds::moves::UP;
 use base_state::active_count;
 use base_state::ready_count;
 use base_state::tokens_on;
+use base_state::versions::FORMER;
+use base_state::versions::version_seen;
 use base_table::entry_count;
 use base_table::exit_count;
 use base_table::mode_in;
@@ -66,11 +68,21 @@ fn can_lower(cell: Word, n: Word) -> bool
     true
 }
 
+// Under the former version every na task waits.
+fn must_wait(el: &[Word], h: &[Word]) -> bool
+    ensures { λ r. ⌜ r ≡ waits (now (el .entry)) (now (h .entry)) ⌝ }
+{
+    if mode_in(el) == NA_NC {
+        return true;
+    }
+    version_seen(h) == FORMER
+}
+
 fn is_alone(el: &[Word], h: &[Word], m: Move) -> bool
     ensures { λ r. ⌜ r ≡ isAlone (now (el .entry)) (now (h .entry)) m ⌝ }
 {
     if m.alone == ON {
-        if mode_in(el) == NA_NC {
+        if must_wait(el, h) {
             let task = task_in(el);
             let active = active_count(h, task);
             let ready = ready_count(h, task);

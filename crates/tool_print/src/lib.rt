@@ -6,14 +6,15 @@ ghost use Rattle.write_buffer.specs.Buffers.{Put, lesser};
 ghost use Rattle.write_decimals.specs.Decimals.{shown};
 ghost use Rattle.write_lines.specs.Lines.{unreadLine};
 ghost use Rattle.engine.specs.Engine.{RanTo, ranTo};
-ghost use Prim.Native.Nat.{_+_};
-ghost use Rattle.tool_print.specs.Judged.{besideLine, unlawfulLine, judgedLine, judgedMost};
+ghost use Prim.Native.Nat.{_+_, _≤_};
+ghost use Rattle.tool_print.specs.Judged.{besideLine, hasBeside, unlawfulLine, judgedLine, judgedMost};
 use base_state::places::STATE_WORDS;
+use base_state::versions::PRESENT;
 use base_table::places::TABLE_WORDS;
 use base_words::DIGITS;
 use base_words::Word;
 use base_words::numbers::AT_FAULT;
-use base_words::numbers::BAD;
+use base_words::numbers::NOT_A_LOG;
 use engine::Ran;
 use libc::STDOUT_FILENO;
 use log_judge::Judged;
@@ -21,6 +22,8 @@ use meaning::Answer;
 use meaning::Name;
 use step_run::Steps;
 use text_lexer::piece;
+use text_numerals::Number;
+use text_numerals::number_of;
 use text_read::Reading;
 use write_buffer::put_byte;
 use write_buffer::put_bytes;
@@ -28,6 +31,26 @@ use write_decimals::put_number;
 use write_lines::STEP_LINE;
 use write_lines::UNREAD_LINE;
 use write_lines::put_beside;
+
+fn version_in(n: Number) -> Word {
+    match n {
+        Number::Value(v) => v,
+        Number::TooLarge => 0,
+        Number::NotANumber => 0,
+    }
+}
+
+// The version that the first argument names: 20 where there is none, 0, which is none, where it is no number.
+pub fn asked_version() -> Word
+    ensures { λ r. ⌜ r ≤ greatest ⌝ }
+{
+    let mut out = [0u8; DIGITS];
+    let n = os::arg(1, &mut out);
+    if n == 0 {
+        return PRESENT;
+    }
+    version_in(number_of(piece(&out, 0, n)))
+}
 
 // Says a text; gives back its length.
 pub fn tell(text: &[u8]) -> usize
@@ -70,13 +93,23 @@ fn put_next(out: &mut [u8], from: usize, told: bool, n: usize) -> usize
     put_beside(out, blank, n)
 }
 
-// 10 has nothing beside it, 23 its place, 24 the event's ordinal and its own number.
+fn has_beside(number: Word) -> bool
+    ensures { λ r. ⌜ r ≡ hasBeside number ⌝ }
+{
+    if number == NOT_A_LOG {
+        return true;
+    }
+    number == AT_FAULT
+}
+
+// 10 and 25 have nothing beside them, 23 its place, 24 the event's ordinal and its own number.
 fn put_unlawful(out: &mut [u8], r: Judged) -> usize
     ensures { λ k. ⌜ Put (unlawfulLine (r .number) (lesser (r .beside) greatest) (lesser (r .own) greatest)) judgedMost 0 (now (out .entry)) k (now (out .exit)) ⌝ }
 {
+    let beside = has_beside(r.number);
     let word = put_bytes(out, 0, b"refused ");
     let told = put_number(out, word, r.number);
-    let place = put_next(out, told, r.number != BAD, r.beside);
+    let place = put_next(out, told, beside, r.beside);
     let all = put_next(out, place, r.number == AT_FAULT, r.own as usize);
     put_byte(out, all, b'\n')
 }

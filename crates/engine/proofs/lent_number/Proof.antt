@@ -13,9 +13,9 @@ returns-2 c = (lent-unfit _ _ (flag-no _ _ (c .before .state-fits .ensures .0) (
 
 returns-3 : tie.Need-returns-3
 returns-3 c = (
-  lent-right _ _ (flag-yes _ _ (c .before .before .before .before .is-valid .ensures) (c .before .before .before .if1 .left)) (flag-yes _ _ (c .before .state-fits .ensures .0) (c .if2 .left)),
-  λ e. c .before .state-fits .ensures .1,
+  lent-right _ _ (flag-yes _ _ (c .before .before .before .before .before .before .before .is-valid .ensures) (c .before .before .before .before .before .before .if1 .left)) (flag-yes _ _ (c .before .before .before .before .state-fits .ensures .0) (c .before .before .before .if2 .left)) _ _ (c .before .version-of .ensures) (c .version-number .ensures),
+  λ e. c .before .before .before .before .state-fits .ensures .1,
 )
 
 pub lent-number-spec : {M : Type 1} → statement M
-lent-number-spec = tie.close (tie.spec (λ c κs. search needs) returns (λ c κs. search needs) returns-2 returns-3)
+lent-number-spec = tie.close (tie.spec (λ c κs. search needs) returns (λ c κs. search needs) returns-2 (λ c κs. search needs) (λ c κs. search needs) returns-3)

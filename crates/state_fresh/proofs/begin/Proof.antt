@@ -11,4 +11,5 @@ begin-spec =
     (tie.spec
     (λ c κs. search L)
     (λ c κs. search L)
-    (λ c. begin-all _ (c .before .before .before .before .before .args .z .now) _ _ (c .before .before .clear .ensures) (c .begin-pools .ensures) (search L)))  -- returns
+    (λ c κs. search L)
+    (λ c. begin-all _ (c .before .before .before .before .before .before .before .args .z .now) _ _ _ _ (c .before .before .before .before .clear .ensures) (c .before .before .begin-pools .ensures) (c .put .ensures) (search L)))  -- returns

@@ -1,5 +1,6 @@
 use borrow.Author.Tests.{ne-eqb, eq-eqb}
-use Rattle.step_refusals.proofs.NumberLaws.{or-no, or-yes}
+use mathlib.Core.Path.{refl}
+use Rattle.base_words.proofs.PickLaws.{or-no, or-yes}
 use borrow.Author.Needs.{needs}
 use Rattle.step_refusals.proofs.numbers.receives_or.Statement.{statement}
 use Rattle.step_refusals.proofs.numbers.receives_or.Tie as tie
@@ -11,4 +12,4 @@ receives-or-spec =
     tie.close
     (tie.spec
     (λ c. or-yes _ _ (eq-eqb _ _ (c .if1 .taken)))  -- returns
-    (λ c. or-no _ _ (ne-eqb _ _ (c .if1 .left))))  -- returns-2
+    (λ c. or-no _ _ _ (ne-eqb _ _ (c .if1 .left)) refl))  -- returns-2

@@ -1,7 +1,7 @@
--- NO CALL ANSWERS 10 to a table that was read and a state that the engine made of it: by fresh, then by any steps, posts, runs and polls. Assumes nothing.
+-- NO CALL ANSWERS 10 OR 25 to a table that was read and a state that the engine made of it: by fresh for version 10 or 20, then by any steps, posts, runs and polls. Assumes nothing.
 use Prim.Native.Nat.{ℕ}
 use mathlib.Core.Path.{_≡_, refl, sym, _∙_, ap, subst}
-use mathlib.Core.Bool.{Bool, true, not, false≢true}
+use mathlib.Core.Bool.{Bool, true, not, _&&_, false≢true}
 use mathlib.Core.List.{List, [], _∷_}
 use native.Mathlib.Omega.{arith}
 use borrow.Author.Tests.{eqb-false}
@@ -10,6 +10,7 @@ use lib.ListN.{length}
 use Rattle.base_words.specs.Each.{each}
 use Rattle.base_words.specs.Pick.{if_then_else_}
 use Rattle.base_state.specs.Instances.{instancesOf, queuesOf}
+use Rattle.base_state.specs.Versions.{isVersion}
 use Rattle.meaning.specs.declared.Name.{Name}
 use Rattle.meaning.specs.declared.Tuple.{Tuple}
 use Rattle.meaning.specs.Post.{postRefusals}
@@ -20,26 +21,30 @@ use Rattle.proof_steps.proofs.Choices.{by-choice, chosen as picked}
 use Rattle.engine.specs.declared.Verdict.{Verdict}
 use Rattle.step_poll.specs.Items.{itemsMost, actsIn}
 use Rattle.step_poll.specs.Poll.{Polling, oneBefore, polledBy, polledFrom}
-use Rattle.engine.specs.Engine.{valid, fitting, lentNumber, stepped, postedTo, listedAt, ranTo, writtenTo}
+use Rattle.engine.specs.Engine.{valid, verdictOf, askedNumber, freshened, fitting, lentNumber, stepped, postedTo, listedAt, ranTo, writtenTo}
 use Rattle.engine.specs.Calls.{Act, aStep, aPost, did, Valid, polledTo, judgedTo}
+use Rattle.engine.proofs.CallLaws.{lent-zero, asked-good}
 use Rattle.engine.proofs.KeepsValid.{did-valid}
 use Rattle.proof_valid.proofs.KeepsFitting.{freshened-valid, run-valid}
-use Rattle.proof_demands.specs.Demands.{Made, afresh, byAct, byRun, byPoll, NeverTen, acceptedSteps}
-use Rattle.proof_demands.proofs.Numbers.{first-among}
+use Rattle.proof_demands.specs.Demands.{Made, afresh, byAct, byRun, byPoll, Right, NeverBad, acceptedSteps}
+use Rattle.proof_demands.proofs.Numbers.{first-among, fresh-number}
 use Rattle.proof_demands.proofs.StatesLeft.{step-number, post-number}
 use Rattle.proof_demands.proofs.ListAndRun.{list-number, run-number-is}
 use Rattle.proof_demands.proofs.PollSteps.{by-first, poll-valid}
-use Rattle.proof_demands.proofs.Polls.{lent-zero}
 use Rattle.proof_demands.proofs.Judgements.{judged-among}
 use Rattle.proof_demands.proofs.ReadAndWrite.{written-number}
-use Rattle.proof_demands.proofs.TextsAndTables.{read-valid, read-then-check, read-then-fresh}
+use Rattle.proof_demands.proofs.TextsAndTables.{read-valid, read-then-check}
 
--- a number that is not 10
+-- a number that is neither 10 nor 25
 abbrev Other : ℕ → Bool
-Other k = not (eqb k 10)
+Other k = not (eqb k 10) && not (eqb k 25)
 
-other : (k : ℕ) → Other k ≡ true → k ≡ 10 → ⊥
-other k h e = absurd (false≢true (subst (λ (k : ℕ). Other k ≡ true) e h))
+other : (k : ℕ) → Other k ≡ true → Right k
+other k h = ((λ e. absurd (false≢true (subst (λ (k : ℕ). Other k ≡ true) e h))), (λ e. absurd (false≢true (subst (λ (k : ℕ). Other k ≡ true) e h))))
+
+-- the number of a version that there is
+asked-other : (t : List ℕ) (v : ℕ) → valid t ≡ true → isVersion v ≡ true → Other (askedNumber t v) ≡ true
+asked-other t v h k = rw (asked-good t v h k)
 
 polled-valid : (t z : List ℕ) → Valid t z → (w : List ℕ) (count : ℕ) → Valid t (polledTo t z w count .state)
 unfolding polledTo polledFrom
@@ -51,7 +56,7 @@ polled-valid t z v w count =
 
 -- EVERY STATE THAT IS MADE IS VALID
 pub made-valid : (t : List ℕ) → valid t ≡ true → (z : List ℕ) → Made t z → Valid t z
-made-valid t v _ (afresh z) = freshened-valid t v z
+made-valid t v _ (afresh version known z) = freshened-valid t v version known z
 made-valid t v _ (byAct {z} a m) = did-valid t a z (made-valid t v z m)
 made-valid t v _ (byRun {z} limit m) = run-valid t z (made-valid t v z m) limit
 made-valid t v _ (byPoll {z} w count m) = polled-valid t z (made-valid t v z m) w count
@@ -62,24 +67,24 @@ act-other t (aStep n) z v = rw (step-number t z v n) (first-among Other (refusal
 act-other t (aPost name g) z v = rw (post-number t z v name g) (first-among Other (postRefusals (queuesOf z) name g) refl refl)
 
 module _ (t z : List ℕ) (v : Valid t z) where
-  step-other : (n : Name) → stepped t z n .answer .number ≡ 10 → ⊥
+  step-other : (n : Name) → Right (stepped t z n .answer .number)
   unfolding did
-  step-other n e = other (stepped t z n .answer .number) (act-other t (aStep n) z v) e
+  step-other n = other (stepped t z n .answer .number) (act-other t (aStep n) z v)
 
-  post-other : (name : ℕ) (g : Tuple) → postedTo t z name g .number ≡ 10 → ⊥
+  post-other : (name : ℕ) (g : Tuple) → Right (postedTo t z name g .number)
   unfolding did
-  post-other name g e = other (postedTo t z name g .number) (act-other t (aPost name g) z v) e
+  post-other name g = other (postedTo t z name g .number) (act-other t (aPost name g) z v)
 
-  list-other : (k : ℕ) → listedAt t z k .number ≡ 10 → ⊥
-  list-other k e =
+  list-other : (k : ℕ) → Right (listedAt t z k .number)
+  list-other k =
       other (listedAt t z k .number)
-      (rw (list-number t z v k) (by-choice (λ (j : ℕ). Other j ≡ true) (ltb k (acceptedSteps t z)) 0 6 (λ b. refl) (λ b. refl))) e
+      (rw (list-number t z v k) (by-choice (λ (j : ℕ). Other j ≡ true) (ltb k (acceptedSteps t z)) 0 6 (λ b. refl) (λ b. refl)))
 
-  run-other : (limit : ℕ) → ranTo t z limit .number ≡ 10 → ⊥
-  run-other limit e =
+  run-other : (limit : ℕ) → Right (ranTo t z limit .number)
+  run-other limit =
       let o = ranTo t z limit in
       let n = run-number-is t z limit (record { number = o .number; steps = o .steps; left = o .left }) (o .state) refl .0 in
-      absurd (omega (arith, sym e ∙ n ∙ picked (fitting t z) 0 10 (v .fits)))
+      other (o .number) (ap Other (n ∙ lent-zero t z (v .fits)))
 
 -- a later item neither: an accepted one leaves a valid state
 polled-other : (t : List ℕ) (acts : List Act) (z : List ℕ) → Valid t z → Other (polledBy (did t) acts z .number) ≡ true
@@ -90,40 +95,40 @@ polled-other t (a ∷ rest) z v =
     (λ e. polled-other t rest (did t a z .state) (did-valid t a z v))
     (λ e. act-other t a z v)
 
-poll-other : (t z : List ℕ) → Valid t z → (w : List ℕ) (count : ℕ) → polledTo t z w count .number ≡ 10 → ⊥
+poll-other : (t z : List ℕ) → Valid t z → (w : List ℕ) (count : ℕ) → Right (polledTo t z w count .number)
 unfolding polledTo polledFrom
-poll-other t z v w count e =
+poll-other t z v w count =
     other (polledTo t z w count .number)
     (by-choice (λ (p : Polling). Other (p .number) ≡ true) (ltb itemsMost count) (record { number = 22; accepted = 0; state = z }) _ (λ b. refl)
     (λ b.
     by-choice (λ (p : Polling). Other (p .number) ≡ true) (eqb (lentNumber t z) 0) (polledBy (did t) (actsIn w count) z)
     (record { number = lentNumber t z; accepted = 0; state = z })
     (λ b. polled-other t (actsIn w count) z v)
-    (λ b. absurd (eqb-false (lentNumber t z) 0 b (lent-zero t z (v .fits)))))) e
+    (λ b. absurd (eqb-false (lentNumber t z) 0 b (lent-zero t z (v .fits))))))
 
-judge-other : (t log : List ℕ) → valid t ≡ true → judgedTo t log .number ≡ 10 → ⊥
-judge-other t log v e = other (judgedTo t log .number) (judged-among t log Other refl refl refl v) e
+judge-other : (t : List ℕ) → valid t ≡ true → (v : ℕ) → isVersion v ≡ true → (log : List ℕ) → Right (judgedTo t v log .number)
+judge-other t h v k log = other (judgedTo t v log .number) (judged-among t v log Other refl refl refl (asked-good t v h k))
 
-write-other : (t out : List ℕ) → valid t ≡ true → writtenTo t out .number ≡ 10 → ⊥
-write-other t out v e =
+write-other : (t out : List ℕ) → valid t ≡ true → Right (writtenTo t out .number)
+write-other t out v =
     other (writtenTo t out .number)
     (rw (written-number t out ∙ picked (valid t) (if ltb (length out) (length (shownTable t)) then 5 else 0) 10 v)
-    (by-choice (λ (j : ℕ). Other j ≡ true) (ltb (length out) (length (shownTable t))) 5 0 (λ b. refl) (λ b. refl))) e
+    (by-choice (λ (j : ℕ). Other j ≡ true) (ltb (length out) (length (shownTable t))) 5 0 (λ b. refl) (λ b. refl)))
 
--- NO CALL ANSWERS 10
-pub never-ten : (text t₀ : List ℕ) → readInto text t₀ .number ≡ 0 → (z : List ℕ) → Made (readInto text t₀ .table) z → NeverTen (readInto text t₀ .table) z
-never-ten text t₀ n z m =
+-- NO CALL ANSWERS 10 OR 25
+pub never-bad : (text t₀ : List ℕ) → readInto text t₀ .number ≡ 0 → (z : List ℕ) → Made (readInto text t₀ .table) z → NeverBad (readInto text t₀ .table) z
+never-bad text t₀ n z m =
     let t : List ℕ = readInto text t₀ .table in
     let v : valid t ≡ true = read-valid text t₀ n .0 in
     let s : Valid t z = made-valid t v z m in
     record {
-      check = λ e. omega (arith, sym e ∙ ap (λ (o : Verdict). o .number) (read-then-check text t₀ n));
-      fresh = λ y e. omega (arith, sym e ∙ read-then-fresh text t₀ n y);
+      check = other (verdictOf t .number) (ap (λ (o : Verdict). Other (o .number)) (read-then-check text t₀ n));
+      fresh = λ version known y. other (freshened t version y .number) (ap Other (fresh-number t version y) ∙ asked-other t version v known);
       step = step-other t z s;
       post = post-other t z s;
       list = list-other t z s;
       run = run-other t z s;
       write = λ out. write-other t out v;
       poll = poll-other t z s;
-      judge = λ log. judge-other t log v;
+      judge = judge-other t v;
     }
