@@ -1,0 +1,5 @@
+pub mod Theorems
+pub mod Laws
+pub mod Elements
+pub mod Sites
+pub mod Steps
