@@ -46,20 +46,23 @@ extern "C" {
            + 61 + 22 b    message of branch b (a single one: branch 0): its name, 0 to 15; its length, 0 to 4; 4 items of 5 words:
                           1 an operand, 2 +, 3 -, 4 binds the field of its first operand; then two operands
            + 237          the count of assignments, 0 to 4; then 4 of 6 words: a field, and an expression as an item is
-   An operand is two words: 0 and a number, or 1 and a field, 0 to 15. */
+   An operand is two words: 0 and a number, or 1 and a field: 0 to 15 for d0 to d15, which are the instance's own, 16 to 31 for s0 to s15, the stores, which
+   all instances share. */
 #define CV_POOL(p) (1 + 8387 * (p))
 #define CV_ELEMENT(p, e) (CV_POOL(p) + 3 + 262 * (e))
 
-/* A STATE, word by word.
+/* A STATE, word by word. Stores are read at their places, by the route desk too.
    p                             how many instances pool p has made
    4 + 1792 p + 112 i            instance i of pool p:
        + e - 1                   tokens on edge e, at most 255
        + 48 + n - 1, 64 + n - 1  active and ready count of task n, at most 255
        + 80 + 2 d, 81 + 2 d      1 where field d is defined; its value
-   7172                          32 words not in use, so 0
+   7172 + 2 k, 7173 + 2 k        1 where store k is defined; its value
    7204                          the version it was made for, 10 or 20, which it keeps
    7205 + 321 m                  how many messages queue m holds, at most 64; then for each, oldest first, its length and 4 values
    A state that was saved when there were no versions has 12,308 words, and no call takes it; examples/c/carry.c has the ten lines that carry it over. */
+#define CV_STORES 7172
+#define CV_STORE(k) (7172 + 2 * (k))
 #define CV_VERSION 7204
 #define CV_INSTANCE(p, i) (4 + 1792 * (p) + 112 * (i))
 #define CV_QUEUE(m) (7205 + 321 * (m))

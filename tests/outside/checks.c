@@ -20,7 +20,7 @@ const struct kind kinds[KINDS] = {
     {"taskSnd", "ENSX", 7, ONE, ONE, 1, ONE, 0, ONE},
 };
 
-static bool operand_fits(const word *x) { return x[0] == 0 || (x[0] == 1 && x[1] < FIELDS); }
+static bool operand_fits(const word *x) { return x[0] == 0 || (x[0] == 1 && x[1] < ALL_FIELDS); }
 
 static bool expression_fits(const word *x) {
     if (x[0] == SINGLE) return operand_fits(x + LEFT) && all_zero(x + RIGHT, 2);
@@ -29,7 +29,7 @@ static bool expression_fits(const word *x) {
 
 static bool item_fits(const word *x, bool receives) {
     if (x[0] != BIND) return expression_fits(x);
-    return receives && x[LEFT] == 1 && x[LEFT + 1] < FIELDS && all_zero(x + RIGHT, 2);
+    return receives && x[LEFT] == 1 && x[LEFT + 1] < ALL_FIELDS && all_zero(x + RIGHT, 2);
 }
 
 static bool condition_fits(const word *x, bool many) {
@@ -69,7 +69,7 @@ static bool element_fits(const word *el) {
     if (!all_zero(message_at(el, n), MESSAGE_WORDS * (BRANCHES - n))) return false;
     n = el[ASSIGNED];
     for (unsigned j = 0; j < n; j++)
-        if (assignment_at(el, j)[0] >= FIELDS || !expression_fits(assignment_at(el, j) + 1)) return false;
+        if (assignment_at(el, j)[0] >= ALL_FIELDS || !expression_fits(assignment_at(el, j) + 1)) return false;
     return all_zero(assignment_at(el, n), ASSIGNMENT_WORDS * (ASSIGNMENTS - n));
 }
 
@@ -110,7 +110,7 @@ static void sum_up(const word *pool, struct summary *s) {
         unsigned n = used(k->receives, el[EXITS]);
         for (unsigned b = 0; b < n; b++) {
             const word *m = message_at(el, b);
-            uint16_t bound = 0;
+            uint32_t bound = 0;
             s->received |= 1u << m[0];
             for (unsigned j = 0; j < m[1]; j++) {
                 const word *x = item_at(m, j);
@@ -183,15 +183,17 @@ static void mark_usable(const word *pool, word *most) {
     }
 }
 
+/* flags and values side by side: an undefined one's value is 0 */
+static bool pairs_fit(const word *x, unsigned n) {
+    word over = 0;
+    for (const word *end = x + 2 * n; x < end; x += 2) over |= (x[0] & (word)~1u) | (x[0] ? 0 : x[1]);
+    return over == 0;
+}
+
 static bool instance_fits(const word *h, const word *most) {
     word over = 0;
     for (unsigned k = 0; k < DEFINED; k++) over |= h[k] & (word)~most[k];
-    for (unsigned d = 0; d < FIELDS; d++) {
-        word defined = h[defined_at(d)];
-        over |= defined & (word)~1u;
-        over |= h[value_at(d)] & (defined ? 0 : GREATEST);
-    }
-    return over == 0;
+    return over == 0 && pairs_fit(h + DEFINED, FIELDS);
 }
 
 static bool has_start(const word *pool) {
@@ -227,7 +229,7 @@ bool fitting(const word *t, const word *z) {
     if (!valid(t)) return false;
     for (unsigned p = 0; p < POOLS; p++)
         if (!instances_fit(t, z, p)) return false;
-    if (!all_zero(z + SHARED, VERSION - SHARED)) return false;
+    if (!pairs_fit(z + SHARED, STORES)) return false;
     for (unsigned m = 0; m < NAMES; m++)
         if (!queue_fits(z + QUEUES + QUEUE_WORDS * m)) return false;
     return true;

@@ -271,7 +271,7 @@ static void damage_both(struct random *r, bool table) {
         if (table && anywhere) damage(r, ours.table, theirs.table, REF_TABLE_WORDS, 0);
         else if (table) damage(r, ours.table, theirs.table, ELEMENT_WORDS, element_at(pool_at(ours.table, p), e) - ours.table);
         else if (chance(r, 15)) ours.state[VERSION] = theirs.state[VERSION] = some_version(r);
-        else if (chance(r, 10)) damage(r, ours.state, theirs.state, SHARED_WORDS, SHARED);
+        else if (chance(r, 25)) damage(r, ours.state, theirs.state, 2 * STORES, SHARED);
         else if (anywhere) damage(r, ours.state, theirs.state, REF_STATE_WORDS, 0);
         else damage(r, ours.state, theirs.state, INSTANCE_WORDS, instance_at(ours.state, p, i) - ours.state);
     }
@@ -294,6 +294,8 @@ static void fill_up(struct random *r) {
             for (unsigned d = 0; d < 4; d++)
                 if (chance(r, 50)) h[defined_at(d)] = 1, h[value_at(d)] = chance(r, 90) ? draw(r, 4) : some_end(r);
         }
+    for (unsigned k = 0; k < STORES; k++)
+        if (chance(r, k < 4 ? 50 : 20)) ours.state[SHARED + 2 * k] = 1, ours.state[SHARED + 2 * k + 1] = chance(r, 90) ? draw(r, 4) : some_end(r);
     for (unsigned m = 0; m < NAMES; m++) {
         if (!chance(r, 30)) continue;
         word *q = queue_at(ours.state, m);

@@ -96,6 +96,16 @@ static void print_pairs(const word *flags, const word *values, unsigned stride, 
     if (!any) putchar('-');
 }
 
+/* where one is defined */
+static void print_stores(void) {
+    bool any = false;
+    for (unsigned k = 0; k < STORES; k++) any |= state[SHARED + 2 * k] != 0;
+    if (!any) return;
+    fputs("stores ", stdout);
+    print_pairs(state + SHARED, state + SHARED + 1, 2, STORES, 0);
+    putchar('\n');
+}
+
 static unsigned at_most(word n, unsigned most) { return n < most ? n : most; }
 
 /* what doesn't fit is told as far as the layout goes */
@@ -114,6 +124,7 @@ static void do_state(void) {
             print_pairs(h + defined_at(0), h + value_at(0), 2, FIELDS, 0);
             putchar('\n');
         }
+    print_stores();
     for (unsigned m = 0; m < NAMES; m++) {
         const word *q = queue_at(state, m);
         if (!q[0]) continue;

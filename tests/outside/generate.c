@@ -29,7 +29,7 @@ struct draft {
     char *o;
     unsigned pool, pools, elements;
     unsigned open[EDGES], opens, wanted[EDGES], wants;
-    unsigned free[EDGES], frees, task;
+    unsigned free[EDGES], frees, task, stores; /* stores: how many of a hundred fields are */
 };
 
 static void print(struct draft *d, const char *s) { d->o += sprintf(d->o, "%s", s); }
@@ -51,18 +51,21 @@ static unsigned exit_edge(struct draft *d) {
 
 static word some_value(struct draft *d) { return chance(d->r, 8) ? some_end(d->r) : draw(d->r, 4); }
 
-static unsigned some_field(struct draft *d) { return chance(d->r, 5) ? draw(d->r, FIELDS) : draw(d->r, 4); }
+/* mostly one of few; a store now and then */
+static unsigned some_field(struct draft *d) { return (chance(d->r, 5) ? draw(d->r, FIELDS) : draw(d->r, 4)) + (chance(d->r, d->stores) ? FIELDS : 0); }
+
+static void print_field(struct draft *d, unsigned f) { print(d, f < FIELDS ? "d" : "s"), print_number(d, f % FIELDS); }
 
 static void operand(struct draft *d) {
     if (chance(d->r, 50)) print_number(d, some_value(d));
-    else print(d, "d"), print_number(d, some_field(d));
+    else print_field(d, some_field(d));
 }
 
 /* sums and differences at the ends */
 static void sum(struct draft *d) {
     static const char *const sums[] = {"4294967295+0", "4294967295+1", "1+4294967295", "4294967294+1", "2147483648+2147483648", "4294967295+4294967295", "65535+1", "65535+65535",
                                        "65536-1", "0-1", "65536-65537", "4294967295-4294967295", "4294967294-4294967295", "d0+4294967295", "d1+65535", "d0+65536",
-                                       "d1-65536", "65536-d0", "4294967295-d1", "d2+4294967294"};
+                                       "d1-65536", "65536-d0", "4294967295-d1", "d2+4294967294", "s0+4294967295", "s1-65536", "4294967295-s0", "s0+s1", "s1-d1", "d0-s0"};
     print(d, sums[draw(d->r, sizeof sums / sizeof *sums)]);
 }
 
@@ -104,10 +107,10 @@ static void message(struct draft *d, bool receives) {
         unsigned f = some_field(d);
         if (j) print(d, ",");
         /* a long template binds most of its items, so that messages meet it */
-        while (n > 2 && bound >> f & 1) f = (f + 1) % FIELDS;
+        while (n > 2 && bound >> f & 1) f = (f + 1) % ALL_FIELDS;
         if (receives && chance(d->r, n > 2 ? 85 : 60) && !(bound >> f & 1)) {
             bound |= 1u << f;
-            print(d, "?d"), print_number(d, f);
+            print(d, "?"), print_field(d, f);
         } else expression(d);
     }
     print(d, ">");
@@ -125,7 +128,7 @@ static void task(struct draft *d, unsigned e) {
     print_number(d, e), print(d, ","), print_number(d, ++d->task), print(d, modes[draw(d->r, 3)]);
     condition(d);
     print(d, ",{");
-    for (unsigned j = 0; j < n; j++) print(d, j ? ",d" : "d"), print_number(d, some_field(d)), print(d, ":="), expression(d);
+    for (unsigned j = 0; j < n; j++) print(d, j ? "," : ""), print_field(d, some_field(d)), print(d, ":="), expression(d);
     print(d, "},");
     if (which) message(d, which == 1), print(d, ",");
     print_number(d, exit_edge(d));
@@ -244,6 +247,7 @@ size_t model_text(struct random *r, char *text) {
     unsigned numbers[9], left = 9;
     for (unsigned k = 0; k < 9; k++) numbers[k] = k + 1;
     d.pools = 1 + draw(r, 4);
+    d.stores = chance(r, 30) ? 0 : chance(r, 80) ? 30 : 70;
     if (d.pools == 4 || d.pools == 3) d.pools = chance(r, 50) ? d.pools : 2;
     for (d.pool = 0; d.pool < d.pools; d.pool++) {
         bool many = chance(r, 50);
@@ -261,7 +265,7 @@ size_t model_text(struct random *r, char *text) {
 
 size_t spoiled_text(struct random *r, char *text, size_t n) {
     static const char *const pieces[] = {"0", "d16", "d01", "49", "65536", "65535", "4294967294", "4294967295", "4294967296", "4294967297", "42949672950", "18446744073709551616",
-                                         "18446744073709551617", "d4294967295", "d4294967296", "d65536", "65537", "04294967295", "default", "true", ",", ")", "(", "}", "{", "|", "?", "<", ">", ":", ":=", "=", "+", "-", " ",
+                                         "18446744073709551617", "d4294967295", "d4294967296", "d65536", "65537", "04294967295", "s0", "s15", "s16", "s01", "s", "S1", "s65536", "s4294967296", "s00", "?s1", "s1:=1", "d1s1", "sd1", "default", "true", ",", ")", "(", "}", "{", "|", "?", "<", ">", ":", ":=", "=", "+", "-", " ",
                                          "\t", "\n", "\r", "start", "startRcv", "pool", "miPool", "na_c", "a", "end(1)", "17", "16", "99999999999999999999", "_", "1"};
     for (unsigned k = 1 + draw(r, 3); k && n; k--) {
         size_t at = draw(r, n), end = at;

@@ -8,14 +8,16 @@
 
 typedef ref_word word;
 
-enum { POOLS = 4, ELEMENTS = 32, BRANCHES = 8, FEWEST = 2, EDGES = 48, TASKS = 16, NAMES = 16, INSTANCES = 16, FIELDS = 16, VALUES = 4, ASSIGNMENTS = 4,
+enum { POOLS = 4, ELEMENTS = 32, BRANCHES = 8, FEWEST = 2, EDGES = 48, TASKS = 16, NAMES = 16, INSTANCES = 16, FIELDS = 16, STORES = 16, VALUES = 4, ASSIGNMENTS = 4,
        MESSAGES = 64, COUNT_MOST = 255 };
 
 /* the greatest value, and the greatest number that is none: of a step, of a run's limit */
 #define GREATEST 4294967295u
 #define NUMBER_MOST 65535u
 
-/* An expression, item or condition: form, then two operands of two words each: 0 and a number, or 1 and a field. */
+/* An expression, item or condition: form, then two operands of two words each: 0 and a number, or 1 and a field. A field is 0 to 15, d0 to d15, or 16 to 31,
+   s0 to s15: the stores, which all instances share. */
+enum { ALL_FIELDS = FIELDS + STORES };
 enum { EXPRESSION_WORDS = 5, LEFT = 1, RIGHT = 3 };
 enum { SINGLE = 1, PLUS = 2, MINUS = 3, BIND = 4 };
 enum { ALWAYS = 1, DEFAULT = 2, EQUALS = 3, BELOW = 4 };
@@ -27,7 +29,7 @@ enum { KIND = 0, TASK_NUMBER = 1, MODE = 2, ENTRIES = 3, EXITS = 12, CONDITIONS 
 /* A pool's words, behind the table's pool count. */
 enum { POOL_LIMIT = 1, POOL_COUNT = 2, POOL_ELEMENTS = 3, POOL_WORDS = 8387 };
 
-/* An instance's words; a state's. */
+/* An instance's words; a state's. The stores are the first of the shared words, a flag and a value each, and the version is the last. */
 enum { ACTIVE = 48, READY = 64, DEFINED = 80, INSTANCE_WORDS = 112, POOL_INSTANCES = INSTANCE_WORDS * INSTANCES, SHARED = 7172, SHARED_WORDS = 33, VERSION = 7204,
        QUEUES = SHARED + SHARED_WORDS, SLOT_WORDS = 5, QUEUE_WORDS = 321 };
 

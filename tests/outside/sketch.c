@@ -36,7 +36,7 @@ static int new_node(struct sketch *k, unsigned process, const char *tag) {
 }
 
 static int new_flow(struct sketch *k, int from, int to) {
-    static const char *const conditions[] = {"true", "d0=1", "d1<d2", " 7 < d15 ", "65535=0", "65536=0", "d0=4294967295", "4294967294<4294967295", "d3\t=\nd4", "0<1", "", " \n ", "true ", "d10=d11"};
+    static const char *const conditions[] = {"true", "d0=1", "d1<d2", " 7 < d15 ", "65535=0", "65536=0", "d0=4294967295", "4294967294<4294967295", "d3\t=\nd4", "0<1", "", " \n ", "true ", "d10=d11", "s0=1", "s15<d15", "d0=s0", " s3\t=\ns4"};
     struct node *a = &k->nodes[from];
     int f = k->flow_count++;
     k->flows[f] = (struct flow){.from = from, .to = to, .process = a->process};
@@ -303,9 +303,9 @@ static struct flow *some_flow(struct sketch *k, bool guarded) {
 }
 
 static int spoil_conditions(struct sketch *k, unsigned which) {
-    static const char *const outside[] = {"d16=1", "1=d99", "4294967296<d0", "d0=4294967297", "d0<42949672950", "18446744073709551616=d0", "d65536=1", "d4294967296=0", "d256=d16"};
+    static const char *const outside[] = {"d16=1", "1=d99", "4294967296<d0", "d0=4294967297", "d0<42949672950", "18446744073709551616=d0", "d65536=1", "d4294967296=0", "d256=d16", "s16=1", "d0<s16", "s65536=s0"};
     static const char *const no_condition[] = {"d0", "d0>1", "1+1=2", "d01=1", "00=1", "default=1", "tru", "True", "d0==1", "d0=1 d1", "1<2<3", "d=1", "\x01" "d0=1",
-                                                "d0=1\x80", "?d0=1"};
+                                                "d0=1\x80", "?d0=1", "s=1", "s01=1", "S0=1", "s0", "s0:=1", "?s0=1"};
     struct flow *f = some_flow(k, which < 3 || which == 5);
     if (!f) return 0;
     struct node *a = &k->nodes[f->from];

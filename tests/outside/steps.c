@@ -50,12 +50,20 @@ static unsigned branch_count(const word *el, const struct move *m) {
 typedef int64_t value;
 enum { UNDEFINED = -1 };
 
-static value operand(const word *x, const word *h) {
-    if (x[0] == 0) return x[1];
-    return h[defined_at(x[1])] ? (value)h[value_at(x[1])] : UNDEFINED;
+/* What a step sees: its instance's words, and the stores. */
+struct sight { const word *h, *stores; };
+
+static const word *cell(struct sight now, unsigned field) {
+    return field < FIELDS ? now.h + defined_at(field) : now.stores + 2 * (field - FIELDS);
 }
 
-static value expression(const word *x, const word *h) {
+static value operand(const word *x, struct sight now) {
+    if (x[0] == 0) return x[1];
+    const word *c = cell(now, x[1]);
+    return c[0] ? (value)c[1] : UNDEFINED;
+}
+
+static value expression(const word *x, struct sight h) {
     value a = operand(x + LEFT, h);
     if (x[0] == SINGLE || a < 0) return a;
     value b = operand(x + RIGHT, h);
@@ -66,7 +74,7 @@ static value expression(const word *x, const word *h) {
 
 enum truth { IS_FALSE, IS_TRUE, NEITHER };
 
-static enum truth condition(const word *x, const word *h) {
+static enum truth condition(const word *x, struct sight h) {
     if (x[0] == ALWAYS) return IS_TRUE;
     if (x[0] == DEFAULT) return NEITHER;
     value a = operand(x + LEFT, h), b = operand(x + RIGHT, h);
@@ -75,7 +83,7 @@ static enum truth condition(const word *x, const word *h) {
 }
 
 /* The first true one, nothing undefined before it; the default where all others are false. */
-static bool condition_holds(const word *el, const word *h, unsigned b) {
+static bool condition_holds(const word *el, struct sight h, unsigned b) {
     bool fallback = condition_at(el, b)[0] == DEFAULT;
     for (unsigned j = 0; j < (fallback ? el[EXITS] : b); j++)
         if (condition_at(el, j)[0] != DEFAULT && condition(condition_at(el, j), h) != IS_FALSE) return false;
@@ -90,7 +98,7 @@ static bool same_tuple(const ref_tuple *a, const ref_tuple *b) {
 }
 
 /* A template or message worked out; where it binds, the given value stands. */
-static bool work_out(const word *message, const word *h, const ref_tuple *given, ref_tuple *out) {
+static bool work_out(const word *message, struct sight h, const ref_tuple *given, ref_tuple *out) {
     bool defined = true;
     memset(out, 0, sizeof *out);
     out->length = message[1];
@@ -101,18 +109,6 @@ static bool work_out(const word *message, const word *h, const ref_tuple *given,
         else out->values[j] = v;
     }
     return defined;
-}
-
-static void set_field(word *h, unsigned d, word v) { h[defined_at(d)] = 1, h[value_at(d)] = v; }
-
-static bool assign(const word *el, word *h) {
-    for (unsigned j = 0; j < el[ASSIGNED]; j++) {
-        const word *x = assignment_at(el, j);
-        value v = expression(x + 1, h);
-        if (v < 0) return false;
-        set_field(h, x[0], v);
-    }
-    return true;
 }
 
 /* an na_nc task may not begin while an instance of it is active or ready; under version 10 no na task may */
@@ -153,12 +149,29 @@ static void remove_message(word *q, word *slot) {
     memset(last, 0, SLOT_WORDS * sizeof(word));
 }
 
-/* What is worked out before anything is written. */
+/* What is worked out before anything is written: the instance and the stores as they will be. */
 struct plan {
-    word h[INSTANCE_WORDS];
+    word h[INSTANCE_WORDS], stores[2 * STORES];
     ref_tuple message;
     word *queue, *slot;
 };
+
+static struct sight planned(const struct plan *plan) { return (struct sight){plan->h, plan->stores}; }
+
+static void set_field(struct plan *plan, unsigned field, word v) {
+    word *c = (word *)cell(planned(plan), field);
+    c[0] = 1, c[1] = v;
+}
+
+static bool assign(const word *el, struct plan *plan) {
+    for (unsigned j = 0; j < el[ASSIGNED]; j++) {
+        const word *x = assignment_at(el, j);
+        value v = expression(x + 1, planned(plan));
+        if (v < 0) return false;
+        set_field(plan, x[0], v);
+    }
+    return true;
+}
 
 static bool puts_fit(const word *el, const word *h, const struct move *m, unsigned b) {
     if (m->puts == BRANCH) {
@@ -193,22 +206,24 @@ static unsigned decide(const word *el, const word *h, word *z, const struct move
                        struct plan *plan) {
     static const word unmade[INSTANCE_WORDS];
     if (m->makes) h = unmade;
+    struct sight now = {h, z + SHARED};
     const word *message = message_at(el, b);
     if (!counts_permit(el, h, m, b, z[VERSION])) return 12;
-    if (m->asks && !condition_holds(el, h, b)) return 13;
+    if (m->asks && !condition_holds(el, now, b)) return 13;
     memset(&plan->message, 0, sizeof plan->message);
-    if (m->receives && !work_out(message, h, g, &plan->message)) return 13;
-    memcpy(plan->h, h, sizeof plan->h);
+    if (m->receives && !work_out(message, now, g, &plan->message)) return 13;
+    memcpy(plan->h, now.h, sizeof plan->h);
+    memcpy(plan->stores, now.stores, sizeof plan->stores);
     plan->queue = queue_at(z, message[0]);
     if (!m->receives) {
-        if (m->assigns && !assign(el, plan->h)) return 13;
-        if (m->sends && !work_out(message, plan->h, g, &plan->message)) return 13;
+        if (m->assigns && !assign(el, plan)) return 13;
+        if (m->sends && !work_out(message, planned(plan), g, &plan->message)) return 13;
         if (g->length) return 14;
     } else {
         if (!same_tuple(&plan->message, g)) return 14;
         for (unsigned j = 0; j < message[1]; j++)
-            if (item_at(message, j)[0] == BIND) set_field(plan->h, item_at(message, j)[LEFT + 1], g->values[j]);
-        if (m->assigns && !assign(el, plan->h)) return 13;
+            if (item_at(message, j)[0] == BIND) set_field(plan, item_at(message, j)[LEFT + 1], g->values[j]);
+        if (m->assigns && !assign(el, plan)) return 13;
         plan->slot = find_message(plan->queue, g);
         if (!plan->slot) return 15;
         if (m->makes && made >= limit) return 16;
@@ -240,6 +255,7 @@ static ref_answer step_on(const word *t, word *z, const ref_name *n, bool take) 
     if (a.number || !take) return a;
     finish(el, plan.h, m, n->branch);
     memcpy(instance_at(z, p, n->instance), plan.h, sizeof plan.h);
+    memcpy(z + SHARED, plan.stores, sizeof plan.stores);
     if (m->makes) z[p]++;
     if (m->receives) remove_message(plan.queue, plan.slot), a.traffic = 1;
     if (m->sends) append(plan.queue, &plan.message), a.traffic = 2;
@@ -293,7 +309,8 @@ static bool offer_messages(struct search *s, const word *el, const word *h, cons
     static const word unmade[INSTANCE_WORDS];
     const word *message = message_at(el, s->name.branch), *q = queue_at(s->z, message[0]);
     ref_tuple worked_out;
-    if (!q[0] || !work_out(message, m->makes ? unmade : h, &s->name.given, &worked_out)) return false;
+    struct sight now = {m->makes ? unmade : h, s->z + SHARED};
+    if (!q[0] || !work_out(message, now, &s->name.given, &worked_out)) return false;
     for (unsigned k = 0; k < q[0]; k++) {
         const word *slot = q + 1 + SLOT_WORDS * k;
         if (!takes(message, &worked_out, slot)) continue;

@@ -82,12 +82,18 @@ static bool ranged(struct reader *r, int64_t v, int64_t least, int64_t most, wor
 
 static bool number(struct reader *r, int64_t least, int64_t most, word *out) { return ranged(r, numeral(r, r->at), least, most, out); }
 
-static bool at_d(const struct reader *r) { return r->form == WORD && r->s[r->at] == 'd'; }
+/* a letter of a field: `d` of the instance's own, `s` of a store */
+static bool at_letter(const struct reader *r) { return r->form == WORD && (r->s[r->at] == 'd' || r->s[r->at] == 's'); }
 
-static bool field(struct reader *r, word *out) { return ranged(r, at_d(r) ? numeral(r, r->at + 1) : -1, 0, FIELDS - 1, out); }
+static bool field(struct reader *r, word *out) {
+    unsigned first = r->form == WORD && r->s[r->at] == 's' ? FIELDS : 0;
+    if (!ranged(r, at_letter(r) ? numeral(r, r->at + 1) : -1, 0, FIELDS - 1, out)) return false;
+    *out += first;
+    return true;
+}
 
 static bool operand(struct reader *r, word *x) {
-    x[0] = at_d(r);
+    x[0] = at_letter(r);
     return x[0] ? field(r, x + 1) : number(r, 0, GREATEST, x + 1);
 }
 
@@ -144,7 +150,7 @@ static bool item(struct reader *r, word *el, enum item which, unsigned b, unsign
 }
 
 static bool starts(const struct reader *r, enum item which) {
-    bool is_number = numeral(r, r->at) >= 0, is_field = at_d(r) && numeral(r, r->at + 1) >= 0;
+    bool is_number = numeral(r, r->at) >= 0, is_field = at_letter(r) && numeral(r, r->at + 1) >= 0;
     switch (which) {
     case AN_ENTRY:
     case AN_EXIT: return is_number;
@@ -277,10 +283,12 @@ static uint8_t *put_number(uint8_t *o, word v) {
     return o;
 }
 
-static uint8_t *put_operand(uint8_t *o, const word *x) {
-    if (x[0]) *o++ = 'd';
-    return put_number(o, x[1]);
+static uint8_t *put_field(uint8_t *o, word field) {
+    *o++ = field < FIELDS ? 'd' : 's';
+    return put_number(o, field % FIELDS);
 }
+
+static uint8_t *put_operand(uint8_t *o, const word *x) { return x[0] ? put_field(o, x[1]) : put_number(o, x[1]); }
 
 static uint8_t *put_pair(uint8_t *o, const word *x, char sign) {
     o = put_operand(o, x + LEFT);
@@ -343,8 +351,8 @@ static uint8_t *put_task(uint8_t *o, const word *el) {
     o = put_text(o, ",{");
     for (unsigned j = 0; j < el[ASSIGNED]; j++) {
         const word *x = assignment_at(el, j);
-        o = put_text(o, j ? ",d" : "d");
-        o = put_number(o, x[0]);
+        if (j) *o++ = ',';
+        o = put_field(o, x[0]);
         o = put_text(o, ":=");
         o = put_item(o, x + 1);
     }

@@ -1,6 +1,6 @@
 -- Where things stand in a state, one block of words: the instances, what they share, then the queues. Each place is defined here and nowhere else.
 use Prim.Native.Nat.{ℕ, _+_, _-_, _*_}
-use Rattle.base_words.specs.Counts.{pools, edges, tasks, names, instances, fields, values, messages}
+use Rattle.base_words.specs.Counts.{pools, edges, tasks, names, instances, fields, stores, values, messages}
 
 -- An instance: tokens of edges 1 to 48; active counts of tasks 1 to 16; ready counts; for fields 0 to 15 whether they are defined; their values.
 abbrev pub tokenPlace : ℕ → ℕ
@@ -30,7 +30,7 @@ instancePlace p i = pools + instanceWords * instances * p + instanceWords * i
 
 -- What all instances share stands behind them: 16 stores, each as a field has it, then the version.
 abbrev pub storeWords : ℕ
-storeWords = 2 * fields
+storeWords = 2 * stores
 
 abbrev pub versionIn : ℕ
 versionIn = storeWords

@@ -5,6 +5,7 @@ use base_words::counts::INSTANCES;
 use base_words::counts::MESSAGES;
 use base_words::counts::NAMES;
 use base_words::counts::POOLS;
+use base_words::counts::STORES;
 use base_words::counts::TASKS;
 use base_words::counts::VALUES;
 
@@ -27,7 +28,7 @@ pub const POOL_INSTANCES: usize = INSTANCE_WORDS * INSTANCES as usize;
 // What all instances share: the stores, each as a field has it, then the version.
 pub const SHARED: usize = FIRST_INSTANCE + POOL_INSTANCES * POOLS as usize;
 
-pub const STORE_WORDS: usize = 2 * FIELDS as usize;
+pub const STORE_WORDS: usize = 2 * STORES as usize;
 
 pub const SHARED_WORDS: usize = STORE_WORDS + 1;
 

@@ -1,5 +1,5 @@
 -- "Greatest counts" of document 01, each once. Whatever is counted from 0 has its count here: names 0 to 15 are 16.
-use Prim.Native.Nat.{ℕ}
+use Prim.Native.Nat.{ℕ, _+_}
 
 -- bytes of a text
 abbrev pub textMost : ℕ
@@ -44,6 +44,14 @@ instances = 16
 -- fields of an instance, from 0
 abbrev pub fields : ℕ
 fields = 16
+
+-- stores of a collaboration, from 0
+abbrev pub stores : ℕ
+stores = 16
+
+-- fields that a table may name: an instance's own, then the stores
+abbrev pub named : ℕ
+named = fields + stores
 
 -- values of a message
 abbrev pub values : ℕ

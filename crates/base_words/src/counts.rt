@@ -23,6 +23,10 @@ pub const INSTANCES: Word = 16;
 
 pub const FIELDS: Word = 16;
 
+pub const STORES: Word = 16;
+
+pub const NAMED: Word = FIELDS + STORES;
+
 pub const VALUES: Word = 4;
 
 pub const ASSIGNMENTS: Word = 4;

@@ -8,4 +8,4 @@ use Rattle.check_limits.specs.Points.{points, AllHold}
 
 pub points-hold : AllHold points
 unfolding all if_then_else_ kindOf used zeros things operandFits expressionFits bindFits itemFits conditionFits messageFits assignmentFits countFits edgeFits edgesFit taskFits conditionsFit messagesFit assignmentsFit partsFit elementFits poolFits tableFits
-points-hold = (refl, (refl, (refl, (refl, (refl, (refl, (refl, (refl, (refl, (refl, (refl, (refl, (refl, (refl, (refl, (refl, (refl, (refl, (refl, (refl, tt))))))))))))))))))))
+points-hold = (refl, (refl, (refl, (refl, (refl, (refl, (refl, (refl, (refl, (refl, (refl, (refl, (refl, (refl, (refl, (refl, (refl, (refl, (refl, (refl, (refl, tt)))))))))))))))))))))

@@ -68,7 +68,8 @@ points =
     "a guard `default`" fails elementFits (guarded 3 default) ∷
     "interRcv(1,15:<?d15,7>,2)" holds elementFits (speaking kinds.interRcv 15 15) ∷
     "a name 16" fails elementFits (speaking kinds.interRcv 16 15) ∷
-    "a field 16" fails elementFits (speaking kinds.interRcv 15 16) ∷
+    "a field 31, the last store" holds elementFits (speaking kinds.interRcv 15 31) ∷
+    "a field 32" fails elementFits (speaking kinds.interRcv 15 32) ∷
     "a bind that is sent" fails elementFits (speaking kinds.interSnd 15 15) ∷
     "an edge behind the last" fails elementFits (set (passing kinds.start 2) (edgePlace exitsPlace 1) 3) ∷
     "an item behind the last" fails elementFits (set (speaking kinds.interRcv 15 15) (itemPlace 0 2) single) ∷

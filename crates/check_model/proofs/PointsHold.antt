@@ -12,4 +12,4 @@ use Rattle.check_model.specs.Points.{points, AllHold}
 
 pub points-hold : AllHold points
 unfolding all total each sum if_then_else_ kindOf used entryCount exitCount conditionCount receivedCount sentCount ofKind asExit asEntry asFirst asTask asReceived asSent isDefault defaults defaultOnce bindsField timesBound templateOnce boundOnce check1 check2 check3 edgeRight check4 check5 poolReceives poolSends notSentThere check6 check7 check8 lowest
-points-hold = (refl, (refl, (refl, (refl, (refl, (refl, (refl, (refl, (refl, (refl, (refl, (refl, (refl, (refl, (refl, (refl, (refl, (refl, (refl, (refl, (refl, (refl, (refl, (refl, (refl, (refl, tt))))))))))))))))))))))))))
+points-hold = (refl, (refl, (refl, (refl, (refl, (refl, (refl, (refl, (refl, (refl, (refl, (refl, (refl, (refl, (refl, (refl, (refl, (refl, (refl, (refl, (refl, (refl, (refl, (refl, (refl, (refl, (refl, (refl, tt))))))))))))))))))))))))))))

@@ -80,7 +80,7 @@ oneDefault = 7
 unfoldable pub check7 : Pool → Bool
 check7 p = each defaultOnce (p .elements)
 
--- 8. No field is bound twice in one template.
+-- 8. No field, of an instance or a store, is bound twice in one template.
 abbrev pub bindsDiffer : ℕ
 bindsDiffer = 8
 

@@ -35,12 +35,12 @@ ends e = with (passing end e 0)
 abbrev ends-sending : ℕ → List ℕ
 ends-sending e = with (passing endSnd e 0 ++ named 0 3 0)
 
--- startRcv(m:<?d1>,f); startRcv(m:<?d1,x>,f), x with field d: `?d` or `d`
+-- startRcv(m:<?d1>,f); startRcv(3:<?c,x>,f), x with field d: `?d` or `d`; a store is a field from 16 on
 abbrev receives : ℕ → ℕ → List ℕ
 receives m f = with (passing startRcv 0 f ++ (named 0 m 1 ++ item 0 0 binding 1))
 
-abbrev receives-two : ℕ → ℕ → ℕ → List ℕ
-receives-two form d f = with (passing startRcv 0 f ++ (named 0 3 2 ++ (item 0 0 binding 1 ++ item 0 1 form d)))
+abbrev receives-two : ℕ → ℕ → ℕ → ℕ → List ℕ
+receives-two c form d f = with (passing startRcv 0 f ++ (named 0 3 2 ++ (item 0 0 binding c ++ item 0 1 form d)))
 
 -- eventBased(e,(3:<?d1>,f),(4:<?d1>,g))
 abbrev awaits : ℕ → ℕ → ℕ → List ℕ
@@ -112,10 +112,12 @@ points =
     point "a name received twice in one pool" 0 (pool 1 (receives 3 1 ∷ awaits 1 2 3 ∷ ends 2 ∷ ends 3 ∷ []) ∷ []) ∷
     point "xorSplit(2,{(3,default),(4,default)})" 7 (pool 1 (starts 1 2 ∷ chooses 2 3 4 default ∷ ends 3 ∷ ends 4 ∷ []) ∷ []) ∷
     point "a default in each of two" 0 (pool 1 (starts 1 2 ∷ chooses 2 3 4 always ∷ ends 3 ∷ chooses 4 5 6 always ∷ ends 5 ∷ ends 6 ∷ []) ∷ []) ∷
-    point "startRcv(3:<?d1,?d1>,1)" 8 (pool 1 (receives-two binding 1 1 ∷ ends 1 ∷ []) ∷ []) ∷
-    point "startRcv(3:<?d1,d1>,1)" 0 (pool 1 (receives-two single 1 1 ∷ ends 1 ∷ []) ∷ []) ∷
+    point "startRcv(3:<?d1,?d1>,1)" 8 (pool 1 (receives-two 1 binding 1 1 ∷ ends 1 ∷ []) ∷ []) ∷
+    point "startRcv(3:<?d1,d1>,1)" 0 (pool 1 (receives-two 1 single 1 1 ∷ ends 1 ∷ []) ∷ []) ∷
+    point "startRcv(3:<?s1,?s1>,1)" 8 (pool 1 (receives-two 17 binding 17 1 ∷ ends 1 ∷ []) ∷ []) ∷
+    point "startRcv(3:<?d1,?s1>,1)" 0 (pool 1 (receives-two 1 binding 17 1 ∷ ends 1 ∷ []) ∷ []) ∷
     point "two branches bind the same field" 0 (pool 1 (starts 1 2 ∷ awaits 2 3 4 ∷ ends 3 ∷ ends 4 ∷ []) ∷ []) ∷
-    point "8 in the first pool, 4 in the second" 4 (pool 1 (receives-two binding 1 1 ∷ ends 1 ∷ []) ∷ pool 2 (starts 1 2 ∷ ends 3 ∷ []) ∷ []) ∷
+    point "8 in the first pool, 4 in the second" 4 (pool 1 (receives-two 1 binding 1 1 ∷ ends 1 ∷ []) ∷ pool 2 (starts 1 2 ∷ ends 3 ∷ []) ∷ []) ∷
     point "3 in the first pool, 2 in the second" 2 (miPool 1 (starts 1 2 ∷ ends 2 ∷ []) ∷ pool 2 (works 1 1 1 ∷ []) ∷ []) ∷ []
 
 -- that rows come out

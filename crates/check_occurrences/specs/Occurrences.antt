@@ -7,7 +7,7 @@ use Rattle.base_words.specs.All.{all}
 use Rattle.base_words.specs.Pick.{if_then_else_}
 use Rattle.base_words.specs.Sum.{sum, hit, oneIf}
 use Rattle.base_words.specs.Words.{at}
-use Rattle.base_words.specs.Counts.{fields}
+use Rattle.base_words.specs.Counts.{named}
 use Rattle.base_kinds.specs.declared.Kind.{Kind}
 use Rattle.base_kinds.specs.Kinds.{kindOf, used, start}
 use Rattle.base_table.specs.Places.{operandNumber, formPlace, leftPlace, binding, default}
@@ -69,13 +69,13 @@ unfoldable pub timesBound : List ℕ → ℕ → ℕ → ℕ
 timesBound el j d = sum (λ i. bindsField d (itemAt el j i)) (messageLength el j)
 
 unfoldable pub templateOnce : List ℕ → ℕ → Bool
-templateOnce el j = all (λ d. leb (timesBound el j d) 1) fields
+templateOnce el j = all (λ d. leb (timesBound el j d) 1) named
 
 -- item i of template j binds no field that an item before it binds
 unfoldable pub bindsAnew : List ℕ → ℕ → ℕ → Bool
 bindsAnew el j i =
     if eqb (at (itemAt el j i) formPlace) binding
-    then (if ltb (at (itemAt el j i) (leftPlace + operandNumber)) fields
+    then (if ltb (at (itemAt el j i) (leftPlace + operandNumber)) named
     then eqb (sum (λ k. bindsField (at (itemAt el j i) (leftPlace + operandNumber)) (itemAt el j k)) i) 0
     else true)
     else true

@@ -20,7 +20,7 @@ use base_table::places::FORM;
 use base_table::places::LEFT;
 use base_table::places::OPERAND_NUMBER;
 use base_words::Word;
-use base_words::counts::FIELDS;
+use base_words::counts::NAMED;
 use base_words::word;
 
 pub fn condition_count(el: &[Word]) -> Word
@@ -110,7 +110,7 @@ fn binds_anew(el: &[Word], j: Word, i: Word) -> bool
         return true;
     }
     let d = word(x, LEFT + OPERAND_NUMBER);
-    if FIELDS <= d {
+    if NAMED <= d {
         return true;
     }
     bound_below(el, j, d, i) == 0

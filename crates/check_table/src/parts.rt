@@ -26,7 +26,7 @@ use base_table::places::PLUS;
 use base_table::places::RIGHT;
 use base_table::places::SINGLE;
 use base_words::Word;
-use base_words::counts::FIELDS;
+use base_words::counts::NAMED;
 use base_words::counts::NAMES;
 use base_words::counts::VALUES;
 use base_words::tail;
@@ -56,7 +56,7 @@ fn operand_fits(x: &[Word], i: Word) -> bool
     if sort != A_FIELD {
         return false;
     }
-    word(x, i as usize + OPERAND_NUMBER) < FIELDS
+    word(x, i as usize + OPERAND_NUMBER) < NAMED
 }
 
 // The second operand of an expression or a condition not in use, and both.
@@ -99,7 +99,7 @@ fn bind_fits(x: &[Word]) -> bool
     if word(x, LEFT + SORT) != A_FIELD {
         return false;
     }
-    if FIELDS <= word(x, LEFT + OPERAND_NUMBER) {
+    if NAMED <= word(x, LEFT + OPERAND_NUMBER) {
         return false;
     }
     right_zero(x)
@@ -167,7 +167,7 @@ pub fn message_fits(receives: Word, x: &[Word]) -> bool
 pub fn assignment_fits(x: &[Word]) -> bool
     ensures { λ r. ⌜ r ≡ assignmentFits (now (x .entry)) ⌝ }
 {
-    if FIELDS <= word(x, TARGET) {
+    if NAMED <= word(x, TARGET) {
         return false;
     }
     expression_fits(tail(x, ASSIGNED))

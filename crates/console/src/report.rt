@@ -1,12 +1,14 @@
-// The lines of a state: its version, its made instances and its queues. Counts of a state that does not fit are bounded by the layout.
+// The lines of a state: its version, its made instances, its stores and its queues. Counts of a state that does not fit are bounded by the layout.
 use super::output::tell_number;
 use super::output::tell_tuple;
 use base_state::defined_at;
 use base_state::instance_at;
 use base_state::made_count;
 use base_state::places::ACTIVE;
+use base_state::places::DEFINED;
 use base_state::places::INSTANCES_WORDS;
 use base_state::places::READY;
+use base_state::places::SHARED;
 use base_state::places::STATE_WORDS;
 use base_state::value_at;
 use base_state::versions::FORMER;
@@ -75,6 +77,29 @@ fn tell_fields(h: &[Word]) {
     if is_first {
         tell(b"-");
     }
+}
+
+// Whether one of the fields is defined.
+fn has_fields(h: &[Word]) -> bool {
+    let mut d: Word = 0;
+    while d < FIELDS {
+        if defined_at(h, d) != 0 {
+            return true;
+        }
+        d += 1;
+    }
+    false
+}
+
+// The stores stand as fields do, in a block that starts as far before them.
+fn tell_stores(z: &[Word]) {
+    let h = tail(z, SHARED - DEFINED);
+    if !has_fields(h) {
+        return;
+    }
+    tell(b"stores ");
+    tell_fields(h);
+    tell(b"\n");
 }
 
 fn tell_instance(number: Word, i: Word, h: &[Word]) {
@@ -159,6 +184,7 @@ fn tell_version(z: &[Word]) {
 pub(super) fn report(t: &[Word; TABLE_WORDS], z: &[Word; STATE_WORDS]) {
     tell_version(z);
     tell_pools(t, z);
+    tell_stores(z);
     tell_queues(tail(z, INSTANCES_WORDS));
     tell(b"end\n");
 }

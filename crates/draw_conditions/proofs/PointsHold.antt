@@ -3,7 +3,7 @@ use mathlib.Core.Path.{_≡_, refl}
 use mathlib.Core.List.{map}
 use Rattle.base_words.specs.Pick.{if_then_else_}
 use Rattle.text_lexer.specs.Lexer.{among, between, isBlank as isSeparator, isLetter, isDigit, isWord}
-use Rattle.text_numerals.specs.Numerals.{valueFrom, leadingZero, numberOf, sameBytes, asNumber, asField, operandOf}
+use Rattle.text_numerals.specs.Numerals.{valueFrom, leadingZero, numberOf, isFieldLetter, fieldBehind, fieldFrom, fieldOf, sameBytes, asNumber, asField, operandOf}
 use Rattle.xml_characters.specs.Names.{isBlank, isControl, beginsName, isName}
 use Rattle.xml_characters.specs.References.{digit, base, more, numberFrom, numbered, characterOf, isCharacter}
 use Rattle.xml_scanner.specs.Openings.{behindLess, behindBracket, inOpening}
@@ -20,5 +20,5 @@ use Rattle.draw_conditions.specs.Conditions.{alone, leftmost, both, form
 use Rattle.draw_conditions.specs.Points.{Point, points}
 
 pub points-hold : map (λ (p : Point). conditionAt (p .text) (p .place)) points ≡ map (λ (p : Point). p .is) points
-unfolding if_then_else_ among between isSeparator isLetter isDigit isWord valueFrom leadingZero numberOf sameBytes asNumber asField operandOf isBlank isControl beginsName isName digit base more numberFrom numbered characterOf isCharacter behindLess behindBracket inOpening inComment inData inTarget inInstruction closing behindValue named behindBlank isQuote equals isReference inValue inValueReference inTag behindEnd inEnd inReference atBegin step endOf wholeInTag wholeInInstruction whole moveTo moved ifOn ifAttribute isNamed foundFrom found isFound twice first lower saysXml isDeclaration reserved isFaulty advance scanFrom scan beginsAt closesData opensMarkup textFrom placed markup after narrow behindLine plainAt referredAt decodedAt forward plainStep stepBy markupStep textStep sectionStep stepAt further saidIn said saidBy saidAt isOf behind letters placeOf isOver sideOf sideAt alone leftmost both formOf second joined compared conditionOf conditionAt
+unfolding if_then_else_ among between isSeparator isLetter isDigit isWord valueFrom leadingZero numberOf isFieldLetter fieldBehind fieldFrom fieldOf sameBytes asNumber asField operandOf isBlank isControl beginsName isName digit base more numberFrom numbered characterOf isCharacter behindLess behindBracket inOpening inComment inData inTarget inInstruction closing behindValue named behindBlank isQuote equals isReference inValue inValueReference inTag behindEnd inEnd inReference atBegin step endOf wholeInTag wholeInInstruction whole moveTo moved ifOn ifAttribute isNamed foundFrom found isFound twice first lower saysXml isDeclaration reserved isFaulty advance scanFrom scan beginsAt closesData opensMarkup textFrom placed markup after narrow behindLine plainAt referredAt decodedAt forward plainStep stepBy markupStep textStep sectionStep stepAt further saidIn said saidBy saidAt isOf behind letters placeOf isOver sideOf sideAt alone leftmost both formOf second joined compared conditionOf conditionAt
 points-hold = refl

@@ -12,12 +12,13 @@ use borrow.Author.Tests.{eq-eqb, ne-eqb, le-leb, lt-leb, lt-ltb}
 use Rattle.base_words.specs.Pick.{if_then_else_}
 use Rattle.base_words.specs.Words.{at, greatest}
 use Rattle.base_words.proofs.PickLaws.{pick-yes, pick-no}
-use Rattle.text_lexer.specs.Lexer.{between, isDigit, isLetter, isWord}
+use Rattle.text_lexer.specs.Lexer.{isDigit, isWord}
 use Rattle.text_lexer.proofs.PieceLaws.{by-order}
 use Rattle.text_numerals.specs.declared.Number.{Number}
 use Rattle.text_numerals.specs.declared.Number.the-variants.{Value, TooLarge, NotANumber}
-use Rattle.text_numerals.specs.Numerals.{valueFrom, leadingZero, numberOf, sameBytes, asNumber, asField, operandOf}
+use Rattle.text_numerals.specs.Numerals.{valueFrom, leadingZero, numberOf, sameBytes, isFieldLetter, fieldFrom, fieldOf, asNumber, asField, operandOf}
 use Rattle.text_numerals.proofs.NumberLaws.{value-large}
+use Rattle.text_numerals.proofs.NumeralLaws.{letter-word}
 use Rattle.draw_conditions.specs.declared.saying.Spot.{Spot}
 use Rattle.draw_conditions.specs.declared.saying.View.{View}
 use Rattle.draw_conditions.specs.declared.saying.View.the-variants.{Byte as Seen, End as Over}
@@ -45,7 +46,7 @@ module _ (t : List ℕ) (s : Spot) (v : View) (e : said t s ≡ seen t v) where
   letter-over k = rw (over k)
 
   pub side-over : (r : Side) → v ≡ Over → r ≡ side false nothing 0 → r ≡ sideAt (said t s)
-  unfolding sideAt sideOf letters operandOf numberOf asNumber if_then_else_
+  unfolding sideAt sideOf letters operandOf isFieldLetter numberOf asNumber if_then_else_
   side-over r k h = h ∙ sym (rw (over k))
 
   module _ (b i : ℕ) (q : Spot) (k : v ≡ Seen b i q) where
@@ -77,18 +78,18 @@ module _ (t : List ℕ) (s : Spot) (v : View) (e : said t s ≡ seen t v) where
     letter-no y = rw (byte, y)
 
     -- an operand by its first byte
-    pub side-field : (n : Number) (r : Side) → b ≡ 100 → n ≡ numberOf (letters (said t q)) → r ≡ sideOf (asField n) i → r ≡ sideAt (said t s)
-    unfolding sideAt letters placeOf operandOf between isLetter isWord if_then_else_
-    side-field n r y f h = h ∙ rw (f, byte, y)
+    pub side-field : (n f : Number) (r : Side) → isFieldLetter b ≡ true → n ≡ numberOf (letters (said t q)) → f ≡ fieldFrom b n → r ≡ sideOf (asField f) i → r ≡ sideAt (said t s)
+    unfolding sideAt letters placeOf operandOf fieldOf if_then_else_
+    side-field n f r y e k h = h ∙ rw (k, e, byte, letter-word b y, y)
 
-    pub side-number : (n : Number) (r : Side) → (b ≡ 100 → ⊥) → n ≡ numberOf (letters (said t s)) → r ≡ sideOf (asNumber n) i → r ≡ sideAt (said t s)
+    pub side-number : (n : Number) (r : Side) → isFieldLetter b ≡ false → n ≡ numberOf (letters (said t s)) → r ≡ sideOf (asNumber n) i → r ≡ sideAt (said t s)
     side-number n r y f h = h ∙ rw f (sym operand)
       where
-        first : (w : Bool) → eqb (at (if w then b ∷ letters (said t q) else []) 0) 100 ≡ false
-        first true = unfold if_then_else_ in ne-eqb b 100 y
-        first false = unfold if_then_else_ in refl
+        first : (w : Bool) → isFieldLetter (at (if w then b ∷ letters (said t q) else []) 0) ≡ false
+        first true = unfold if_then_else_ in y
+        first false = unfold if_then_else_ isFieldLetter in refl
 
-        same : eqb (at (letters (said t s)) 0) 100 ≡ false
+        same : isFieldLetter (at (letters (said t s)) 0) ≡ false
         same = unfold letters in rw byte (first (isWord b))
 
         operand : sideAt (said t s) ≡ sideOf (asNumber (numberOf (letters (said t s)))) i

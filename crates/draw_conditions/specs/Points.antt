@@ -54,6 +54,7 @@ points =
     strange "nothing behind them" "true 1" ∷
     within "two operands joined by `=`" "d0=1" plain ∷
     within "or by `<`" "\t4294967295 &lt; d15 " (two below (number 4294967295) (field 15) 0) ∷
+    within "stores" "s0=s15" (two equals (field 16) (field 31) 0) ∷
     strange "no other sign" "d0>1" ∷
     strange "no sign" "d0 1" ∷
     strange "`==`" "d0==1" ∷
@@ -65,11 +66,13 @@ points =
     strange "three" "d0=1=1" ∷
     strange "no leading zero" "d0=01" ∷
     strange "in a field neither" "d00=1" ∷
+    strange "in a store neither" "s01=1" ∷
     strange "no letter case" "D0=1" ∷
     strange "no number" "d=1" ∷
     strange "no sign before it" "d0=-1" ∷
     strange "a word is the longest run" "d0=1_" ∷
     within "without ranges: `d16` at its first byte" "d16=1" (two equals nothing (number 1) 3) ∷
+    within "`s16` too" "d0=s16" (two equals (field 0) nothing 6) ∷
     within "4,294,967,296" "d0 = 4294967296" (two equals (field 0) nothing 8) ∷
     within "65,536 is within" "d0 = 65536" (two equals (field 0) (number 65536) 0) ∷
     within "the leftmost" "d99=7000000000" (two equals nothing nothing 3) ∷

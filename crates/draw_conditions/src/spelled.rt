@@ -14,9 +14,10 @@ use super::saying::look;
 use base_table::places::A_FIELD;
 use base_words::GREATEST;
 use base_words::Word;
-use base_words::counts::FIELDS;
 use text_lexer::is_digit;
 use text_numerals::Number;
+use text_numerals::field_from;
+use text_numerals::is_field_letter;
 use xml_characters::begins_name;
 use xml_characters::is_blank;
 
@@ -253,12 +254,7 @@ fn field_side(n: Number, place: usize) -> Side
     ensures { λ r. ⌜ r ≡ sideOf (asField n) place ⌝ }
 {
     match n {
-        Number::Value(v) => {
-            if v < FIELDS {
-                return within(A_FIELD, v);
-            }
-            out_of_range(place)
-        }
+        Number::Value(d) => within(A_FIELD, d),
         Number::TooLarge => out_of_range(place),
         Number::NotANumber => none(),
     }
@@ -272,8 +268,8 @@ pub(super) fn side_at(text: &[u8], s: Spot) -> Side
     let View::Byte(b, i, next) = v else {
         return none();
     };
-    if b == b'd' {
-        return field_side(number_at(text, next), i);
+    if is_field_letter(b) {
+        return field_side(field_from(b, number_at(text, next)), i);
     }
     number_side(number_at(text, s), i)
 }

@@ -1,19 +1,21 @@
 -- The starred points of document 01 ('Points to try'): one table. Each row says in the document's words what is tried, and tries it by a step on a
 -- small table and state: pool 1 with one element, its instance 0, messages under name 0. Rows behind them try what else is easily got wrong.
--- A second table has the branches of document 02's wish 6, a third the versions of its wish 7.
+-- A second table has the branches of document 02's wish 6, a third the versions of its wish 7, a fourth the stores of its wish 8.
 use Prim.Native.Nat.{ℕ, _+_, _-_, _*_}
 use Prim.Native.String.{String}
 use mathlib.Core.Path.{_≡_}
 use mathlib.Core.Bool.{Bool, true, false}
 use mathlib.Core.List.{List, [], _∷_, _++_}
-use lib.ListN.{length, replicate, getD}
+use lib.ListN.{length, replicate, getD, drop}
 use Rattle.base_words.specs.Each.{tab}
-use Rattle.base_words.specs.Words.{greatest}
-use Rattle.base_words.specs.Counts.{branches, values, pools}
+use Rattle.base_words.specs.Words.{at, greatest}
+use Rattle.base_words.specs.Counts.{branches, fields, values, pools}
 use Rattle.base_kinds.specs.Kinds.{startRcv, terminate, interRcv, xorSplit, task, taskRcv}
-use Rattle.base_kinds.specs.Moves.{o, a, na-c, na-nc, moves, noMove}
+use Rattle.base_kinds.specs.declared.moves.Move.{Move}
+use Rattle.base_kinds.specs.Moves.{o, a, na-c, na-nc, moves, noMove, moveOf}
 use Rattle.base_table.specs.Places.{aField, single, plus, minus, binding, always, default, equals, below, expressionWords, messageWords}
-use Rattle.base_state.specs.Places.{instanceWords, instancePlace, storeWords, queueWords}
+use Rattle.base_table.specs.Table.{kindIn, modeIn}
+use Rattle.base_state.specs.Places.{instanceWords, instancePlace, storeWords, sharedWords, sharedPlace, queueWords}
 use Rattle.base_state.specs.Versions.{former, present}
 use Rattle.base_state.specs.Instances.{madeCount, instanceAt, tokens, activeCount, readyCount, withTokens, withActive, withReady, withField}
 use Rattle.meaning.specs.declared.Tuple.{Tuple}
@@ -25,8 +27,9 @@ use Rattle.meaning.specs.Queues.{messagesOf}
 use Rattle.meaning.specs.Expressions.{fieldOf}
 use Rattle.meaning.specs.Conditions.{holds}
 use Rattle.meaning.specs.Requirements.{isAlone}
+use Rattle.meaning.specs.Refusals.{firstRefusal}
 use Rattle.meaning.specs.Post.{post}
-use Rattle.meaning.specs.Step.{Outcome, step}
+use Rattle.meaning.specs.Step.{Site, before, refusalsAt, instanceAfter, Outcome, step}
 
 -- WORDS OF A TABLE. A block with 0 behind what it holds; operands, expressions, conditions.
 abbrev filled : ℕ → List ℕ → List ℕ
@@ -286,3 +289,91 @@ versions =
 abbrev pub Waited : List Wait → Type 0
 Waited [] = Unit {0}
 Waited (x ∷ xs) = (x .permits ≡ x .due) × Waited xs
+
+-- THE STORES: document 02, wish 8. A step at the words that it sees, of its instance, own, and of what all share behind them; store k is field 16 + k.
+abbrev s : ℕ → List ℕ
+s k = d (fields + k)
+
+infix 70 _set-to_
+abbrev _set-to_ : ℕ → List ℕ → List ℕ
+k set-to x = (fields + k) ∷ x
+
+-- store k is v, and the others are undefined
+abbrev board : ℕ → ℕ → List ℕ
+board k v = filled sharedWords (replicate (2 * k) 0 ++ (1 ∷ v ∷ []))
+
+abbrev bare : List ℕ
+bare = replicate sharedWords 0
+
+abbrev site : List ℕ → List ℕ → List ℕ → Tuple → Site
+site el own shared g =
+    record { element = el; move = ruleIn el; branch = 0; given = g; made = 0; limit = 1; instance = before (ruleIn el) own shared }
+  where
+    ruleIn : List ℕ → Move
+    ruleIn el = moveOf (kindIn el) (modeIn el) 0
+
+-- its number, the message that it asks for being queued; a field after it; what all share after it
+abbrev number-of : Site → ℕ
+number-of x = firstRefusal (refusalsAt x (queue (x .given ∷ [])))
+
+abbrev left : Site → ℕ → ℕ
+left x k = numberIn (fieldOf (instanceAfter x) k)
+
+abbrev shared-after : Site → List ℕ
+shared-after x = drop instanceWords (instanceAfter x)
+
+-- startRcv(0:<s0,?d0>,1), startRcv(0:<d1>,1)
+abbrev begun-by : List ℕ → List ℕ → Tuple → Site
+begun-by template shared g = site (element startRcv 0 o [] (1 ∷ []) [] template 0 []) (withField fresh 1 7) shared g
+
+abbrev store-bind : List ℕ
+store-bind = tuple 2 (alone (s 0) ++ form binding (d 0) [])
+
+-- task(1,1,a,C,{..},2)
+abbrev setting : List ℕ → ℕ → List ℕ → List ℕ → List ℕ → Site
+setting c count given own shared = site (element task 1 a (1 ∷ []) (2 ∷ []) c [] count given) own shared empty
+
+-- taskRcv(1,1,a,true,{s1:=s0,s0:=s0+1,d0:=s0},0:<?s0>,2) and 4
+abbrev hearing : Site
+hearing =
+    site (element taskRcv 1 a (1 ∷ []) (2 ∷ []) true-condition (tuple 1 (form binding (s 0) [])) 3 (1 set-to alone (s 0) ++ (0 set-to form plus (s 0) (number 1) ++ 0 becomes alone (s 0))))
+    fresh bare (message 1 4 0)
+
+-- interRcv(1,0:<s1,?s1>,2) with s1 = 5 and (5,9)
+abbrev matching : Site
+matching = site (element interRcv 0 o (1 ∷ []) (2 ∷ []) [] (tuple 2 (alone (s 1) ++ form binding (s 1) [])) 0 []) fresh (board 1 5) (message 2 5 9)
+
+-- terminate(1) with s0 = 7
+abbrev ending : Site
+ending = site (element terminate 0 o (1 ∷ []) [] [] [] 0 []) fresh (board 0 7) empty
+
+-- {s0:=s0+1} in instance 0 with s0 = 0; the guard s0<d0 in instance 1, where d0 = 1, before and after it
+abbrev raising : Site
+raising = setting true-condition 1 (0 set-to form plus (s 0) (number 1)) fresh (board 0 0)
+
+abbrev watching : List ℕ → Site
+watching shared = setting (form below (s 0) (d 0)) 0 [] (withField fresh 0 1) shared
+
+-- the same as a step of a whole state
+abbrev raised-on : List ℕ → Outcome
+raised-on shared =
+    step (table 0 (element task 1 a (1 ∷ []) (2 ∷ []) true-condition [] 1 (0 set-to form plus (s 0) (number 1)))) (filled sharedPlace (1 ∷ 0 ∷ 0 ∷ 0 ∷ fresh) ++ shared) (queue []) (name 0 0 0 empty)
+
+abbrev pub stores : List Point
+stores =
+    "startRcv(3:<s0,?d0>,1): 13 while s0 is undefined" shown-by number-of (begun-by store-bind bare seven-nine) being 13 ∷
+    "with s0 = 7 it matches (7,9)" shown-by number-of (begun-by store-bind (board 0 7) seven-nine) being 0 ∷
+    "and binds d0" shown-by left (begun-by store-bind (board 0 7) seven-nine) 0 being 9 ∷
+    "it sees undefined own fields" shown-by number-of (begun-by (tuple 1 (alone (d 1))) bare (message 1 7 0)) being 13 ∷
+    "{s0:=1,d0:=s0} gives 1" shown-by left (setting true-condition 2 (0 set-to alone (number 1) ++ 0 becomes alone (s 0)) fresh bare) (fields + 0) being 1 ∷
+    "and 1" shown-by left (setting true-condition 2 (0 set-to alone (number 1) ++ 0 becomes alone (s 0)) fresh bare) 0 being 1 ∷
+    "{s0:=1,s1:=s9}: 13" shown-by number-of (setting true-condition 2 (0 set-to alone (number 1) ++ 1 set-to alone (s 9)) fresh bare) being 13 ∷
+    "taskRcv <?s0> with {s1:=s0,s0:=s0+1,d0:=s0} and 4: s0 = 5" shown-by left hearing (fields + 0) being 5 ∷
+    "s1 = 4" shown-by left hearing (fields + 1) being 4 ∷
+    "d0 = 5" shown-by left hearing 0 being 5 ∷
+    "interRcv <s1,?s1> with s1 = 5: (5,9) matches" shown-by number-of matching being 0 ∷
+    "and s1 becomes 9" shown-by left matching (fields + 1) being 9 ∷
+    "terminate leaves them" shown-by left ending (fields + 0) being 7 ∷
+    "the guard s0<d0 of instance 1 holds" shown-by number-of (watching (board 0 0)) being 0 ∷
+    "instance 0 raises s0; it turns false: 13" shown-by number-of (watching (shared-after raising)) being 13 ∷
+    "the state has it" shown-by at (raised-on (board 0 4) .instances) (sharedPlace + 1) being 5 ∷ []

@@ -28,7 +28,7 @@ use Rattle.meaning.specs.Changes.{expected, received, worked, messageSen
 use Rattle.meaning.specs.Refusals.{Refusal, _unless_, firstRefusal}
 
 -- WHERE. What a name finds: the place of its pool, the element's words, the move of the element's kind and mode in this phase, how many
--- instances the pool has made and may make, and the words that it sees. "startRcv: its template sees only undefined fields."
+-- instances the pool has made and may make, and the words that it sees. "startRcv: its template sees only undefined fields", and the stores.
 abbrev pub poolNamed : List ℕ → Name → ℕ
 poolNamed t n = poolOf t (n .pool)
 

@@ -1,4 +1,5 @@
--- Points of the rules at named values: where a token goes, what shuts the default and a later branch out, what na_nc and, by version, na_c ask, what a message taken leaves. Assumes nothing.
+-- Points of the rules at named values: where a token goes, what shuts the default and a later branch out, what na_nc and, by version, na_c ask, what a message taken leaves, that
+-- a store set by one instance is seen by another. Assumes nothing.
 use Prim.Native.Nat.{ℕ, _<_}
 use mathlib.Core.Path.{_≡_, refl, sym, ap, subst}
 use mathlib.Core.Bool.{false≢true}
@@ -7,12 +8,15 @@ use mathlib.Core.Logic.{inl, inr, ⊎-elim}
 use native.Mathlib.Omega.{arith}
 use lib.Dec.{eqb}
 use Rattle.base_words.specs.Pick.{if_then_else_}
+use Rattle.meaning.specs.declared.Truth.{Truth}
 use Rattle.meaning.specs.declared.Truth.the-variants.{True, False, Neither}
-use Rattle.meaning.specs.Values.{equalOf, isTrue, isFalse}
-use Rattle.paper.specs.Syntax.{number, field, equal, always, default, ε, Mode, a, na-c, na-nc, Choice, start, xorSplit, task, Stands, here, there}
-use Rattle.paper.specs.States.{Local, unset, unmarked, _edges:_, _active:_, put, inc, dec, same, _without_}
-use Rattle.paper.specs.Evaluation.{operand, truth}
-use Rattle.paper.specs.Processes.{Internal, Label, waits, Moves, P-Start, P-XorSplit1, P-XorSplit2, P-Task-N1}
+use Rattle.meaning.specs.declared.Value.the-variants.{Undefined, Number}
+use Rattle.meaning.specs.Values.{sumOf, equalOf, lessOf, isTrue, isFalse}
+use Rattle.paper.specs.Syntax.{number, field, sum, equal, less, always, default, ε, _:=_, Mode, a, na-c, na-nc, Choice, Element, start, xorSplit, task, Pool, Stands, here, there}
+use Rattle.paper.specs.States.{Local, unset, unmarked, blank, _edges:_, _fields:_, _active:_, put, inc, dec, same, _without_, Configuration, seen, updInst}
+use Rattle.paper.specs.Evaluation.{operand, worth, truth, Updates}
+use Rattle.paper.specs.Processes.{Internal, Label, waits, Moves, P-Start, P-XorSplit1, P-XorSplit2, P-Task-A, P-Task-N1}
+use Rattle.paper.specs.Collaborations.{Named, Seen, Steps, C-Internal}
 
 -- one token on edge 1; task 1 is ready once
 abbrev marked : Local
@@ -95,3 +99,47 @@ na-c-open =
 pub one-stays : (record { times = λ vs. 2; size = 2 } without (7 ∷ [])) .times (7 ∷ []) ≡ 1
 unfolding _without_ same if_then_else_
 one-stays = refl
+
+-- "Instance 0 raises s0; instance 1's guard `s0<d0` turns false": pool 1 with task(1,1,a,true,{s0:=s0+1},2), one token in instance 0, d0 = 1 in
+-- instance 1, s0 = 0
+abbrev raising : Element
+raising = task 1 1 a always (16 := sum (field 16) (number 1)) 2
+
+abbrev junction : List Pool
+junction = record { name = 1; process = raising ∷ []; limit = 2 } ∷ []
+
+abbrev held : Configuration
+held = record {
+  σi = λ p i. if eqb i 0 then marked else blank fields: (λ d. if eqb d 0 then Number 1 else Undefined);
+  made = λ p. 2;
+  σm = λ m. record { times = λ vs. 0; size = 0 };
+  σds = λ d. if eqb d 0 then Number 0 else Undefined;
+}
+
+abbrev guarded : Configuration → Truth
+guarded κ = truth (seen κ 1 1 .σd) (less (field 16) (field 0))
+
+pub open-before : guarded held ≡ True
+unfolding truth operand if_then_else_ lessOf
+open-before = refl
+
+abbrev raise : Named
+raise = record { pool = 1; instance = 0; element = 0; phase = 0; branch = 0; values = [] }
+
+abbrev raised : Configuration
+raised =
+    updInst held 1 0
+    (seen held 1 0 edges: inc (dec (seen held 1 0 .σe) 1) 2 fields: put (seen held 1 0 .σd) 16 (Number 1))
+
+pub raises : Steps 20 junction raise held (Seen.τ Internal.ε) raised
+unfolding if_then_else_ put truth worth operand sumOf
+raises =
+    let there : 0 < 1 = omega arith in
+    let few : 0 < 2 = omega arith in
+    let low : 0 < 255 = omega arith in
+    C-Internal (record { place = 0; pool-stands = here; pool-named = refl; element-stands = here }) few refl
+    (P-Task-A {e = 1} {n = 1} {e′ = 2} {c = always} {A = 16 := sum (field 16) (number 1)} {σ = seen held 1 0} there refl (Updates.one refl) low)
+
+pub shut-after : guarded raised ≡ False
+unfolding truth operand if_then_else_ lessOf put updInst
+shut-after = refl

@@ -2,13 +2,14 @@
 use Prim.Native.Nat.{ℕ, _+_, _-_}
 use mathlib.Core.Bool.{Bool, true, false, _&&_}
 use mathlib.Core.List.{List, [], _∷_}
-use lib.Dec.{eqb}
+use lib.Dec.{eqb, ltb}
 use Rattle.base_words.specs.Pick.{if_then_else_}
 use Rattle.meaning.specs.declared.Value.{Value}
 use Rattle.meaning.specs.declared.Value.the-variants.{Undefined}
 
--- ⟨σe, σd, σt⟩: tokens of edges, fields, and for tasks how often each is active and how often it is ready. (Ready is the paper's status s of a
--- taskSnd and its r of a taskRcv: no task has both.)
+-- ⟨σe, σd, σt⟩: tokens of edges, data, and for tasks how often each is active and how often it is ready. (Ready is the paper's status s of a
+-- taskSnd and its r of a taskRcv: no task has both.) σd is what an instance sees, "the triple (σdo, σdc, σds) representing the state of all data
+-- elements": of data objects fields 0 to 15, of data stores fields 16 to 31 (document 02, wish 8: s0 to s15), no data collections.
 pub record Local : Type 0 where
   pub σe : ℕ → ℕ
   pub σd : ℕ → Value
@@ -78,22 +79,40 @@ M joined vs = record { times = λ ws. if same vs ws then M .times ws + 1 else M 
 unfoldable pub _without_ : Multiset → List ℕ → Multiset
 M without vs = record { times = λ ws. if same vs ws then M .times ws - 1 else M .times ws; size = M .size - 1 }
 
--- ⟨σi, σm⟩: for each pool its instances, counted from 0 in the order they were made, and how many are made; for each name its messages
+-- ⟨σi, σm, σds⟩: for each pool its instances, counted from 0 in the order they were made, and how many are made; for each name its messages; the data
+-- stores, which the paper has at this level too: "permanent and shared among instances"
 pub record Configuration : Type 0 where
   pub σi : ℕ → ℕ → Local
   pub made : ℕ → ℕ
   pub σm : ℕ → Multiset
+  pub σds : ℕ → Value
 
--- updInst(σi, p, σ): instance i of pool p is σ; addInst: the next unmade one is σ, and is made
+-- σd of an instance from its own fields, 0 to 15, and the stores, which stand behind them; and both again from σd
+infixl 20 _beside_
+abbrev pub _beside_ : Local → (ℕ → Value) → Local
+σ beside ds = σ fields: (λ d. if ltb d 16 then σ .σd d else ds (d - 16))
+
+abbrev pub ownOf : Local → Local
+ownOf σ = σ fields: (λ d. if ltb d 16 then σ .σd d else Undefined)
+
+abbrev pub storesOf : Local → ℕ → Value
+storesOf σ d = σ .σd (16 + d)
+
+-- instance i of pool p with what it sees
+abbrev pub seen : Configuration → ℕ → ℕ → Local
+seen κ p i = κ .σi p i beside κ .σds
+
+-- updInst(σi, p, σ): instance i of pool p is σ; addInst: the next unmade one is σ, and is made. (Figures 13 and B.25 have σds′ of the instance beside
+-- them in each target.)
 unfoldable pub updInst : Configuration → ℕ → ℕ → Local → Configuration
-updInst κ p i σ = record { σi = put (κ .σi) p (put (κ .σi p) i σ); made = κ .made; σm = κ .σm }
+updInst κ p i σ = record { σi = put (κ .σi) p (put (κ .σi p) i (ownOf σ)); made = κ .made; σm = κ .σm; σds = storesOf σ }
 
 unfoldable pub addInst : Configuration → ℕ → Local → Configuration
-addInst κ p σ = record { σi = put (κ .σi) p (put (κ .σi p) (κ .made p) σ); made = inc (κ .made) p; σm = κ .σm }
+addInst κ p σ = record { σi = put (κ .σi) p (put (κ .σi p) (κ .made p) (ownOf σ)); made = inc (κ .made) p; σm = κ .σm; σds = storesOf σ }
 
 -- add(σm, m, ṽ), rm(σm, m, ṽ)
 unfoldable pub add : Configuration → ℕ → List ℕ → Configuration
-add κ m vs = record { σi = κ .σi; made = κ .made; σm = put (κ .σm) m (κ .σm m joined vs) }
+add κ m vs = record { σi = κ .σi; made = κ .made; σm = put (κ .σm) m (κ .σm m joined vs); σds = κ .σds }
 
 unfoldable pub rm : Configuration → ℕ → List ℕ → Configuration
-rm κ m vs = record { σi = κ .σi; made = κ .made; σm = put (κ .σm) m (κ .σm m without vs) }
+rm κ m vs = record { σi = κ .σi; made = κ .made; σm = put (κ .σm) m (κ .σm m without vs); σds = κ .σds }

@@ -11,10 +11,10 @@ use Rattle.base_words.specs.Each.{each}
 use Rattle.base_words.specs.Pick.{if_then_else_}
 use Rattle.text_lexer.specs.declared.Form.{Form}
 use Rattle.text_lexer.specs.Lexer.{between, isDigit, isLetter, isWord, tokenAt, ifWord, ifSign}
-use Rattle.text_numerals.specs.Numerals.{numberOf, leadingZero, valueFrom}
+use Rattle.text_numerals.specs.Numerals.{numberOf, fieldBehind, fieldFrom, fieldOf, leadingZero, valueFrom}
 use Rattle.text_readers.specs.declared.Read.{Read}
 use Rattle.text_readers.specs.declared.Read.the-variants.{At, Refused}
-use Rattle.text_readers.specs.Reading.{excessive, placeOf, behind, fieldOf, isSpelled}
+use Rattle.text_readers.specs.Reading.{excessive, placeOf, behind, isSpelled}
 use Rattle.text_elements.specs.Elements.{kindNamed}
 use Rattle.text_read.specs.Notation.{poolWord}
 use Rattle.proof_continues.proofs.Pieces.{Lexeme, lexeme, isEnd, Piece, met, worded}
@@ -134,7 +134,7 @@ sample true = worded (49 ∷ []) one-long one-word
 sample false = worded (100 ∷ 48 ∷ []) two-long field-word
 
 pub sample-numeral : (s : Bool) → numeral (met (sample s)) ≡ true
-unfolding ifWord isSpelled numberOf fieldOf leadingZero valueFrom isDigit between if_then_else_
+unfolding ifWord isSpelled numberOf fieldOf fieldFrom fieldBehind leadingZero valueFrom isDigit between if_then_else_
 sample-numeral true = refl
 sample-numeral false = refl
 

@@ -8,7 +8,7 @@ use native.Mathlib.Omega.{arith}
 use lib.Dec.{eqb, leb}
 use lib.ListN.{length, drop, set}
 use borrow.Author.Tests.{eq-eqb}
-use Rattle.base_words.specs.Counts.{fields}
+use Rattle.base_words.specs.Counts.{named}
 use Rattle.base_words.specs.Each.{each}
 use Rattle.base_words.specs.Pick.{if_then_else_}
 use Rattle.base_words.specs.Text.{bytes}
@@ -22,10 +22,10 @@ use Rattle.text_numerals.specs.declared.Number.{Number}
 use Rattle.text_numerals.specs.declared.Number.the-variants.{Value, TooLarge, NotANumber}
 use Rattle.text_numerals.specs.declared.Operand.{Operand}
 use Rattle.text_numerals.specs.declared.Operand.the-variants.{Number as OfNumber, Field, OutOfRange, NotAnOperand}
-use Rattle.text_numerals.specs.Numerals.{valueFrom, leadingZero, numberOf, sameBytes, asNumber, asField, operandOf}
+use Rattle.text_numerals.specs.Numerals.{valueFrom, leadingZero, numberOf, isFieldLetter, fieldBehind, fieldFrom, fieldOf, sameBytes, asNumber, asField, operandOf}
 use Rattle.text_readers.specs.declared.Read.{Read}
 use Rattle.text_readers.specs.declared.Read.the-variants.{At, Refused}
-use Rattle.text_readers.specs.Reading.{Parsed, Reader, misplaced, excessive, passed, refused, placeOf, behind, letters, signAt, assignAt, sign, assign, keepNumber, number, fieldOf, field, keepOperand, operand, modeNamed, keepMode, mode, isSpelled}
+use Rattle.text_readers.specs.Reading.{Parsed, Reader, misplaced, excessive, passed, refused, placeOf, behind, letters, signAt, assignAt, sign, assign, keepNumber, number, field, keepOperand, operand, modeNamed, keepMode, mode, isSpelled}
 use Rattle.proof_continues.proofs.Tests.{choose, or-left, or-right}
 use Rattle.proof_continues.proofs.Pieces.{Lexeme, lexeme, isEnd, Piece, met, becomes, worded}
 use Rattle.proof_continues.proofs.Grammar.{Turn, takes, passes, refuses, takes-passes, takes-refuses, passes-refuses, refused-alike, sample, one-long, one-word, two-long, field-word}
@@ -213,7 +213,7 @@ unfolding numberOf leadingZero valueFrom isDigit between if_then_else_
 one-value = refl
 
 field-value : fieldOf (100 ∷ 48 ∷ []) ≡ Value 0
-unfolding fieldOf numberOf leadingZero valueFrom isDigit between if_then_else_
+unfolding fieldOf fieldFrom fieldBehind numberOf leadingZero valueFrom isDigit between if_then_else_
 field-value = refl
 
 pub number-once : (least most place : ℕ) → leb least 1 && leb 1 most ≡ true → Once (number least most place)
@@ -228,11 +228,11 @@ number-once least most place h =
 pub field-once : (place : ℕ) → Once (field place)
 unfolding field
 field-once place =
-    let fits : numberTurn 0 (fields - 1) (fieldOf (100 ∷ 48 ∷ [])) ≡ takes = ap (numberTurn 0 (fields - 1)) field-value in
-    word-once (field place) (λ w. numberTurn 0 (fields - 1) (fieldOf w)) (λ w p q x. keepNumber (fieldOf w) 0 (fields - 1) place p q x) (λ t from x. refl)
-    (λ w p q x. number-verdict 0 (fields - 1) place (fieldOf w) p q x) (λ w. number-firm 0 (fields - 1) (fieldOf w))
+    let fits : numberTurn 0 (named - 1) (fieldOf (100 ∷ 48 ∷ [])) ≡ takes = ap (numberTurn 0 (named - 1)) field-value in
+    word-once (field place) (λ w. numberTurn 0 (named - 1) (fieldOf w)) (λ w p q x. keepNumber (fieldOf w) 0 (named - 1) place p q x) (λ t from x. refl)
+    (λ w p q x. number-verdict 0 (named - 1) place (fieldOf w) p q x) (λ w. number-firm 0 (named - 1) (fieldOf w))
     (100 ∷ 48 ∷ []) two-long field-word fits
-    (λ w z. record { spelled = or-right (isSpelled (numberOf w)) (isSpelled (fieldOf w)) (number-spelled 0 (fields - 1) (fieldOf w) z); better = false; taken = fits })
+    (λ w z. record { spelled = or-right (isSpelled (numberOf w)) (isSpelled (fieldOf w)) (number-spelled 0 (named - 1) (fieldOf w) z); better = false; taken = fits })
 
 -- an operand
 abbrev operandTurn : Operand → Turn
@@ -267,14 +267,14 @@ spelled-field TooLarge z = refl
 spelled-field NotANumber z = two-three z
 
 operand-spelled : (w : List ℕ) → operandTurn (operandOf w) ≡ refuses excessive → numeric w ≡ true
-unfolding operandOf fieldOf
-operand-spelled w z = go (eqb (at w 0) (code "d")) z
+unfolding operandOf
+operand-spelled w z = go (isFieldLetter (at w 0)) z
   where
-    go : (c : Bool) → operandTurn (if c then asField (numberOf (drop 1 w)) else asNumber (numberOf w)) ≡ refuses excessive → isSpelled (numberOf w) || isSpelled (if c then numberOf (drop 1 w) else NotANumber) ≡ true
-    go c = unfold if_then_else_ in elim c [ true ↦ λ h. or-right (isSpelled (numberOf w)) _ (spelled-field (numberOf (drop 1 w)) h) | false ↦ λ h. or-left (isSpelled (numberOf w)) _ (spelled-number (numberOf w) h) ]
+    go : (c : Bool) → operandTurn (if c then asField (fieldOf w) else asNumber (numberOf w)) ≡ refuses excessive → isSpelled (numberOf w) || isSpelled (fieldOf w) ≡ true
+    go c = unfold if_then_else_ in elim c [ true ↦ λ h. or-right (isSpelled (numberOf w)) _ (spelled-field (fieldOf w) h) | false ↦ λ h. or-left (isSpelled (numberOf w)) _ (spelled-number (numberOf w) h) ]
 
 one-operand : operandOf (49 ∷ []) ≡ OfNumber 1
-unfolding operandOf asNumber if_then_else_
+unfolding operandOf isFieldLetter asNumber if_then_else_
 one-operand = ap asNumber one-value
 
 pub operand-once : (place : ℕ) → Once (operand place)

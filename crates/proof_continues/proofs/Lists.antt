@@ -14,8 +14,8 @@ use Rattle.base_table.specs.Places.{entriesPlace, exitsPlace}
 use Rattle.text_lexer.specs.declared.Form.{Form}
 use Rattle.text_lexer.specs.declared.Form.the-variants.{Word, Sign, Assign, End, Other}
 use Rattle.text_lexer.specs.Lexer.{among, between, isDigit, isSign, ifWord, ifSign}
-use Rattle.text_numerals.specs.Numerals.{valueFrom, leadingZero, numberOf}
-use Rattle.text_readers.specs.Reading.{Reader, _then_, sign, fieldOf, isSpelled, startsNumber, startsField, startsSign}
+use Rattle.text_numerals.specs.Numerals.{valueFrom, leadingZero, numberOf, fieldBehind, fieldFrom, fieldOf}
+use Rattle.text_readers.specs.Reading.{Reader, _then_, sign, isSpelled, startsNumber, startsField, startsSign}
 use Rattle.text_parts.specs.declared.Series.{Series}
 use Rattle.text_parts.specs.Parts.{anEdge, aTemplateItem, aMessageItem, anAssignment, edgeList, guardedList, assignmentList, tuple, itemOf, starts, items, inside, series, message, receiving, receivingBranches, oneEdge, taskPart, partOf, itemsFrom}
 use Rattle.proof_continues.proofs.Tests.{or-left, or-right, either}
@@ -43,7 +43,7 @@ field-starting = record {
   test = ofField;
   same = λ t from. refl;
   such = sample false;
-  passing = unfold ifWord isSpelled fieldOf numberOf leadingZero valueFrom isDigit between if_then_else_ in refl;
+  passing = unfold ifWord isSpelled fieldOf fieldFrom fieldBehind numberOf leadingZero valueFrom isDigit between if_then_else_ in refl;
   item = λ k e. or-left _ _ (or-right (ofNumber k) _ e);
 }
 

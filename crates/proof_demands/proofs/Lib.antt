@@ -22,3 +22,4 @@ pub mod NeverBad
 pub mod PollSteps
 pub mod Polls
 pub mod Judgements
+pub mod Boards

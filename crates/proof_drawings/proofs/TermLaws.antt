@@ -1,13 +1,12 @@
 -- A condition's form and its operands' numbers are words. Assumes nothing.
-use Prim.Native.Nat.{ℕ, _≤_}
+use Prim.Native.Nat.{ℕ, _+_, _≤_}
 use mathlib.Core.Path.{_≡_, refl}
 use mathlib.Core.Bool.{Bool, true, false}
 use mathlib.Core.List.{List, [], _∷_}
 use native.Mathlib.Omega.{arith}
 use lib.Dec.{leb, ltb}
-use lib.ListN.{drop}
-use borrow.Author.Tests.{leb-true}
-use Rattle.base_words.specs.Counts.{fields}
+use borrow.Author.Tests.{leb-true, ltb-true}
+use Rattle.base_words.specs.Counts.{fields, stores, named}
 use Rattle.base_words.specs.Pick.{if_then_else_}
 use Rattle.base_words.specs.Words.{greatest}
 use Rattle.base_table.specs.Places.{always, default}
@@ -15,7 +14,7 @@ use Rattle.text_numerals.specs.declared.Number.{Number}
 use Rattle.text_numerals.specs.declared.Number.the-variants.{Value, TooLarge, NotANumber}
 use Rattle.text_numerals.specs.declared.Operand.{Operand}
 use Rattle.text_numerals.specs.declared.Operand.the-variants.{Number as Constant, Field, OutOfRange, NotAnOperand}
-use Rattle.text_numerals.specs.Numerals.{valueFrom, numberOf, asNumber, asField, operandOf}
+use Rattle.text_numerals.specs.Numerals.{valueFrom, numberOf, fieldBehind, fieldFrom, fieldOf, asNumber, asField, operandOf}
 use Rattle.draw_conditions.specs.declared.Term.{Term}
 use Rattle.draw_conditions.specs.declared.Condition.{Condition}
 use Rattle.draw_conditions.specs.declared.spelled.Side.{Side}
@@ -64,13 +63,27 @@ as-number NotANumber h = h
 
 as-field : (r : Number) → Bound r → Held (asField r)
 unfolding asField
-as-field (Value v) h = either Held (ltb v fields) (Field v) OutOfRange h (omega arith)
+as-field (Value v) h = h
 as-field TooLarge h = h
 as-field NotANumber h = h
 
+behind-bound : (before count : ℕ) → before + count ≤ named → (r : Number) → Bound (fieldBehind before count r)
+unfolding fieldBehind
+behind-bound before count h (Value v) = go (ltb v count) refl
+  where
+    go : (b : Bool) → ltb v count ≡ b → Bound (if b then Value (v + before) else TooLarge)
+    go true e = unfold if_then_else_ in omega (arith, h, ltb-true v count e)
+    go false e = unfold if_then_else_ in omega arith
+behind-bound before count h TooLarge = omega arith
+behind-bound before count h NotANumber = omega arith
+
+field-bound : (word : List ℕ) → Bound (fieldOf word)
+unfolding fieldOf fieldFrom
+field-bound word = either Bound _ _ _ (behind-bound 0 fields (omega arith) _) (either Bound _ _ NotANumber (behind-bound fields stores (omega arith) _) (omega arith))
+
 operand-held : (word : List ℕ) → Held (operandOf word)
 unfolding operandOf
-operand-held word = either Held _ _ _ (as-field (numberOf (drop 1 word)) (number-bound (drop 1 word))) (as-number (numberOf word) (number-bound word))
+operand-held word = either Held _ _ _ (as-field (fieldOf word) (field-bound word)) (as-number (numberOf word) (number-bound word))
 
 pub record Stored (o : Term) : Type 0 where
   pub flag : o .flag ≤ greatest

@@ -12,7 +12,7 @@ use Rattle.base_words.specs.Pick.{if_then_else_}
 use Rattle.base_words.specs.Sum.{sum}
 use Rattle.base_words.specs.Text.{bytes}
 use Rattle.base_words.specs.Words.{at, digits}
-use Rattle.base_words.specs.Counts.{fields}
+use Rattle.base_words.specs.Counts.{fields, named}
 use Rattle.base_words.proofs.AllLaws.{and-left, and-right}
 use Rattle.base_words.proofs.SumLaws.{sum-add, sum-le}
 use Rattle.base_kinds.specs.Kinds.{none, many}
@@ -40,16 +40,19 @@ modeMost = 5
 abbrev pub assignmentMost : ℕ
 assignmentMost = fieldMost + 2 + pairMost
 
-field-short : (d : ℕ) → d < fields → length (shownField d) ≤ fieldMost
+field-short : (d : ℕ) → d < named → length (shownField d) ≤ fieldMost
 unfolding shownField
-field-short d h = omega (arith, two-figures d (omega arith))
+field-short d h =
+    by-choice (λ (w : List ℕ). length w ≤ fieldMost) (ltb d fields) (100 ∷ shown d) (115 ∷ shown (d - fields))
+    (λ e. omega (arith, two-figures d (omega arith)))
+    (λ e. omega (arith, two-figures (d - fields) (omega arith)))
 
-operand-field : (x : List ℕ) → operandFits x ≡ true → at x 0 ≡ aField → at x operandNumber < fields
+operand-field : (x : List ℕ) → operandFits x ≡ true → at x 0 ≡ aField → at x operandNumber < named
 unfolding operandFits
 operand-field x fits e =
     let off : eqb (at x 0) 0 ≡ false = ne-eqb (at x 0) 0 (λ z. omega arith) in
-    ltb-true (at x operandNumber) fields
-    (and-right (eqb (at x 0) aField) (ltb (at x operandNumber) fields) (passed-true (eqb (at x 0) 0) true (eqb (at x 0) aField && ltb (at x operandNumber) fields) fits off))
+    ltb-true (at x operandNumber) named
+    (and-right (eqb (at x 0) aField) (ltb (at x operandNumber) named) (passed-true (eqb (at x 0) 0) true (eqb (at x 0) aField && ltb (at x operandNumber) named) fits off))
 
 operand-short : (x : List ℕ) → operandFits x ≡ true → length (shownOperand x) ≤ digits
 unfolding shownOperand
@@ -112,9 +115,9 @@ item-short receives x fits =
     let g : bindFits x ≡ true = by-test (eqb receives none)
     (λ y. absurd (false≢true (chosen-true (eqb receives none) false (bindFits x) h y)))
     (λ y. passed-true (eqb receives none) false (bindFits x) h y) in
-    let small = ltb-true (at x (leftPlace + operandNumber)) fields
-    (and-right (eqb (at x leftPlace) aField) (ltb (at x (leftPlace + operandNumber)) fields)
-    (and-left (eqb (at x leftPlace) aField && ltb (at x (leftPlace + operandNumber)) fields) (zeros (drop rightPlace x) operandWords) g)) in
+    let small = ltb-true (at x (leftPlace + operandNumber)) named
+    (and-right (eqb (at x leftPlace) aField) (ltb (at x (leftPlace + operandNumber)) named)
+    (and-left (eqb (at x leftPlace) aField && ltb (at x (leftPlace + operandNumber)) named) (zeros (drop rightPlace x) operandWords) g)) in
     omega (arith, field-short (at x (leftPlace + operandNumber)) small))
     (λ e. expression-short x (passed-true (eqb (at x formPlace) binding) bound (expressionFits x) fits e))
 
@@ -148,8 +151,8 @@ assignment-short x fits =
     omega (
       arith,
       length-append (shownField (at x 0)) (code ":" ∷ code "=" ∷ shownExpression (drop assignedIn x)),
-      field-short (at x 0) (ltb-true (at x 0) fields (and-left (ltb (at x 0) fields) (expressionFits (drop assignedIn x)) fits)),
-      expression-short (drop assignedIn x) (and-right (ltb (at x 0) fields) (expressionFits (drop assignedIn x)) fits),
+      field-short (at x 0) (ltb-true (at x 0) named (and-left (ltb (at x 0) named) (expressionFits (drop assignedIn x)) fits)),
+      expression-short (drop assignedIn x) (and-right (ltb (at x 0) named) (expressionFits (drop assignedIn x)) fits),
     )
 
 -- n pieces between signs, with commas between them

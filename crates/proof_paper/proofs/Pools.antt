@@ -1,6 +1,6 @@
--- THE POOLS AND THEIR INSTANCES: after an accepted step the instance named is the one that the step gives, its pool has made as many as the step says,
--- and every other instance and pool is as it was. Assumes nothing.
-use Prim.Native.Nat.{ℕ, zero, suc, _+_, _<_, _≤_}
+-- THE POOLS AND THEIR INSTANCES: after an accepted step the instance named is the one that the step gives, the stores are those that it leaves, its pool has made as many as the step
+-- says, and every other instance and pool is as it was. Assumes nothing.
+use Prim.Native.Nat.{ℕ, zero, suc, _+_, _-_, _*_, _<_, _≤_}
 use mathlib.Core.Path.{_≡_, refl, sym, _∙_, ap, subst}
 use mathlib.Core.Bool.{Bool, true, _&&_, false≢true}
 use mathlib.Core.List.{List, _++_}
@@ -8,18 +8,19 @@ use mathlib.Core.Logic.{inl, inr}
 use native.Mathlib.Omega.{arith}
 use lib.Dec.{eqb, ltb}
 use lib.ListN.{length, replicate}
-use borrow.Author.Tests.{eqb-true, ltb-true, lt-ltb}
+use borrow.Author.Tests.{eqb-true, ltb-true, ltb-false, lt-ltb, le-ltb}
 use Rattle.base_words.specs.Words.{at}
-use Rattle.base_words.specs.Counts.{pools, edges, tasks, fields, instances}
+use Rattle.base_words.specs.Counts.{pools, edges, tasks, fields, instances, named}
 use Rattle.base_words.proofs.AllLaws.{and-right}
 use Rattle.base_words.proofs.PickLaws.{and-true, and-false-left}
 use Rattle.base_words.proofs.ListLaws.{length-tab, getD-tab}
 use Rattle.base_words.proofs.SeekLaws.{sought}
 use Rattle.base_table.specs.Places.{poolPlace}
 use Rattle.base_table.specs.Table.{poolCount, numbered, poolOf}
-use Rattle.base_state.specs.Places.{tokenPlace, activePlace, readyPlace, definedPlace, valuePlace, instanceWords, madePlace, instancePlace, instancesWords}
+use Rattle.base_state.specs.Places.{tokenPlace, activePlace, readyPlace, definedPlace, valuePlace, instanceWords, madePlace, instancePlace, storeWords, sharedPlace, instancesWords}
 use Rattle.base_state.specs.Instances.{madeCount}
 use Rattle.check_limits.specs.Limits.{within, tableFits}
+use Rattle.meaning.specs.declared.Value.{Value}
 use Rattle.meaning.specs.declared.Value.the-variants.{Undefined}
 use Rattle.meaning.specs.declared.Name.{Name}
 use Rattle.meaning.specs.Expressions.{fieldOf}
@@ -27,19 +28,19 @@ use Rattle.meaning.specs.Step.{siteOf, poolNamed, instanceOf, sharedOf, instanc
 use Rattle.step_queues.proofs.SlotLaws.{by-order}
 use Rattle.proof_steps.proofs.Choices.{by-test, chosen, passed}
 use Rattle.proof_steps.proofs.Elements.{pools-few}
-use Rattle.proof_steps.proofs.Seen.{seen-own}
-use Rattle.proof_steps.proofs.OnlyOwn.{only-own, own-words, own-made}
+use Rattle.proof_steps.proofs.Seen.{seen-own, seen-shared}
+use Rattle.proof_steps.proofs.OnlyOwn.{only-own, own-words, own-stores, own-made}
 use Rattle.proof_steps.proofs.MadeAfter.{Makes}
-use Rattle.paper.specs.States.{Local, blank, put}
-use Rattle.proof_paper.specs.Decoders.{guarded, localOf, isPool}
+use Rattle.paper.specs.States.{Local, blank, put, _beside_, ownOf, storesOf}
+use Rattle.proof_paper.specs.Decoders.{guarded, localOf, isPool, storeOf}
 use Rattle.proof_paper.proofs.Stores.{same-if, put-is, inside}
 
 -- the same words, the same instance
-pub local-alike : (g h : List ℕ) → ((k : ℕ) → k < instanceWords → at g k ≡ at h k) → localOf g ≡ localOf h
+own-alike : (g h : List ℕ) → ((k : ℕ) → k < instanceWords → at g k ≡ at h k) → ownOf (localOf g) ≡ ownOf (localOf h)
 unfolding fieldOf
-local-alike g h e = λ i. record {
+own-alike g h e = λ i. record {
   σe = λ j. same-if (within 1 edges j) 0 (at g (tokenPlace j)) (at h (tokenPlace j)) (λ w. let b = inside 1 edges j w in e (tokenPlace j) (omega (arith, b .0, b .1))) i;
-  σd = λ d. same-if (ltb d fields) Undefined (fieldOf g d) (fieldOf h d) (λ w.
+  σd = λ d. same-if (ltb d fields) Undefined (localOf g .σd d) (localOf h .σd d) (λ w.
       let l = ltb-true d fields w in
       let a : at g (definedPlace d) ≡ at h (definedPlace d) = e (definedPlace d) (omega (arith, l)) in
       let b : at g (valuePlace d) ≡ at h (valuePlace d) = e (valuePlace d) (omega (arith, l)) in
@@ -56,12 +57,51 @@ instance-at : (s : List ℕ) (p i k : ℕ) → k < instanceWords → at (instanc
 unfolding instanceOf
 instance-at s p i k l = getD-tab (λ k. at s (instancePlace p i + k)) instanceWords k 0 l
 
-pub instance-alike : (s r : List ℕ) (p i : ℕ) → ((k : ℕ) → k < instanceWords → at r (instancePlace p i + k) ≡ at s (instancePlace p i + k)) → localOf (instanceOf r p i) ≡ localOf (instanceOf s p i)
-instance-alike s r p i e = local-alike (instanceOf r p i) (instanceOf s p i) (λ k l. instance-at r p i k l ∙ e k l ∙ sym (instance-at s p i k l))
+pub instance-alike : (s r : List ℕ) (p i : ℕ) → ((k : ℕ) → k < instanceWords → at r (instancePlace p i + k) ≡ at s (instancePlace p i + k)) → ownOf (localOf (instanceOf r p i)) ≡ ownOf (localOf (instanceOf s p i))
+instance-alike s r p i e = own-alike (instanceOf r p i) (instanceOf s p i) (λ k l. instance-at r p i k l ∙ e k l ∙ sym (instance-at s p i k l))
 
--- an instance as a step sees it: what all share is no part of it
-pub seen-local : (s own : List ℕ) → length own ≡ instanceWords → localOf (own ++ sharedOf s) ≡ localOf own
-seen-local s own long = local-alike (own ++ sharedOf s) own (seen-own s own long)
+-- WHAT A STEP SEES: its instance, and the stores beside it
+abbrev pub board : List ℕ → ℕ → Value
+board s d = guarded Undefined (ltb d fields) (storeOf s d)
+
+module _ (s own : List ℕ) (long : length own ≡ instanceWords) where
+  abbrev seenWords : List ℕ
+  seenWords = own ++ sharedOf s
+
+  store-seen : (d : ℕ) → d < fields → fieldOf seenWords (fields + d) ≡ storeOf s d
+  unfolding fieldOf storeOf
+  store-seen d l =
+      let i : definedPlace (fields + d) ≡ instanceWords + 2 * d = omega arith in
+      let j : valuePlace (fields + d) ≡ instanceWords + (2 * d + 1) = omega arith in
+      let a : at seenWords (definedPlace (fields + d)) ≡ at s (sharedPlace + 2 * d) = ap (at seenWords) i ∙ seen-shared s own long (2 * d) (omega arith) in
+      let b : at seenWords (valuePlace (fields + d)) ≡ at s (sharedPlace + (2 * d + 1)) = ap (at seenWords) j ∙ seen-shared s own long (2 * d + 1) (omega arith) in
+      rw (a, b)
+
+  behind : (d : ℕ) → fields ≤ d → board s (d - fields) ≡ localOf seenWords .σd d
+  behind d l =
+      let e : fields + (d - fields) ≡ d = omega arith in
+      by-test (ltb (d - fields) fields)
+      (λ w.
+      let r = ltb-true (d - fields) fields w in
+      chosen (ltb (d - fields) fields) _ Undefined w
+      ∙ sym (store-seen (d - fields) r)
+      ∙ ap (fieldOf seenWords) e
+      ∙ sym (chosen (ltb d named) _ Undefined (lt-ltb d named (omega arith))))
+      (λ w.
+      let r = ltb-false (d - fields) fields w in
+      passed (ltb (d - fields) fields) _ Undefined w ∙ sym (passed (ltb d named) _ Undefined (le-ltb d named (omega arith))))
+
+  own-same : ownOf (localOf own) ≡ ownOf (localOf seenWords)
+  own-same = own-alike own seenWords (λ k l. sym (seen-own s own long k l))
+
+  field-seen : (d : ℕ) → (ownOf (localOf own) beside board s) .σd d ≡ localOf seenWords .σd d
+  field-seen d =
+      by-test (ltb d fields)
+      (λ w. chosen (ltb d fields) (ownOf (localOf own) .σd d) _ w ∙ ap (λ (K : Local). K .σd d) own-same ∙ chosen (ltb d fields) (localOf seenWords .σd d) Undefined w)
+      (λ w. passed (ltb d fields) _ (board s (d - fields)) w ∙ behind d (ltb-false d fields w))
+
+  pub seen-local : (ownOf (localOf own) beside board s) ≡ localOf (own ++ sharedOf s)
+  seen-local = λ i. record { σe = own-same i .σe; σd = λ d. field-seen d i; active = own-same i .active; ready = own-same i .ready }
 
 -- nothing but zeros
 zero-at : (n k : ℕ) → at (replicate n 0) k ≡ 0
@@ -72,11 +112,13 @@ zero-at (suc n) (suc k) = zero-at n k
 either : {A : Type 0} (none : A) (b : Bool) (x : A) → x ≡ none → guarded none b x ≡ none
 either none b x e = by-test b (λ y. chosen b x none y ∙ e) (λ y. passed b x none y)
 
-pub blank-is : (n : ℕ) → localOf (replicate n 0) ≡ blank
+pub blank-is : (n : ℕ) → ownOf (localOf (replicate n 0)) ≡ blank
 unfolding fieldOf
 blank-is n = λ i. record {
   σe = λ j. either 0 (within 1 edges j) (at (replicate n 0) (tokenPlace j)) (zero-at n (tokenPlace j)) i;
-  σd = λ d. either Undefined (ltb d fields) (fieldOf (replicate n 0) d) (chosen (eqb (at (replicate n 0) (definedPlace d)) 0) Undefined _ (ap (λ y. eqb y 0) (zero-at n (definedPlace d)))) i;
+  σd = λ d.
+      either Undefined (ltb d fields) (localOf (replicate n 0) .σd d)
+      (either Undefined (ltb d named) (fieldOf (replicate n 0) d) (chosen (eqb (at (replicate n 0) (definedPlace d)) 0) Undefined _ (ap (λ y. eqb y 0) (zero-at n (definedPlace d))))) i;
   active = λ j. either 0 (within 1 tasks j) (at (replicate n 0) (activePlace j)) (zero-at n (activePlace j)) i;
   ready = λ j. either 0 (within 1 tasks j) (at (replicate n 0) (readyPlace j)) (zero-at n (readyPlace j)) i;
 }
@@ -105,9 +147,9 @@ module _ (t s : List ℕ) (n : Name) (fits : tableFits t ≡ true) (long : lengt
   inst-few : i₀ < instances
   inst-few = let w = makes .named in omega arith
 
-  own-after : localOf (instanceOf r P i₀) ≡ localOf (instanceAfter (siteOf t s n))
+  own-after : ownOf (localOf (instanceOf r P i₀)) ≡ ownOf (localOf (instanceAfter (siteOf t s n)))
   own-after =
-      local-alike (instanceOf r P i₀) (instanceAfter (siteOf t s n))
+      own-alike (instanceOf r P i₀) (instanceAfter (siteOf t s n))
       (λ k l. instance-at r P i₀ k l ∙ own-words t s n (let a = few in omega arith) (let a = few in let b = inst-few in omega arith) (omega (arith, long)) k l)
 
   made-there : madeCount r P ≡ madeAfter (siteOf t s n)
@@ -128,7 +170,7 @@ module _ (t s : List ℕ) (n : Name) (fits : tableFits t ≡ true) (long : lengt
       (let a = few in λ e. omega arith)
 
   abbrev held : List ℕ → ℕ → ℕ → Local
-  held z p i = guarded blank (isPool t p && ltb i (madeCount z (poolOf t p))) (localOf (instanceOf z (poolOf t p) i))
+  held z p i = guarded blank (isPool t p && ltb i (madeCount z (poolOf t p))) (ownOf (localOf (instanceOf z (poolOf t p) i)))
 
   place-other : (p : ℕ) → (p ≡ n .pool → ⊥) → isPool t p ≡ true → poolOf t p ≡ P → ⊥
   unfolding isPool
@@ -142,7 +184,7 @@ module _ (t s : List ℕ) (n : Name) (fits : tableFits t ≡ true) (long : lengt
       let l : poolOf t p < poolCount t = ltb-true (poolOf t p) (poolCount t) e in
       let w = pools-few t fits in
       let m : madeCount r (poolOf t p) ≡ madeCount s (poolOf t p) = made-other (poolOf t p) (omega arith) (place-other p ne e) in
-      ap (λ y. guarded blank (isPool t p && ltb i y) (localOf (instanceOf r (poolOf t p) i))) m
+      ap (λ y. guarded blank (isPool t p && ltb i y) (ownOf (localOf (instanceOf r (poolOf t p) i)))) m
       ∙ same-if (isPool t p && ltb i (madeCount s (poolOf t p))) blank _ _ (λ g.
       let q = others (poolOf t p) l in
       let h : i < madeCount s (poolOf t p) = ltb-true i (madeCount s (poolOf t p)) (and-right (isPool t p) (ltb i (madeCount s (poolOf t p))) g) in
@@ -165,23 +207,46 @@ module _ (t s : List ℕ) (n : Name) (fits : tableFits t ≡ true) (long : lengt
 
   instance-other : (i : ℕ) → (i ≡ i₀ → ⊥) → held r (n .pool) i ≡ held s (n .pool) i
   instance-other i ne =
-      ap (λ y. guarded blank (isPool t (n .pool) && y) (localOf (instanceOf r P i))) (below-same i ne)
+      ap (λ y. guarded blank (isPool t (n .pool) && y) (ownOf (localOf (instanceOf r P i)))) (below-same i ne)
       ∙ same-if (isPool t (n .pool) && ltb i (madeCount s P)) blank _ _ (λ g.
       let q = others P there in
       let h : i < madeCount s P = ltb-true i (madeCount s P) (and-right (isPool t (n .pool)) (ltb i (madeCount s P)) g) in
       instance-alike s r P i (words-other P i few (omega arith) (λ a b. ne b)))
 
-  instance-own : held r (n .pool) i₀ ≡ localOf (instanceAfter (siteOf t s n))
+  instance-own : held r (n .pool) i₀ ≡ ownOf (localOf (instanceAfter (siteOf t s n)))
   instance-own =
       chosen (isPool t (n .pool) && ltb i₀ (madeCount r P)) _ blank (and-true (isPool t (n .pool)) (ltb i₀ (madeCount r P)) is-there (lt-ltb i₀ (madeCount r P) (subst (λ k. i₀ < k) (sym made-there) (makes .named))))
       ∙ own-after
 
   -- σi
-  pub instances-after : held r ≡ put (held s) (n .pool) (put (held s (n .pool)) i₀ (localOf (instanceAfter (siteOf t s n))))
+  pub instances-after : held r ≡ put (held s) (n .pool) (put (held s (n .pool)) i₀ (ownOf (localOf (instanceAfter (siteOf t s n)))))
   instances-after =
-      put-is (held s) (held r) (n .pool) (put (held s (n .pool)) i₀ (localOf (instanceAfter (siteOf t s n))))
-      (put-is (held s (n .pool)) (held r (n .pool)) i₀ (localOf (instanceAfter (siteOf t s n))) instance-own instance-other)
+      put-is (held s) (held r) (n .pool) (put (held s (n .pool)) i₀ (ownOf (localOf (instanceAfter (siteOf t s n)))))
+      (put-is (held s (n .pool)) (held r (n .pool)) i₀ (ownOf (localOf (instanceAfter (siteOf t s n)))) instance-own instance-other)
       (λ p ne. λ i j. pool-other p j ne i)
+
+  -- σds
+  store-after : (d : ℕ) → d < fields → storeOf r d ≡ fieldOf (instanceAfter (siteOf t s n)) (fields + d)
+  unfolding fieldOf storeOf
+  store-after d l =
+      let h : List ℕ = instanceAfter (siteOf t s n) in
+      let e : (k : ℕ) → k < storeWords → at r (sharedPlace + k) ≡ at h (instanceWords + k) = own-stores t s n (let a = few in omega arith) (omega (arith, long)) in
+      let i : instanceWords + 2 * d ≡ definedPlace (fields + d) = omega arith in
+      let j : instanceWords + (2 * d + 1) ≡ valuePlace (fields + d) = omega arith in
+      let a : at r (sharedPlace + 2 * d) ≡ at h (definedPlace (fields + d)) = e (2 * d) (omega arith) ∙ ap (at h) i in
+      let b : at r (sharedPlace + (2 * d + 1)) ≡ at h (valuePlace (fields + d)) = e (2 * d + 1) (omega arith) ∙ ap (at h) j in
+      rw (a, b)
+
+  board-after : (d : ℕ) → board r d ≡ storesOf (localOf (instanceAfter (siteOf t s n))) d
+  board-after d =
+      by-test (ltb d fields)
+      (λ w.
+      let l = ltb-true d fields w in
+      chosen (ltb d fields) _ Undefined w ∙ store-after d l ∙ sym (chosen (ltb (fields + d) named) _ Undefined (lt-ltb (fields + d) named (omega arith))))
+      (λ w. let l = ltb-false d fields w in passed (ltb d fields) _ Undefined w ∙ sym (passed (ltb (fields + d) named) _ Undefined (le-ltb (fields + d) named (omega arith))))
+
+  pub stores-after : board r ≡ storesOf (localOf (instanceAfter (siteOf t s n)))
+  stores-after = λ i d. board-after d i
 
   -- how many are made
   abbrev counted : List ℕ → ℕ → ℕ

@@ -2,7 +2,7 @@
 -- and the state afterwards is the transition's. Assumes nothing.
 use Prim.Native.Nat.{ℕ, _+_, _<_, _≤_}
 use mathlib.Core.Path.{_≡_, refl, sym, _∙_, ap, subst}
-use mathlib.Core.Bool.{Bool, true, false, not, _&&_, _||_, false≢true}
+use mathlib.Core.Bool.{true, false, not, _&&_, _||_, false≢true}
 use mathlib.Core.List.{List, [], _++_}
 use native.Mathlib.Omega.{arith}
 use lib.Dec.{eqb, ltb}
@@ -50,7 +50,7 @@ use Rattle.proof_steps.proofs.EveryStep.{Fitting}
 use Rattle.proof_listing.proofs.PoolFound.{pool-found}
 use Rattle.proof_valid.proofs.ChecksHold.{valid-fits, valid-sound, starts-once}
 use Rattle.paper.specs.Syntax.{Evaluated, Assignments, ε, _&_, Element, Pool, Stands}
-use Rattle.paper.specs.States.{Local, unset, blank, _fields:_, put, inc, Multiset, Configuration, updInst, addInst, add, rm, _without_}
+use Rattle.paper.specs.States.{Local, blank, _fields:_, put, inc, Multiset, Configuration, _beside_, ownOf, storesOf, seen, updInst, addInst, add, rm, _without_}
 use Rattle.paper.specs.Evaluation.{Evals, Matches, Updates, both}
 use Rattle.paper.specs.Processes.{Internal, kill, Label, waits as Waits, Moves}
 use Rattle.paper.specs.Collaborations.{Seen, Runs, Steps, C-Create, C-Internal, C-Receive, C-Deliver}
@@ -63,7 +63,7 @@ use Rattle.proof_paper.proofs.EachKind.{partsAt, Grants}
 use Rattle.proof_paper.proofs.Transitions.{process-sound, process-complete}
 use Rattle.proof_paper.proofs.Process as Process
 use Rattle.proof_paper.proofs.Mail.{mailOf, mail-consumed, mail-sent, has-times, times-has, times-values, equal-values, none-given, given-none}
-use Rattle.proof_paper.proofs.Pools.{instance-long, seen-local, blank-is, pool-number, instances-after, made-after}
+use Rattle.proof_paper.proofs.Pools.{instance-long, board, seen-local, blank-is, pool-number, instances-after, stores-after, made-after}
 use Rattle.proof_paper.proofs.Sites as Sites
 
 module _ (t s q : List ℕ) (v : valid t ≡ true) (state : Fitting t s q) (n : Name) where
@@ -123,7 +123,7 @@ module _ (t s q : List ℕ) (v : valid t ≡ true) (state : Fitting t s q) (n : 
   unfolding isPool
   made-is l = chosen (isPool t (n .pool)) _ 0 (lt-ltb p₀ (poolCount t) l)
 
-  held-is : p₀ < poolCount t → n .instance < madeCount s p₀ → κ .σi (n .pool) (n .instance) ≡ localOf (instanceOf s p₀ (n .instance))
+  held-is : p₀ < poolCount t → n .instance < madeCount s p₀ → κ .σi (n .pool) (n .instance) ≡ ownOf (localOf (instanceOf s p₀ (n .instance)))
   unfolding isPool
   held-is l r =
       chosen (isPool t (n .pool) && ltb (n .instance) (madeCount s p₀)) _ blank
@@ -132,18 +132,18 @@ module _ (t s q : List ℕ) (v : valid t ≡ true) (state : Fitting t s q) (n : 
   abbrev h : List ℕ
   h = before m (instanceOf s p₀ (n .instance)) (sharedOf s)
 
-  found-is : eqb (m .also) making ≡ false → p₀ < poolCount t → n .instance < madeCount s p₀ → κ .σi (n .pool) (n .instance) ≡ localOf h
+  found-is : eqb (m .also) making ≡ false → p₀ < poolCount t → n .instance < madeCount s p₀ → seen κ (n .pool) (n .instance) ≡ localOf h
   unfolding before
   found-is e l r =
-      held-is l r
-      ∙ sym (seen-local s (instanceOf s p₀ (n .instance)) (instance-long s p₀ (n .instance)))
+      ap (λ (K : Local). K beside board s) (held-is l r)
+      ∙ seen-local s (instanceOf s p₀ (n .instance)) (instance-long s p₀ (n .instance))
       ∙ ap (λ (y : List ℕ). localOf (y ++ sharedOf s)) (sym (passed (eqb (m .also) making) (replicate instanceWords 0) (instanceOf s p₀ (n .instance)) e))
 
-  begun-is : eqb (m .also) making ≡ true → blank ≡ localOf h
+  begun-is : eqb (m .also) making ≡ true → (blank beside κ .σds) ≡ localOf h
   unfolding before
   begun-is e =
-      sym (blank-is instanceWords)
-      ∙ sym (seen-local s (replicate instanceWords 0) (length-replicate {A = ℕ} instanceWords 0))
+      ap (λ (K : Local). K beside board s) (sym (blank-is instanceWords))
+      ∙ seen-local s (replicate instanceWords 0) (length-replicate {A = ℕ} instanceWords 0)
       ∙ ap (λ (y : List ℕ). localOf (y ++ sharedOf s)) (sym (chosen (eqb (m .also) making) (replicate instanceWords 0) (instanceOf s p₀ (n .instance)) e))
 
   others-few : (o : ℕ) → o < pools → madeCount s o ≤ instances
@@ -313,13 +313,14 @@ module _ (t s q : List ℕ) (v : valid t ≡ true) (state : Fitting t s q) (n : 
         (λ e. makes-none t s n f e (pool-parts t s p₀ (state-instances t s q (state .fits) p₀ pool-low) .made))
 
     after-is : Accepted x q → (r : List ℕ) → configurationOf t (instancesAfter t s n) r
-        ≡ record { σi = put (κ .σi) (n .pool) (put (κ .σi (n .pool)) (n .instance) (effect m P L F)); made = put (κ .made) (n .pool) (madeAfter x); σm = mailOf r }
+        ≡ record { σi = put (κ .σi) (n .pool) (put (κ .σi (n .pool)) (n .instance) (ownOf (effect m P L F))); made = put (κ .made) (n .pool) (madeAfter x); σm = mailOf r; σds = storesOf (effect m P L F) }
     after-is a r =
         let makes = makes-by a in
         let room : madeAfter x ≤ instances = made-few t fits p₀ (madeAfter x) (makes .fits) in
         let few : (o : ℕ) → o < poolCount t → madeCount s o ≤ instances = λ o l. others-few o (let w = pools-few t fits in omega arith) in
-        let e = instances-after t s n fits (state .long) (f .pool) makes room few ∙ ap (λ K. put (κ .σi) (n .pool) (put (κ .σi (n .pool)) (n .instance) K)) (result-is a) in
-        λ i. record { σi = e i; made = made-after t s n fits (state .long) (f .pool) makes room few i; σm = mailOf r }
+        let e = instances-after t s n fits (state .long) (f .pool) makes room few ∙ ap (λ K. put (κ .σi) (n .pool) (put (κ .σi (n .pool)) (n .instance) (ownOf K))) (result-is a) in
+        let d = stores-after t s n fits (state .long) (f .pool) makes room few ∙ ap storesOf (result-is a) in
+        λ i. record { σi = e i; made = made-after t s n fits (state .long) (f .pool) makes room few i; σm = mailOf r; σds = d i }
 
     made-kept : eqb (m .also) making ≡ false → put (κ .made) (n .pool) (madeAfter x) ≡ κ .made
     unfolding madeAfter siteOf
@@ -347,7 +348,7 @@ module _ (t s q : List ℕ) (v : valid t ≡ true) (state : Fitting t s q) (n : 
       internal-path =
           let z : queuesAfter x q ≡ q = passed (receives x) _ _ er ∙ passed (sends x) _ _ es in
           after-is a (queuesAfter x q)
-          ∙ (λ i. record { σi = put (κ .σi) (n .pool) (put (κ .σi (n .pool)) (n .instance) (effect m P L F)); made = made-kept em i; σm = mailOf (z i) })
+          ∙ (λ i. record { σi = put (κ .σi) (n .pool) (put (κ .σi (n .pool)) (n .instance) (ownOf (effect m P L F))); made = made-kept em i; σm = mailOf (z i); σds = storesOf (effect m P L F) })
 
       internal-told : (l : Internal) → seenAs (Seen.τ l) ≡ toldOf (traffic x)
       unfolding traffic siteOf valuesOf span
@@ -373,7 +374,7 @@ module _ (t s q : List ℕ) (v : valid t ≡ true) (state : Fitting t s q) (n : 
           let z : queuesAfter x q ≡ sending q name (out .tuple) = after-sending x q er es ∙ ap (λ (y : Gathered). sending q name (y .tuple)) (speaks-sent es) in
           let w = mail-sent q name (state .wide) l (fits-tidy q name (state-queues t s q (state .fits) name l)) rooms (out .tuple) has-space (Sites.send-short t s v n f es W) in
           after-is a (queuesAfter x q)
-          ∙ (λ i. record { σi = put (κ .σi) (n .pool) (put (κ .σi (n .pool)) (n .instance) (effect m P L F)); made = made-kept em i; σm = (ap mailOf z ∙ w) i })
+          ∙ (λ i. record { σi = put (κ .σi) (n .pool) (put (κ .σi (n .pool)) (n .instance) (ownOf (effect m P L F))); made = made-kept em i; σm = (ap mailOf z ∙ w) i; σds = storesOf (effect m P L F) })
 
       deliver-told : seenAs (Seen.sends name (valuesOf (out .tuple))) ≡ toldOf (traffic x)
       unfolding traffic siteOf
@@ -407,13 +408,13 @@ module _ (t s q : List ℕ) (v : valid t ≡ true) (state : Fitting t s q) (n : 
         unfolding updInst rm
         receive-path em =
             after-is a (queuesAfter x q)
-            ∙ (λ i. record { σi = put (κ .σi) (n .pool) (put (κ .σi (n .pool)) (n .instance) (effect m P L F)); made = made-kept em i; σm = consumed-mail i })
+            ∙ (λ i. record { σi = put (κ .σi) (n .pool) (put (κ .σi (n .pool)) (n .instance) (ownOf (effect m P L F))); made = made-kept em i; σm = consumed-mail i; σds = storesOf (effect m P L F) })
 
         create-path : eqb (m .also) making ≡ true → n .instance ≡ κ .made (n .pool) → configurationOf t (instancesAfter t s n) (queuesAfter x q) ≡ rm (addInst κ (n .pool) (effect m P L F)) name (valuesOf g)
         unfolding addInst rm
         create-path em e =
             after-is a (queuesAfter x q)
-            ∙ (λ i. record { σi = put (κ .σi) (n .pool) (put (κ .σi (n .pool)) (e i) (effect m P L F)); made = made-next em i; σm = consumed-mail i })
+            ∙ (λ i. record { σi = put (κ .σi) (n .pool) (put (κ .σi (n .pool)) (e i) (ownOf (effect m P L F))); made = made-next em i; σm = consumed-mail i; σds = storesOf (effect m P L F) })
 
     -- THE ENGINE'S STEP IS A TRANSITION, and its label is this
     label-internal : eqb (m .receives) on ≡ false → eqb (m .sends) on ≡ false → label ≡ Seen.τ quiet
@@ -436,7 +437,7 @@ module _ (t s q : List ℕ) (v : valid t ≡ true) (state : Fitting t s q) (n : 
       made-below : n .instance < κ .made (n .pool)
       made-below = subst (λ y. n .instance < y) (sym (made-is (f .pool))) (named-made t s n f em)
 
-      from-held : {l : Label} {σ : Local} → Moves version (elementOf el) (n .phase) b L l σ → Moves version (elementOf el) (n .phase) b (κ .σi (n .pool) (n .instance)) l σ
+      from-held : {l : Label} {σ : Local} → Moves version (elementOf el) (n .phase) b L l σ → Moves version (elementOf el) (n .phase) b (seen κ (n .pool) (n .instance)) l σ
       from-held {l} {σ} y = subst (λ K. Moves version (elementOf el) (n .phase) b K l σ) (sym (found-is em (f .pool) (named-made t s n f em))) y
 
       no-values : eqb (m .receives) on ≡ false → valuesOf g ≡ []
@@ -543,14 +544,14 @@ module _ (t s q : List ℕ) (v : valid t ≡ true) (state : Fitting t s q) (n : 
 
   -- of an instance that is made
   module _ {Q : Pool} {e : Element} (r : Runs (collaborationOf t) (namedOf n) Q e) (lt : n .instance < κ .made (n .pool)) {l : Label} {σ : Local}
-      (mv : Moves version e (n .phase) b (κ .σi (n .pool) (n .instance)) l σ) where
+      (mv : Moves version e (n .phase) b (seen κ (n .pool) (n .instance)) l σ) where
     abbrev at-pool : p₀ < poolCount t
     at-pool = runs-found r .0
 
     abbrev at-element : n .element < elementCount t p₀
     at-element = runs-found r .1
 
-    went : Gone (κ .σi (n .pool) (n .instance)) l σ
+    went : Gone (seen κ (n .pool) (n .instance)) l σ
     went = gone at-pool at-element (runs-found r .2) mv
 
     is-made : n .instance < madeCount s p₀
@@ -567,7 +568,7 @@ module _ (t s q : List ℕ) (v : valid t ≡ true) (state : Fitting t s q) (n : 
         instance = passed (eqb (m .also) making) _ _ em ∙ lt-ltb (n .instance) (madeCount s p₀) is-made;
       }
 
-      held-there : κ .σi (n .pool) (n .instance) ≡ localOf h
+      held-there : seen κ (n .pool) (n .instance) ≡ localOf h
       held-there = found-is em at-pool is-made
 
       goes : Goes m (partsAt version el m b) (Grants el b (localOf h)) (localOf h) l σ
@@ -590,9 +591,9 @@ module _ (t s q : List ℕ) (v : valid t ≡ true) (state : Fitting t s q) (n : 
   none-matches f er e = subst (λ (y : Gathered). sameTuple (y .tuple) g ≡ true) (sym (deaf-template f er)) (given-none g e)
 
   internal-back : {Q : Pool} {e : Element} {i : Internal} {σ : Local} → Runs (collaborationOf t) (namedOf n) Q e → n .instance < κ .made (n .pool) → valuesOf g ≡ []
-      → Moves version e (n .phase) b (κ .σi (n .pool) (n .instance)) (Label.τ i) σ → Forced (Seen.τ i) (updInst κ (n .pool) (n .instance) σ)
+      → Moves version e (n .phase) b (seen κ (n .pool) (n .instance)) (Label.τ i) σ → Forced (Seen.τ i) (updInst κ (n .pool) (n .instance) σ)
   internal-back {i = i} r lt val mv =
-      let y = means-internal m (partsAt version el m b) (κ .σi (n .pool) (n .instance) .σd) (went r lt mv .2 .left) i (went r lt mv .2 .says) in
+      let y = means-internal m (partsAt version el m b) (seen κ (n .pool) (n .instance) .σd) (went r lt mv .2 .left) i (went r lt mv .2 .says) in
       let er = y .0 in
       let es = y .1 in
       let em = deaf-makes-none er in
@@ -607,10 +608,10 @@ module _ (t s q : List ℕ) (v : valid t ≡ true) (state : Fitting t s q) (n : 
       )
 
   deliver-back : {Q : Pool} {e : Element} {k : ℕ} {vs : List ℕ} {σ : Local} → Runs (collaborationOf t) (namedOf n) Q e → n .instance < κ .made (n .pool) → valuesOf g ≡ []
-      → Moves version e (n .phase) b (κ .σi (n .pool) (n .instance)) (Label.sends k vs) σ → κ .σm k .size < 64 → Forced (Seen.sends k vs) (add (updInst κ (n .pool) (n .instance) σ) k vs)
+      → Moves version e (n .phase) b (seen κ (n .pool) (n .instance)) (Label.sends k vs) σ → κ .σm k .size < 64 → Forced (Seen.sends k vs) (add (updInst κ (n .pool) (n .instance) σ) k vs)
   unfolding space siteOf
   deliver-back {k = k} {vs = vs} r lt val mv room =
-      let y = means-sends m (partsAt version el m b) (κ .σi (n .pool) (n .instance) .σd) (went r lt mv .2 .left) k vs (went r lt mv .2 .says) in
+      let y = means-sends m (partsAt version el m b) (seen κ (n .pool) (n .instance) .σd) (went r lt mv .2 .left) k vs (went r lt mv .2 .says) in
       let er = y .0 in
       let es = y .1 in
       let em = deaf-makes-none er in
@@ -631,11 +632,11 @@ module _ (t s q : List ℕ) (v : valid t ≡ true) (state : Fitting t s q) (n : 
       )
 
   receive-back : {Q : Pool} {e : Element} {k : ℕ} {us : List Evaluated} {A A′ : Assignments} {σ : Local} {τ : ℕ → Value} → Runs (collaborationOf t) (namedOf n) Q e → n .instance < κ .made (n .pool)
-      → Moves version e (n .phase) b (κ .σi (n .pool) (n .instance)) (Label.receives k us A) σ → 0 < κ .σm k .times (valuesOf g) → Matches us (valuesOf g) A′ → Updates (σ .σd) (A′ & A) τ
+      → Moves version e (n .phase) b (seen κ (n .pool) (n .instance)) (Label.receives k us A) σ → 0 < κ .σm k .times (valuesOf g) → Matches us (valuesOf g) A′ → Updates (σ .σd) (A′ & A) τ
       → Forced (Seen.receives k (valuesOf g)) (rm (updInst κ (n .pool) (n .instance) (σ fields: τ)) k (valuesOf g))
   unfolding queued matches siteOf
   receive-back {k = k} {us = us} {A = A} {A′ = A′} {σ = σ} {τ = τ} r lt mv waits c u =
-      let y = means-receives m (partsAt version el m b) (κ .σi (n .pool) (n .instance) .σd) (went r lt mv .2 .left) k us A (went r lt mv .2 .says) in
+      let y = means-receives m (partsAt version el m b) (seen κ (n .pool) (n .instance) .σd) (went r lt mv .2 .left) k us A (went r lt mv .2 .says) in
       let er = y .0 in
       let em = y .1 in
       let f = at-site r lt mv em in
@@ -656,13 +657,13 @@ module _ (t s q : List ℕ) (v : valid t ≡ true) (state : Fitting t s q) (n : 
       )
 
   create-back : {Q : Pool} {e : Element} {k : ℕ} {us : List Evaluated} {A : Assignments} {σ : Local} {τ : ℕ → Value} → Runs (collaborationOf t) (namedOf n) Q e → n .instance ≡ κ .made (n .pool) → κ .made (n .pool) < Q .limit
-      → Moves version e (n .phase) b blank (Label.new k us) σ → 0 < κ .σm k .times (valuesOf g) → Matches us (valuesOf g) A → Updates (σ .σd) A τ
+      → Moves version e (n .phase) b (blank beside κ .σds) (Label.new k us) σ → 0 < κ .σm k .times (valuesOf g) → Matches us (valuesOf g) A → Updates (σ .σd) A τ
       → Forced (Seen.new k (valuesOf g)) (rm (addInst κ (n .pool) (σ fields: τ)) k (valuesOf g))
   unfolding queued matches siteOf instanceNamed belowLimit
   create-back {k = k} {us = us} {A = A} {σ = σ} {τ = τ} r next lim mv waits c u =
       let (pl, ep, ee, ll) = runs-found r in
       let went₀ = gone pl ep ee mv in
-      let y = means-new m (partsAt version el m b) unset (went₀ .2 .left) k us (went₀ .2 .says) in
+      let y = means-new m (partsAt version el m b) ((blank beside κ .σds) .σd) (went₀ .2 .left) k us (went₀ .2 .says) in
       let er = y .0 in
       let em = y .1 in
       let nx : n .instance ≡ madeCount s p₀ = next ∙ made-is pl in

@@ -9,7 +9,7 @@ use lib.ListN.{length, set, length-set}
 use lib.Seq.{getD-set-same, getD-set-other}
 use borrow.Author.Tests.{eqb-true, eqb-false, ltb-true, lt-ltb, le-leb, leb-true}
 use Rattle.base_words.specs.Words.{at}
-use Rattle.base_words.specs.Counts.{edges, tasks, fields}
+use Rattle.base_words.specs.Counts.{edges, tasks, fields, named}
 use Rattle.base_words.proofs.AllLaws.{and-left, and-right}
 use Rattle.base_words.proofs.PickLaws.{and-true}
 use Rattle.base_words.proofs.WritesLaws.{writes-in, writes-above}
@@ -57,11 +57,11 @@ module _ (place : ℕ → ℕ) (top : ℕ) (h : List ℕ) where
 -- FIELDS
 module _ (h : List ℕ) where
   abbrev known : List ℕ → ℕ → Value
-  known g d = guarded Undefined (ltb d fields) (fieldOf g d)
+  known g d = guarded Undefined (ltb d named) (fieldOf g d)
 
   known-same : (g : List ℕ) → ((k : ℕ) → definedPlace 0 ≤ k → at g k ≡ at h k) → known g ≡ known h
   unfolding fieldOf
-  known-same g e = λ i d. same-if (ltb d fields) Undefined (fieldOf g d) (fieldOf h d) (λ w.
+  known-same g e = λ i d. same-if (ltb d named) Undefined (fieldOf g d) (fieldOf h d) (λ w.
       let a : at g (definedPlace d) ≡ at h (definedPlace d) = e (definedPlace d) (omega arith) in
       let b : at g (valuePlace d) ≡ at h (valuePlace d) = e (valuePlace d) (omega arith) in
       rw (a, b)) i
@@ -93,7 +93,7 @@ module _ (h : List ℕ) (long : length h ≡ copyWords) where
   }
 
   -- A FIELD
-  module _ (d v : ℕ) (few : d < fields) where
+  module _ (d v : ℕ) (few : d < named) where
     abbrev marked : List ℕ
     marked = set h (definedPlace d) 1
 
@@ -104,7 +104,7 @@ module _ (h : List ℕ) (long : length h ≡ copyWords) where
         let b : at (withField h d v) (valuePlace d) ≡ v = getD-set-same marked (valuePlace d) v 0 (omega (arith, length-set h (definedPlace d) 1)) in
         passed (eqb (at (withField h d v) (definedPlace d)) 0) Undefined _ (ap (λ y. eqb y 0) a) ∙ ap Number b
 
-    field-other : (j : ℕ) → j < fields → (j ≡ d → ⊥) → fieldOf (withField h d v) j ≡ fieldOf h j
+    field-other : (j : ℕ) → j < named → (j ≡ d → ⊥) → fieldOf (withField h d v) j ≡ fieldOf h j
     unfolding fieldOf
     field-other j l ne =
         let a : at (withField h d v) (definedPlace j) ≡ at h (definedPlace j) = getD-set-other marked (valuePlace d) (definedPlace j) v 0 (λ q. omega arith) ∙ getD-set-other h (definedPlace d) (definedPlace j) 1 0 (λ q. ne (omega arith)) in
@@ -116,8 +116,8 @@ module _ (h : List ℕ) (long : length h ≡ copyWords) where
       σe = (seen-same tokenPlace edges marked (valuePlace d) v (λ j a b q. omega arith) ∙ seen-same tokenPlace edges h (definedPlace d) 1 (λ j a b q. omega arith)) i;
       σd =
           put-is (localOf h .σd) (localOf (withField h d v) .σd) d (Number v)
-          (chosen (ltb d fields) _ Undefined (lt-ltb d fields few) ∙ field-there)
-          (λ j ne. same-if (ltb j fields) Undefined _ _ (λ w. field-other j (ltb-true j fields w) ne)) i;
+          (chosen (ltb d named) _ Undefined (lt-ltb d named few) ∙ field-there)
+          (λ j ne. same-if (ltb j named) Undefined _ _ (λ w. field-other j (ltb-true j named w) ne)) i;
       active = (seen-same activePlace tasks marked (valuePlace d) v (λ j a b q. omega arith) ∙ seen-same activePlace tasks h (definedPlace d) 1 (λ j a b q. omega arith)) i;
       ready = (seen-same readyPlace tasks marked (valuePlace d) v (λ j a b q. omega arith) ∙ seen-same readyPlace tasks h (definedPlace d) 1 (λ j a b q. omega arith)) i;
     }

@@ -24,7 +24,6 @@ use Rattle.meaning.specs.Step.{Outcome, siteOf, receives, sends, refusals, inst
 use Rattle.meaning.specs.Post.{postRefusals, Posted, post}
 use Rattle.engine.specs.Engine.{Left, valid, fitting, Stepped, leaving, stepped, postedTo}
 use Rattle.engine.specs.Calls.{Act, aStep, aPost, did, allAccepted, after, Valid}
-use Rattle.state_fits.specs.Fits.{stateFits}
 use Rattle.proof_steps.proofs.Choices.{by-test, by-choice, chosen, passed}
 use Rattle.proof_steps.proofs.EveryStep.{Fitting}
 use Rattle.proof_steps.proofs.OnlyOwn.{length-after}
@@ -156,7 +155,7 @@ module _ (t z : List ℕ) (s : Valid t z) where
         ap (λ (o : Left). stateOf t (o .state)) postedTo-is
         ∙ ap (λ (o : Posted). stateOf t (instances ++ o .queues)) (post-is e)
         ∙ (λ i. configurationOf t (take-at instances c instancesWords (fit .long) i) (drop-at instances c instancesWords (fit .long) i))
-        ∙ (λ i. record { σi = stateOf t z .σi; made = stateOf t z .made; σm = w i })
+        ∙ (λ i. record { σi = stateOf t z .σi; made = stateOf t z .made; σm = w i; σds = stateOf t z .σds })
 
     size-is : name < names → stateOf t z .σm name .size ≡ length (messagesOf queues name)
     size-is l = ap (λ (M : Multiset). M .size) (chosen (ltb name names) _ _ (lt-ltb name names l))

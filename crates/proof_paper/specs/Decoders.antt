@@ -1,18 +1,20 @@
 -- THE DECODERS: the paper's syntax that the words of a table stand for, and the paper's state that the words of a state stand for. They are total; a
--- number outside its range (edge 0, field 16, a pool that is not there) finds nothing, and never the place of another.
-use Prim.Native.Nat.{ℕ, zero, suc, _+_}
+-- number outside its range (edge 0, field 32, a pool that is not there) finds nothing, and never the place of another.
+use Prim.Native.Nat.{ℕ, zero, suc, _+_, _*_}
 use mathlib.Core.Bool.{Bool, _&&_}
 use mathlib.Core.List.{List, [], _∷_}
 use lib.Dec.{eqb, ltb}
 use lib.ListN.{length, getD, drop}
 use Rattle.base_words.specs.Pick.{if_then_else_}
 use Rattle.base_words.specs.Words.{at}
-use Rattle.base_words.specs.Counts.{edges, tasks, fields, names}
+use Rattle.base_words.specs.Counts.{edges, tasks, fields, names, named}
 use Rattle.base_table.specs.Places.{operandNumber, formPlace, leftPlace, rightPlace, plus, minus, binding, always, equals, below, assignedIn, poolPlace}
 use Rattle.base_table.specs.Table.{poolCount, elementCount, elementAt, poolOf, limitOf, kindIn, taskIn, modeIn, entryCount, exitCount, entryAt, exitAt, conditionAt, messageName, messageLength, itemAt, assignmentCount, assignmentAt}
+use Rattle.base_state.specs.Places.{sharedPlace}
 use Rattle.base_state.specs.Instances.{madeCount, tokens, activeCount, readyCount}
 use Rattle.check_limits.specs.Limits.{within}
-use Rattle.meaning.specs.declared.Value.the-variants.{Undefined}
+use Rattle.meaning.specs.declared.Value.{Value}
+use Rattle.meaning.specs.declared.Value.the-variants.{Undefined, Number}
 use Rattle.meaning.specs.declared.Tuple.{Tuple}
 use Rattle.meaning.specs.declared.Name.{Name}
 use Rattle.meaning.specs.declared.Answer.{Answer}
@@ -23,7 +25,7 @@ use Rattle.meaning.specs.Messages.{times}
 use Rattle.meaning.specs.Queues.{messagesOf}
 use Rattle.meaning.specs.Step.{instanceOf}
 use Rattle.paper.specs.Syntax.{Operand, number, field, Exp, alone, sum, difference, Cond, default, equal, less, Item, exp, Assignments, ε, _:=_, _&_, Mode, a, na-c, na-nc, Choice, Receipt, Element, start, startRcv, end, terminate, endSnd, interRcv, interSnd, eventBased, andSplit, andJoin, xorJoin, xorSplit, task, taskRcv, taskSnd, Pool}
-use Rattle.paper.specs.States.{Local, blank, Multiset, Configuration}
+use Rattle.paper.specs.States.{Local, blank, Multiset, Configuration, ownOf}
 use Rattle.paper.specs.Collaborations.{Named, Seen}
 
 -- f k, f (k + 1), .., n of them: as a list, and as assignments one after the other
@@ -118,14 +120,15 @@ poolAt t p = record { name = at t (poolPlace p); process = processOf t p; limit 
 unfoldable pub collaborationOf : List ℕ → List Pool
 collaborationOf t = span (poolAt t) 0 (poolCount t)
 
--- AN INSTANCE, h its words: what stands at a number of the right range, and nothing at another
+-- AN INSTANCE, h its words, or those that a step sees, with the stores behind its fields: what stands at a number of the right range, and nothing at
+-- another
 abbrev pub guarded : {A : Type 0} → A → Bool → A → A
 guarded none inside x = if inside then x else none
 
 abbrev pub localOf : List ℕ → Local
 localOf h = record {
   σe = λ e. guarded 0 (within 1 edges e) (tokens h e);
-  σd = λ d. guarded Undefined (ltb d fields) (fieldOf h d);
+  σd = λ d. guarded Undefined (ltb d named) (fieldOf h d);
   active = λ n. guarded 0 (within 1 tasks n) (activeCount h n);
   ready = λ n. guarded 0 (within 1 tasks n) (readyCount h n);
 }
@@ -146,11 +149,16 @@ nothing = record { times = λ vs. 0; size = 0 }
 abbrev pub queueOf : List ℕ → ℕ → Multiset
 queueOf q m = record { times = λ vs. times (tupleOf vs) (messagesOf q m); size = length (messagesOf q m) }
 
+-- store d: whether it is defined, and its value
+unfoldable pub storeOf : List ℕ → ℕ → Value
+storeOf s d = if eqb (at s (sharedPlace + 2 * d)) 0 then Undefined else Number (at s (sharedPlace + (2 * d + 1)))
+
 abbrev pub configurationOf : List ℕ → List ℕ → List ℕ → Configuration
 configurationOf t s q = record {
-  σi = λ p i. guarded blank (isPool t p && ltb i (madeCount s (poolOf t p))) (localOf (instanceOf s (poolOf t p) i));
+  σi = λ p i. guarded blank (isPool t p && ltb i (madeCount s (poolOf t p))) (ownOf (localOf (instanceOf s (poolOf t p) i)));
   made = λ p. guarded 0 (isPool t p) (madeCount s (poolOf t p));
   σm = λ m. guarded nothing (ltb m names) (queueOf q m);
+  σds = λ d. guarded Undefined (ltb d fields) (storeOf s d);
 }
 
 -- THE NAME of a step

@@ -7,7 +7,7 @@ use Prim.Native.Nat.{ℕ, _-_}
 use lib.Dec.{eqb, leb}
 use lib.ListN.{set}
 use Rattle.base_words.specs.Pick.{if_then_else_}
-use Rattle.base_words.specs.Counts.{fields}
+use Rattle.base_words.specs.Counts.{named}
 use Rattle.base_table.specs.Places.{modePlace}
 use Rattle.text_lexer.specs.declared.Form.{Form}
 use Rattle.text_lexer.specs.declared.Form.the-variants.{Word, Sign, Assign, End, Other}
@@ -16,10 +16,10 @@ use Rattle.text_numerals.specs.declared.Number.{Number}
 use Rattle.text_numerals.specs.declared.Number.the-variants.{Value, TooLarge, NotANumber}
 use Rattle.text_numerals.specs.declared.Operand.{Operand}
 use Rattle.text_numerals.specs.declared.Operand.the-variants.{Number as OfNumber, Field, OutOfRange, NotAnOperand}
-use Rattle.text_numerals.specs.Numerals.{numberOf, operandOf}
+use Rattle.text_numerals.specs.Numerals.{numberOf, fieldOf, operandOf}
 use Rattle.text_readers.specs.declared.Read.{Read}
 use Rattle.text_readers.specs.declared.Read.the-variants.{At, Refused}
-use Rattle.text_readers.specs.Reading.{Parsed, Reader, misplaced, excessive, passed, refused, ifAt, onward, _then_, placeOf, behind, letters, signAt, assignAt, endAt, sign, assign, keepNumber, number, fieldOf, field, keepOperand, operand, modeNamed, keepMode, mode}
+use Rattle.text_readers.specs.Reading.{Parsed, Reader, misplaced, excessive, passed, refused, ifAt, onward, _then_, placeOf, behind, letters, signAt, assignAt, endAt, sign, assign, keepNumber, number, field, keepOperand, operand, modeNamed, keepMode, mode}
 use Rattle.text_read.specs.Notation.{Got}
 
 -- reading ends here; the token here is refused, with 3 or else with 2; it is passed; its form and its letters say how to go on
@@ -276,8 +276,8 @@ number-reads least most place =
 pub field-reads : (place : ℕ) → Reads (field place)
 unfolding field
 field-reads place =
-    one-token (field place) (λ m w x p q. ifWord m (keepNumber (fieldOf w) 0 (fields - 1) place p q x) (refused misplaced p x)) (λ t at x. refl)
-    (λ m w x. word-one m (number-one (fieldOf w) 0 (fields - 1) place x) (no-word x))
+    one-token (field place) (λ m w x p q. ifWord m (keepNumber (fieldOf w) 0 (named - 1) place p q x) (refused misplaced p x)) (λ t at x. refl)
+    (λ m w x. word-one m (number-one (fieldOf w) 0 (named - 1) place x) (no-word x))
 
 pub operand-reads : (place : ℕ) → Reads (operand place)
 unfolding operand

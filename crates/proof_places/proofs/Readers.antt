@@ -11,8 +11,8 @@ use Rattle.base_words.specs.Counts.{edges}
 use Rattle.base_kinds.specs.Kinds.{kindOf}
 use Rattle.base_table.specs.Places.{formPlace, leftPlace, always, default, entriesPlace, exitsPlace}
 use Rattle.text_lexer.specs.Lexer.{ifWord, ifSign}
-use Rattle.text_numerals.specs.Numerals.{numberOf, sameBytes}
-use Rattle.text_readers.specs.Reading.{Reader, misplaced, refused, ifAt, onward, _then_, nothing, placeOf, signAt, sign, operand, fieldOf, isSpelled, startsNumber, startsField, startsSign}
+use Rattle.text_numerals.specs.Numerals.{numberOf, fieldOf, sameBytes}
+use Rattle.text_readers.specs.Reading.{Reader, misplaced, refused, ifAt, onward, _then_, nothing, placeOf, signAt, sign, operand, isSpelled, startsNumber, startsField, startsSign}
 use Rattle.text_terms.specs.Terms.{store, joint, expression, bind, templateItem, comparison, condition, assignment, guarded}
 use Rattle.text_parts.specs.declared.Series.{Series}
 use Rattle.text_parts.specs.Parts.{anEdge, aTemplateItem, aMessageItem, anAssignment, edgeList, guardedList, assignmentList, tuple, itemOf, starts, tooMany, counted, itemsFrom, items, inside, series, message, receiving, receivingBranches, oneEdge, taskPart, partOf}

@@ -105,6 +105,15 @@ points =
     "`?7` is 2 at the 7" shown-by refused "pool(1,startRcv(3:<?7>" 2 20 ∷
     "`d16` is 3 at the d" shown-by refused "pool(1,task(2,1,a,d16=1" 3 18 ∷
     "`d01` is 2" shown-by refused "pool(1,task(2,1,a,d01=1" 2 18 ∷
+    "`s16` is 3 at the s" shown-by refused "pool(1,task(2,1,a,s16=1" 3 18 ∷
+    "bound too" shown-by refused "pool(1,startRcv(3:<?s16>" 3 20 ∷
+    "`s01` is 2" shown-by refused "pool(1,task(2,1,a,s01=1" 2 18 ∷
+    "`S1` is 2" shown-by refused "pool(1,task(2,1,a,S1=1" 2 18 ∷
+    "`s` is 2" shown-by refused "pool(1,task(2,1,a,s=1" 2 18 ∷
+    "a store where no field may stand is 2" shown-by refused "pool(1,start(s1" 2 13 ∷
+    "a store is bound, compared and assigned as a field is" shown-by read "pool(1,startRcv(3:<?s3>,1)|task(1,1,a,s3=d3,{s3:=s15-1},2)|end(2))" ∷
+    "one template may bind `d1` and `s1`" shown-by read "pool(1,startRcv(3:<?d1,?s1>,1)|end(1))" ∷
+    "`<?s1,?s1>` breaks check 8" shown-by refused "pool(1,startRcv(3:<?s1,?s1>,1)|end(1))" 4 8 ∷
     "edge 0 is 3" shown-by refused "pool(1,start(0,2))" 3 13 ∷
     "edge 49 is 3, whatever follows" shown-by refused "pool(1,start(1,49;;" 3 15 ∷
     "numbers have no leading zeros: `01` is 2" shown-by refused "pool(1,start(01,2))" 2 13 ∷
@@ -127,6 +136,8 @@ points =
     "a fifth template item that starts with `?` is 3 at it" shown-by refused "pool(1,startRcv(3:<1,1,1,1,?d0>" 3 27 ∷
     "a fifth message item that starts with `?` is 2" shown-by refused "pool(1,endSnd(2,3:<1,1,1,1,?d0>" 2 27 ∷
     "a fifth message item is 3" shown-by refused "pool(1,endSnd(2,3:<1,1,1,1,d0>" 3 27 ∷
+    "a fifth item that starts with a store is 3" shown-by refused "pool(1,startRcv(3:<1,1,1,1,s0>" 3 27 ∷
+    "a fifth assignment to a store is 3 at it" shown-by refused "pool(1,task(2,1,a,true,{d0:=1,d1:=1,d2:=1,d3:=1,s16" 3 48 ∷
     "a fifth assignment is 3 at its field" shown-by refused "pool(1,task(2,1,a,true,{d0:=1,d1:=1,d2:=1,d3:=1,d4" 3 48 ∷
     "where it starts with a number, 2" shown-by refused "pool(1,task(2,1,a,true,{d0:=1,d1:=1,d2:=1,d3:=1,4" 2 48 ∷
     "an empty pool is 2 at its closing sign" shown-by refused "pool(1,)" 2 7 ∷
@@ -152,4 +163,5 @@ points =
     "used up before: one is" shown-by ran-to (ran (pool 1 0 1 (words "end(1)")) 1 (made 1 (tokens 1 2)) (queue [])) 1 1 ∷
     "until none is accepted" shown-by ran-to (ran (pool 1 0 1 (words "end(1)")) 100 (made 1 (tokens 1 2)) (queue [])) 2 0 ∷
     "the writer writes no blanks and ends with one newline" shown-by writes " pool ( 1 , start ( 1 , 2 ) | end ( 2 ) ) " "pool(1,start(1,2)|end(2))\n" ∷
-    "keeps the order of the table" shown-by writes "pool(2,end(2)|start(1,2))|miPool(1,startRcv(3:<?d0,1+d0>,1)|end(1),2)" "pool(2,end(2)|start(1,2))|miPool(1,startRcv(3:<?d0,1+d0>,1)|end(1),2)\n" ∷ []
+    "keeps the order of the table" shown-by writes "pool(2,end(2)|start(1,2))|miPool(1,startRcv(3:<?d0,1+d0>,1)|end(1),2)" "pool(2,end(2)|start(1,2))|miPool(1,startRcv(3:<?d0,1+d0>,1)|end(1),2)\n" ∷
+    "and stores as they were read" shown-by writes "pool(1,startRcv(3:<?s0,d15+s15>,1)|end(1))" "pool(1,startRcv(3:<?s0,d15+s15>,1)|end(1))\n" ∷ []

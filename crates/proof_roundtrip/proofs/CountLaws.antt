@@ -11,7 +11,7 @@ use lib.ListN.{drop}
 use lib.Seq.{getD-drop}
 use borrow.Author.Tests.{eqb-true, eq-eqb, leb-true}
 use Rattle.base_words.specs.All.{all}
-use Rattle.base_words.specs.Counts.{branches, fields, values}
+use Rattle.base_words.specs.Counts.{branches, named, values}
 use Rattle.base_words.specs.Sum.{sum, hit, oneIf}
 use Rattle.base_words.specs.Words.{at}
 use Rattle.base_words.proofs.PickLaws.{pick-yes}
@@ -210,7 +210,7 @@ module _ (x el : List ℕ) (same : (i : ℕ) → i < elementWords → at x i ≡
 
   template-same : (j : ℕ) → j < receivedCount el → templateOnce x j ≡ templateOnce el j
   unfolding templateOnce
-  template-same j h = all-ext (λ d. leb (timesBound x j d) 1) (λ d. leb (timesBound el j d) 1) fields (λ d u. ap (λ (v : ℕ). leb v 1) (times-same j d h))
+  template-same j h = all-ext (λ d. leb (timesBound x j d) 1) (λ d. leb (timesBound el j d) 1) named (λ d u. ap (λ (v : ℕ). leb v 1) (times-same j d h))
 
   pub bound-same : boundOnce x ≡ boundOnce el
   unfolding boundOnce

@@ -11,7 +11,7 @@ use lib.Dec.{eqb, ltb}
 use lib.ListN.{length, drop}
 use lib.Seq.{getD-drop, drop-drop}
 use borrow.Author.Tests.{eq-eqb, ne-eqb, le-leb, lt-ltb}
-use Rattle.base_words.specs.Counts.{fields}
+use Rattle.base_words.specs.Counts.{named}
 use Rattle.base_words.specs.Pick.{if_then_else_}
 use Rattle.base_words.specs.Text.{bytes}
 use Rattle.base_words.specs.Words.{at, greatest}
@@ -73,9 +73,9 @@ module _ (x : List ℕ) where
   unfolding itemFits
   item-expression receives f = sym (pick-no (eqb (at x 0) 4) _ _ _ (ne-eqb (at x 0) 4 (λ e. omega (arith, e, expression-low f))) refl) ∙ f
 
-  item-bind : (receives : ℕ) → (receives ≡ none → ⊥) → at x 0 ≡ 4 → at x 1 ≡ 1 → at x 2 < fields → zeros (drop 3 x) 2 ≡ true → itemFits receives x ≡ true
+  item-bind : (receives : ℕ) → (receives ≡ none → ⊥) → at x 0 ≡ 4 → at x 1 ≡ 1 → at x 2 < named → zeros (drop 3 x) 2 ≡ true → itemFits receives x ≡ true
   unfolding itemFits bindFits if_then_else_
-  item-bind receives n e f d z = rw (e, f, ne-eqb receives none n, lt-ltb (at x 2) fields d, z)
+  item-bind receives n e f d z = rw (e, f, ne-eqb receives none n, lt-ltb (at x 2) named d, z)
 
   condition-plain : (conditions : ℕ) → at x 0 ≡ 1 → zeros (drop 1 x) 4 ≡ true → conditionFits conditions x ≡ true
   unfolding conditionFits if_then_else_
@@ -174,7 +174,7 @@ module _ (place : ℕ) (h : place + 5 ≤ elementWords) where
       (fills-then (fills-store (place + 1) 1 (omega (arith, h)) (omega arith)) (fills-field (place + 1 + 1) (omega (arith, h))) (λ i e f. omega (arith, e, f)))
       (λ i e. ⊎-elim (λ f. omega (arith, e, f)) (λ f. omega (arith, e, f))))
     where
-      fit : (y : List ℕ) → (at y (place + 0) ≡ 4) × ((at y (place + 1) ≡ 1) × Ranged 0 15 (place + 1 + 1) y) → ((i : ℕ) → Span place 5 i → (Bound i → ⊥) → at y i ≡ 0) → itemFits receives (drop place y) ≡ true
+      fit : (y : List ℕ) → (at y (place + 0) ≡ 4) × ((at y (place + 1) ≡ 1) × Ranged 0 31 (place + 1 + 1) y) → ((i : ℕ) → Span place 5 i → (Bound i → ⊥) → at y i ≡ 0) → itemFits receives (drop place y) ≡ true
       fit y q z =
           let d : at (drop place y) 2 ≡ at y (place + 1 + 1) = getD-drop place y 2 0 ∙ ap (at y) (let e : place + 2 ≡ place + 1 + 1 = omega arith in e) in
           item-bind (drop place y) receives n (head y ∙ q .0) (getD-drop place y 1 0 ∙ q .1 .0) (omega (arith, d, q .1 .1 .1))
@@ -250,10 +250,10 @@ fills-assignment j h =
     fit
     (fills-then (fills-field (assignmentPlace j) (omega (arith, h))) (fills-behind idle-assign (fills-expression (assignmentPlace j + 1) (omega (arith, h)))) (λ i e s. omega (arith, e, s .0)))
   where
-    fit : (y : List ℕ) → Ranged 0 15 (assignmentPlace j) y × (expressionFits (drop (assignmentPlace j + 1) y) ≡ true)
+    fit : (y : List ℕ) → Ranged 0 31 (assignmentPlace j) y × (expressionFits (drop (assignmentPlace j + 1) y) ≡ true)
         → ((i : ℕ) → Span (assignmentPlace j) 6 i → (Both (λ i. i ≡ assignmentPlace j) (Span (assignmentPlace j + 1) 5) i → ⊥) → at y i ≡ 0) → assignmentFits (drop (assignmentPlace j) y) ≡ true
     fit y q z =
         unfold assignmentFits in
-        and-true (ltb (at (drop (assignmentPlace j) y) 0) fields) (expressionFits (drop 1 (drop (assignmentPlace j) y)))
-        (lt-ltb (at (drop (assignmentPlace j) y) 0) fields (omega (arith, q .0 .1, getD-drop (assignmentPlace j) y 0 0 ∙ ap (at y) (let e : assignmentPlace j + 0 ≡ assignmentPlace j = omega arith in e))))
+        and-true (ltb (at (drop (assignmentPlace j) y) 0) named) (expressionFits (drop 1 (drop (assignmentPlace j) y)))
+        (lt-ltb (at (drop (assignmentPlace j) y) 0) named (omega (arith, q .0 .1, getD-drop (assignmentPlace j) y 0 0 ∙ ap (at y) (let e : assignmentPlace j + 0 ≡ assignmentPlace j = omega arith in e))))
         (ap expressionFits (drop-drop 1 (assignmentPlace j) y) ∙ q .1)

@@ -9,7 +9,7 @@ use lib.Dec.{eqb, leb, ltb}
 use lib.ListN.{length, drop, set, length-set}
 use lib.Seq.{getD-drop, getD-set-same, getD-set-other}
 use borrow.Author.Tests.{leb-true, ltb-true, eqb-false, lt-ltb}
-use Rattle.base_words.specs.Counts.{fields}
+use Rattle.base_words.specs.Counts.{fields, stores, named}
 use Rattle.base_words.specs.Pick.{if_then_else_}
 use Rattle.base_words.specs.Text.{bytes}
 use Rattle.base_words.specs.Words.{at, greatest}
@@ -24,8 +24,8 @@ use Rattle.text_numerals.specs.declared.Number.{Number}
 use Rattle.text_numerals.specs.declared.Number.the-variants.{Value, TooLarge, NotANumber}
 use Rattle.text_numerals.specs.declared.Operand.{Operand}
 use Rattle.text_numerals.specs.declared.Operand.the-variants.{Number as OfNumber, Field, OutOfRange, NotAnOperand}
-use Rattle.text_numerals.specs.Numerals.{valueFrom, leadingZero, numberOf, sameBytes, asNumber, asField, operandOf, ifValue}
-use Rattle.text_readers.specs.Reading.{Parsed, misplaced, excessive, passed, refused, placeOf, behind, letters, keepNumber, number, fieldOf, field, keepOperand, operand, modeNamed, keepMode, mode}
+use Rattle.text_numerals.specs.Numerals.{valueFrom, leadingZero, numberOf, isFieldLetter, fieldBehind, fieldFrom, fieldOf, sameBytes, asNumber, asField, operandOf, ifValue}
+use Rattle.text_readers.specs.Reading.{Parsed, misplaced, excessive, passed, refused, placeOf, behind, letters, keepNumber, number, field, keepOperand, operand, modeNamed, keepMode, mode}
 use Rattle.proof_trips.proofs.NumberReads.{Span}
 use Rattle.proof_roundtrip.proofs.FillLaws.{refused-passed, same-words, Filled, Fills, filled-set, span-region}
 use Rattle.check_limits.proofs.SameLaws.{operand-same}
@@ -127,20 +127,20 @@ module _ (least most place : ℕ) (h : place < elementWords) (g : most ≤ great
             filled-kept x y (number-passed least most place text x from q y e) l;
       }
 
-pub fills-field : (place : ℕ) → place < elementWords → Fills (field place) (λ i. i ≡ place) (Ranged 0 15 place)
+pub fills-field : (place : ℕ) → place < elementWords → Fills (field place) (λ i. i ≡ place) (Ranged 0 31 place)
 unfolding field
 fills-field place h =
     record {
       decide = λ i. ℕ-discrete i place;
-      local = ranged-local 0 15 place h (omega arith);
+      local = ranged-local 0 31 place h (omega arith);
       fills = λ text x from q y e l o.
-          filled-kept 0 15 place h (omega arith) x y (kept (fieldOf (letters text from)) 0 15 place (placeOf text from) (behind text from) q x y (word-passed (tokenAt text from .form) _ misplaced (placeOf text from) q x y e)) l;
+          filled-kept 0 31 place h (omega arith) x y (kept (fieldOf (letters text from)) 0 31 place (placeOf text from) (behind text from) q x y (word-passed (tokenAt text from .form) _ misplaced (placeOf text from) q x y e)) l;
     }
 
 -- OPERANDS: a number that is a word, or a field
 abbrev Sound : Operand → Type 0
 Sound (OfNumber v) = v ≤ greatest
-Sound (Field d) = d < fields
+Sound (Field d) = d < named
 Sound OutOfRange = 0 ≤ greatest
 Sound NotAnOperand = 0 ≤ greatest
 
@@ -150,22 +150,31 @@ sound-number (Value v) h = h v refl
 sound-number TooLarge h = omega arith
 sound-number NotANumber h = omega arith
 
-sound-field : (n : Number) → Sound (asField n)
-unfolding asField
-sound-field (Value v) = go (ltb v fields) refl
+sound-behind : (before count : ℕ) → before + count ≤ named → (n : Number) → Sound (asField (fieldBehind before count n))
+unfolding asField fieldBehind
+sound-behind before count h (Value v) = go (ltb v count) refl
   where
-    go : (b : Bool) → ltb v fields ≡ b → Sound (if b then Field v else OutOfRange)
-    go true h = unfold if_then_else_ in ltb-true v fields h
-    go false h = unfold if_then_else_ in omega arith
-sound-field TooLarge = omega arith
-sound-field NotANumber = omega arith
+    go : (b : Bool) → ltb v count ≡ b → Sound (asField (if b then Value (v + before) else TooLarge))
+    go true e = unfold if_then_else_ asField in omega (arith, h, ltb-true v count e)
+    go false e = unfold if_then_else_ asField in omega arith
+sound-behind before count h TooLarge = omega arith
+sound-behind before count h NotANumber = omega arith
+
+sound-field : (letter : ℕ) (n : Number) → Sound (asField (fieldFrom letter n))
+unfolding fieldFrom
+sound-field letter n = go (eqb letter 100) (eqb letter 115)
+  where
+    go : (b c : Bool) → Sound (asField (if b then fieldBehind 0 fields n else if c then fieldBehind fields stores n else NotANumber))
+    go true c = unfold if_then_else_ in sound-behind 0 fields (omega arith) n
+    go false true = unfold if_then_else_ in sound-behind fields stores (omega arith) n
+    go false false = unfold if_then_else_ asField in omega arith
 
 sound : (w : List ℕ) → Sound (operandOf w)
-unfolding operandOf
-sound w = go (eqb (at w 0) 100)
+unfolding operandOf fieldOf
+sound w = go (isFieldLetter (at w 0))
   where
-    go : (b : Bool) → Sound (if b then asField (numberOf (drop 1 w)) else asNumber (numberOf w))
-    go true = unfold if_then_else_ in sound-field (numberOf (drop 1 w))
+    go : (b : Bool) → Sound (if b then asField (fieldFrom (at w 0) (numberOf (drop 1 w))) else asNumber (numberOf w))
+    go true = unfold if_then_else_ in sound-field (at w 0) (numberOf (drop 1 w))
     go false = unfold if_then_else_ in sound-number (numberOf w) (number-small w)
 
 -- two words stored
@@ -195,7 +204,7 @@ module _ (x : List ℕ) (place u v : ℕ) (l : length x ≡ elementWords) (h : p
       one i s (yes e) = subst (λ (k : ℕ). k ≤ greatest) (sym (ap (at stored) e ∙ first)) su
       one i s (no n) = subst (λ (k : ℕ). k ≤ greatest) (sym (ap (at stored) (let q : i ≡ place + 1 = omega (arith, s .0, s .1, n) in q) ∙ second)) sv
 
-operand-words : (x : List ℕ) (place u v : ℕ) → at x place ≡ u → at x (place + 1) ≡ v → operandFits (drop place x) ≡ (if eqb u 0 then true else eqb u aField && ltb v fields)
+operand-words : (x : List ℕ) (place u v : ℕ) → at x place ≡ u → at x (place + 1) ≡ v → operandFits (drop place x) ≡ (if eqb u 0 then true else eqb u aField && ltb v named)
 unfolding operandFits
 operand-words x place u v e f = rw (getD-drop place x 0 0 ∙ ap (at x) (let q : place + 0 ≡ place = omega arith in q) ∙ e, getD-drop place x 1 0 ∙ f)
 
@@ -207,7 +216,7 @@ filled-operand (OfNumber v) place p q r x y s h l e =
 filled-operand (Field d) place p q r x y s h l e =
     subst (λ (z : List ℕ). Filled x z (Span place 2) (λ y. operandFits (drop place y) ≡ true)) (same-words q r _ y e)
     (filled-two x place 1 d l h (omega arith) (omega (arith, s))
-    (operand-words (stored x place 1 d l h) place 1 d (first x place 1 d l h) (second x place 1 d l h) ∙ (unfold if_then_else_ in lt-ltb d fields s)))
+    (operand-words (stored x place 1 d l h) place 1 d (first x place 1 d l h) (second x place 1 d l h) ∙ (unfold if_then_else_ in lt-ltb d named s)))
 filled-operand OutOfRange place p q r x y s h l e = absurd (refused-passed excessive p r x y e)
 filled-operand NotAnOperand place p q r x y s h l e = absurd (refused-passed misplaced p r x y e)
 

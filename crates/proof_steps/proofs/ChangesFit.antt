@@ -10,7 +10,7 @@ use lib.Seq.{set-getD}
 use borrow.Author.Tests.{eqb-true, eqb-false, ltb-true, leb-false}
 use Rattle.base_words.specs.Pick.{if_then_else_}
 use Rattle.base_words.specs.Words.{at}
-use Rattle.base_words.specs.Counts.{fields, values, assignments, countMost}
+use Rattle.base_words.specs.Counts.{values, assignments, countMost, named}
 use Rattle.base_words.proofs.IterLaws.{iter-keeps}
 use Rattle.base_kinds.specs.declared.moves.Move.{Move}
 use Rattle.base_kinds.specs.Moves.{every, branch, up, down}
@@ -57,7 +57,7 @@ counted-none n = refl
 
 module _ (u el : List ℕ) where
   -- FIELDS: binds, then assignments
-  module _ (b : ℕ) (g : Tuple) (right : (j : ℕ) → binds el b j ≡ true → at (itemAt el b j) (leftPlace + operandNumber) < fields) where
+  module _ (b : ℕ) (g : Tuple) (right : (j : ℕ) → binds el b j ≡ true → at (itemAt el b j) (leftPlace + operandNumber) < named) where
     fit-bind : (j : ℕ) (h : List ℕ) → Fit u h → Fit u (bindOne el b g j h)
     unfolding bindOne
     fit-bind j h f =
@@ -69,8 +69,8 @@ module _ (u el : List ℕ) where
     unfolding bound
     fit-bound h f = iter-keeps (bindOne el b g) h (Fit u) values (λ k y l r. fit-bind k y r) f
 
-  module _ (right : (j : ℕ) → j < assignmentCount el → at (assignmentAt el j) 0 < fields) where
-    fit-value : (h : List ℕ) (d : ℕ) (v : Value) → d < fields → Fit u h → Fit u (assignedValue h d v .instance)
+  module _ (right : (j : ℕ) → j < assignmentCount el → at (assignmentAt el j) 0 < named) where
+    fit-value : (h : List ℕ) (d : ℕ) (v : Value) → d < named → Fit u h → Fit u (assignedValue h d v .instance)
     unfolding assignedValue
     fit-value h d (Number v) l f = fit-field u h d v l f
     fit-value h d Undefined l f = f

@@ -8,36 +8,36 @@ use native.Mathlib.Omega.{arith}
 use lib.Dec.{eqb, leb, ltb}
 use lib.ListN.{length, drop}
 use lib.Seq.{getD-drop}
-use borrow.Author.Tests.{ltb-true, leb-true, eq-eqb}
+use borrow.Author.Tests.{ltb-true, leb-true}
 use Rattle.base_words.specs.All.{all}
 use Rattle.base_words.specs.Words.{at}
-use Rattle.base_words.specs.Counts.{pools, names, values, messages, instances}
+use Rattle.base_words.specs.Counts.{pools, names, fields, values, messages, instances}
 use Rattle.base_words.proofs.AllLaws.{all-of, and-left, and-right}
 use Rattle.base_words.proofs.PickLaws.{and-true}
 use Rattle.base_kinds.specs.Moves.{making}
-use Rattle.base_state.specs.Places.{instanceWords, storeWords, sharedPlace, instancesWords, queueWords}
+use Rattle.base_state.specs.Places.{definedPlace, instanceWords, storeWords, sharedPlace, instancesWords, queueWords}
 use Rattle.base_state.specs.Instances.{madeCount, versionOf}
-use Rattle.check_limits.specs.Limits.{zeros, tableFits}
+use Rattle.check_limits.specs.Limits.{tableFits}
 use Rattle.meaning.specs.declared.Name.{Name}
 use Rattle.meaning.specs.declared.Tuple.{Tuple}
 use Rattle.meaning.specs.Queues.{messagesOf, sending}
 use Rattle.meaning.specs.Refusals.{_unless_, firstRefusal}
 use Rattle.meaning.specs.Post.{postRefusals}
 use Rattle.meaning.specs.Step.{Site, siteOf, poolNamed, moveNamed, messageNamed, sent, instanceAfter, madeAfter, instancesAfter, queuesAfter, refusals}
-use Rattle.state_fits.specs.Fits.{usable, instancesFit, sharedFits, queueFits, stateFits}
-use Rattle.step_queues.proofs.SlotLaws.{by-order, by-below}
+use Rattle.state_fits.specs.Fits.{usable, fieldFits, fieldsFit, instancesFit, sharedFits, queueFits, stateFits}
+use Rattle.step_queues.proofs.SlotLaws.{by-order}
 use Rattle.proof_steps.proofs.AcceptedParts.{first-holds}
 use Rattle.proof_steps.proofs.Choices.{by-test}
 use Rattle.proof_steps.proofs.OnlyOwn.{only-own, own-words, own-stores, own-made, same-version}
 use Rattle.proof_steps.proofs.Elements.{limit-few}
 use Rattle.proof_steps.proofs.Found.{Found}
 use Rattle.proof_steps.proofs.InstanceBefore.{pool-few, instance-before}
-use Rattle.proof_steps.proofs.InstanceFits.{Fit}
+use Rattle.proof_steps.proofs.InstanceFits.{field-alike, Fit}
 use Rattle.proof_steps.proofs.InstanceAfter.{fit-after}
 use Rattle.proof_steps.proofs.MadeAfter.{StartsOnce, Makes, makes-none, makes-one}
 use Rattle.proof_steps.proofs.PoolFits.{PoolFit, pool-parts, pool-back, made-few}
 use Rattle.proof_steps.proofs.InstancesKept.{own-pool, other-pool}
-use Rattle.proof_steps.proofs.Traffic.{state-queues, state-instances, state-shared, here, site, received-name, sent-name, sent-space, sent-short}
+use Rattle.proof_steps.proofs.Traffic.{state-queues, state-instances, here, site, received-name, sent-name, sent-space, sent-short}
 use Rattle.proof_steps.proofs.QueuesAfter.{by-queues}
 use Rattle.proof_steps.proofs.QueuesKept.{consuming-fits, sending-fits}
 
@@ -73,8 +73,8 @@ module _ (t s q : List ℕ) (n : Name) (fits : tableFits t ≡ true) (once : Sta
   made-is : madeCount r p ≡ madeAfter x
   made-is = own-made t s n (omega (arith, few))
 
-  named : n .instance < instances
-  named = omega (arith, made-room, makes .named)
+  pub instance-few : n .instance < instances
+  instance-few = omega (arith, made-room, makes .named)
 
   fit : Fit (usable t p) (instanceAfter x)
   fit = fit-after t s n fits f (instance-before t s q n fits state accepted)
@@ -86,13 +86,13 @@ module _ (t s q : List ℕ) (n : Name) (fits : tableFits t ≡ true) (once : Sta
     where
       elsewhere : (o ≡ p → ⊥) → PoolFit t r o
       elsewhere d =
-          other-pool t s r p (n .instance) few (only-own t s n) o l d named
+          other-pool t s r p (n .instance) few (only-own t s n) o l d instance-few
           (made-few t fits o (madeCount s o) (pool-before o l .made)) (pool-before o l)
 
       mine : PoolFit t r p
       mine =
           own-pool t s r p (n .instance) few (only-own t s n) (instanceAfter x)
-          (own-words t s n (omega (arith, few)) (omega (arith, few, named)) (omega (arith, long)))
+          (own-words t s n (omega (arith, few)) (omega (arith, few, instance-few)) (omega (arith, long)))
           fit
           (subst (Makes t p (n .instance) (madeCount s p)) (sym made-is) makes)
           (subst (λ k. k ≤ instances) (sym made-is) made-room)
@@ -102,15 +102,23 @@ module _ (t s q : List ℕ) (n : Name) (fits : tableFits t ≡ true) (once : Sta
   keeps-instances o l = pool-back t r o (pool-after o l)
 
   -- WHAT ALL SHARE: the stores are those that it leaves; the version is as it was
-  shared-after : (k : ℕ) → k < storeWords → at r (sharedPlace + k) ≡ 0
-  shared-after k l = own-stores t s n (omega (arith, few)) (omega (arith, long)) k l ∙ fit .unstored (instanceWords + k) (omega arith) (omega arith)
+  store-after : (j k : ℕ) → j < storeWords → k ≡ 2 * fields + j → at (drop sharedPlace r) j ≡ at (drop (definedPlace 0) (instanceAfter x)) k
+  store-after j k l e =
+      let i : instanceWords + j ≡ definedPlace 0 + k = omega arith in
+      getD-drop sharedPlace r j 0 ∙ own-stores t s n (omega (arith, few)) (omega (arith, long)) j l ∙ ap (at (instanceAfter x)) i ∙ sym (getD-drop (definedPlace 0) (instanceAfter x) k 0)
 
   pub keeps-version : versionOf r ≡ versionOf s
-  keeps-version = same-version t s n (omega (arith, few)) (omega (arith, few, named))
+  keeps-version = same-version t s n (omega (arith, few)) (omega (arith, few, instance-few))
 
   pub keeps-shared : sharedFits r ≡ true
-  unfolding sharedFits zeros
-  keeps-shared = all-of (λ k. eqb (at (drop sharedPlace r) k) 0) storeWords (λ k l. eq-eqb _ 0 (getD-drop sharedPlace r k 0 ∙ shared-after k l))
+  unfolding sharedFits fieldsFit
+  keeps-shared =
+      all-of (fieldFits (drop sharedPlace r)) fields
+      (λ d l.
+      field-alike (drop (definedPlace 0) (instanceAfter x)) (drop sharedPlace r) (fields + d) d
+      (store-after (2 * d) (2 * (fields + d)) (omega arith) (omega arith))
+      (store-after (2 * d + 1) (2 * (fields + d) + 1) (omega arith) (omega arith))
+      (fit .filled (fields + d) (omega arith)))
 
   -- EVERY QUEUE
   pub keeps-queues : length q ≡ queueWords * names → (m : ℕ) → m < names → queueFits (queuesAfter x q) m ≡ true

@@ -23,4 +23,5 @@ pub mod KeepsFits
 pub mod QueuesKept
 pub mod RaiseLaws
 pub mod NoSaturation
+pub mod StoresKept
 pub mod EveryStep

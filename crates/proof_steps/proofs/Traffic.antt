@@ -1,22 +1,20 @@
 -- What an accepted step that receives or sends knows of its queue: the name is one of the 16, the message is there or has space, it has at most 4
 -- values. Assumes nothing.
-use Prim.Native.Nat.{ℕ, _+_, _≤_, _<_}
-use mathlib.Core.Path.{_≡_, refl, sym, _∙_}
+use Prim.Native.Nat.{ℕ, _≤_, _<_}
+use mathlib.Core.Path.{_≡_, refl}
 use mathlib.Core.Bool.{Bool, true, false, _&&_, _||_}
 use mathlib.Core.List.{List}
-use lib.Dec.{eqb, ltb}
+use lib.Dec.{ltb}
 use lib.ListN.{length, drop}
-use lib.Seq.{getD-drop}
 use borrow.Author.Tests.{ltb-true, eqb-true, ne-eqb}
 use Rattle.base_words.specs.All.{all}
 use Rattle.base_words.specs.Pick.{if_then_else_}
-use Rattle.base_words.specs.Words.{at}
-use Rattle.base_words.specs.Counts.{pools, names, values, messages}
+use Rattle.base_words.specs.Counts.{pools, names, fields, values, messages}
 use Rattle.base_words.proofs.AllLaws.{and-left, and-right, all-at}
 use Rattle.base_kinds.specs.Moves.{on}
 use Rattle.base_table.specs.Table.{kindIn, modeIn}
-use Rattle.base_state.specs.Places.{storeWords, sharedPlace}
-use Rattle.check_limits.specs.Limits.{zeros, tableFits}
+use Rattle.base_state.specs.Places.{sharedPlace}
+use Rattle.check_limits.specs.Limits.{tableFits}
 use Rattle.meaning.specs.declared.Name.{Name}
 use Rattle.meaning.specs.Messages.{has}
 use Rattle.meaning.specs.Queues.{messagesOf}
@@ -24,7 +22,7 @@ use Rattle.meaning.specs.Templates.{gathered, evaluated}
 use Rattle.meaning.specs.Changes.{messageSent}
 use Rattle.meaning.specs.Refusals.{firstRefusal}
 use Rattle.meaning.specs.Step.{Site, siteOf, elementNamed, moveNamed, receives, sends, messageNamed, sent, queued, space, refusals}
-use Rattle.state_fits.specs.Fits.{instancesFit, sharedFits, queueFits, stateFits}
+use Rattle.state_fits.specs.Fits.{fieldFits, fieldsFit, instancesFit, sharedFits, queueFits, stateFits}
 use Rattle.proof_steps.proofs.AcceptedParts.{Accepted, accepted-parts}
 use Rattle.proof_steps.proofs.Choices.{chosen-true}
 use Rattle.proof_steps.proofs.Found.{Found, found, name-few, length-few}
@@ -43,11 +41,9 @@ module _ (t s q : List ℕ) (h : stateFits t s q ≡ true) where
   pub state-instances : (p : ℕ) → p < pools → instancesFit t s p ≡ true
   state-instances = all-at (instancesFit t s) pools (and-left (all (instancesFit t s) pools) (sharedFits s) state-own)
 
-  pub state-shared : (k : ℕ) → k < storeWords → at s (sharedPlace + k) ≡ 0
-  unfolding sharedFits zeros
-  state-shared k l =
-      sym (getD-drop sharedPlace s k 0)
-      ∙ eqb-true _ 0 (all-at (λ k. eqb (at (drop sharedPlace s) k) 0) storeWords (and-right (all (instancesFit t s) pools) (sharedFits s) state-own) k l)
+  pub state-stores : (d : ℕ) → d < fields → fieldFits (drop sharedPlace s) d ≡ true
+  unfolding sharedFits fieldsFit
+  state-stores = all-at (fieldFits (drop sharedPlace s)) fields (and-right (all (instancesFit t s) pools) (sharedFits s) state-own)
 
 or-left : (a b : Bool) → a ≡ true → a || b ≡ true
 or-left a b e = rw e

@@ -9,7 +9,7 @@ use lib.Dec.{eqb, leb, ltb}
 use lib.ListN.{drop}
 use lib.Seq.{getD-drop}
 use borrow.Author.Tests.{eq-eqb, ne-eqb, eqb-true, eqb-false, ltb-true, leb-true}
-use Rattle.base_words.specs.Counts.{fields}
+use Rattle.base_words.specs.Counts.{named}
 use Rattle.base_words.specs.Pick.{if_then_else_}
 use Rattle.base_words.specs.Text.{bytes}
 use Rattle.base_words.specs.Words.{at, greatest}
@@ -81,20 +81,20 @@ module _ (x : List ℕ) where
   unfolding shownItem
   text-item n = pick-no _ _ _ _ (ne-eqb (at x 0) 4 n) refl
 
-  pub fits-bind : (receives : ℕ) → itemFits receives x ≡ true → at x 0 ≡ 4 → (receives ≡ 0 → ⊥) × (at x 1 ≡ 1) × (at x 2 < fields) × (zeros (drop 3 x) 2 ≡ true)
+  pub fits-bind : (receives : ℕ) → itemFits receives x ≡ true → at x 0 ≡ 4 → (receives ≡ 0 → ⊥) × (at x 1 ≡ 1) × (at x 2 < named) × (zeros (drop 3 x) 2 ≡ true)
   unfolding itemFits bindFits
   fits-bind receives fit e = go (eqb receives 0) refl (then-of _ _ _ _ fit (eq-eqb (at x 0) 4 e))
     where
-      go : (t : Bool) → eqb receives 0 ≡ t → (if eqb receives 0 then false else eqb (at x 1) 1 && ltb (at x 2) fields && zeros (drop 3 x) 2) ≡ true
-          → (receives ≡ 0 → ⊥) × (at x 1 ≡ 1) × (at x 2 < fields) × (zeros (drop 3 x) 2 ≡ true)
+      go : (t : Bool) → eqb receives 0 ≡ t → (if eqb receives 0 then false else eqb (at x 1) 1 && ltb (at x 2) named && zeros (drop 3 x) 2) ≡ true
+          → (receives ≡ 0 → ⊥) × (at x 1 ≡ 1) × (at x 2 < named) × (zeros (drop 3 x) 2 ≡ true)
       go true q h = absurd (false≢true (then-of _ _ _ _ h q))
       go false q h =
           let k = else-of _ _ _ _ h q in
-          let a = and-left (eqb (at x 1) 1 && ltb (at x 2) fields) (zeros (drop 3 x) 2) k in (
+          let a = and-left (eqb (at x 1) 1 && ltb (at x 2) named) (zeros (drop 3 x) 2) k in (
             eqb-false receives 0 q,
-            eqb-true (at x 1) 1 (and-left (eqb (at x 1) 1) (ltb (at x 2) fields) a),
-            ltb-true (at x 2) fields (and-right (eqb (at x 1) 1) (ltb (at x 2) fields) a),
-            and-right (eqb (at x 1) 1 && ltb (at x 2) fields) (zeros (drop 3 x) 2) k,
+            eqb-true (at x 1) 1 (and-left (eqb (at x 1) 1) (ltb (at x 2) named) a),
+            ltb-true (at x 2) named (and-right (eqb (at x 1) 1) (ltb (at x 2) named) a),
+            and-right (eqb (at x 1) 1 && ltb (at x 2) named) (zeros (drop 3 x) 2) k,
           )
 
   pub fits-item : (receives : ℕ) → itemFits receives x ≡ true → (at x 0 ≡ 4 → ⊥) → expressionFits x ≡ true

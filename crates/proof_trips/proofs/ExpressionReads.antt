@@ -8,7 +8,7 @@ use native.Mathlib.Decide.{ℕ-discrete, decLt}
 use native.Mathlib.Omega.{arith}
 use lib.ListN.{length, drop, set}
 use lib.Seq.{getD-drop, drop-drop}
-use Rattle.base_words.specs.Counts.{fields}
+use Rattle.base_words.specs.Counts.{named}
 use Rattle.base_words.specs.Each.{each}
 use Rattle.base_words.specs.Pick.{if_then_else_}
 use Rattle.base_words.specs.Text.{bytes}
@@ -110,7 +110,7 @@ module _ (el : List ℕ) (small : (i : ℕ) → at el i ≤ greatest) (place : �
           reads-before closes-stops (reads-text (text-minus (drop place el) e) (reads-pair 45 (unfold isSign among in refl) (f .2) (reads-minus e (f .3))))
 
   -- ITEMS
-  reads-bind : at (drop place el) 0 ≡ 4 → at (drop place el) 1 ≡ 1 → at (drop place el) 2 < fields → zeros (drop 3 (drop place el)) 2 ≡ true
+  reads-bind : at (drop place el) 0 ≡ 4 → at (drop place el) 1 ≡ 1 → at (drop place el) 2 < named → zeros (drop 3 (drop place el)) 2 ≡ true
       → Reads el (bind place) (shownField (at (drop place el) 2)) stops (Span place 5)
   unfolding bind
   reads-bind e f l z =
@@ -118,7 +118,7 @@ module _ (el : List ℕ) (small : (i : ℕ) → at el i ≤ greatest) (place : �
       (reads-text (ap (λ (k : ℕ). shownField k) (sym field-is))
       (reads-then (reads-form 4 e)
       (reads-then (reads-store (place + 1) 1 (omega (arith, h)) (sym f ∙ getD-drop place el 1 0))
-      (reads-field (place + 1 + 1) (omega (arith, h)) (subst (λ (k : ℕ). k < fields) field-is l))
+      (reads-field (place + 1 + 1) (omega (arith, h)) (subst (λ (k : ℕ). k < named) field-is l))
       (λ rest k. refl))
       (λ rest k. refl)))
     where

@@ -9,7 +9,7 @@ use lib.ListN.{drop}
 use lib.Seq.{getD-drop, drop-drop}
 use borrow.Author.Tests.{eq-eqb, ne-eqb, eqb-true, ltb-true, leb-true}
 use Rattle.base_words.specs.All.{all}
-use Rattle.base_words.specs.Counts.{fewest, branches, edges, names, values, fields, assignments, tasks}
+use Rattle.base_words.specs.Counts.{fewest, branches, edges, names, values, named, assignments, tasks}
 use Rattle.base_words.specs.Words.{at}
 use Rattle.base_words.proofs.AllLaws.{all-at, and-left, and-right}
 use Rattle.base_words.proofs.PickLaws.{pick-yes, pick-no}
@@ -180,9 +180,9 @@ task-ranges el e =
     )
 
 -- an assignment at the place p
-pub assignment-ranges : (el : List ℕ) (p : ℕ) → assignmentFits (drop p el) ≡ true → (at el p < fields) × (expressionFits (drop (p + 1) el) ≡ true)
+pub assignment-ranges : (el : List ℕ) (p : ℕ) → assignmentFits (drop p el) ≡ true → (at el p < named) × (expressionFits (drop (p + 1) el) ≡ true)
 unfolding assignmentFits
 assignment-ranges el p e = (
-  subst (λ (k : ℕ). k < fields) (getD-drop p el 0 0 ∙ ap (at el) (let z : p + 0 ≡ p = omega arith in z)) (ltb-true (at (drop p el) 0) fields (and-left (ltb (at (drop p el) 0) fields) (expressionFits (drop 1 (drop p el))) e)),
-  ap expressionFits (sym (drop-drop 1 p el)) ∙ and-right (ltb (at (drop p el) 0) fields) (expressionFits (drop 1 (drop p el))) e,
+  subst (λ (k : ℕ). k < named) (getD-drop p el 0 0 ∙ ap (at el) (let z : p + 0 ≡ p = omega arith in z)) (ltb-true (at (drop p el) 0) named (and-left (ltb (at (drop p el) 0) named) (expressionFits (drop 1 (drop p el))) e)),
+  ap expressionFits (sym (drop-drop 1 p el)) ∙ and-right (ltb (at (drop p el) 0) named) (expressionFits (drop 1 (drop p el))) e,
 )

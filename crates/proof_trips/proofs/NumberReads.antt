@@ -10,8 +10,8 @@ use native.Mathlib.Omega.{arith}
 use lib.Dec.{eqb, leb, ltb}
 use lib.ListN.{length, drop, set}
 use lib.Seq.{getD-drop}
-use borrow.Author.Tests.{eq-eqb, ne-eqb, le-leb, eqb-true, ltb-true, not-true}
-use Rattle.base_words.specs.Counts.{fields}
+use borrow.Author.Tests.{eq-eqb, ne-eqb, le-leb, eqb-true, ltb-true, ltb-false, not-true}
+use Rattle.base_words.specs.Counts.{fields, named}
 use Rattle.base_words.specs.Each.{each}
 use Rattle.base_words.specs.Pick.{if_then_else_}
 use Rattle.base_words.specs.Text.{bytes}
@@ -28,9 +28,9 @@ use Rattle.text_numerals.specs.declared.Number.{Number}
 use Rattle.text_numerals.specs.declared.Number.the-variants.{Value}
 use Rattle.text_numerals.specs.declared.Operand.{Operand}
 use Rattle.text_numerals.specs.declared.Operand.the-variants.{Number as OfNumber, Field}
-use Rattle.text_numerals.specs.Numerals.{numberOf, operandOf, sameBytes}
-use Rattle.text_numerals.proofs.Spelled.{Spelled, one, more, spelled-some, spelled-word, spelled-first, number-spelled, constant-spelled, field-spelled}
-use Rattle.text_readers.specs.Reading.{Parsed, misplaced, passed, refused, letters, keepNumber, number, fieldOf, field, keepOperand, operand, modeNamed, keepMode, mode}
+use Rattle.text_numerals.specs.Numerals.{numberOf, isFieldLetter, fieldOf, asField, operandOf, sameBytes}
+use Rattle.text_numerals.proofs.Spelled.{Spelled, one, more, spelled-some, spelled-word, spelled-first, number-spelled, constant-spelled, field-spelled, store-spelled}
+use Rattle.text_readers.specs.Reading.{Parsed, misplaced, passed, refused, letters, keepNumber, number, field, keepOperand, operand, modeNamed, keepMode, mode}
 use Rattle.write_decimals.specs.Decimals.{shownFrom, shown}
 use Rattle.write_decimals.proofs.DecimalLaws.{shown-one, shown-more}
 use Rattle.write_shown.specs.Shown.{shownField, shownOperand, shownMode}
@@ -96,17 +96,44 @@ module _ (text w rest : List ℕ) (from : ℕ) (d : drop from text ≡ w ++ rest
 pub spelled-worded : {n : ℕ} {w : List ℕ} → Spelled n w → Worded w
 spelled-worded s = record { some = spelled-some s; plain = spelled-word s }
 
-pub field-worded : {n : ℕ} {w : List ℕ} → Spelled n w → Worded (100 ∷ w)
-field-worded {n} {w} s =
-    record { some = omega arith; plain = unfold each in and-true (isWord 100) (each isWord w) (unfold isWord isLetter isDigit between in refl) (spelled-word s) }
+lettered-worded : (b : ℕ) {n : ℕ} {w : List ℕ} → isWord b ≡ true → Spelled n w → Worded (b ∷ w)
+lettered-worded b {n} {w} e s = record { some = omega arith; plain = unfold each in and-true (isWord b) (each isWord w) e (spelled-word s) }
+
+-- A FIELD'S TEXT, of an instance's own or of a store
+field-either : (P : List ℕ → Type 0) (d : ℕ) → (d < fields → P (100 ∷ shown d)) → (fields ≤ d → P (115 ∷ shown (d - fields))) → P (shownField d)
+unfolding shownField
+field-either P d own store = go (ltb d fields) refl
+  where
+    go : (b : Bool) → ltb d fields ≡ b → P (if b then 100 ∷ shown d else 115 ∷ shown (d - fields))
+    go true e = unfold if_then_else_ in own (ltb-true d fields e)
+    go false e = unfold if_then_else_ in store (ltb-false d fields e)
+
+pub field-worded : (d : ℕ) → d ≤ greatest → Worded (shownField d)
+field-worded d h =
+    field-either Worded d
+    (λ l. lettered-worded 100 (unfold isWord isLetter isDigit between in refl) (shown-spelled d h))
+    (λ l. lettered-worded 115 (unfold isWord isLetter isDigit between in refl) (shown-spelled (d - fields) (omega (arith, h))))
+
+field-value : (d : ℕ) → d < named → fieldOf (shownField d) ≡ Value d
+field-value d h =
+    field-either (λ (w : List ℕ). fieldOf w ≡ Value d) d
+    (λ l. field-spelled (shown-spelled d (omega (arith, h))) l)
+    (λ l. store-spelled (shown-spelled (d - fields) (omega (arith, h))) (omega (arith, h, l)) ∙ ap (λ (k : ℕ). Value k) (let e : d - fields + fields ≡ d = omega (arith, l) in e))
+
+field-operand : (d : ℕ) → d < named → operandOf (shownField d) ≡ Field d
+field-operand d h =
+    field-either (λ (w : List ℕ). operandOf w ≡ asField (fieldOf w)) d
+    (λ l. unfold operandOf isFieldLetter if_then_else_ in refl)
+    (λ l. unfold operandOf isFieldLetter if_then_else_ in refl)
+    ∙ ap asField (field-value d h) ∙ (unfold asField in refl)
 
 -- AN OPERAND, by its first word: its text, and what its limits say
 pub operand-constant : (x : List ℕ) → (at x 0 ≡ 1 → ⊥) → shownOperand x ≡ shown (at x 1)
 unfolding shownOperand
 operand-constant x n = sym (pick-no _ _ _ _ (ne-eqb (at x 0) 1 n) refl)
 
-pub operand-field : (x : List ℕ) → at x 0 ≡ 1 → shownOperand x ≡ 100 ∷ shown (at x 1)
-unfolding shownOperand shownField
+pub operand-field : (x : List ℕ) → at x 0 ≡ 1 → shownOperand x ≡ shownField (at x 1)
+unfolding shownOperand
 operand-field x e = sym (pick-yes _ _ _ _ (eq-eqb (at x 0) 1 e) refl)
 
 -- the arm that a test takes
@@ -122,12 +149,12 @@ operand-zero x fit n = choose (eqb (at x 0) 0) refl
   where
     choose : (t : Bool) → eqb (at x 0) 0 ≡ t → 0 ≡ at x 0
     choose true e = sym (eqb-true (at x 0) 0 e)
-    choose false e = absurd (n (eqb-true (at x 0) 1 (and-left (eqb (at x 0) 1) (ltb (at x 1) fields) (else-of _ _ _ _ fit e))))
+    choose false e = absurd (n (eqb-true (at x 0) 1 (and-left (eqb (at x 0) 1) (ltb (at x 1) named) (else-of _ _ _ _ fit e))))
 
-operand-small : (x : List ℕ) → operandFits x ≡ true → at x 0 ≡ 1 → at x 1 < fields
+operand-small : (x : List ℕ) → operandFits x ≡ true → at x 0 ≡ 1 → at x 1 < named
 unfolding operandFits
 operand-small x fit e =
-    ltb-true (at x 1) fields (and-right (eqb (at x 0) 1) (ltb (at x 1) fields) (else-of _ _ _ _ fit (ne-eqb (at x 0) 0 (λ z. omega (arith, z, e)))))
+    ltb-true (at x 1) named (and-right (eqb (at x 0) 1) (ltb (at x 1) named) (else-of _ _ _ _ fit (ne-eqb (at x 0) 0 (λ z. omega (arith, z, e)))))
 
 -- A MODE'S TEXT
 mode-a : (m : ℕ) → m ≡ 1 → bytes "a" ≡ shownMode m
@@ -165,29 +192,25 @@ module _ {el : List ℕ} where
       kept : (x : List ℕ) (from : ℕ) → keepNumber (Value (at el place)) least most place from (from + length (shown (at el place))) x ≡ passed (from + length (shown (at el place))) (set x place (at el place))
       kept x from = unfold keepNumber in sym (pick-yes (leb least (at el place) && leb (at el place) most) _ _ _ (and-true _ _ (le-leb least (at el place) l) (le-leb (at el place) most m)) refl)
 
-  pub reads-field : (place : ℕ) → place < elementWords → at el place < fields → Reads el (field place) (shownField (at el place)) stops (λ i. i ≡ place)
-  unfolding shownField
+  pub reads-field : (place : ℕ) → place < elementWords → at el place < named → Reads el (field place) (shownField (at el place)) stops (λ i. i ≡ place)
   reads-field place h l =
-      let s = shown-spelled (at el place) (omega (arith, l)) in
       record {
         reads = λ text rest x from d k z b. (
           set x place (at el place),
-          taken text rest x from d k s ∙ ap (λ (n : Number). keepNumber n 0 (fields - 1) place from (from + length (100 ∷ shown (at el place))) x) (named s) ∙ kept x from,
+          taken text rest x from d k ∙ ap (λ (n : Number). keepNumber n 0 (named - 1) place from (from + length (shownField (at el place))) x) (field-value (at el place) l)
+              ∙ kept x from (from + length (shownField (at el place))),
           onto-set x place (at el place) b (omega (arith, h, z)) refl,
         );
       }
     where
-      taken : (text rest x : List ℕ) (from : ℕ) → drop from text ≡ (100 ∷ shown (at el place)) ++ rest → stops rest ≡ true → Spelled (at el place) (shown (at el place))
-          → field place text from x ≡ keepNumber (fieldOf (100 ∷ shown (at el place))) 0 (fields - 1) place from (from + length (100 ∷ shown (at el place))) x
-      taken text rest x from d k s =
+      taken : (text rest x : List ℕ) (from : ℕ) → drop from text ≡ shownField (at el place) ++ rest → stops rest ≡ true
+          → field place text from x ≡ keepNumber (fieldOf (shownField (at el place))) 0 (named - 1) place from (from + length (shownField (at el place))) x
+      taken text rest x from d k =
           unfold field in
-          word-taken text (100 ∷ shown (at el place)) rest from d (field-worded s) k (λ w p q. keepNumber (fieldOf w) 0 (fields - 1) place p q x) (λ p. refused misplaced p x)
+          word-taken text (shownField (at el place)) rest from d (field-worded (at el place) (omega (arith, l))) k (λ w p q. keepNumber (fieldOf w) 0 (named - 1) place p q x) (λ p. refused misplaced p x)
 
-      named : Spelled (at el place) (shown (at el place)) → fieldOf (100 ∷ shown (at el place)) ≡ Value (at el place)
-      named s = unfold fieldOf if_then_else_ in number-spelled s (omega (arith, l))
-
-      kept : (x : List ℕ) (from : ℕ) → keepNumber (Value (at el place)) 0 (fields - 1) place from (from + length (100 ∷ shown (at el place))) x ≡ passed (from + length (100 ∷ shown (at el place))) (set x place (at el place))
-      kept x from = unfold keepNumber in sym (pick-yes (leb 0 (at el place) && leb (at el place) (fields - 1)) _ _ _ (and-true _ _ (le-leb 0 (at el place) (omega arith)) (le-leb (at el place) (fields - 1) (omega (arith, l)))) refl)
+      kept : (x : List ℕ) (p q : ℕ) → keepNumber (Value (at el place)) 0 (named - 1) place p q x ≡ passed q (set x place (at el place))
+      kept x p q = unfold keepNumber in sym (pick-yes (leb 0 (at el place) && leb (at el place) (named - 1)) _ _ _ (and-true _ _ (le-leb 0 (at el place) (omega arith)) (le-leb (at el place) (named - 1) (omega (arith, l)))) refl)
 
   -- an operand's two words
   two-set : (x : List ℕ) (place u v : ℕ) → Below el x → length x ≡ elementWords → place + 1 < elementWords → u ≡ at el place → v ≡ at el (place + 1)
@@ -225,9 +248,9 @@ module _ {el : List ℕ} where
 
       go : Dec (at (drop place el) 0 ≡ 1) → Reads el (operand place) (shownOperand (drop place el)) stops (Span place 2)
       go (yes e) =
-          let s = shown-spelled (at el (place + 1)) g in
-          reads-text (sym (operand-field (drop place el) e ∙ ap (λ (k : ℕ). 100 ∷ shown k) second))
-          (operand-as place 1 (at el (place + 1)) (100 ∷ shown (at el (place + 1))) (Field (at el (place + 1))) (field-worded s) (field-spelled s (subst (λ (k : ℕ). k < fields) second (operand-small (drop place el) fit e))) h (sym e ∙ first) refl
+          let small = subst (λ (k : ℕ). k < named) second (operand-small (drop place el) fit e) in
+          reads-text (sym (operand-field (drop place el) e ∙ ap shownField second))
+          (operand-as place 1 (at el (place + 1)) (shownField (at el (place + 1))) (Field (at el (place + 1))) (field-worded (at el (place + 1)) g) (field-operand (at el (place + 1)) small) h (sym e ∙ first) refl
           (λ x p q. unfold keepOperand in refl))
       go (no n) =
           let s = shown-spelled (at el (place + 1)) g in
@@ -272,7 +295,7 @@ pub operand-worded : (x : List ℕ) → at x 1 ≤ greatest → Worded (shownOpe
 operand-worded x g = go (ℕ-discrete (at x 0) 1)
   where
     go : Dec (at x 0 ≡ 1) → Worded (shownOperand x)
-    go (yes e) = subst Worded (sym (operand-field x e)) (field-worded (shown-spelled (at x 1) g))
+    go (yes e) = subst Worded (sym (operand-field x e)) (field-worded (at x 1) g)
     go (no n) = subst Worded (sym (operand-constant x n)) (spelled-worded (shown-spelled (at x 1) g))
 
 pub worded-opens : (s : ℕ) (w : List ℕ) → Worded w → opens s w ≡ true
@@ -289,7 +312,11 @@ pub operand-not-true : (x : List ℕ) → at x 1 ≤ greatest → sameBytes (sho
 operand-not-true x g = go (ℕ-discrete (at x 0) 1)
   where
     go : Dec (at x 0 ≡ 1) → sameBytes (shownOperand x) (bytes "true") ≡ false
-    go (yes e) = ap (λ (w : List ℕ). sameBytes w (bytes "true")) (operand-field x e) ∙ first-differs (100 ∷ shown (at x 1)) (bytes "rue") 116 (λ z. omega (arith, z))
+    go (yes e) =
+        ap (λ (w : List ℕ). sameBytes w (bytes "true")) (operand-field x e)
+        ∙ field-either (λ (w : List ℕ). sameBytes w (bytes "true") ≡ false) (at x 1)
+        (λ l. first-differs (100 ∷ shown (at x 1)) (bytes "rue") 116 (λ z. omega (arith, z)))
+        (λ l. first-differs (115 ∷ shown (at x 1 - fields)) (bytes "rue") 116 (λ z. omega (arith, z)))
     go (no n) =
         ap (λ (w : List ℕ). sameBytes w (bytes "true")) (operand-constant x n)
         ∙ first-differs (shown (at x 1)) (bytes "rue") 116 (λ z. omega (arith, z, spelled-first (shown-spelled (at x 1) g) .2))
@@ -300,7 +327,9 @@ operand-not-default x g = go (ℕ-discrete (at x 0) 1)
     go : Dec (at x 0 ≡ 1) → sameBytes (shownOperand x) (bytes "default") ≡ false
     go (yes e) =
         ap (λ (w : List ℕ). sameBytes w (bytes "default")) (operand-field x e)
-        ∙ (unfold sameBytes in first-differs (shown (at x 1)) (bytes "fault") 101 (λ z. omega (arith, z, spelled-first (shown-spelled (at x 1) g) .2)))
+        ∙ field-either (λ (w : List ℕ). sameBytes w (bytes "default") ≡ false) (at x 1)
+        (λ l. unfold sameBytes in first-differs (shown (at x 1)) (bytes "fault") 101 (λ z. omega (arith, z, spelled-first (shown-spelled (at x 1) g) .2)))
+        (λ l. first-differs (115 ∷ shown (at x 1 - fields)) (bytes "efault") 100 (λ z. omega (arith, z)))
     go (no n) =
         ap (λ (w : List ℕ). sameBytes w (bytes "default")) (operand-constant x n)
         ∙ first-differs (shown (at x 1)) (bytes "efault") 100 (λ z. omega (arith, z, spelled-first (shown-spelled (at x 1) g) .2))

@@ -243,10 +243,10 @@ module _ (el : List ℕ) (small : (i : ℕ) → at el i ≤ greatest) where
       first = getD-drop (assignmentPlace j) el 0 0 ∙ ap (at el) (let z : assignmentPlace j + 0 ≡ assignmentPlace j = omega arith in z)
 
   assignment-opens : (j : ℕ) → assignmentFits (assignmentAt el j) ≡ true → opens 125 (shownAssignment (assignmentAt el j)) ≡ true
-  unfolding shownAssignment shownField
+  unfolding shownAssignment
   assignment-opens j fit =
-      opens-on 125 (100 ∷ shown (at (assignmentAt el j) 0)) (58 ∷ 61 ∷ shownExpression (drop 1 (assignmentAt el j)))
-      (worded-opens 125 (100 ∷ shown (at (assignmentAt el j) 0)) (field-worded (shown-spelled (at (assignmentAt el j) 0) (rw getD-drop (small (assignmentPlace j + 0))))))
+      opens-on 125 (shownField (at (assignmentAt el j) 0)) (58 ∷ 61 ∷ shownExpression (drop 1 (assignmentAt el j)))
+      (worded-opens 125 (shownField (at (assignmentAt el j) 0)) (field-worded (at (assignmentAt el j) 0) (rw getD-drop (small (assignmentPlace j + 0)))))
 
   module _ (l : at el assignmentsPlace ≤ assignments) (c : things (drop (assignmentPlace 0) el) assignmentWords assignments (at el assignmentsPlace) assignmentFits ≡ true) where
     assignment-item : (q : ℕ) → q < at el assignmentsPlace → Reads el (itemOf assignmentList q) (shownAssignment (assignmentAt el q)) closes (Span (assignmentPlace q) assignmentWords)

@@ -19,9 +19,9 @@ use Rattle.base_kinds.specs.Moves.{na-c}
 use Rattle.base_table.specs.Places.{kindPlace, entriesPlace, exitsPlace, conditionPlace, messagePlace, assignmentsPlace, elementWords, equals, plus, binding, aField}
 use Rattle.check_limits.specs.Limits.{zeros, things, operandFits, expressionFits, bindFits, itemFits, conditionFits, messageFits, assignmentFits, countFits, edgeFits, edgesFit, taskFits, conditionsFit, messagesFit, assignmentsFit, partsFit, elementFits}
 use Rattle.text_lexer.specs.Lexer.{among, between, isBlank, isWord, isLetter, isDigit, isSign, past, tokenOf, tokenHere, tokenAt, ifWord, ifSign, ifAssign}
-use Rattle.text_numerals.specs.Numerals.{valueFrom, leadingZero, numberOf, sameBytes, asNumber, asField, operandOf}
+use Rattle.text_numerals.specs.Numerals.{valueFrom, leadingZero, numberOf, isFieldLetter, fieldBehind, fieldFrom, fieldOf, sameBytes, asNumber, asField, operandOf}
 use Rattle.text_readers.specs.declared.Read.the-variants.{Refused}
-use Rattle.text_readers.specs.Reading.{ifAt, onward, _then_, signAt, assignAt, keepNumber, number, fieldOf, field, keepOperand, operand, modeNamed, keepMode, mode}
+use Rattle.text_readers.specs.Reading.{ifAt, onward, _then_, signAt, assignAt, keepNumber, number, field, keepOperand, operand, modeNamed, keepMode, mode}
 use Rattle.text_parts.specs.Parts.{condition, taskPart, partOf}
 use Rattle.write_decimals.specs.Decimals.{shownFrom, shown}
 use Rattle.write_shown.specs.Shown.{lead, separated, shownField, shownOperand, shownPair, shownExpression, shownCondition, shownMode, shownAssignment, shownAssignments, shownTask, shownPart}
@@ -71,5 +71,5 @@ unfolding if_then_else_ joined shownFrom shown lead separated shownField shownOp
 large-text = refl
 
 pub large-refused : partOf (code "N") (bytes "16,na_c,4294967296=d15,{d0:=d1+4294967295},") 0 (replicate elementWords 0) .end ≡ Refused 3 8
-unfolding if_then_else_ among between isBlank isWord isLetter isDigit isSign past tokenOf tokenHere tokenAt ifWord ifSign ifAssign valueFrom leadingZero numberOf sameBytes asNumber asField operandOf ifAt onward _then_ signAt assignAt keepNumber number fieldOf field keepOperand operand modeNamed keepMode mode condition taskPart partOf
+unfolding if_then_else_ among between isBlank isWord isLetter isDigit isSign past tokenOf tokenHere tokenAt ifWord ifSign ifAssign valueFrom leadingZero numberOf sameBytes isFieldLetter fieldBehind fieldFrom fieldOf asNumber asField operandOf ifAt onward _then_ signAt assignAt keepNumber number field keepOperand operand modeNamed keepMode mode condition taskPart partOf
 large-refused = refl

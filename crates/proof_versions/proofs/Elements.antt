@@ -11,7 +11,7 @@ use lib.ListN.{length, set, drop}
 use lib.Seq.{getD-set-same, getD-set-other, set-comm}
 use borrow.Author.Tests.{eqb-true, ltb-true, lt-ltb, leb-false}
 use Rattle.base_words.specs.Words.{at}
-use Rattle.base_words.specs.Counts.{fields, values, assignments, countMost}
+use Rattle.base_words.specs.Counts.{named, values, assignments, countMost}
 use Rattle.base_words.proofs.AllLaws.{and-left, and-right}
 use Rattle.base_words.proofs.PickLaws.{and-true}
 use Rattle.base_kinds.specs.declared.moves.Move.{Move}
@@ -67,8 +67,8 @@ module _ (v : ℕ) where
   -- FIELDS
   fields-same : (h : List ℕ) → localOf (seen v h) .σd ≡ localOf h .σd
   unfolding fieldOf
-  fields-same h = λ i d. same-if (ltb d fields) Undefined (fieldOf (seen v h) d) (fieldOf h d) (λ w.
-      let l = ltb-true d fields w in
+  fields-same h = λ i d. same-if (ltb d named) Undefined (fieldOf (seen v h) d) (fieldOf h d) (λ w.
+      let l = ltb-true d named w in
       let a : at (seen v h) (definedPlace d) ≡ at h (definedPlace d) = at-same h (definedPlace d) (omega arith) in
       let b : at (seen v h) (valuePlace d) ≡ at h (valuePlace d) = at-same h (valuePlace d) (omega arith) in
       rw (a, b)) i
@@ -79,12 +79,12 @@ module _ (v : ℕ) where
   condition-same : (column : ℕ) (x h : List ℕ) → conditionFits column x ≡ true → conditionOf x (seen v h) ≡ conditionOf x h
   condition-same column x h f = sym (truth-is (seen v h) column x f) ∙ ap (λ σ. truth σ (condAt x)) (fields-same h) ∙ truth-is h column x f
 
-  field-along : (h : List ℕ) (d w : ℕ) → d < fields → withField (seen v h) d w ≡ seen v (withField h d w)
+  field-along : (h : List ℕ) (d w : ℕ) → d < named → withField (seen v h) d w ≡ seen v (withField h d w)
   field-along h d w l = ap (λ y. set y (valuePlace d) w) (set-along h (definedPlace d) 1 (omega arith)) ∙ set-along (set h (definedPlace d) 1) (valuePlace d) w (omega arith)
 
   module _ (el : List ℕ) (fits : elementFits el ≡ true) where
     -- ASSIGNMENTS
-    value-along : (h : List ℕ) (d : ℕ) (w : Value) → d < fields → assignedValue (seen v h) d w ≡ seenAfter v (assignedValue h d w)
+    value-along : (h : List ℕ) (d : ℕ) (w : Value) → d < named → assignedValue (seen v h) d w ≡ seenAfter v (assignedValue h d w)
     unfolding assignedValue
     value-along h d (Number x) l = λ i. record { defined = true; instance = field-along h d x l i }
     value-along h d Undefined l = refl

@@ -1,6 +1,6 @@
 -- STEPS AND POSTS THAT ARE ACCEPTED IN TURN UNDER 10 ARE ACCEPTED UNDER 20, tell the same of what was consumed and sent, and give states that are equal but for the version: for every valid
 -- table and state. The other way it is not so: under 10 an `na_c` task waits. Assumes nothing.
-use Prim.Native.Nat.{ℕ, _+_, _<_}
+use Prim.Native.Nat.{ℕ, _+_, _*_, _<_}
 use mathlib.Core.Path.{_≡_, refl, sym, _∙_, ap, ap₂, subst}
 use mathlib.Core.Bool.{true, _&&_}
 use mathlib.Core.List.{List, [], _∷_, _++_}
@@ -13,20 +13,19 @@ use Rattle.base_words.specs.All.{all}
 use Rattle.base_words.specs.Iter.{iter}
 use Rattle.base_words.specs.Pick.{if_then_else_}
 use Rattle.base_words.specs.Words.{at}
-use Rattle.base_words.specs.Counts.{pools, names}
+use Rattle.base_words.specs.Counts.{pools, names, fields}
 use Rattle.base_words.proofs.AllLaws.{and-left, and-right, all-of}
 use Rattle.base_words.proofs.PickLaws.{and-true}
 use Rattle.base_table.specs.Table.{poolCount}
 use Rattle.base_state.specs.Places.{instancePlace, storeWords, sharedPlace, versionAt, instancesWords, stateWords}
 use Rattle.base_state.specs.Instances.{instancesOf, queuesOf, versionOf, madeCount}
 use Rattle.base_state.specs.Versions.{former, present, isVersion}
-use Rattle.check_limits.specs.Limits.{zeros}
 use Rattle.meaning.specs.declared.Name.{Name}
 use Rattle.meaning.specs.declared.Tuple.{Tuple}
 use Rattle.meaning.specs.Refusals.{firstRefusal}
 use Rattle.meaning.specs.Step.{Outcome, siteOf, refusals, instancesAfter, queuesAfter, traffic, refused, step}
 use Rattle.meaning.specs.Post.{post}
-use Rattle.state_fits.specs.Fits.{instancesFit, sharedFits, queueFits, stateFits}
+use Rattle.state_fits.specs.Fits.{fieldFits, fieldsFit, instancesFit, sharedFits, queueFits, stateFits}
 use Rattle.state_fits.specs.Fresh.{begun, fresh}
 use Rattle.engine.specs.Engine.{Left, valid, fitting, Stepped, leaving, stepped, postedTo}
 use Rattle.engine.specs.Calls.{Act, aStep, aPost, did, allAccepted, after, Valid}
@@ -35,8 +34,9 @@ use Rattle.engine.proofs.KeepsValid.{did-valid, fresh-valid}
 use Rattle.proof_steps.proofs.Choices.{by-test, chosen, passed}
 use Rattle.proof_steps.proofs.EveryStep.{Fitting}
 use Rattle.proof_steps.proofs.OnlyOwn.{length-after}
+use Rattle.proof_steps.proofs.InstanceFits.{field-alike}
 use Rattle.proof_steps.proofs.PoolFits.{PoolFit, pool-parts, pool-back, pool-same, made-few}
-use Rattle.proof_steps.proofs.Traffic.{state-instances, state-shared, state-queues}
+use Rattle.proof_steps.proofs.Traffic.{state-instances, state-stores, state-queues}
 use Rattle.proof_valid.proofs.ChecksHold.{valid-fits}
 use Rattle.proof_paper.specs.Decoders.{toldOf}
 use Rattle.proof_paper.specs.Calls.{told}
@@ -79,11 +79,17 @@ module _ (t z : List ℕ) (s : Valid t z) where
         (pool-same t instances r p (made-few t (valid-fits t good) p (madeCount instances p) (f .made)) (getD-set-other instances versionAt p v 0 (λ e. omega (arith, l)))
         (λ k h. getD-set-other instances versionAt (instancePlace p 0 + k) v 0 (λ e. omega (arith, l, h))) f)
 
+    store-along : (j : ℕ) → j < storeWords → at (drop sharedPlace r) j ≡ at (drop sharedPlace instances) j
+    store-along j l =
+        getD-drop sharedPlace r j 0
+        ∙ getD-set-other instances versionAt (sharedPlace + j) v 0 (λ e. omega (arith, l))
+        ∙ sym (getD-drop sharedPlace instances j 0)
+
     shared-along : sharedFits r ≡ true
-    unfolding sharedFits zeros
-    shared-along =
-        all-of (λ k. eqb (at (drop sharedPlace r) k) 0) storeWords
-        (λ k l. eq-eqb _ 0 (getD-drop sharedPlace r k 0 ∙ getD-set-other instances versionAt (sharedPlace + k) v 0 (λ e. omega (arith, l)) ∙ state-shared t instances queues (fit .fits) k l))
+    unfolding sharedFits fieldsFit
+    shared-along = all-of (fieldFits (drop sharedPlace r)) fields (λ d l.
+        field-alike (drop sharedPlace instances) (drop sharedPlace r) d d (store-along (2 * d) (omega arith)) (store-along (2 * d + 1) (omega arith))
+        (state-stores t instances queues (fit .fits) d l))
 
     fits-along : stateFits t r queues ≡ true
     unfolding stateFits

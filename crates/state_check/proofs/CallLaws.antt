@@ -1,10 +1,10 @@
 -- What loops and calls say, put together as the definitions have it: b and r are what a call says, n, h, g, u and v what it gives. Assumes nothing.
 use mathlib.Core.Path.{_≡_, _∙_, refl, sym, ap, ap₂}
-use mathlib.Core.Bool.{Bool, true, false, not, _&&_}
+use mathlib.Core.Bool.{Bool, true, false, not}
 use mathlib.Core.List.{List}
 use Prim.Native.Nat.{ℕ, _+_, _≤_, _<_}
-use lib.Dec.{eqb, leb, ltb}
-use lib.ListN.{replicate}
+use lib.Dec.{leb, ltb}
+use lib.ListN.{drop, replicate}
 use borrow.Author.Tests.{eq-eqb, ne-eqb, le-leb, lt-leb, lt-ltb, le-ltb}
 use Rattle.base_words.specs.All.{all}
 use Rattle.base_words.specs.Iter.{iter}
@@ -17,8 +17,8 @@ use Rattle.base_table.specs.Table.{elementCount, elementAt}
 use Rattle.base_state.specs.Instances.{instancesOf, queuesOf, madeCount, instanceAt}
 use Rattle.base_state.specs.Places.{definedPlace, slotPlace}
 use Rattle.meaning.specs.Tuples.{valueOf}
-use Rattle.meaning.specs.Queues.{messageCount, valueAt, messageAt}
-use Rattle.state_fits.specs.Fits.{madeFits, placesOf, marked, usable, instanceFits, instancesFit, slotFits, queueFits, stateFits}
+use Rattle.meaning.specs.Queues.{messageCount, valueAt}
+use Rattle.state_fits.specs.Fits.{madeFits, placesOf, marked, usable, placeFits, fieldsFit, instanceFits, instancesFit, slotFits, queueFits, stateFits}
 use Rattle.state_check.specs.Places.{shownBy}
 use Rattle.state_fits.proofs.PartLaws.{Firsts, Rest, parted, Behind, shared}
 
@@ -37,6 +37,11 @@ module _ (t : List ℕ) (p : ℕ) (w₀ : List ℕ) where
   marks-done n i w = iter-done (λ e w. marked w (placesOf (elementAt t p e))) w₀ n i w
 
 pub ruleset marks = (marks-none, marks-more, marks-done)
+
+-- AN INSTANCE whose counts fit, f its fields
+pub fields-left : (u h f : List ℕ) (b r : Bool) → b ≡ all (placeFits u h) (definedPlace 0) → not b ≡ false → f ≡ drop (definedPlace 0) h → r ≡ fieldsFit f → r ≡ instanceFits u h
+unfolding instanceFits
+fields-left u h f b r e test w g = and-yes (all (placeFits u h) (definedPlace 0)) (fieldsFit (drop (definedPlace 0) h)) r (flag-yes b _ e test) (g ∙ ap fieldsFit w)
 
 -- THE FIRST INSTANCES of a pool
 module _ (u s : List ℕ) (p : ℕ) where

@@ -3,24 +3,23 @@ ghost use mathlib.Core.Path.{_≡_};
 ghost use Prim.Native.Nat.{_-_, _*_, _≤_};
 ghost use lib.ListN.{length};
 ghost use Rattle.base_words.specs.All.{all};
-ghost use Rattle.base_words.specs.Counts.{fields, instances};
+ghost use Rattle.base_words.specs.Counts.{instances};
 ghost use Rattle.check_limits.specs.Bits.{bitsOf};
 ghost use Rattle.check_limits.specs.Limits.{zeros};
 ghost use Rattle.base_state.specs.Instances.{instanceAt};
 ghost use Rattle.base_state.specs.Places.{definedPlace, instanceWords};
-ghost use Rattle.state_fits.specs.Fits.{usable, placeFits, fieldFits, instanceFits, instancesFit};
+ghost use Rattle.state_fits.specs.Fits.{usable, placeFits, fieldFits, fieldsFit, instanceFits, instancesFit};
 ghost use Rattle.state_check.specs.Places.{excessOf, excessAt};
 use super::marks::mark_pool;
-use base_state::defined_at;
 use base_state::instance_at;
 use base_state::made_count;
 use base_state::places::DEFINED;
 use base_state::places::INSTANCE_WORDS;
-use base_state::value_at;
 use base_words::Word;
 use base_words::counts::COUNT_MOST;
 use base_words::counts::FIELDS;
 use base_words::counts::INSTANCES;
+use base_words::tail;
 use base_words::word;
 use check_limits::zeros::less;
 use check_limits::zeros::zero_words;
@@ -39,12 +38,12 @@ fn excess(u: Word, n: Word) -> Word
     n
 }
 
-fn field_fits(h: &[Word], d: Word) -> bool
-    ensures { λ r. ⌜ r ≡ fieldFits (now (h .entry)) d ⌝ }
+fn field_fits(f: &[Word], d: Word) -> bool
+    ensures { λ r. ⌜ r ≡ fieldFits (now (f .entry)) d ⌝ }
 {
-    let defined = defined_at(h, d);
+    let defined = word(f, 2 * (d as usize));
     if defined == 0 {
-        return value_at(h, d) == 0;
+        return word(f, 2 * (d as usize) + 1) == 0;
     }
     defined == 1
 }
@@ -70,12 +69,13 @@ fn counts_fit(u: &[Word; DEFINED], h: &[Word]) -> bool
     excess_below(u, h, end) == 0
 }
 
-fn fields_fit(h: &[Word]) -> bool
-    ensures { λ r. ⌜ r ≡ all (fieldFits (now (h .entry))) fields ⌝ }
+// The fields of an instance, or the stores, from the first one on.
+pub fn fields_fit(f: &[Word]) -> bool
+    ensures { λ r. ⌜ r ≡ fieldsFit (now (f .entry)) ⌝ }
 {
     let mut d: Word = 0;
     while d < FIELDS {
-        if !field_fits(h, d) {
+        if !field_fits(f, d) {
             return false;
         }
         d += 1;
@@ -89,7 +89,7 @@ fn instance_fits(u: &[Word; DEFINED], h: &[Word]) -> bool
     if !counts_fit(u, h) {
         return false;
     }
-    fields_fit(h)
+    fields_fit(tail(h, DEFINED))
 }
 
 // The first n instances of a pool, and the words of the others.

@@ -10,17 +10,16 @@ ghost use Rattle.state_fits.specs.Fits.{instancesFit, sharedFits, queueFits, st
 use base_state::places::INSTANCES_WORDS;
 use base_state::places::SHARED;
 use base_state::places::STATE_WORDS;
-use base_state::places::STORE_WORDS;
 use base_words::Word;
 use base_words::counts::NAMES;
 use base_words::counts::POOLS;
 use base_words::tail;
-use check_limits::zeros::zero_words;
 
 pub mod instances;
 pub mod marks;
 pub mod messages;
 
+use instances::fields_fit;
 use instances::instances_fit;
 use messages::queue_fits;
 
@@ -40,7 +39,7 @@ fn all_instances_fit(t: &[Word], s: &[Word]) -> bool
 fn shared_fits(s: &[Word]) -> bool
     ensures { λ r. ⌜ r ≡ sharedFits (now (s .entry)) ⌝ }
 {
-    zero_words(tail(s, SHARED), STORE_WORDS)
+    fields_fit(tail(s, SHARED))
 }
 
 fn queues_fit(q: &[Word]) -> bool

@@ -20,10 +20,10 @@ use Rattle.base_kinds.specs.Kinds.{kindOf, start}
 use Rattle.base_table.specs.Places.{entriesPlace, exitsPlace, elementWords, poolPlace, limitPlace, elementPlace}
 use Rattle.base_table.specs.Table.{poolCount, elementCount, elementAt, limitOf, kindIn, entryAt}
 use Rattle.base_state.specs.Instances.{instancesOf, queuesOf, instanceAt}
-use Rattle.base_state.specs.Places.{definedPlace, valuePlace, instanceWords, instancePlace, storeWords, sharedPlace, versionAt, instancesWords, stateWords, slotWords, slotPlace, queuePlace}
+use Rattle.base_state.specs.Places.{definedPlace, instanceWords, instancePlace, sharedPlace, versionAt, instancesWords, stateWords, slotWords, slotPlace, queuePlace}
 use Rattle.check_limits.specs.Limits.{within, zeros, things, countFits as edgeCountFits, edgeFits, edgesFit, taskFits, conditionsFit, messagesFit, partsFit, elementFits, poolFits, tableFits}
 use Rattle.step_queues.proofs.SlotLaws.{by-below}
-use Rattle.state_fits.specs.Fits.{startPlace, hasStart, madeFits, usable, placeFits, fieldFits, instanceFits, instancesFit, slotFits, sharedFits, queueFits, stateFits}
+use Rattle.state_fits.specs.Fits.{startPlace, hasStart, madeFits, usable, placeFits, fieldFits, fieldsFit, instanceFits, instancesFit, slotFits, sharedFits, queueFits, stateFits}
 use Rattle.state_fits.specs.Fresh.{firstEdge, fresh}
 use Rattle.state_fits.proofs.PartLaws.{Firsts, parted, shared}
 use Rattle.state_fits.proofs.FreshLaws.{Holds, Startable, Pools, firstPlace, pools-long, pools-blank, pools-begun, pools-behind}
@@ -57,9 +57,15 @@ module _ (u h : List ℕ) (k : ℕ) where
   unfolding placeFits if_then_else_
   count-one e f = rw (e, f)
 
-field-none : (h : List ℕ) (d : ℕ) → at h (definedPlace d) ≡ 0 → at h (valuePlace d) ≡ 0 → fieldFits h d ≡ true
+field-none : (f : List ℕ) (d : ℕ) → at f (2 * d) ≡ 0 → at f (2 * d + 1) ≡ 0 → fieldFits f d ≡ true
 unfolding fieldFits if_then_else_
-field-none h d e f = rw (e, f)
+field-none f d e v = rw (e, v)
+
+-- fields that stand from place k on, all words of which are 0
+fields-none : (h : List ℕ) (k : ℕ) → ((j : ℕ) → j < 2 * fields → at h (k + j) ≡ 0) → fieldsFit (drop k h) ≡ true
+unfolding fieldsFit
+fields-none h k e =
+    all-of (fieldFits (drop k h)) fields (λ d r. field-none (drop k h) d (getD-drop k h (2 * d) 0 ∙ e (2 * d) (omega arith)) (getD-drop k h (2 * d + 1) 0 ∙ e (2 * d + 1) (omega arith)))
 
 -- one word of an instance is 1, at a place of tokens that it may use
 module _ (u h : List ℕ) (e : ℕ) (l : e < edges) (may : at u e ≡ 1) (words : (k : ℕ) → k < instanceWords → at h k ≡ hit k e) where
@@ -69,9 +75,9 @@ module _ (u h : List ℕ) (e : ℕ) (l : e < edges) (may : at u e ≡ 1) (words 
   one-token : instanceFits u h ≡ true
   unfolding instanceFits
   one-token =
-      and-true (all (placeFits u h) (definedPlace 0)) (all (fieldFits h) fields)
+      and-true (all (placeFits u h) (definedPlace 0)) (fieldsFit (drop (definedPlace 0) h))
       (all-of (placeFits u h) (definedPlace 0) (λ k r. count k r (eqb k e) refl))
-      (all-of (fieldFits h) fields (λ d r. field-none h d (other-word (definedPlace d) (omega arith) (λ q. omega arith)) (other-word (valuePlace d) (omega arith) (λ q. omega arith))))
+      (fields-none h (definedPlace 0) (λ j r. other-word (definedPlace 0 + j) (omega arith) (λ q. omega arith)))
     where
       count : (k : ℕ) → k < definedPlace 0 → (b : Bool) → eqb k e ≡ b → placeFits u h k ≡ true
       count k r true q =
@@ -154,10 +160,9 @@ module _ (t : List ℕ) (v : ℕ) (ask : Startable t) where
   shared-fresh : sharedFits (instancesOf (fresh t v)) ≡ true
   unfolding sharedFits
   shared-fresh =
-      zeros-of (drop sharedPlace (instancesOf (fresh t v))) storeWords
+      fields-none (instancesOf (fresh t v)) sharedPlace
       (λ k l.
-      getD-drop sharedPlace (instancesOf (fresh t v)) k 0
-      ∙ getD-take instancesWords (fresh t v) (sharedPlace + k) 0 (omega arith)
+      getD-take instancesWords (fresh t v) (sharedPlace + k) 0 (omega arith)
       ∙ fresh-word (sharedPlace + k) (λ e. omega arith)
       ∙ pools-behind t ask (poolCount t) (sharedPlace + k) (omega arith) (omega arith))
 

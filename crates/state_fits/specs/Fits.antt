@@ -15,7 +15,7 @@ use Rattle.base_words.specs.Counts.{pools, names, instances, fields, values, me
 use Rattle.base_kinds.specs.Kinds.{start, kindOf}
 use Rattle.base_kinds.specs.Moves.{a}
 use Rattle.base_table.specs.Table.{poolCount, elementCount, elementAt, limitOf, kindIn, taskIn, modeIn, entryCount, exitCount, entryAt, exitAt}
-use Rattle.base_state.specs.Places.{tokenPlace, activePlace, readyPlace, definedPlace, valuePlace, instanceWords, storeWords, sharedPlace, slotWords, slotPlace}
+use Rattle.base_state.specs.Places.{tokenPlace, activePlace, readyPlace, definedPlace, instanceWords, sharedPlace, slotWords, slotPlace}
 use Rattle.base_state.specs.Instances.{madeCount, instanceAt}
 use Rattle.check_limits.specs.Limits.{zeros}
 use Rattle.meaning.specs.Tuples.{valueOf}
@@ -56,15 +56,19 @@ marked w (k ∷ ks) = marked (set w k 1) ks
 unfoldable pub usable : List ℕ → ℕ → List ℕ
 usable t p = iter (λ e w. marked w (placesOf (elementAt t p e))) (replicate (definedPlace 0) 0) (elementCount t p)
 
--- AN INSTANCE, u the places it may use: tokens and counts at most 255, and none elsewhere; a field is defined or not, an undefined one's value 0
+-- FIELDS, f the words from the first one on, of an instance or the stores: each is defined or not, an undefined one's value 0
+unfoldable pub fieldFits : List ℕ → ℕ → Bool
+fieldFits f d = if eqb (at f (2 * d)) 0 then eqb (at f (2 * d + 1)) 0 else eqb (at f (2 * d)) 1
+
+unfoldable pub fieldsFit : List ℕ → Bool
+fieldsFit f = all (fieldFits f) fields
+
+-- AN INSTANCE, u the places it may use: tokens and counts at most 255, and none elsewhere; its fields
 unfoldable pub placeFits : List ℕ → List ℕ → ℕ → Bool
 placeFits u h k = if eqb (at h k) 0 then true else eqb (at u k) 1 && leb (at h k) countMost
 
-unfoldable pub fieldFits : List ℕ → ℕ → Bool
-fieldFits h d = if eqb (at h (definedPlace d)) 0 then eqb (at h (valuePlace d)) 0 else eqb (at h (definedPlace d)) 1
-
 unfoldable pub instanceFits : List ℕ → List ℕ → Bool
-instanceFits u h = all (placeFits u h) (definedPlace 0) && all (fieldFits h) fields
+instanceFits u h = all (placeFits u h) (definedPlace 0) && fieldsFit (drop (definedPlace 0) h)
 
 -- the instances of pool p: the made ones fit, the words of the others are 0
 unfoldable pub instancesFit : List ℕ → List ℕ → ℕ → Bool
@@ -73,9 +77,9 @@ instancesFit t s p =
     && all (λ i. instanceFits (usable t p) (instanceAt s p i)) (madeCount s p)
     && zeros (instanceAt s p (madeCount s p)) (instanceWords * (instances - madeCount s p))
 
--- what all instances share: the stores, not in use yet; the version is not looked at here (25)
+-- what all instances share: the stores, as fields; the version is not looked at here (25)
 unfoldable pub sharedFits : List ℕ → Bool
-sharedFits s = zeros (drop sharedPlace s) storeWords
+sharedFits s = fieldsFit (drop sharedPlace s)
 
 -- A QUEUE: at most 64 messages, each of at most 4 values, 0 behind them and behind the last
 unfoldable pub slotFits : List ℕ → ℕ → ℕ → Bool

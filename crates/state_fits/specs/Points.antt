@@ -6,10 +6,10 @@ use lib.ListN.{replicate, set}
 use Rattle.base_kinds.specs.Kinds.{start, startRcv, task, taskRcv}
 use Rattle.base_kinds.specs.Moves.{a, na-c}
 use Rattle.base_table.specs.Places.{kindPlace, taskPlace, modePlace, entriesPlace, exitsPlace, edgePlace, elementWords}
-use Rattle.base_state.specs.Places.{valuePlace, instanceWords, slotPlace}
+use Rattle.base_state.specs.Places.{valuePlace, instanceWords, sharedPlace, slotPlace}
 use Rattle.base_state.specs.Instances.{withTokens, withActive, withReady, withField}
 use Rattle.check_limits.specs.Points.{Point, _holds_, _fails_}
-use Rattle.state_fits.specs.Fits.{madeFits, usable, instanceFits, slotFits}
+use Rattle.state_fits.specs.Fits.{madeFits, usable, instanceFits, sharedFits, slotFits}
 
 -- WORDS OF A TABLE: an element with task number 1, of a mode, from edge 1 to edge 2; a table with one pool and that element
 abbrev element : ℕ → ℕ → List ℕ
@@ -32,6 +32,10 @@ blank = replicate instanceWords 0
 
 abbrev fitting : ℕ → ℕ → List ℕ → Bool
 fitting kind mode h = instanceFits (usable (table 0 (element kind mode)) 0) h
+
+-- WORDS OF A STATE up to its first store's, which are given
+abbrev board : List ℕ → List ℕ
+board w = replicate sharedPlace 0 ++ w
 
 -- WORDS OF A QUEUE: its first message has a length and two values
 abbrev queue : ℕ → ℕ → ℕ → List ℕ
@@ -57,6 +61,9 @@ points =
     "a ready count of a `taskRcv`" holds fitting taskRcv na-c (withReady blank 1 1) ∷
     "a field" holds fitting task a (withField blank 3 7) ∷
     "an undefined field's value" fails fitting task a (set blank (valuePlace 3) 7) ∷
+    "a store of 7, one undefined, a store of 0" holds sharedFits (board (1 ∷ 7 ∷ 0 ∷ 0 ∷ 1 ∷ 0 ∷ [])) ∷
+    "an undefined store's value" fails sharedFits (board (0 ∷ 7 ∷ [])) ∷
+    "a store with flag 2" fails sharedFits (board (0 ∷ 0 ∷ 2 ∷ 7 ∷ [])) ∷
     "a message of two values" holds slotFits (queue 2 7 9) 0 0 ∷
     "a value behind the last" fails slotFits (queue 1 7 9) 0 0 ∷
     "a message of five values" fails slotFits (queue 5 7 9) 0 0 ∷ []

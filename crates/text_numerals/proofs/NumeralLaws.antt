@@ -1,15 +1,15 @@
 -- A word at a place of a text, taken digit by digit: as a number, and as an operand. Assumes nothing.
 use mathlib.Core.Path.{_≡_, _∙_, refl, sym, ap, ap₂, subst}
-use mathlib.Core.Bool.{Bool, true, false, false≢true}
+use mathlib.Core.Bool.{Bool, true, false, _||_, false≢true}
 use mathlib.Core.List.{List, [], _∷_, _++_}
 use Prim.Native.Nat.{ℕ, zero, suc, _+_, _-_, _*_, _<_, _≤_}
 use native.Mathlib.Nat.{add-zero, add-sub-cancel-left}
 use native.Mathlib.Numerals.{add-one}
 use native.Mathlib.Omega.{arith}
 use lib.Dec.{leb, eqb}
-use lib.ListN.{length, take, drop, drop-of-length-le}
-use lib.Seq.{drop-cons, getD-drop, drop-drop, drop-append-seam, take-append-seam}
-use borrow.Author.Tests.{eq-eqb, ne-eqb, leb-true, leb-false}
+use lib.ListN.{length, take, drop, length-drop, drop-of-length-le}
+use lib.Seq.{drop-cons, getD-drop, drop-drop, drop-append-seam, take-append-seam, take-all}
+use borrow.Author.Tests.{eqb-true, leb-true, leb-false}
 use Rattle.base_words.specs.Each.{each}
 use Rattle.base_words.specs.Pick.{if_then_else_}
 use Rattle.base_words.specs.Words.{at, part, greatest}
@@ -26,7 +26,7 @@ use Rattle.text_numerals.specs.declared.Numeral.{Numeral}
 use Rattle.text_numerals.specs.declared.Operand.{Operand}
 use Rattle.text_numerals.specs.declared.Operand.the-variants.{NotAnOperand}
 use Rattle.text_numerals.specs.declared.Term.{Term}
-use Rattle.text_numerals.specs.Numerals.{valueFrom, leadingZero, numberOf, asNumber, asField, operandOf, grown, digitsFrom, numberBy, wordEnd, numeralAt, operandAt}
+use Rattle.text_numerals.specs.Numerals.{valueFrom, leadingZero, numberOf, isFieldLetter, fieldFrom, fieldOf, asNumber, asField, operandOf, grown, digitsFrom, numberBy, wordEnd, numeralAt, operandAt}
 use Rattle.text_numerals.proofs.NumberLaws.{value-large}
 
 digit-word : (d : ℕ) → isDigit d ≡ true → isWord d ≡ true
@@ -153,23 +153,37 @@ module _ (t : List ℕ) (p v e n : ℕ) (d : record { value = v; end = e } ≡ d
       let spelled : numberBy v (parts .ds) ≡ numberOf (parts .ds) = ap (λ (z : Number). if eqb (length (parts .ds)) 0 then NotANumber else if leadingZero (parts .ds) then NotANumber else z) (sym (parts .value)) in
       λ i. record { number = (h ∙ ap (numberBy v) (q ∙ letters) ∙ spelled ∙ ap numberOf (sym letters) ∙ ap (λ z. numberOf (part t p z)) same) i; next = same i }
 
--- AS AN OPERAND
-first-taken : (k : ℕ) (l : List ℕ) → at (take k l) 0 ≡ 100 → at l 0 ≡ 100
-first-taken zero l e = absurd (omega arith)
-first-taken (suc k) [] e = absurd (omega arith)
-first-taken (suc k) (x ∷ l) e = e
+-- AS A FIELD
+pub field-by : (w p : List ℕ) (b : ℕ) (m n : Number) → b ≡ at w 0 → p ≡ part w 1 (length w) → m ≡ numberOf p → n ≡ fieldFrom b m → n ≡ fieldOf w
+unfolding fieldOf
+field-by w p b m n eb ep em en = en ∙ ap₂ fieldFrom eb (em ∙ ap numberOf (ep ∙ take-all (length w - 1) (drop 1 w) (omega (arith, length-drop 1 w))))
 
-d-word : isWord 100 ≡ true
-unfolding isWord isLetter isDigit between
-d-word = refl
+-- AS AN OPERAND: by its first byte, which is a letter of a field or not
+first-no : (k : ℕ) (l : List ℕ) → isFieldLetter (at l 0) ≡ false → isFieldLetter (at (take k l) 0) ≡ false
+unfolding isFieldLetter
+first-no zero l e = refl
+first-no (suc k) [] e = refl
+first-no (suc k) (x ∷ l) e = e
 
-by-number : (w : List ℕ) → eqb (at w 0) 100 ≡ false → asNumber (numberOf w) ≡ operandOf w
+pub letter-word : (b : ℕ) → isFieldLetter b ≡ true → isWord b ≡ true
+unfolding isFieldLetter isWord isLetter isDigit between
+letter-word b e = go (eqb b 100) refl e
+  where
+    go : (c : Bool) → eqb b 100 ≡ c → c || eqb b 115 ≡ true → isWord b ≡ true
+    go true q k = rw (eqb-true b 100 q)
+    go false q k = rw (eqb-true b 115 k)
+
+by-number : (w : List ℕ) → isFieldLetter (at w 0) ≡ false → asNumber (numberOf w) ≡ operandOf w
 unfolding operandOf if_then_else_
 by-number w e = rw e
 
+by-field : (b : ℕ) (w : List ℕ) → isFieldLetter b ≡ true → asField (fieldFrom b (numberOf w)) ≡ operandOf (b ∷ w)
+unfolding operandOf fieldOf if_then_else_
+by-field b w e = rw e
+
 module _ (t : List ℕ) (p : ℕ) where
   pub operand-none : length t ≤ p → record { operand = NotAnOperand; next = p } ≡ operandAt t p
-  unfolding operandAt operandOf numberOf asNumber if_then_else_
+  unfolding operandAt operandOf isFieldLetter numberOf asNumber if_then_else_
   operand-none h =
       let same : p ≡ wordEnd t p = sym (past-end isWord t p h) in
       let c : wordEnd t p - p ≡ 0 = omega (arith, same) in
@@ -177,22 +191,24 @@ module _ (t : List ℕ) (p : ℕ) where
       λ i. record { operand = (sym (ap operandOf none)) i; next = same i }
 
   module _ (n : Numeral) (o : Operand) where
-    pub operand-plain : (at t p ≡ 100 → ⊥) → n ≡ numeralAt t p → o ≡ asNumber (n .number) → record { operand = o; next = n .next } ≡ operandAt t p
+    pub operand-plain : isFieldLetter (at t p) ≡ false → n ≡ numeralAt t p → o ≡ asNumber (n .number) → record { operand = o; next = n .next } ≡ operandAt t p
     unfolding operandAt numeralAt
     operand-plain d e h =
-        let other : eqb (at (part t p (wordEnd t p)) 0) 100 ≡ false = ne-eqb _ 100 (λ q. d (sym (first-left t p) ∙ first-taken (wordEnd t p - p) (drop p t) q)) in
+        let other = first-no (wordEnd t p - p) (drop p t) (ap isFieldLetter (first-left t p) ∙ d) in
         λ i. record { operand = (h ∙ ap (λ (z : Numeral). asNumber (z .number)) e ∙ by-number (part t p (wordEnd t p)) other) i; next = (ap (λ (z : Numeral). z .next) e) i }
       where
         first-left : (t : List ℕ) (p : ℕ) → at (drop p t) 0 ≡ at t p
         first-left t p = getD-drop p t 0 0 ∙ ap (at t) (add-zero p)
 
-    pub operand-field-at : p < length t → at t p ≡ 100 → n ≡ numeralAt t (p + 1) → o ≡ asField (n .number) → record { operand = o; next = n .next } ≡ operandAt t p
-    unfolding operandAt operandOf numeralAt if_then_else_
-    operand-field-at l d e h =
-        let same : wordEnd t (p + 1) ≡ wordEnd t p = sym (past-more isWord t p l (ap isWord d ∙ d-word)) in
+    pub operand-field-at : (f : Number) → p < length t → isFieldLetter (at t p) ≡ true → n ≡ numeralAt t (p + 1) → f ≡ fieldFrom (at t p) (n .number) → o ≡ asField f
+        → record { operand = o; next = n .next } ≡ operandAt t p
+    unfolding operandAt numeralAt
+    operand-field-at f l d e g h =
+        let same : wordEnd t (p + 1) ≡ wordEnd t p = sym (past-more isWord t p l (letter-word (at t p) d)) in
         let c : wordEnd t p - p ≡ suc (wordEnd t p - (p + 1)) = omega (arith, same, past-from isWord (drop (p + 1) t) (p + 1)) in
-        let letters : part t p (wordEnd t p) ≡ 100 ∷ part t (p + 1) (wordEnd t p) = ap₂ take c (drop-cons t p 0 l ∙ ap₂ (λ (b : ℕ) (s : List ℕ). b ∷ s) d (ap (λ k. drop k t) (sym (add-one p)))) in
+        let letters : part t p (wordEnd t p) ≡ at t p ∷ part t (p + 1) (wordEnd t p) = ap₂ take c (drop-cons t p 0 l ∙ ap (λ k. at t p ∷ drop k t) (sym (add-one p))) in
+        let field : f ≡ fieldFrom (at t p) (numberOf (part t (p + 1) (wordEnd t p))) = g ∙ ap (λ (z : Numeral). fieldFrom (at t p) (z .number)) e ∙ ap (λ z. fieldFrom (at t p) (numberOf (part t (p + 1) z))) same in
         λ i. record {
-          operand = (h ∙ ap (λ (z : Numeral). asField (z .number)) e ∙ ap (λ z. asField (numberOf (part t (p + 1) z))) same ∙ sym (ap operandOf letters)) i;
+          operand = (h ∙ ap asField field ∙ by-field (at t p) (part t (p + 1) (wordEnd t p)) d ∙ sym (ap operandOf letters)) i;
           next = (ap (λ (z : Numeral). z .next) e ∙ same) i;
         }

@@ -6,7 +6,7 @@ use Rattle.base_words.specs.Text.{bytes}
 use Rattle.text_lexer.specs.Lexer.{between, isDigit}
 use Rattle.text_numerals.specs.declared.Number.the-variants.{Value, TooLarge, NotANumber}
 use Rattle.text_numerals.specs.declared.Operand.the-variants.{Number as Constant, Field, OutOfRange, NotAnOperand}
-use Rattle.text_numerals.specs.Numerals.{valueFrom, leadingZero, numberOf, sameBytes, asNumber, asField, operandOf}
+use Rattle.text_numerals.specs.Numerals.{valueFrom, leadingZero, numberOf, sameBytes, isFieldLetter, fieldBehind, fieldFrom, fieldOf, asNumber, asField, operandOf}
 
 pub record Numbers : Type 0 where
   pub zero : numberOf (bytes "0") ≡ Value 0
@@ -51,13 +51,20 @@ pub record Operands : Type 0 where
   pub greatest-field : operandOf (bytes "d4294967295") ≡ OutOfRange
   pub far-above : operandOf (bytes "d99999999999") ≡ OutOfRange
   pub field-zero : operandOf (bytes "d01") ≡ NotAnOperand
+  pub first-store : operandOf (bytes "s0") ≡ Field 16
+  pub last-store : operandOf (bytes "s15") ≡ Field 31
+  pub store-above : operandOf (bytes "s16") ≡ OutOfRange
+  pub store-far-above : operandOf (bytes "s99999999999") ≡ OutOfRange
+  pub store-zero : operandOf (bytes "s01") ≡ NotAnOperand
+  pub store-alone : operandOf (bytes "s") ≡ NotAnOperand
+  pub store-capital : operandOf (bytes "S1") ≡ NotAnOperand
   pub letter-alone : operandOf (bytes "d") ≡ NotAnOperand
   pub two-letters : operandOf (bytes "dx") ≡ NotAnOperand
   pub capital : operandOf (bytes "D1") ≡ NotAnOperand
   pub empty : operandOf (bytes "") ≡ NotAnOperand
 
 pub operands : Operands
-unfolding if_then_else_ between isDigit valueFrom leadingZero numberOf asNumber asField operandOf
+unfolding if_then_else_ between isDigit valueFrom leadingZero numberOf isFieldLetter fieldBehind fieldFrom fieldOf asNumber asField operandOf
 operands = record {
   inner = refl;
   number = refl;
@@ -70,6 +77,13 @@ operands = record {
   greatest-field = refl;
   far-above = refl;
   field-zero = refl;
+  first-store = refl;
+  last-store = refl;
+  store-above = refl;
+  store-far-above = refl;
+  store-zero = refl;
+  store-alone = refl;
+  store-capital = refl;
   letter-alone = refl;
   two-letters = refl;
   capital = refl;

@@ -4,12 +4,12 @@ use mathlib.Core.Bool.{Bool, true, false, _||_}
 use mathlib.Core.List.{List, [], _∷_, _++_, append-assoc, append-nil}
 use Prim.Native.Nat.{ℕ, zero, suc, _+_, _*_, _-_, _/_, _%_, _^_, _<_, _≤_}
 use native.Mathlib.Decide.{decLt}
-use native.Mathlib.Nat.{pow-suc}
+use native.Mathlib.Nat.{pow-suc, add-zero}
 use native.Mathlib.Omega.{arith}
 use lib.Dec.{ltb, eqb}
 use lib.ListN.{length, length-append, List·getD-append}
 use borrow.Author.Tests.{lt-ltb, le-leb, lt-leb, ne-eqb}
-use Rattle.base_words.specs.Counts.{fields}
+use Rattle.base_words.specs.Counts.{fields, stores}
 use Rattle.base_words.specs.Each.{each}
 use Rattle.base_words.specs.Pick.{if_then_else_}
 use Rattle.base_words.specs.Words.{at, greatest}
@@ -18,7 +18,7 @@ use Rattle.base_words.proofs.PickLaws.{and-true, and-false-right}
 use Rattle.text_lexer.specs.Lexer.{between, isDigit, isLetter, isWord}
 use Rattle.text_numerals.specs.declared.Number.the-variants.{Value, TooLarge}
 use Rattle.text_numerals.specs.declared.Operand.the-variants.{Number as Constant, Field}
-use Rattle.text_numerals.specs.Numerals.{valueFrom, leadingZero, numberOf, asNumber, asField, operandOf}
+use Rattle.text_numerals.specs.Numerals.{valueFrom, leadingZero, numberOf, isFieldLetter, fieldBehind, fieldFrom, fieldOf, asNumber, operandOf}
 
 -- the word w spells the number n: one digit, or a number but 0 and one digit behind it
 pub data Spelled : ℕ → List ℕ → Type 0 where
@@ -93,14 +93,19 @@ module _ {n : ℕ} {w : List ℕ} (s : Spelled n w) where
       above : valueFrom n [] ≡ TooLarge
       above = unfold valueFrom if_then_else_ in rw (lt-leb n greatest h)
 
+  -- for fields and stores
+  pub field-spelled : n < fields → fieldOf (100 ∷ w) ≡ Value n
+  unfolding fieldOf fieldFrom fieldBehind if_then_else_
+  field-spelled h = rw (number-spelled (omega arith), lt-ltb n fields h, add-zero n)
+
+  pub store-spelled : n < stores → fieldOf (115 ∷ w) ≡ Value (n + fields)
+  unfolding fieldOf fieldFrom fieldBehind if_then_else_
+  store-spelled h = rw (number-spelled (omega arith), lt-ltb n stores h)
+
   -- and for operands
   pub constant-spelled : n ≤ greatest → operandOf w ≡ Constant n
-  unfolding operandOf asNumber if_then_else_
-  constant-spelled h = rw (ne-eqb (at w 0) 100 (λ e. omega (arith, e, spelled-first s .2)), number-spelled h)
-
-  pub field-spelled : n < fields → operandOf (100 ∷ w) ≡ Field n
-  unfolding operandOf asField if_then_else_
-  field-spelled h = rw (number-spelled (omega arith), lt-ltb n fields h)
+  unfolding operandOf isFieldLetter asNumber if_then_else_
+  constant-spelled h = rw (ne-eqb (at w 0) 100 (λ e. omega (arith, e, spelled-first s .2)), ne-eqb (at w 0) 115 (λ e. omega (arith, e, spelled-first s .2)), number-spelled h)
 
 -- what a writer has to show of its digits: `digits n` are those of n, for every n below 10 to the k
 module _ (digits : ℕ → List ℕ) (k : ℕ) (last : (n : ℕ) → n < 10 → digits n ≡ (48 + n) ∷ []) (step : (n : ℕ) → 10 ≤ n → n < 10 ^ k → digits n ≡ digits (n / 10) ++ (48 + n % 10) ∷ []) where

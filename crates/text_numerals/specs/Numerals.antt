@@ -1,12 +1,12 @@
 -- "Numbers are decimal without leading zeros, 0 to 4,294,967,295. A keyword is compared whole, as fixed bytes, letter case included." "An operand is a
--- number or a field `d0` to `d15`." A number of any length above its range is still a number.
+-- number or a field": `d0` to `d15`, or a store, `s0` to `s15`. A number of any length above its range is still a number.
 use Prim.Native.Char.{code}
 use Prim.Native.Nat.{ℕ, _+_, _-_, _*_}
-use mathlib.Core.Bool.{Bool, true, false, _&&_}
+use mathlib.Core.Bool.{Bool, true, false, _&&_, _||_}
 use mathlib.Core.List.{List, [], _∷_}
 use lib.Dec.{ltb, leb, eqb}
 use lib.ListN.{length, drop}
-use Rattle.base_words.specs.Counts.{fields}
+use Rattle.base_words.specs.Counts.{fields, stores}
 use Rattle.base_words.specs.Pick.{if_then_else_}
 use Rattle.base_words.specs.Words.{at, part, greatest}
 use Rattle.text_lexer.specs.Lexer.{past, isDigit, isWord}
@@ -37,19 +37,37 @@ sameBytes [] (y ∷ b) = false
 sameBytes (x ∷ a) [] = false
 sameBytes (x ∷ a) (y ∷ b) = eqb x y && sameBytes a b
 
--- a word as an operand; what stands behind the d of a field is a number
+-- A FIELD: its letter and a number in that letter's range; in a table it has one number, the stores behind an instance's own
+unfoldable pub isFieldLetter : ℕ → Bool
+isFieldLetter letter = eqb letter (code "d") || eqb letter (code "s")
+
+unfoldable pub fieldBehind : ℕ → ℕ → Number → Number
+fieldBehind before count (Value v) = if ltb v count then Value (v + before) else TooLarge
+fieldBehind before count TooLarge = TooLarge
+fieldBehind before count NotANumber = NotANumber
+
+unfoldable pub fieldFrom : ℕ → Number → Number
+fieldFrom letter n =
+    if eqb letter (code "d") then fieldBehind 0 fields n
+    else if eqb letter (code "s") then fieldBehind fields stores n
+    else NotANumber
+
+unfoldable pub fieldOf : List ℕ → Number
+fieldOf word = fieldFrom (at word 0) (numberOf (drop 1 word))
+
+-- a word as an operand
 unfoldable pub asNumber : Number → Operand
 asNumber (Value v) = Constant v
 asNumber TooLarge = OutOfRange
 asNumber NotANumber = NotAnOperand
 
 unfoldable pub asField : Number → Operand
-asField (Value v) = if ltb v fields then Field v else OutOfRange
+asField (Value d) = Field d
 asField TooLarge = OutOfRange
 asField NotANumber = NotAnOperand
 
 unfoldable pub operandOf : List ℕ → Operand
-operandOf word = if eqb (at word 0) (code "d") then asField (numberOf (drop 1 word)) else asNumber (numberOf word)
+operandOf word = if isFieldLetter (at word 0) then asField (fieldOf word) else asNumber (numberOf word)
 
 -- THE SAME FROM A PLACE OF A TEXT ON, in one go: v and then the digits of s, which starts at the place p; above the greatest word a value grows no more
 unfoldable pub grown : ℕ → ℕ → ℕ

@@ -1,13 +1,16 @@
 // Words as numbers and operands, and words compared.
 ghost use mathlib.Core.Path.{_≡_};
 ghost use mathlib.Core.Bool.{true};
+ghost use Prim.Native.Nat.{_+_, _≤_};
 ghost use lib.ListN.{drop};
+ghost use Rattle.base_words.specs.Counts.{named};
 ghost use Rattle.text_lexer.specs.Lexer.{isDigit};
-ghost use Rattle.text_numerals.specs.Numerals.{valueFrom, leadingZero, numberOf, sameBytes, asNumber, asField};
+ghost use Rattle.text_numerals.specs.Numerals.{valueFrom, leadingZero, numberOf, sameBytes, isFieldLetter, fieldBehind, fieldFrom, fieldOf, asNumber, asField};
 ghost use Rattle.text_numerals.specs.Numerals.{grown, digitsFrom, numberBy, numeralAt, operandAt};
 use base_words::GREATEST;
 use base_words::Word;
 use base_words::counts::FIELDS;
+use base_words::counts::STORES;
 use text_lexer::byte;
 use text_lexer::is_digit;
 use text_lexer::past_word;
@@ -100,15 +103,54 @@ fn as_field(n: Number) -> Operand
     ensures { λ r. ⌜ r ≡ asField n ⌝ }
 {
     match n {
-        Number::Value(v) => {
-            if v < FIELDS {
-                return Operand::Field(v);
-            }
-            Operand::OutOfRange
-        }
+        Number::Value(d) => Operand::Field(d),
         Number::TooLarge => Operand::OutOfRange,
         Number::NotANumber => Operand::NotAnOperand,
     }
+}
+
+// Whether a field's word starts with this byte.
+pub fn is_field_letter(letter: u8) -> bool
+    ensures { λ r. ⌜ r ≡ isFieldLetter letter ⌝ }
+{
+    letter == b'd' || letter == b's'
+}
+
+// A number below a count, behind those that come before.
+fn field_behind(before: Word, count: Word, n: Number) -> Number
+    requires { ⌜ before + count ≤ named ⌝ }
+    ensures { λ r. ⌜ r ≡ fieldBehind before count n ⌝ }
+{
+    match n {
+        Number::Value(v) => {
+            if v < count {
+                return Number::Value(v + before);
+            }
+            Number::TooLarge
+        }
+        Number::TooLarge => Number::TooLarge,
+        Number::NotANumber => Number::NotANumber,
+    }
+}
+
+// The number of a field in a table, by its letter and the number behind that.
+pub fn field_from(letter: u8, n: Number) -> Number
+    ensures { λ r. ⌜ r ≡ fieldFrom letter n ⌝ }
+{
+    if letter == b'd' {
+        return field_behind(0, FIELDS, n);
+    }
+    if letter == b's' {
+        return field_behind(FIELDS, STORES, n);
+    }
+    Number::NotANumber
+}
+
+// A word as the number of a field in a table.
+pub fn field_of(word: &[u8]) -> Number
+    ensures { λ r. ⌜ r ≡ fieldOf (now (word .entry)) ⌝ }
+{
+    field_from(byte(word, 0), number_of(piece(word, 1, word.len())))
 }
 
 // Digits of a text: what they come to, and the place behind them.
@@ -202,7 +244,8 @@ pub fn operand_at(text: &[u8], p: usize) -> Term
             next: p,
         };
     }
-    if text[p] != b'd' {
+    let letter = text[p];
+    if !is_field_letter(letter) {
         let plain = numeral_at(text, p);
         let number = plain.number;
         return Term {
@@ -210,10 +253,10 @@ pub fn operand_at(text: &[u8], p: usize) -> Term
             next: plain.next,
         };
     }
-    let field = numeral_at(text, p + 1);
-    let number = field.number;
+    let behind = numeral_at(text, p + 1);
+    let number = behind.number;
     Term {
-        operand: as_field(number),
-        next: field.next,
+        operand: as_field(field_from(letter, number)),
+        next: behind.next,
     }
 }

@@ -7,9 +7,9 @@ use Prim.Native.Nat.{ℕ}
 use Rattle.base_words.specs.Pick.{if_then_else_}
 use Rattle.base_words.specs.Text.{bytes}
 use Rattle.text_lexer.specs.Lexer.{among, between, isBlank, isSign, isDigit, isLetter, isWord, past, tokenOf, tokenHere, tokenAt, ifWord, ifSign, ifAssign, ifEnd}
-use Rattle.text_numerals.specs.Numerals.{valueFrom, leadingZero, numberOf, sameBytes, asNumber, asField, operandOf}
+use Rattle.text_numerals.specs.Numerals.{valueFrom, leadingZero, numberOf, sameBytes, isFieldLetter, fieldBehind, fieldFrom, fieldOf, asNumber, asField, operandOf}
 use Rattle.text_readers.specs.declared.Read.the-variants.{At, Refused}
-use Rattle.text_readers.specs.Reading.{passed, refused, ifAt, onward, _then_, signAt, assignAt, endAt, sign, keepNumber, number, fieldOf, field, keepOperand, operand, modeNamed, keepMode, mode, isSpelled, startsNumber, startsField, startsSign}
+use Rattle.text_readers.specs.Reading.{passed, refused, ifAt, onward, _then_, signAt, assignAt, endAt, sign, keepNumber, number, field, keepOperand, operand, modeNamed, keepMode, mode, isSpelled, startsNumber, startsField, startsSign}
 
 abbrev none : List ℕ
 none = 0 ∷ 0 ∷ 0 ∷ 0 ∷ []
@@ -38,15 +38,22 @@ pub record Numbers : Type 0 where
   pub a-field : field 3 (bytes "?d15>") 1 none ≡ passed 4 (0 ∷ 0 ∷ 0 ∷ 15 ∷ [])
   pub field-above : field 3 (bytes "?d16>") 1 none ≡ refused 3 1 none
   pub field-zero : field 3 (bytes "?d01>") 1 none ≡ refused 2 1 none
+  pub a-store : field 3 (bytes "?s15>") 1 none ≡ passed 4 (0 ∷ 0 ∷ 0 ∷ 31 ∷ [])
+  pub store-above : field 3 (bytes "?s16>") 1 none ≡ refused 3 1 none
+  pub store-zero : field 3 (bytes "?s01>") 1 none ≡ refused 2 1 none
+  pub store-capital : field 3 (bytes "?S1>") 1 none ≡ refused 2 1 none
+  pub store-alone : field 3 (bytes "?s>") 1 none ≡ refused 2 1 none
   pub no-field : field 3 (bytes "?7>") 1 none ≡ refused 2 1 none
   pub operand-number : operand 2 (bytes "7=") 0 none ≡ passed 1 (0 ∷ 0 ∷ 0 ∷ 7 ∷ [])
   pub operand-field : operand 2 (bytes "d7=") 0 none ≡ passed 2 (0 ∷ 0 ∷ 1 ∷ 7 ∷ [])
+  pub operand-store : operand 2 (bytes "s3=") 0 none ≡ passed 2 (0 ∷ 0 ∷ 1 ∷ 19 ∷ [])
+  pub operand-store-above : operand 2 (bytes "s16=") 0 none ≡ refused 3 0 none
   pub operand-last : operand 2 (bytes "4294967295=") 0 none ≡ passed 10 (0 ∷ 0 ∷ 0 ∷ 4294967295 ∷ [])
   pub operand-above : operand 2 (bytes "4294967296=") 0 none ≡ refused 3 0 none
   pub no-operand : operand 2 (bytes "true=") 0 none ≡ refused 2 0 none
 
 pub numbers : Numbers
-unfolding if_then_else_ among between isBlank isSign isDigit isLetter isWord past tokenOf tokenHere tokenAt ifWord valueFrom leadingZero numberOf asNumber asField operandOf keepNumber number fieldOf field keepOperand operand
+unfolding if_then_else_ among between isBlank isSign isDigit isLetter isWord past tokenOf tokenHere tokenAt ifWord valueFrom leadingZero numberOf isFieldLetter fieldBehind fieldFrom fieldOf asNumber asField operandOf keepNumber number field keepOperand operand
 numbers = record {
   within = refl;
   above = refl;
@@ -58,9 +65,16 @@ numbers = record {
   a-field = refl;
   field-above = refl;
   field-zero = refl;
+  a-store = refl;
+  store-above = refl;
+  store-zero = refl;
+  store-capital = refl;
+  store-alone = refl;
   no-field = refl;
   operand-number = refl;
   operand-field = refl;
+  operand-store = refl;
+  operand-store-above = refl;
   operand-last = refl;
   operand-above = refl;
   no-operand = refl;
@@ -80,13 +94,14 @@ pub record Starts : Type 0 where
   pub number-above : startsNumber (bytes ",99999999") 1 ≡ true
   pub zeros : startsNumber (bytes ",00") 1 ≡ false
   pub field-above : startsField (bytes ",d16") 1 ≡ true
+  pub store-above : startsField (bytes ",s16") 1 ≡ true
   pub no-field : startsField (bytes ",7") 1 ≡ false
   pub bracket : startsSign (code "(") (bytes ", (") 1 ≡ true
   pub other : startsSign (code "(") (bytes ", )") 1 ≡ false
 
 pub starts : Starts
-unfolding if_then_else_ among between isBlank isSign isDigit isLetter isWord past tokenOf tokenHere tokenAt ifWord ifSign valueFrom leadingZero numberOf fieldOf isSpelled startsNumber startsField startsSign
-starts = record { number-above = refl; zeros = refl; field-above = refl; no-field = refl; bracket = refl; other = refl }
+unfolding if_then_else_ among between isBlank isSign isDigit isLetter isWord past tokenOf tokenHere tokenAt ifWord ifSign valueFrom leadingZero numberOf fieldBehind fieldFrom fieldOf isSpelled startsNumber startsField startsSign
+starts = record { number-above = refl; zeros = refl; field-above = refl; store-above = refl; no-field = refl; bracket = refl; other = refl }
 
 -- the leftmost place decides, and words stored before it stay
 pub record Chains : Type 0 where

@@ -5,7 +5,7 @@ use mathlib.Core.List.{List}
 use Prim.Native.Nat.{ℕ, _+_, _-_}
 use lib.Dec.{eqb, leb}
 use lib.ListN.{length, set, length-set}
-use Rattle.base_words.specs.Counts.{fields}
+use Rattle.base_words.specs.Counts.{named}
 use Rattle.base_words.specs.Pick.{if_then_else_}
 use Rattle.base_table.specs.Places.{aField, operandNumber, modePlace}
 use Rattle.text_lexer.specs.declared.Form.{Form}
@@ -15,10 +15,10 @@ use Rattle.text_numerals.specs.declared.Number.{Number}
 use Rattle.text_numerals.specs.declared.Number.the-variants.{Value, TooLarge, NotANumber}
 use Rattle.text_numerals.specs.declared.Operand.{Operand}
 use Rattle.text_numerals.specs.declared.Operand.the-variants.{Number as OfNumber, Field, OutOfRange, NotAnOperand}
-use Rattle.text_numerals.specs.Numerals.{numberOf, operandOf}
+use Rattle.text_numerals.specs.Numerals.{numberOf, fieldOf, operandOf}
 use Rattle.text_readers.specs.declared.Read.{Read}
 use Rattle.text_readers.specs.declared.Read.the-variants.{At, Refused}
-use Rattle.text_readers.specs.Reading.{Parsed, Reader, passed, refused, ifAt, onward, _then_, placeOf, behind, letters, signAt, assignAt, sign, assign, keepNumber, number, fieldOf, field, keepOperand, operand, modeNamed, keepMode, mode}
+use Rattle.text_readers.specs.Reading.{Parsed, Reader, passed, refused, ifAt, onward, _then_, placeOf, behind, letters, signAt, assignAt, sign, assign, keepNumber, number, field, keepOperand, operand, modeNamed, keepMode, mode}
 
 -- THE DEFINITIONS, by the answer they start from
 module _ {A : Type 0} (r : Read) (go : ℕ → A) (stay : A) where
@@ -154,7 +154,7 @@ keeps-number least most place text at x =
 pub keeps-field : (place : ℕ) → Keeps (field place)
 unfolding field
 keeps-field place text at x =
-    word-length (tokenAt text at .form) x _ _ (keep-number-length (fieldOf (letters text at)) 0 (fields - 1) place (placeOf text at) (behind text at) x) refl
+    word-length (tokenAt text at .form) x _ _ (keep-number-length (fieldOf (letters text at)) 0 (named - 1) place (placeOf text at) (behind text at) x) refl
 
 pub keeps-operand : (place : ℕ) → Keeps (operand place)
 unfolding operand

@@ -2,19 +2,16 @@
 use mathlib.Core.Path.{_≡_, _∙_, refl, sym, ap}
 use mathlib.Core.Bool.{Bool, true, false}
 use mathlib.Core.List.{List, [], _∷_}
-use Prim.Native.Char.{code}
 use Prim.Native.Nat.{ℕ, suc, _-_, _<_, _≤_}
 use native.Mathlib.Omega.{arith}
 use types.Run.{OneOf}
 use denote.Enum.Declared.{tagOf}
 use lib.Dec.{eqb, ltb}
-use lib.ListN.{length, take, drop, length-drop}
-use lib.Seq.{take-all}
-use borrow.Author.Tests.{eq-eqb, ne-eqb, ltb-true, ltb-false}
+use lib.ListN.{length, take, drop}
+use borrow.Author.Tests.{ltb-true, ltb-false}
 use Rattle.base_words.specs.Pick.{if_then_else_}
-use Rattle.base_words.specs.Counts.{fields}
-use Rattle.base_words.specs.Words.{at as wordAt, part}
-use Rattle.base_words.proofs.PickLaws.{pick-yes, pick-no}
+use Rattle.base_words.specs.Counts.{named}
+use Rattle.base_words.specs.Words.{part}
 use Rattle.text_lexer.specs.declared.Token.{Token}
 use Rattle.text_lexer.specs.declared.Form.the-variants.{Word, Sign, Assign, End}
 use Rattle.text_lexer.specs.Lexer.{isBlank, isWord, past, tokenAt, ifWord, ifSign, ifAssign, ifEnd, signBehind}
@@ -23,15 +20,14 @@ use Rattle.text_lexer.proofs.FormLaws.{is-word, is-sign, is-assign, is-end, not
 use Rattle.text_lexer.proofs.PlaceLaws.{Worded, some-word, no-word, not-worded, worded, sign-hit, sign-miss}
 use Rattle.text_numerals.specs.declared.Number.{Number}
 use Rattle.text_numerals.specs.declared.Operand.{Operand}
-use Rattle.text_numerals.specs.declared.Number.the-variants.{NotANumber}
 use Rattle.text_numerals.specs.declared.Numeral.{Numeral}
 use Rattle.text_numerals.specs.declared.Term.{Term}
-use Rattle.text_numerals.specs.Numerals.{numberOf, asNumber, operandOf, wordEnd, numeralAt, operandAt}
+use Rattle.text_numerals.specs.Numerals.{numberOf, isFieldLetter, fieldFrom, fieldOf, asNumber, operandOf, wordEnd, numeralAt, operandAt}
 use Rattle.text_readers.specs.declared.Read.{Read}
 use Rattle.text_readers.specs.declared.Read.the-variants.{At, Refused}
 use Rattle.text_readers.specs.declared.Asked.{Asked}
 use Rattle.text_readers.specs.declared.Asked.the-variants.{Behind, Another}
-use Rattle.text_readers.specs.Reading.{taken, Parsed, passed, refused, misplaced, placeOf, behind, letters, signAt, assignAt, endAt, keepNumber, number, fieldOf, field, keepOperand, operand, modeNamed, keepMode, mode, isSpelled, startsNumber, startsField, startsSign}
+use Rattle.text_readers.specs.Reading.{taken, Parsed, passed, refused, misplaced, placeOf, behind, letters, signAt, assignAt, endAt, keepNumber, number, field, keepOperand, operand, modeNamed, keepMode, mode, isSpelled, startsNumber, startsField, startsSign}
 
 -- what a token gives where a word is asked for
 abbrev wordOf : {A : Type 0} → List ℕ → (List ℕ → ℕ → ℕ → A) → (ℕ → A) → Token → A
@@ -164,11 +160,11 @@ module _ (text : List ℕ) (at p q : ℕ) (e : p ≡ past isBlank (drop at text)
             ap (λ (z : List ℕ). keep z p q) nothing ∙ ap (keep [] p) r ∙ none p
             ∙ sym (not-worded f (keep (part text p n) p n) (miss p) o) ∙ ap (wordOf text keep miss) (sym k)
 
-    pub field-read : (place : ℕ) (x : List ℕ) (n : Number) (w : Parsed) → n ≡ fieldOf l → w ≡ keepNumber n 0 (fields - 1) place p q x → w ≡ field place text at x
-    unfolding field fieldOf keepNumber if_then_else_
+    pub field-read : (place : ℕ) (x : List ℕ) (n : Number) (w : Parsed) → n ≡ fieldOf l → w ≡ keepNumber n 0 (named - 1) place p q x → w ≡ field place text at x
+    unfolding field fieldOf fieldFrom keepNumber if_then_else_
     field-read place x n w d k =
-        k ∙ ap (λ (z : Number). keepNumber z 0 (fields - 1) place p q x) d
-        ∙ word-direct (λ z a b. keepNumber (fieldOf z) 0 (fields - 1) place a b x) (λ a. refused misplaced a x) (λ z. refl)
+        k ∙ ap (λ (z : Number). keepNumber z 0 (named - 1) place p q x) d
+        ∙ word-direct (λ z a b. keepNumber (fieldOf z) 0 (named - 1) place a b x) (λ a. refused misplaced a x) (λ z. refl)
 
   module _ (s : ℕ) (g : q ≡ signBehind s (drop p text) p) where
     pub sign-read : p < q → At q ≡ signAt s text at
@@ -192,18 +188,7 @@ module _ (text : List ℕ) (at p : ℕ) (e : p ≡ past isBlank (drop at text) a
       ∙ word-here (λ z a b. keepNumber (numberOf z) least most place a b x) (λ a. refused misplaced a x) (λ z. refl)
 
   pub operand-read : (n : Term) → n ≡ operandAt text p → (place : ℕ) (x : List ℕ) (w : Parsed) → w ≡ keepOperand (n .operand) place p (n .next) x → w ≡ operand place text at x
-  unfolding operand operandOf numberOf asNumber keepOperand operandAt if_then_else_
+  unfolding operand operandOf isFieldLetter numberOf asNumber keepOperand operandAt if_then_else_
   operand-read n g place x w k =
       k ∙ ap (λ (z : Term). keepOperand (z .operand) place p (z .next) x) g
       ∙ word-here (λ z a b. keepOperand (operandOf z) place a b x) (λ a. refused misplaced a x) (λ z. refl)
-
--- the number of a field's word
-pub field-number : (w p : List ℕ) (b : ℕ) (n : Number) → b ≡ wordAt w 0 → b ≡ code "d" → p ≡ part w 1 (length w) → n ≡ numberOf p → n ≡ fieldOf w
-unfolding fieldOf
-field-number w p b n eb d ep en =
-    pick-yes _ _ _ _ (eq-eqb (wordAt w 0) (code "d") (sym eb ∙ d))
-    (en ∙ ap numberOf (ep ∙ take-all (length w - 1) (drop 1 w) (omega (arith, length-drop 1 w))))
-
-pub field-none : (w : List ℕ) (b : ℕ) → b ≡ wordAt w 0 → (b ≡ code "d" → ⊥) → NotANumber ≡ fieldOf w
-unfolding fieldOf
-field-none w b eb d = pick-no _ _ _ _ (ne-eqb (wordAt w 0) (code "d") (λ h. d (eb ∙ h))) refl

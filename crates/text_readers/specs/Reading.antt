@@ -9,7 +9,7 @@ use lib.ListN.{set, drop}
 use Rattle.base_words.specs.Pick.{if_then_else_}
 use Rattle.base_words.specs.Text.{bytes}
 use Rattle.base_words.specs.Words.{at as wordAt, part}
-use Rattle.base_words.specs.Counts.{fields}
+use Rattle.base_words.specs.Counts.{named}
 use Rattle.base_kinds.specs.Moves.{a, na-c, na-nc}
 use Rattle.base_table.specs.Places.{aField, operandNumber, modePlace}
 use Rattle.text_lexer.specs.declared.Token.{Token}
@@ -18,7 +18,7 @@ use Rattle.text_numerals.specs.declared.Number.{Number}
 use Rattle.text_numerals.specs.declared.Number.the-variants.{Value, TooLarge, NotANumber}
 use Rattle.text_numerals.specs.declared.Operand.{Operand}
 use Rattle.text_numerals.specs.declared.Operand.the-variants.{Number as OfNumber, Field, OutOfRange, NotAnOperand}
-use Rattle.text_numerals.specs.Numerals.{numberOf, operandOf, sameBytes}
+use Rattle.text_numerals.specs.Numerals.{numberOf, fieldOf, operandOf, sameBytes}
 use Rattle.text_readers.specs.declared.Read.{Read}
 use Rattle.text_readers.specs.declared.Read.the-variants.{At, Refused}
 use Rattle.text_readers.specs.declared.Asked.{Asked}
@@ -94,7 +94,7 @@ sign s text at x = record { end = signAt s text at; words = x }
 abbrev pub assign : Reader
 assign text at x = record { end = assignAt text at; words = x }
 
--- A WORD THAT IS A NUMBER from least to most, or a field `d0` to `d15`: stored at a place of x. p is where the word stands, q what is behind it.
+-- A WORD THAT IS A NUMBER from least to most, or a field `d0` to `d15`, `s0` to `s15`: stored at a place of x. p is where the word stands, q what is behind it.
 unfoldable pub keepNumber : Number → ℕ → ℕ → ℕ → ℕ → ℕ → List ℕ → Parsed
 keepNumber (Value v) least most place p q x = if leb least v && leb v most then passed q (set x place v) else refused excessive p x
 keepNumber TooLarge least most place p q x = refused excessive p x
@@ -106,14 +106,10 @@ number least most place text at x =
     (keepNumber (numberOf (letters text at)) least most place (placeOf text at) (behind text at) x)
     (refused misplaced (placeOf text at) x)
 
--- the number of a field's word
-unfoldable pub fieldOf : List ℕ → Number
-fieldOf w = if eqb (wordAt w 0) (code "d") then numberOf (drop 1 w) else NotANumber
-
 unfoldable pub field : ℕ → Reader
 field place text at x =
     ifWord (tokenAt text at .form)
-    (keepNumber (fieldOf (letters text at)) 0 (fields - 1) place (placeOf text at) (behind text at) x)
+    (keepNumber (fieldOf (letters text at)) 0 (named - 1) place (placeOf text at) (behind text at) x)
     (refused misplaced (placeOf text at) x)
 
 -- "An operand is a number or a field": 0 and the number, or 1 and the field's number

@@ -1,6 +1,6 @@
 // Readers of one token: the place behind it, or a refusal with the place of its first byte; what the token says is stored in words that are lent.
 ghost use mathlib.Core.Path.{_≡_};
-ghost use Rattle.text_readers.specs.Reading.{taken, signAt, assignAt, endAt, keepNumber, number, fieldOf, field, keepOperand, operand, modeNamed, keepMode, mode, isSpelled, startsNumber, startsField, startsSign};
+ghost use Rattle.text_readers.specs.Reading.{taken, signAt, assignAt, endAt, keepNumber, number, field, keepOperand, operand, modeNamed, keepMode, mode, isSpelled, startsNumber, startsField, startsSign};
 use base_kinds::moves::A;
 use base_kinds::moves::NA_C;
 use base_kinds::moves::NA_NC;
@@ -8,7 +8,7 @@ use base_table::places::A_FIELD;
 use base_table::places::MODE;
 use base_table::places::OPERAND_NUMBER;
 use base_words::Word;
-use base_words::counts::FIELDS;
+use base_words::counts::NAMED;
 use base_words::numbers::EXCESSIVE;
 use base_words::numbers::MISPLACED;
 use base_words::put;
@@ -21,6 +21,7 @@ use text_lexer::sign_behind;
 use text_lexer::token_at;
 use text_numerals::Number;
 use text_numerals::Operand;
+use text_numerals::field_of;
 use text_numerals::number_of;
 use text_numerals::numeral_at;
 use text_numerals::operand_at;
@@ -130,23 +131,13 @@ pub fn number_in(
     keep_number(number, least, most, place, p, numeral.next, x)
 }
 
-// The number of a field's word.
-fn field_of(word: &[u8]) -> Number
-    ensures { λ r. ⌜ r ≡ fieldOf (now (word .entry)) ⌝ }
-{
-    if byte(word, 0) == b'd' {
-        return number_of(piece(word, 1, word.len()));
-    }
-    Number::NotANumber
-}
-
 // A field, its number stored at a place of x.
 pub fn field_in(text: &[u8], at: usize, x: &mut [Word], place: u32) -> Read
     ensures { λ r. ⌜ record { end = r; words = now (x .exit) } ≡ field place (now (text .entry)) at (now (x .entry)) ⌝ }
 {
     let p = past_blanks(text, at);
     let q = past_word(text, p);
-    keep_number(field_of(piece(text, p, q)), 0, FIELDS - 1, place, p, q, x)
+    keep_number(field_of(piece(text, p, q)), 0, NAMED - 1, place, p, q, x)
 }
 
 // An operand, stored; its word stands at p, and q is behind it.

@@ -1,7 +1,7 @@
 -- THE TEXT OF A TABLE: "The writer writes no blanks, keeps the order of the table, ends with one newline." x is the words from a place on, el an element's,
 -- t a table. The parts of an element are those of the table of kinds, as they are read.
 use Prim.Native.Char.{code}
-use Prim.Native.Nat.{ℕ, zero, suc, _+_}
+use Prim.Native.Nat.{ℕ, zero, suc, _+_, _-_}
 use mathlib.Core.Bool.{Bool, true, false}
 use mathlib.Core.List.{List, [], _∷_, _++_}
 use lib.Dec.{eqb, ltb}
@@ -10,7 +10,7 @@ use Rattle.base_words.specs.Each.{joined}
 use Rattle.base_words.specs.Pick.{if_then_else_}
 use Rattle.base_words.specs.Text.{bytes}
 use Rattle.base_words.specs.Words.{at}
-use Rattle.base_words.specs.Counts.{pools}
+use Rattle.base_words.specs.Counts.{pools, fields}
 use Rattle.base_kinds.specs.declared.Kind.{Kind}
 use Rattle.base_kinds.specs.Kinds.{kindOf, keywordOf}
 use Rattle.base_kinds.specs.Moves.{a, na-c}
@@ -32,9 +32,9 @@ commas f n = separated (code ",") f n
 abbrev pub between : ℕ → ℕ → List ℕ → List ℕ
 between opener closer w = opener ∷ (w ++ (closer ∷ []))
 
--- an operand, an expression, an item of a template, a condition
+-- a field of an instance or a store; an operand, an expression, an item of a template, a condition
 unfoldable pub shownField : ℕ → List ℕ
-shownField d = code "d" ∷ shown d
+shownField d = if ltb d fields then code "d" ∷ shown d else code "s" ∷ shown (d - fields)
 
 unfoldable pub shownOperand : List ℕ → List ℕ
 shownOperand x = if eqb (at x 0) aField then shownField (at x operandNumber) else shown (at x operandNumber)

@@ -1,6 +1,8 @@
 // The shortest phrases of an element's text: operands, expressions, items, conditions, modes, assignments, and the sign between the pieces of a list.
 // Each writer writes from a place on, as far as the lent buffer goes, and returns the place behind its text.
+ghost use mathlib.Core.List.{_∷_};
 ghost use Rattle.write_buffer.specs.Buffers.{Put};
+ghost use Rattle.write_decimals.specs.Decimals.{shown};
 ghost use Rattle.write_shown.specs.Shown.{lead, shownField, shownOperand, shownPair, shownExpression, shownItem, shownCondition, shownMode, shownAssignment};
 ghost use Rattle.write_shown.specs.Lengths.{operandMost, pairMost, modeMost, assignmentMost};
 use base_kinds::moves::A;
@@ -18,6 +20,7 @@ use base_table::places::OPERAND_NUMBER;
 use base_table::places::PLUS;
 use base_table::places::RIGHT;
 use base_words::Word;
+use base_words::counts::FIELDS;
 use base_words::tail;
 use base_words::word;
 use write_buffer::put_byte;
@@ -34,11 +37,20 @@ pub fn put_lead(out: &mut [u8], from: usize, sign: u8, k: Word) -> usize
     put_byte(out, from, sign)
 }
 
+fn put_lettered(out: &mut [u8], from: usize, letter: u8, n: Word) -> usize
+    ensures { λ r. ⌜ Put (letter ∷ shown n) operandMost from (now (out .entry)) r (now (out .exit)) ⌝ }
+{
+    let behind = put_byte(out, from, letter);
+    put_number(out, behind, n)
+}
+
 fn put_field(out: &mut [u8], from: usize, d: Word) -> usize
     ensures { λ r. ⌜ Put (shownField d) operandMost from (now (out .entry)) r (now (out .exit)) ⌝ }
 {
-    let letter = put_byte(out, from, b'd');
-    put_number(out, letter, d)
+    if d < FIELDS {
+        return put_lettered(out, from, b'd', d);
+    }
+    put_lettered(out, from, b's', d - FIELDS)
 }
 
 fn put_operand(out: &mut [u8], from: usize, x: &[Word]) -> usize

@@ -1,5 +1,3 @@
-use borrow.Author.Tests.{lt-ltb, le-ltb}
-use Rattle.base_words.specs.Pick.{if_then_else_}
 use Rattle.text_numerals.specs.Numerals.{asField}
 use Rattle.draw_conditions.specs.Words.{sideOf}
 use borrow.Author.Needs.{needs}
@@ -7,18 +5,16 @@ use Rattle.draw_conditions.proofs.spelled.field_side.Statement.{stateme
 use Rattle.draw_conditions.proofs.spelled.field_side.Tie as tie
 
 pub field-side-spec : {M : Type 1} → statement M
-unfolding if_then_else_ asField sideOf
+unfolding asField sideOf
 field-side-spec =
     tie.close
     (tie.spec
     (λ c. search needs)
     (λ c κs. search needs)
-    (λ c. rw (c .before .before .before .n .given .1, lt-ltb _ _ (c .before .if1 .taken)) (c .within .ensures))
-    (λ c κs. search needs)
     (λ c. search needs)
     (λ c κs. search needs)
     (λ c. search needs)
     (λ c κs. search needs)
-    (λ c. rw (c .before .before .before .n .given .1, le-ltb _ _ (c .before .if1 .left)) (c .out-of-range .ensures))
-    (λ c. rw (c .before .enum-told .given .1) (c .out-of-range2 .ensures))
+    (λ c. rw (c .before .before .n .given .1) (c .within .ensures))
+    (λ c. rw (c .before .enum-told .given .1) (c .out-of-range .ensures))
     (λ c. rw (c .before .enum-told2 .given .1) (c .none .ensures)))

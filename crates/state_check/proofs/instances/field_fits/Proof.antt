@@ -12,7 +12,10 @@ unfolding fieldFits
 field-fits-spec =
     tie.close
     (tie.spec
+    (λ c. search L)
     (λ c κs. search L)
+    (λ c. search L)
+    (λ c. search L)
     (λ c κs. search L)
     (λ c. search L)
     (λ c. search L))

@@ -1,5 +1,5 @@
 use Prim.Native.Nat.{_-_, _≤_}
-use Rattle.state_fits.specs.Fits.{fieldFits}
+use Rattle.state_fits.specs.Fits.{fieldFits, fieldsFit}
 use Rattle.base_words.proofs.AllLaws.{all-loop}
 use Rattle.base_words.proofs.PickLaws.{flags}
 use Rattle.base_words.specs.All.{all}
@@ -13,12 +13,13 @@ use Rattle.state_check.proofs.instances.fields_fit.Tie as tie
 ruleset L = (needs, all-loop, flags)
 
 abbrev Inv-loop : tie.InvT-loop
-Inv-loop h d₀ d = (d ≤ fields) × (all (fieldFits h) d ≡ true)
+Inv-loop f d₀ d = (d ≤ fields) × (all (fieldFits f) d ≡ true)
 
 abbrev μ-loop : tie.MeasureT-loop
-μ-loop h d₀ d = fields - d
+μ-loop f d₀ d = fields - d
 
 pub fields-fit-spec : {M : Type 1} → statement M
+unfolding fieldsFit
 fields-fit-spec =
     tie.close
     (tie.spec

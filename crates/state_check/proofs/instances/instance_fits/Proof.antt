@@ -1,5 +1,6 @@
 use Rattle.state_fits.specs.Fits.{instanceFits}
 use Rattle.base_words.proofs.PickLaws.{chains}
+use Rattle.state_check.proofs.CallLaws.{fields-left}
 use borrow.Author.Needs.{needs}
 use Rattle.state_check.proofs.instances.instance_fits.Statement.{statement}
 use Rattle.state_check.proofs.instances.instance_fits.Tie as tie
@@ -14,4 +15,5 @@ instance-fits-spec =
     (λ c κs. search L)
     (λ c. search L)
     (λ c κs. search L)
-    (λ c. search L))
+    (λ c κs. search L)
+    (λ c. fields-left _ _ _ _ _ (c .before .before .before .counts-fit .ensures) (c .before .before .if1 .left) (c .before .tail .ensures) (c .fields-fit .ensures)))  -- returns-2
