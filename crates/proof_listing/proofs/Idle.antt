@@ -23,6 +23,7 @@ use Rattle.base_table.specs.Table.{kindIn, taskIn, modeIn, entryCount, entryAt}
 use Rattle.base_state.specs.Places.{tokenPlace, activePlace, readyPlace, definedPlace, instanceWords, instancePlace}
 use Rattle.base_state.specs.Instances.{madeCount, instanceAt, tokens, activeCount, readyCount}
 use Rattle.check_limits.specs.Limits.{within, zeros, countFits, edgesFit, elementFits, tableFits}
+use Rattle.state_figures.specs.Figures.{isFinished}
 use Rattle.meaning.specs.declared.Name.{Name}
 use Rattle.meaning.specs.Requirements.{touched, first, branchCount, instanceNamed, hasToken, hasTokens, canLower, isAlone, countsPermit}
 use Rattle.meaning.specs.Refusals.{firstRefusal}
@@ -184,10 +185,10 @@ module _ (t s q : List ℕ) (n : Name) (fits : tableFits t ≡ true) (accepted :
       chosen (ltb i (madeCount s p)) (not (idle el (instanceAt s p i))) false (lt-ltb i (madeCount s p) (named-made t s n f o))
       ∙ not-idle o)
 
--- NOTHING STIRS in a made instance h without tokens and counts
-module _ (el h : List ℕ) (i made : ℕ) (fits : elementFits el ≡ true) (none : zeros h (definedPlace 0) ≡ true) (l : i < made) where
+-- NOTHING STIRS in a made instance h that is finished
+module _ (el h : List ℕ) (i made : ℕ) (fits : elementFits el ≡ true) (none : isFinished h ≡ true) (l : i < made) where
   zero-at : (k : ℕ) → k < definedPlace 0 → at h k ≡ 0
-  unfolding zeros
+  unfolding isFinished zeros
   zero-at k r = eqb-true (at h k) 0 (all-at (λ k. eqb (at h k) 0) (definedPlace 0) none k r)
 
   bare-at : (j : ℕ) → j < entryCount el → isBare el h j ≡ true

@@ -10,9 +10,9 @@ use Rattle.base_words.specs.Pick.{if_then_else_}
 use Rattle.base_words.proofs.AllLaws.{and-left, and-right}
 use Rattle.base_words.proofs.JoinLaws.{joined-ext, those-joined}
 use Rattle.base_table.specs.Table.{poolCount, elementCount, elementAt, messageName}
-use Rattle.base_state.specs.Places.{definedPlace}
 use Rattle.base_state.specs.Instances.{madeCount, instanceAt}
-use Rattle.check_limits.specs.Limits.{zeros, tableFits}
+use Rattle.check_limits.specs.Limits.{tableFits}
+use Rattle.state_figures.specs.Figures.{isFinished}
 use Rattle.check_model.specs.Checks.{lowest}
 use Rattle.check_lowest.specs.Model.{modelOf}
 use Rattle.meaning.specs.declared.Tuple.{Tuple}
@@ -93,8 +93,8 @@ module _ (t s q : List ℕ) (fits : tableFits t ≡ true) (sound : lowest (model
   still-nothing : (p : ℕ) → p < poolCount t → (i : ℕ) → still s p i ≡ true → those (accepted t s q) (byInstance t q p i) ≡ []
   unfolding byInstance still
   still-nothing p l i o =
-      let made = ltb-true i (madeCount s p) (and-left (ltb i (madeCount s p)) (zeros (instanceAt s p i) (definedPlace 0)) o) in
-      let none = and-right (ltb i (madeCount s p)) (zeros (instanceAt s p i) (definedPlace 0)) o in
+      let made = ltb-true i (madeCount s p) (and-left (ltb i (madeCount s p)) (isFinished (instanceAt s p i)) o) in
+      let none = and-right (ltb i (madeCount s p)) (isFinished (instanceAt s p i)) o in
       those-joined (accepted t s q) (byElement t q p i) (elementCount t p)
       ∙ joined-ext (λ e. those (accepted t s q) (byElement t q p i e)) (λ e. []) (elementCount t p)
       (λ e r. nothing-there p l i e (quiet-stirs (elementAt t p e) (instanceAt s p i) i (madeCount s p) (element-fits t fits p l e r) none made))

@@ -8,9 +8,8 @@ use borrow.Author.Tests.{eq-eqb, ne-eqb, lt-ltb, le-ltb}
 use Rattle.base_words.specs.Pick.{if_then_else_}
 use Rattle.base_kinds.specs.Kinds.{startRcv}
 use Rattle.base_table.specs.Table.{kindIn}
-use Rattle.base_state.specs.Places.{definedPlace}
 use Rattle.base_state.specs.Instances.{madeCount, instanceAt}
-use Rattle.check_limits.specs.Limits.{zeros}
+use Rattle.state_figures.specs.Figures.{isFinished}
 use Rattle.step_list.specs.Scanned.{idle, stirs, still}
 
 module _ (el h : List ℕ) (i made kind : ℕ) (e : kind ≡ kindIn el) where
@@ -28,7 +27,7 @@ module _ (el h : List ℕ) (i made kind : ℕ) (e : kind ≡ kindIn el) where
 
 -- y is s, w its instance, as the code holds them
 module _ (s y : List ℕ) (p i made : ℕ) (d : y ≡ s) (e : made ≡ madeCount y p) where
-  pub still-made : (w : List ℕ) (b : Bool) → i < made → w ≡ instanceAt y p i → b ≡ zeros w (definedPlace 0) → b ≡ still s p i
+  pub still-made : (w : List ℕ) (b : Bool) → i < made → w ≡ instanceAt y p i → b ≡ isFinished w → b ≡ still s p i
   unfolding still
   still-made w b l u v = rw (← d, lt-ltb i (madeCount y p) (rw e at l), ← u) v
 

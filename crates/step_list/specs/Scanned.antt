@@ -10,10 +10,9 @@ use Rattle.base_words.specs.Pick.{if_then_else_}
 use Rattle.base_kinds.specs.Kinds.{startRcv}
 use Rattle.base_kinds.specs.Moves.{phases}
 use Rattle.base_table.specs.Table.{poolCount, elementCount, elementAt, kindIn, taskIn, entryCount, entryAt}
-use Rattle.base_state.specs.Places.{definedPlace}
 use Rattle.base_state.specs.Instances.{madeCount, instanceAt, tokens, activeCount, readyCount}
 use Rattle.meaning.specs.declared.Name.{Name}
-use Rattle.check_limits.specs.Limits.{zeros}
+use Rattle.state_figures.specs.Figures.{isFinished}
 use Rattle.step_names.specs.Names.{accepted}
 use Rattle.step_list.specs.Listing.{moveAt, byPhase}
 
@@ -31,9 +30,9 @@ stirs el h i made =
     else if ltb i made then not (idle el h)
     else false
 
--- instance i of pool p is made, and has no token and no task count
+-- instance i of pool p is made, and has no token and no task count left
 unfoldable pub still : List ℕ → ℕ → ℕ → Bool
-still s p i = ltb i (madeCount s p) && zeros (instanceAt s p i) (definedPlace 0)
+still s p i = ltb i (madeCount s p) && isFinished (instanceAt s p i)
 
 -- a phase without a move is passed over, an element that does not stir, an instance that is still
 unfoldable pub scanPhase : List ℕ → List ℕ → List ℕ → ℕ → ℕ → ℕ → ℕ → List Name

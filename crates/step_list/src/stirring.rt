@@ -8,7 +8,6 @@ use base_kinds::moves::START_RCV;
 use base_state::active_count;
 use base_state::instance_at;
 use base_state::made_count;
-use base_state::places::DEFINED;
 use base_state::ready_count;
 use base_state::tokens_on;
 use base_table::edge_at;
@@ -18,7 +17,7 @@ use base_table::kind_in;
 use base_table::places::ENTRIES;
 use base_table::task_in;
 use base_words::Word;
-use check_limits::zeros::zero_words;
+use state_figures::is_finished;
 use step_names::instances_in;
 
 fn is_bare(el: &[Word], h: &[Word], j: Word) -> bool
@@ -76,13 +75,13 @@ pub fn stirs_at(t: &[Word], z: &[Word], p: Word, i: Word, e: Word) -> bool
     can_stir(el, h, i, made)
 }
 
-// Instance i of pool p is made, and has no token and no task count.
+// Instance i of pool p is made, and has no token and no task count left.
 pub fn is_still(z: &[Word], p: Word, i: Word) -> bool
     ensures { λ r. ⌜ r ≡ still (instancesOf (now (z .entry))) p i ⌝ }
 {
     let s = instances_in(z);
     if i < made_count(s, p) {
-        return zero_words(instance_at(s, p, i), DEFINED);
+        return is_finished(instance_at(s, p, i));
     }
     false
 }

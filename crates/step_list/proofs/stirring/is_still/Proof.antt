@@ -13,5 +13,5 @@ is-still-spec =
     (λ c κs. search L)
     (λ c κs. search L)
     (λ c κs. search L)
-    (λ c. still-made _ _ _ _ _ (c .before .before .before .before .instances-in .ensures) (c .before .before .before .made-count .ensures) _ _ (c .before .before .if1 .taken) (c .before .instance-at .ensures) (c .zero-words .ensures))  -- returns
+    (λ c. still-made _ _ _ _ _ (c .before .before .before .before .instances-in .ensures) (c .before .before .before .made-count .ensures) _ _ (c .before .before .if1 .taken) (c .before .instance-at .ensures) (c .is-finished .ensures))  -- returns
     (λ c. still-unmade _ _ _ _ _ (c .before .before .instances-in .ensures) (c .before .made-count .ensures) (c .if1 .left)))  -- returns-2

@@ -1,0 +1,3 @@
+pub mod CountLaws
+pub mod Leaves
+pub mod OwnRecord

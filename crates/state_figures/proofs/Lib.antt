@@ -1,0 +1,4 @@
+pub mod PointsHold
+pub mod CountLaws
+pub mod RecordLaws
+pub mod DeskLaws
