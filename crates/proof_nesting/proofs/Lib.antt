@@ -1,0 +1,12 @@
+pub mod Weights
+pub mod Wholes
+pub mod Flows
+pub mod Events
+pub mod Lines
+pub mod Chosen
+pub mod Mass
+pub mod Moved
+pub mod Weighing
+pub mod Kept
+pub mod States
+pub mod Decided
