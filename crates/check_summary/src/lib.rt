@@ -58,7 +58,7 @@ fn mark_edge(s: &mut [Word], from: Word, el: &[Word], list: Word, j: Word)
 }
 
 // The first n edges of a list.
-fn mark_list(s: &mut [Word], from: Word, el: &[Word], list: Word, n: Word)
+pub fn mark_list(s: &mut [Word], from: Word, el: &[Word], list: Word, n: Word)
     ensures { λ _. ⌜ now (s .exit) ≡ tally (now (s .entry)) (regionMarks (edgeRegion from (now (el .entry)) list n)) ⌝ }
 {
     let mut j: Word = 0;

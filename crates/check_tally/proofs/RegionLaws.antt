@@ -50,13 +50,13 @@ module _ (from most : ℕ) where
       (λ o. hit-no from k (λ q. h (omega arith) (omega arith)))
 
 module _ (r : Region) where
-  count-in : (e : ℕ) → 0 < e → e ≤ r .most → count (r .from + e) (regionMarks r) ≡ sum (λ j. hit (r .number j) e) (r .many)
+  pub count-in : (e : ℕ) → 0 < e → e ≤ r .most → count (r .from + e) (regionMarks r) ≡ sum (λ j. hit (r .number j) e) (r .many)
   unfolding regionMarks
   count-in e h l =
       total-tab (λ x. hit x (r .from + e)) (λ j. place (r .from) (r .most) (r .number j)) (r .many)
       ∙ sum-ext _ _ (r .many) (λ j m. hit-in (r .from) (r .most) (r .number j) e h l)
 
-  count-out : (k : ℕ) → (r .from ≤ k → k ≤ r .from + r .most → ⊥) → count k (regionMarks r) ≡ 0
+  pub count-out : (k : ℕ) → (r .from ≤ k → k ≤ r .from + r .most → ⊥) → count k (regionMarks r) ≡ 0
   unfolding regionMarks
   count-out k h =
       total-tab (λ x. hit x k) (λ j. place (r .from) (r .most) (r .number j)) (r .many)

@@ -1,0 +1,3 @@
+pub mod RewriteLaws
+pub mod RoomLaws
+pub mod PointsHold

@@ -1,0 +1,3 @@
+pub mod Rewriting
+pub mod Room
+pub mod Points

@@ -1,0 +1,52 @@
+-- What a pass notes of a pool, element by element, so that 28 is known before the first word is written: s is its notes, w what is noted of the pools.
+use Prim.Native.Nat.{ℕ, _+_}
+use mathlib.Core.Bool.{Bool, _&&_}
+use mathlib.Core.List.{List}
+use lib.Dec.{eqb, leb, ltb}
+use lib.ListN.{set}
+use Rattle.base_words.specs.Counts.{elements, branches, edges}
+use Rattle.base_words.specs.Pick.{if_then_else_}
+use Rattle.base_words.specs.Sum.{sum, oneIf}
+use Rattle.base_words.specs.Words.{at, greatest}
+use Rattle.base_table.specs.Places.{entriesPlace, exitsPlace}
+use Rattle.check_tally.specs.Tally.{Region, tally, regionMarks}
+use Rattle.check_summary.specs.Summary.{edgeRegion}
+use Rattle.text_ends.specs.Rewriting.{isEndSnd}
+
+-- the count of its elements, of its endSnds, and the edges that are mentioned
+abbrev pub countIn : ℕ
+countIn = 0
+
+abbrev pub endsIn : ℕ
+endsIn = 1
+
+abbrev pub usedFrom : ℕ
+usedFrom = 2
+
+abbrev pub noteWords : ℕ
+noteWords = usedFrom + 1 + edges
+
+-- one more, as far as a word goes
+unfoldable pub oneMore : ℕ → ℕ
+oneMore n = if ltb n greatest then n + 1 else n
+
+unfoldable pub endsWith : List ℕ → List ℕ → ℕ
+endsWith el s = if isEndSnd el then oneMore (at s endsIn) else at s endsIn
+
+unfoldable pub counted : ℕ → List ℕ → List ℕ → List ℕ
+counted count el s = set (set s countIn count) endsIn (endsWith el s)
+
+-- an element, the count-th
+unfoldable pub noted : ℕ → List ℕ → List ℕ → List ℕ
+noted count el s =
+    tally (tally (counted count el s) (regionMarks (edgeRegion usedFrom el entriesPlace branches))) (regionMarks (edgeRegion usedFrom el exitsPlace branches))
+
+-- a pool behind its elements
+unfoldable pub freeBy : List ℕ → ℕ
+freeBy s = sum (λ k. oneIf (eqb (at s (usedFrom + (k + 1))) 0)) edges
+
+unfoldable pub roomBy : List ℕ → Bool
+roomBy s = leb (at s endsIn) (freeBy s) && leb (at s countIn + at s endsIn) elements
+
+unfoldable pub roomNoted : List ℕ → List ℕ → List ℕ
+roomNoted s w = if roomBy s then w else set w 0 1

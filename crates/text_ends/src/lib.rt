@@ -1,0 +1,104 @@
+// What a pass notes of a pool, so that it is known whether there is room for what its endSnds become.
+ghost use mathlib.Core.Path.{_≡_};
+ghost use Prim.Native.Nat.{_+_, _≤_};
+ghost use lib.Dec.{eqb};
+ghost use Rattle.base_words.specs.Sum.{sum, oneIf};
+ghost use Rattle.base_words.specs.Words.{at};
+ghost use Rattle.text_ends.specs.Rewriting.{isEndSnd};
+ghost use Rattle.text_ends.specs.Room.{usedFrom, oneMore, endsWith, counted, noted, freeBy, roomBy, roomNoted};
+use base_kinds::moves::END_SND;
+use base_table::kind_in;
+use base_table::places::ENTRIES;
+use base_table::places::EXITS;
+use base_words::GREATEST;
+use base_words::Word;
+use base_words::counts::BRANCHES;
+use base_words::counts::EDGES;
+use base_words::counts::ELEMENTS;
+use base_words::put;
+use base_words::word;
+use check_summary::mark_list;
+
+// The notes of a pool: the count of its elements, of its endSnds, and the edges that are mentioned.
+const COUNT: usize = 0;
+
+const ENDS: usize = 1;
+
+const USED_FROM: Word = 2;
+
+pub fn is_end_snd(el: &[Word]) -> bool
+    ensures { λ r. ⌜ r ≡ isEndSnd (now (el .entry)) ⌝ }
+{
+    kind_in(el) == END_SND
+}
+
+pub fn one_more(n: Word) -> Word
+    ensures { λ r. ⌜ r ≡ oneMore n ⌝ }
+{
+    if n < GREATEST { n + 1 } else { n }
+}
+
+fn ends_with(el: &[Word], s: &[Word]) -> Word
+    ensures { λ r. ⌜ r ≡ endsWith (now (el .entry)) (now (s .entry)) ⌝ }
+{
+    let n = word(s, ENDS);
+    if is_end_snd(el) {
+        return one_more(n);
+    }
+    n
+}
+
+fn count_element(s: &mut [Word], count: Word, el: &[Word])
+    ensures { λ _. ⌜ now (s .exit) ≡ counted count (now (el .entry)) (now (s .entry)) ⌝ }
+{
+    let ends = ends_with(el, s);
+    put(s, COUNT, count);
+    put(s, ENDS, ends);
+}
+
+// An element of a pool, the count-th.
+pub fn note_element(s: &mut [Word], count: Word, el: &[Word])
+    ensures { λ _. ⌜ now (s .exit) ≡ noted count (now (el .entry)) (now (s .entry)) ⌝ }
+{
+    count_element(s, count, el);
+    mark_list(s, USED_FROM, el, ENTRIES as Word, BRANCHES);
+    mark_list(s, USED_FROM, el, EXITS as Word, BRANCHES);
+}
+
+// 1 where the edge k + 1 is not mentioned.
+fn is_free(s: &[Word], k: Word) -> usize
+    ensures { λ r. ⌜ (r ≡ oneIf (eqb (at (now (s .entry)) (usedFrom + (k + 1))) 0)) × (r ≤ 1) ⌝ }
+{
+    if word(s, USED_FROM as usize + (k as usize + 1)) == 0 {
+        return 1;
+    }
+    0
+}
+
+fn free_by(s: &[Word]) -> usize
+    ensures { λ r. ⌜ r ≡ freeBy (now (s .entry)) ⌝ }
+{
+    let mut n: usize = 0;
+    let mut k: Word = 0;
+    while k < EDGES {
+        n += is_free(s, k);
+        k += 1;
+    }
+    n
+}
+
+fn room_by(s: &[Word]) -> bool
+    ensures { λ r. ⌜ r ≡ roomBy (now (s .entry)) ⌝ }
+{
+    let ends = word(s, ENDS) as usize;
+    ends <= free_by(s) && word(s, COUNT) as usize + ends <= ELEMENTS as usize
+}
+
+// A pool behind its elements, by its notes s.
+pub fn note_room(w: &mut [Word], s: &[Word])
+    ensures { λ _. ⌜ now (w .exit) ≡ roomNoted (now (s .entry)) (now (w .entry)) ⌝ }
+{
+    if !room_by(s) {
+        put(w, 0, 1);
+    }
+}

@@ -1,0 +1,3 @@
+pub mod PoolLaws
+pub mod TableLaws
+pub mod LoopLaws

@@ -1,0 +1,34 @@
+use Prim.Native.Nat.{_+_, _-_, _≤_}
+use mathlib.Core.Path.{_≡_, sym, _∙_, ap}
+use lib.ListN.{length}
+use Rattle.base_words.specs.Iter.{iter}
+use Rattle.base_words.proofs.IterLaws.{iter-loop, iter-more}
+use Rattle.text_rewrite.proofs.LoopLaws.{all-turned}
+use Rattle.text_rewrite.specs.InTable.{treatedIn, poolIn}
+use borrow.Author.Needs.{needs}
+use Rattle.text_rewrite.proofs.rewrite_pool.Statement.{statement}
+use Rattle.text_rewrite.proofs.rewrite_pool.Tie as tie
+
+ruleset L = (needs, iter-loop)
+
+abbrev Inv-loop : tie.InvT-loop
+Inv-loop t₀ p n k₀ t k = (k ≤ n) × (length t ≡ length t₀) × (t ≡ iter (λ i. treatedIn p) t₀ k)
+
+abbrev μ-loop : tie.MeasureT-loop
+μ-loop t₀ p n k₀ t k = n - k
+
+pub rewrite-pool-spec : {M : Type 1} → statement M
+unfolding poolIn
+rewrite-pool-spec =
+    tie.close
+    (tie.spec
+    Inv-loop
+    μ-loop
+    (λ c κs. search L)
+    (λ c. search L)
+    (λ c κs. search L)
+    (λ c. search L)
+    (λ c. search L)
+    (λ c. (search L, search L, iter-more _ _ _ _ _ (c .before .before .before .before .before .loop .inv .2) (c .before .before .treat .ensures)))
+    (λ c. search L)
+    (λ c. all-turned _ _ _ _ _ _ (c .before .before .ends-in .ensures) (c .loop-test .left) (c .before .loop .inv .0) (c .before .loop .inv .2)))
