@@ -76,6 +76,7 @@ meaning() { # NUMBER
     23) echo "not such a log or longer" ;;
     24) echo "event at fault" ;;
     25) echo "another version than 10 or 20, asked for or in a state" ;;
+    27) echo "the text breaks off before the trace opens, is no such log at an earlier place than its end, or is longer" ;;
     *) echo "a number that these words do not have" ;;
     esac
 }
@@ -125,6 +126,22 @@ explain_log() { # NUMBER BESIDE OWN FILE NAME
         ;;
     24) echo "$5, event $2 (from 0), '$(tr '\0' '?' <"$4" | LC_ALL=C awk -v event="$2" -f "$root/bin/events.awk")': $(fault "$3")" ;;
     esac
+}
+
+# A log that cannot be repaired, in words: the place is the one that 23 has, under any model.
+explain_lost() { # FILE NAME
+    local model='pool(1,start(1,2)|end(2))' place
+    place=$({ echo ${#model} && printf %s "$model" && cat "$1"; } | start judge)
+    place=${place#refused 23 }
+    if [ $(($(wc -c <"$1"))) -gt 65536 ]; then
+        echo "$2: log above 65,536 bytes (27)"
+    elif [ "$place" -eq $(($(wc -c <"$1"))) ]; then
+        at_place "$place" "$1" "$2" "the log breaks off before its trace opens (27)"
+    else
+        tr '\r' ' ' <"$1" >"$1.plain"
+        at_place "$place" "$1.plain" "$2" "not such a log: what stands here continues none (27)"
+        quoted "$place" "$1"
+    fi
 }
 
 # What is amiss with the value whose opening quote stands at a place of a log.

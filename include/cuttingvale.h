@@ -78,7 +78,7 @@ enum cv_number {
     CV_MISPLACED = 2,      /* the token at this place (or the text's end) continues no text of the notation */
     CV_EXCESSIVE = 3,      /* a number is outside its range or a count above it */
     CV_CHECK_BROKEN = 4,   /* a model check is broken */
-    CV_TOO_SHORT = 5,      /* the writer's buffer is shorter than the text */
+    CV_TOO_SHORT = 5,      /* the writer's buffer is shorter than the text; repair: so is the output's, or the output would pass CV_LOG_MOST */
     CV_NOT_LISTED = 6,     /* listing: no accepted step with that ordinal */
     CV_BAD = 10,           /* the table breaks a limit or check, or the state doesn't fit the table and the limits; or a block's length is wrong */
     CV_NO_SUCH = 11,       /* no such pool, instance, element, phase or branch */
@@ -97,7 +97,8 @@ enum cv_number {
     CV_TOO_MANY = 22,      /* poll: more than 64 items */
     CV_NOT_A_LOG = 23,     /* not such a log or longer */
     CV_AT_FAULT = 24,      /* event at fault */
-    CV_OTHER_VERSION = 25  /* another version than 10 or 20, asked for or in a state */
+    CV_OTHER_VERSION = 25, /* another version than 10 or 20, asked for or in a state */
+    CV_NOT_REPAIRED = 27   /* repair: the text breaks off before the trace opens, is no such log at an earlier place than its end, or is longer */
 };
 
 /* A message: its length, 0 to 4, and its values; what stands behind them is ignored, and 0 in an answer. */
@@ -122,10 +123,12 @@ typedef struct { uint32_t number; size_t length; } cv_written;
 typedef struct { uint32_t number; size_t accepted; } cv_polled;
 /* beside: the place where the number is 23, the event's ordinal from 0 where it is 24; own: the step's or post's own number, 0 where only the line is untrue */
 typedef struct { uint32_t number; size_t beside; uint32_t own; } cv_judged;
+/* length written, events kept, bytes dropped: 0 unless the number is 0 */
+typedef struct { uint32_t number; size_t length, kept, dropped; } cv_repaired;
 
 CV_STATIC_ASSERT(sizeof(cv_tuple) == 20 && sizeof(cv_name) == 40, "cuttingvale.h: a tuple is 20 bytes, a name 40");
 CV_STATIC_ASSERT(sizeof(cv_verdict) == 8 && sizeof(cv_answer) == 32 && sizeof(cv_listed) == 44 && sizeof(cv_ran) == 12, "cuttingvale.h: answers of words");
-CV_STATIC_ASSERT(sizeof(cv_reading) == 16 && sizeof(cv_written) == 16 && sizeof(cv_polled) == 16 && sizeof(cv_judged) == 24, "cuttingvale.h: for a 64-bit machine");
+CV_STATIC_ASSERT(sizeof(cv_reading) == 16 && sizeof(cv_written) == 16 && sizeof(cv_polled) == 16 && sizeof(cv_judged) == 24 && sizeof(cv_repaired) == 32, "cuttingvale.h: for a 64-bit machine");
 
 /* Checks a table: 10 for a broken limit or an unused place not 0, then 4, else 0. */
 cv_verdict cv_check(const uint32_t *table, size_t table_words);
@@ -164,6 +167,11 @@ cv_polled cv_poll(const uint32_t *table, size_t table_words, uint32_t *state, si
 /* Judges the run that an XES log of at most CV_LOG_MOST bytes tells, under a version: 10; 25; 23 with the place where it is no such log, 0 where it is longer; 24 with the first event at fault; else 0,
    and every step and post of it is accepted in turn from the fresh state, and what each line says was sent or consumed is true. The state it works on, CV_STATE_WORDS words, is its own. */
 cv_judged cv_judge(const uint32_t *table, size_t table_words, uint32_t version, const uint8_t *log, size_t length);
+
+/* Repairs a log that ended in the middle: keeps all up to the end of its last whole event, or of the trace's start tag, and closes what is open. 27 where the text breaks off before
+   the trace opens, is no such log at an earlier place than its end, or is longer than CV_LOG_MOST; then 5 where the repaired log is longer than the buffer or than CV_LOG_MOST, and
+   the buffer stays; else 0, its length, the events kept and the bytes of the log dropped. A complete log comes out as it is. Needs no table. */
+cv_repaired cv_repair(const uint8_t *log, size_t length, uint8_t *buffer, size_t room);
 
 #ifdef __cplusplus
 }

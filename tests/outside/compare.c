@@ -3,6 +3,8 @@
    compare drawings CASES SEED           the same for drawings; before the engine has that call, the reference alone against what the generator knows
    compare drawing CASE                  prints the drawing of a case
    compare logs CASES SEED               the same for logs, four for each model, and a beginning of each
+   compare repairs CASES SEED            the same for logs that ended in the middle
+   compare cuts FILE                     a log cut off at every byte, judged and repaired
    compare worst                         drawings and logs that hold as much of one thing as fits: compared, and timed
    compare sessions FIRST COUNT SEED     prints sessions for the two consoles, one after the other */
 #include "cuttingvale.h"
@@ -157,6 +159,53 @@ static void judge_beginning(struct random *r, word version, ref_judged whole) {
     text_length = draw(r, right + 1);
     ref_judged b = judge_both(version, (log_due){-1, 0, 0});
     if (b.number == 23) same("judge", "the place of what was cut off", b.beside, text_length);
+}
+
+/* A repair of both, into a buffer that ends where no page can be read. */
+static ref_repaired repair_into(size_t room) {
+    const uint8_t *log = lent();
+    uint8_t *mine = ours.buffer + TEXT_ROOM - room, *other = theirs.buffer + TEXT_ROOM - room;
+    memset(mine, 0xa5, room);
+    memset(other, 0xa5, room);
+    ref_repaired b = ref_repair(log, text_length, other, room);
+#ifdef REPAIRS
+    cv_repaired a = cv_repair(log, text_length, mine, room);
+    same("repair", "number", a.number, b.number);
+    same("repair", "length", a.length, b.length);
+    same("repair", "kept", a.kept, b.kept);
+    same("repair", "dropped", a.dropped, b.dropped);
+    if (memcmp(mine, other, room)) differ("repair", "buffer", 0, 0);
+    if (memcmp(log, text, text_length)) differ("repair", "log", 0, 0);
+#endif
+    given[b.number]++;
+    calls++;
+    return b;
+}
+
+/* A model with which any log is judged. */
+static ref_judged judged_alone(const uint8_t *log, size_t length) {
+    static const char model[] = "pool(1,start(1,2)|end(2))";
+    static word table[REF_TABLE_WORDS];
+    if (!table[0]) ref_read((const uint8_t *)model, strlen(model), table);
+    return ref_judge(table, REF_VERSION_20, log, length);
+}
+
+/* What is known of a repair: what judge says of the text, of the output and of the text's beginning that is in it. */
+static ref_repaired repair_both(size_t room) {
+    static uint8_t out[REF_TEXT_MOST], again[REF_TEXT_MOST];
+    ref_repaired r = repair_into(room), whole = ref_repair((const uint8_t *)text, text_length, out, sizeof out), twice;
+    ref_judged j = judged_alone((const uint8_t *)text, text_length);
+    bool is_log = j.number != 23, cut_off = j.number == 23 && j.beside == text_length && text_length <= 65536;
+    same("repair", "27 where the text is wrong before its end", whole.number == 27 && !is_log && !cut_off, !is_log && !cut_off);
+    if (whole.number == 0) same("repair", "5 exactly where there is no room", r.number, room < whole.length ? 5 : 0);
+    else same("repair", "the number, whatever the room", r.number, whole.number);
+    if (whole.number) return r;
+    if (is_log) same("repair", "the same bytes", whole.dropped == 0 && whole.length == text_length && !memcmp(out, text, text_length), 1);
+    same("repair", "the beginning", memcmp(out, text, text_length - whole.dropped), 0);
+    same("repair", "no 23 of the output", judged_alone(out, whole.length).number != 23, 1);
+    twice = ref_repair(out, whole.length, again, sizeof again);
+    same("repair", "twice", twice.number == 0 && twice.length == whole.length && twice.kept == whole.kept && !twice.dropped && !memcmp(out, again, twice.length), 1);
+    return r;
 }
 
 static void check_both(void) {
@@ -481,6 +530,67 @@ static int compare_logs(uint64_t cases, uint64_t seed) {
     return 0;
 }
 
+/* a log, its line ends and all, and beginnings of it, most of them at a tag or a quote */
+static void repair_case(struct random *r) {
+    log_due due;
+    text_length = model_text(r, text);
+    if (ref_read((const uint8_t *)text, text_length, theirs.table).number) return;
+    text_length = log_text(r, theirs.table, REF_VERSION_20, false, text, sizeof text, &due);
+    for (unsigned k = 0; k < 6; k++) {
+        static uint8_t out[REF_TEXT_MOST];
+        ref_repaired whole = ref_repair((const uint8_t *)text, text_length, out, sizeof out);
+        size_t length = whole.number ? draw(r, TEXT_ROOM) : whole.length;
+        repair_both(chance(r, 60) ? TEXT_ROOM : chance(r, 70) ? length - (length && chance(r, 50)) : draw(r, TEXT_ROOM));
+        if (k == 2 && text_length < 1000 && chance(r, 10)) { /* near the limit: blanks before the trace */
+            size_t end = 65536 - draw(r, 30), at = text_length;
+            for (size_t j = 0; j + 6 < text_length; j++)
+                if (!memcmp(text + j, "<trace", 6)) at = j;
+            memmove(text + at + end - text_length, text + at, text_length - at);
+            memset(text + at, ' ', end - text_length);
+            text_length = end;
+            continue;
+        }
+        if (!text_length) break;
+        size_t at = text_length - draw(r, chance(r, 50) ? text_length : text_length < 40 ? text_length : 40);
+        while (chance(r, 60) && at && at < text_length && !strchr("<>\"' /", text[at])) at++;
+        text_length = at < text_length ? at + draw(r, 2) : at;
+    }
+}
+
+static int compare_repairs(uint64_t cases, uint64_t seed) {
+    for (uint64_t k = 0; k < cases; k++) {
+        seed_of_case = seed + k;
+        struct random r = {seed_of_case};
+        repair_case(&r);
+    }
+    printf("%llu repairs", (unsigned long long)calls);
+#ifndef REPAIRS
+    printf(", by the reference alone, as the engine does not repair");
+#endif
+    print_numbers(", no difference; numbers:", given);
+    putchar('\n');
+    return 0;
+}
+
+/* Every beginning of a log: 23 at its length, unless it is a log itself; repaired, once its trace is open; the events kept never fall. */
+static int compare_cuts(const char *name) {
+    FILE *file = fopen(name, "rb");
+    if (!file) return perror(name), 2;
+    size_t all = fread(text, 1, sizeof text, file), kept = 0, repaired = 0;
+    fclose(file);
+    for (text_length = 0; text_length <= all; text_length++) {
+        ref_judged j = judged_alone((const uint8_t *)text, text_length);
+        if (j.number == 23) same("judge", "the place of what was cut off", j.beside, text_length);
+        ref_repaired r = repair_both(TEXT_ROOM);
+        if (repaired) same("repair", "no 27 behind the trace's start tag", r.number, 0);
+        if (r.number) continue;
+        same("repair", "the events kept do not fall", r.kept < kept, 0);
+        repaired++, kept = r.kept;
+    }
+    printf("%zu beginnings of %s, %zu of them repaired, no difference; %zu events\n", all + 1, strrchr(name, '/') ? strrchr(name, '/') + 1 : name, repaired, kept);
+    return 0;
+}
+
 static unsigned since(clock_t start) { return (unsigned)((clock() - start) * 1000.0 / CLOCKS_PER_SEC); }
 
 static void time_drawing(const char *name) {
@@ -553,6 +663,7 @@ static void print_batch(const word *w, size_t count) {
 /* Where the consoles judge logs, a line with one; else one with the state. */
 static void print_log(struct random *r) {
     size_t n = 0;
+    bool repaired = false;
 #ifdef LOGS
     static char log[DRAWING_ROOM];
     log_due due;
@@ -560,7 +671,11 @@ static void print_log(struct random *r) {
     if (ref_check(theirs.table).number == 0) n = log_text(r, theirs.table, version, false, log, sizeof log, &due);
     for (size_t k = 0; k < n; k++)
         if (log[k] == '\n') log[k] = ' ';
-    if (n) printf("judge %u %.*s\n", chance(r, 80) ? version : some_version(r) % 65536, (int)n, log);
+#ifdef REPAIRS
+    repaired = chance(r, 40);
+    if (repaired && n) printf("repair %.*s\n", (int)(chance(r, 30) ? n : draw(r, n + 1)), log);
+#endif
+    if (n && !repaired) printf("judge %u %.*s\n", chance(r, 80) ? version : some_version(r) % 65536, (int)n, log);
 #else
     (void)r;
 #endif
@@ -662,10 +777,12 @@ int main(int count, char **words) {
     if (count == 4 && !strcmp(words[1], "calls")) return compare_calls(number(words[2]), seeded(words[3]));
     if (count == 4 && !strcmp(words[1], "drawings")) return compare_drawings(number(words[2]), seeded(words[3]));
     if (count == 4 && !strcmp(words[1], "logs")) return compare_logs(number(words[2]), seeded(words[3]));
+    if (count == 4 && !strcmp(words[1], "repairs")) return compare_repairs(number(words[2]), seeded(words[3]));
+    if (count == 3 && !strcmp(words[1], "cuts")) return compare_cuts(words[2]);
     if (count == 3 && !strcmp(words[1], "drawing")) return print_drawing(number(words[2]));
     if (count == 2 && !strcmp(words[1], "worst")) return time_worst();
     if (count != 5 || strcmp(words[1], "sessions")) {
-        fprintf(stderr, "usage: compare calls CASES SEED, compare drawings CASES SEED, compare drawing CASE, compare logs CASES SEED, compare worst, or compare sessions FIRST COUNT SEED\n");
+        fprintf(stderr, "usage: compare calls CASES SEED, compare drawings CASES SEED, compare drawing CASE, compare logs CASES SEED, compare repairs CASES SEED, compare cuts FILE, compare worst, or compare sessions FIRST COUNT SEED\n");
         return 2;
     }
     for (uint64_t k = number(words[2]), last = k + number(words[3]); k < last; k++) {

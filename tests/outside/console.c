@@ -1,10 +1,10 @@
 /* The console's commands over the reference: a session through this and through the engine's console must print the same. With the word `drawing` it takes one
-   drawing, whole, instead; with `log`, the name of a model's file and a version, one log. */
+   drawing, whole, instead; with `log`, the name of a model's file and a version, one log, which is judged; with `repair`, one log, which is repaired. */
 #include "layout.h"
 #include <stdio.h>
 #include <stdlib.h>
 
-/* DRAWINGS: the engine's console has the command draw, and takes longer lines; LOGS: it has the command judge */
+/* DRAWINGS: the engine's console has the command draw, and takes longer lines; LOGS: it has the command judge; REPAIRS: repair */
 #ifdef DRAWINGS
 enum { LINE_MOST = 80000, ARGUMENTS = 8 };
 #else
@@ -166,6 +166,19 @@ static bool judge_line(const char *s, size_t n) {
     if (!blank || !number_of((struct text){s, blank - s}, &version)) return false;
     loaded ? do_judge(version, blank + 1, s + n - blank - 1) : (void)puts("no model");
     return true;
+}
+
+/* needs no model */
+static void do_repair(const char *text, size_t n) {
+    static uint8_t out[WHOLE];
+    ref_repaired r = ref_repair((const uint8_t *)text, n, out, sizeof out);
+    if (r.number) {
+        print_done(r.number);
+        return;
+    }
+    printf("kept %zu dropped %zu length %zu\n", r.kept, r.dropped, r.length);
+    fwrite(out, 1, r.length, stdout);
+    putchar('\n');
 }
 
 static void do_write(size_t room) {
@@ -333,6 +346,12 @@ static void do_line(const char *s, size_t n) {
         return;
     }
 #endif
+#ifdef REPAIRS
+    if (n >= 7 && memcmp(s, "repair ", 7) == 0) {
+        do_repair(s + 7, n - 7);
+        return;
+    }
+#endif
     bool batch = n >= 6 && memcmp(s, "batch ", 6) == 0, empty = n == 5 && memcmp(s, "batch", 5) == 0;
     if (batch || empty ? !do_batch(s + 6, batch ? n - 6 : 0, empty) : !command(w, words_of(s, n, w))) puts("bad line");
     else if (!loaded) puts("no model");
@@ -360,8 +379,16 @@ static int one_log(const char *model, word version) {
     return 0;
 }
 
+/* one log, whole, that may have ended in the middle */
+static int one_repair(void) {
+    static char text[WHOLE + 1];
+    do_repair(text, fread(text, 1, sizeof text, stdin));
+    return 0;
+}
+
 int main(int count, char **words) {
     if (count == 2 && !strcmp(words[1], "drawing")) return one_drawing();
+    if (count == 2 && !strcmp(words[1], "repair")) return one_repair();
     if (count == 4 && !strcmp(words[1], "log")) return one_log(words[2], strtoul(words[3], NULL, 10));
     char *line = NULL;
     size_t room = 0;

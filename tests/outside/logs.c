@@ -14,6 +14,10 @@ struct log {
     struct xml xml;
     unsigned traces, events;
     struct span lines[EVENTS];
+    /* the names of the root and the trace; whether the trace is an empty tag; where its start tag or the last whole event ends */
+    struct span root, trace;
+    bool empty_trace;
+    size_t whole;
 };
 
 /* A LINE. */
@@ -128,8 +132,10 @@ static bool child(struct log *g, struct span name, enum level level, unsigned *n
     }
     if (empty && event) return fault(w, w->at - 2);
     g->traces += trace;
+    if (trace) g->trace = name, g->empty_trace = empty, g->whole = w->at;
     if (!empty && !inside(g, name, trace ? TRACE : EVENT)) return false;
     g->events += event;
+    if (event) g->whole = w->at;
     return true;
 }
 
@@ -169,6 +175,7 @@ static bool is_log(struct log *g, const uint8_t *text, size_t length) {
     g->traces = g->events = 0;
     if (!begun(w, text, length) || !around(w, "log", &name) || !tag(w, name.to, NULL, &empty)) return false;
     if (empty) return fault(w, w->at - 2);
+    g->root = name;
     return inside(g, name, LOG) && around(w, NULL, &name);
 }
 
@@ -207,4 +214,29 @@ ref_judged ref_judge(const word *t, word version, const uint8_t *text, size_t le
         if (!done(t, state, &line, &own)) return (ref_judged){24, k, own};
     }
     return (ref_judged){0, 0, 0};
+}
+
+/* REPAIRED. */
+static size_t put_end_tag(const struct log *g, struct span name, uint8_t *out, size_t n) {
+    size_t m = name.to - name.from;
+    memcpy(out + n, "</", 2), memcpy(out + n + 2, g->xml.s + name.from, m), out[n + 2 + m] = '>';
+    return n + m + 3;
+}
+
+ref_repaired ref_repair(const uint8_t *text, size_t length, uint8_t *out, size_t room) {
+    static struct log g;
+    static uint8_t repaired[3 * XML_MOST];
+    size_t n = length, kept_bytes = length;
+    if (length > XML_MOST) return (ref_repaired){27, 0, 0, 0};
+    if (is_log(&g, text, length)) memcpy(repaired, text, n);
+    else {
+        if (g.xml.place < length || !g.traces) return (ref_repaired){27, 0, 0, 0};
+        n = kept_bytes = g.whole;
+        memcpy(repaired, text, n);
+        if (!g.empty_trace) n = put_end_tag(&g, g.trace, repaired, n);
+        n = put_end_tag(&g, g.root, repaired, n);
+    }
+    if (n > room || n > XML_MOST) return (ref_repaired){5, 0, 0, 0};
+    memcpy(out, repaired, n);
+    return (ref_repaired){0, n, g.events, length - kept_bytes};
 }

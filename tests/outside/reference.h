@@ -22,6 +22,9 @@ typedef struct { ref_word number; size_t accepted; } ref_polled;
 /* beside: the place of 23, the event's ordinal of 24; own: the number of that event's step or post */
 typedef struct { ref_word number; size_t beside; ref_word own; } ref_judged;
 
+/* the length written, the events kept, the bytes dropped */
+typedef struct { ref_word number; size_t length, kept, dropped; } ref_repaired;
+
 ref_verdict ref_check(const ref_word *table);
 /* document 02's seventh request: the state is of version 10 or 20, and keeps it */
 ref_word ref_fresh(const ref_word *table, ref_word version, ref_word *state);
@@ -37,5 +40,7 @@ ref_written ref_write(const ref_word *table, uint8_t *buffer, size_t length);
 ref_polled ref_poll(const ref_word *table, ref_word *state, const ref_word *items, size_t count);
 /* document 02's fourth request: the text is a log, judged from the fresh state of a version */
 ref_judged ref_judge(const ref_word *table, ref_word version, const uint8_t *text, size_t length);
+/* document 02's tenth request: a log that ended in the middle, as far as it goes */
+ref_repaired ref_repair(const uint8_t *text, size_t length, uint8_t *out, size_t room);
 
 #endif

@@ -32,6 +32,7 @@ use text_numerals::same;
 use text_read::Reading;
 use tool_print::tell;
 use tool_print::tell_judged;
+use tool_print::tell_repaired;
 use tool_print::tell_run;
 use tool_print::tell_unread;
 use write_buffer::least;
@@ -165,6 +166,15 @@ fn do_judge(line: &[u8], loaded: bool, t: &[Word; TABLE_WORDS]) {
     tell_judged(engine::judge(t, number_at(line, 1) as Word, log));
 }
 
+// repair
+
+// The bytes of `repair` and its blank.
+const REPAIR: usize = 7;
+
+fn is_repair(line: &[u8]) -> bool {
+    same(piece(line, 0, REPAIR), b"repair ")
+}
+
 // fresh, state
 
 fn do_fresh(version: Word, loaded: bool, t: &[Word; TABLE_WORDS], z: &mut [Word; STATE_WORDS]) {
@@ -274,6 +284,10 @@ fn on_model(line: &[u8], loaded: bool, t: &[Word; TABLE_WORDS], z: &mut [Word; S
     }
     if is_judge(line) {
         do_judge(line, loaded, t);
+        return;
+    }
+    if is_repair(line) {
+        tell_repaired(piece(line, REPAIR, line.len()));
         return;
     }
     on_state(line, loaded, t, z);

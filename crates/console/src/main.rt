@@ -8,6 +8,7 @@
 //   list K             P I E F B V of the K-th accepted step, or refused N
 //   batch ITEM;ITEM;.. accepted N refused R of a poll; an item is a step or a post as above, `batch` alone has none
 //   judge V TEXT       lawful, refused 25, refused 23 PLACE or refused 24 ORDINAL NUMBER of a log under version V; the log is every byte behind the one blank
+//   repair TEXT        kept K dropped D length L, and the repaired log; or refused N; a log that ended in the middle, which is every byte behind the one blank
 //   run N              the line of each step, then: steps N left F; or refused N
 //   write              the text of the model, or refused N
 //   write N            the same, into a buffer of N bytes
@@ -20,7 +21,7 @@
 //   state I V          word I of the state is V: ok
 //   check              ok, or refused N X
 //
-// A command other than read, draw, clear and table before one of these made a table: no model. Any other line: bad line.
+// A command other than read, draw, clear, table and repair before one of the first four made a table: no model. Any other line: bad line.
 use base_state::places::STATE_WORDS;
 use base_table::places::TABLE_WORDS;
 use base_words::Word;

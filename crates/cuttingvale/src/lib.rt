@@ -3,6 +3,7 @@ ghost use mathlib.Core.Path.{_≡_};
 ghost use Rattle.meaning.specs.Tuples.{empty};
 ghost use Rattle.step_poll.specs.Poll.{Polling};
 ghost use Rattle.step_names.specs.Names.{blank};
+ghost use Rattle.log_repair.specs.Repair.{Repair, repairedTo};
 ghost use Rattle.cuttingvale.specs.Boundary.{areWhole, checkedBy, freshenedBy, trafficNumber, steppedBy, postedBy, listedBy, ranBy, readBy, drawnBy, writtenBy, lentWrong, areLent, polledAt, judgedBy};
 use base_state::places::STATE_WORDS;
 use base_table::places::TABLE_WORDS;
@@ -13,6 +14,7 @@ use engine::Ran;
 use engine::Verdict;
 use engine::Written;
 use log_judge::Judged;
+use log_repair::Repaired;
 use meaning::Name;
 use meaning::Traffic;
 use meaning::Tuple;
@@ -300,4 +302,12 @@ pub extern "C" fn cv_judge(
         };
     }
     engine::judge(table, version, log)
+}
+
+// The buffer's length comes with it, as the text's does: there is no other length to be wrong.
+#[no_mangle]
+pub extern "C" fn cv_repair(text: &[u8], buffer: &mut [u8]) -> Repaired
+    ensures { λ r. ⌜ record { number = r .number; length = r .length; kept = r .kept; dropped = r .dropped; buffer = now (buffer .exit) } ≡ repairedTo (now (text .entry)) (now (buffer .entry)) ⌝ }
+{
+    engine::repair(text, buffer)
 }

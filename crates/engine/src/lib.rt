@@ -12,6 +12,7 @@ ghost use Rattle.text_read.specs.Notation.{readInto};
 ghost use Rattle.draw_read.specs.Drawings.{drawInto};
 ghost use Rattle.write_buffer.specs.Buffers.{lesser, lastPlace};
 ghost use Rattle.write_shown.specs.Shown.{shownTable};
+ghost use Rattle.log_repair.specs.Repair.{Repair, repairedTo};
 use base_state::places::STATE_WORDS;
 use base_state::versions::is_version;
 use base_state::versions::version_of;
@@ -24,6 +25,7 @@ use base_words::numbers::CHECK_BROKEN;
 use base_words::numbers::OTHER_VERSION;
 use base_words::numbers::TOO_SHORT;
 use log_judge::Judged;
+use log_repair::Repaired;
 use meaning::Answer;
 use meaning::Name;
 use meaning::Tuple;
@@ -289,4 +291,12 @@ pub fn judge(t: &[Word; TABLE_WORDS], v: Word, log: &[u8]) -> Judged
     let mut z: [Word; STATE_WORDS] = [0; STATE_WORDS];
     state_fresh::begin(t, v, &mut z);
     log_judge::judge_on(t, &mut z, log)
+}
+
+// Repairs a log that ended in the middle, into the lent buffer: 27 where it cannot be, then 5 where there is no room or the log would be longer than 65,536 bytes, and the buffer stays; else 0, its length, how many
+// events it keeps and how many bytes were dropped.
+pub fn repair(text: &[u8], out: &mut [u8]) -> Repaired
+    ensures { λ r. ⌜ record { number = r .number; length = r .length; kept = r .kept; dropped = r .dropped; buffer = now (out .exit) } ≡ repairedTo (now (text .entry)) (now (out .entry)) ⌝ }
+{
+    log_repair::repair_into(text, out)
 }

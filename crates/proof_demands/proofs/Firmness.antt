@@ -12,6 +12,8 @@ use Rattle.text_read.specs.declared.Reading.{Reading}
 use Rattle.text_read.specs.Notation.{ReadInto}
 use Rattle.step_poll.specs.declared.Polled.{Polled}
 use Rattle.log_judge.specs.declared.Judged.{Judged}
+use Rattle.log_repair.specs.declared.Repaired.{Repaired}
+use Rattle.log_repair.specs.Repair.{Repair}
 use Rattle.step_poll.specs.Poll.{Polling}
 use Rattle.engine.specs.declared.Ran.{Ran}
 use Rattle.engine.specs.declared.Verdict.{Verdict}
@@ -29,6 +31,7 @@ use Rattle.engine.proofs.draw.Reads as draw
 use Rattle.engine.proofs.write.Reads as write
 use Rattle.engine.proofs.poll.Reads as poll
 use Rattle.engine.proofs.judge.Reads as judge
+use Rattle.engine.proofs.repair.Reads as repair
 use Rattle.proof_demands.specs.Demands.{Allowed, AllAllowed}
 use Rattle.proof_demands.proofs.Promises.{Lent, One, Two, Three}
 
@@ -88,6 +91,15 @@ module _ (κ : Two) where
       → judge.Post κ (t, (v, (log, tt))) r₁ (t₁, (v₁, (log₁, tt))) → judge.Post κ (t, (v, (log, tt))) r₂ (t₂, (v₂, (log₂, tt)))
       → r₁ ≡ r₂
   judge-firm t log t₁ t₂ log₁ log₂ v v₁ v₂ r₁ r₂ p₁ p₂ = p₁ ∙ sym p₂
+
+  pub repair-firm : (text out text₁ text₂ out₁ out₂ : Lent) (r₁ r₂ : Repaired)
+      → repair.Post κ (text, (out, tt)) r₁ (text₁, (out₁, tt)) → repair.Post κ (text, (out, tt)) r₂ (text₂, (out₂, tt))
+      → (r₁ ≡ r₂) × (now out₁ ≡ now out₂)
+  repair-firm text out text₁ text₂ out₁ out₂ r₁ r₂ p₁ p₂ =
+      let p = p₁ ∙ sym p₂ in (
+        ap (λ (o : Repair). record { number = o .number; length = o .length; kept = o .kept; dropped = o .dropped }) p,
+        ap (λ (o : Repair). o .buffer) p,
+      )
 
 pub poll-firm : (κ : Three) (t z w t₁ t₂ z₁ z₂ w₁ w₂ : Lent) (count count₁ count₂ : ℕ) (r₁ r₂ : Polled)
     → poll.Post κ (t, (z, (w, (count, tt)))) r₁ (t₁, (z₁, (w₁, (count₁, tt)))) → poll.Post κ (t, (z, (w, (count, tt)))) r₂ (t₂, (z₂, (w₂, (count₂, tt))))

@@ -22,4 +22,5 @@ pub mod NeverBad
 pub mod PollSteps
 pub mod Polls
 pub mod Judgements
+pub mod RepairNumbers
 pub mod Boards

@@ -11,6 +11,7 @@ use Rattle.step_list.specs.declared.Listed.{Listed}
 use Rattle.text_read.specs.declared.Reading.{Reading}
 use Rattle.step_poll.specs.declared.Polled.{Polled}
 use Rattle.log_judge.specs.declared.Judged.{Judged}
+use Rattle.log_repair.specs.declared.Repaired.{Repaired}
 use Rattle.engine.specs.declared.Verdict.{Verdict}
 use Rattle.engine.specs.declared.Ran.{Ran}
 use Rattle.engine.specs.declared.Written.{Written}
@@ -26,7 +27,8 @@ use Rattle.engine.proofs.draw.Reads as draw
 use Rattle.engine.proofs.write.Reads as write
 use Rattle.engine.proofs.poll.Reads as poll
 use Rattle.engine.proofs.judge.Reads as judge
-use Rattle.proof_demands.specs.Promises.{Checks, Freshens, Steps, Posts, Lists, Runs, Reads, Draws, Writes, Polls, Judges}
+use Rattle.engine.proofs.repair.Reads as repair
+use Rattle.proof_demands.specs.Promises.{Checks, Freshens, Steps, Posts, Lists, Runs, Reads, Draws, Writes, Polls, Judges, Repairs}
 use Rattle.proof_demands.specs.Demands.{Allowed}
 
 -- a slice or an array that is lent, and the lifetimes of one, of two and of three
@@ -76,6 +78,9 @@ module _ (κ : Two) where
 
   pub judge-promise : (t log t₁ log₁ : Lent) (v v₁ : ℕ) (r : Judged) → judge.Post κ (t, (v, (log, tt))) r (t₁, (v₁, (log₁, tt))) ≡ Judges (now t) v (now log) r
   judge-promise t log t₁ log₁ v v₁ r = refl
+
+  pub repair-promise : (text out text₁ out₁ : Lent) (r : Repaired) → repair.Post κ (text, (out, tt)) r (text₁, (out₁, tt)) ≡ Repairs (now text) (now out) r (now out₁)
+  repair-promise text out text₁ out₁ r = refl
 
   -- so too what the demands say that a step and a post are allowed
   pub step-allowed : (t z t₁ z₁ : Lent) (n n₁ : Name) (k : ℕ)

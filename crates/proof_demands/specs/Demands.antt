@@ -66,6 +66,9 @@ writeNumbers = 0 ∷ 5 ∷ 10 ∷ []
 abbrev pub judgeNumbers : List ℕ
 judgeNumbers = 0 ∷ 10 ∷ 23 ∷ 24 ∷ 25 ∷ []
 
+abbrev pub repairNumbers : List ℕ
+repairNumbers = 0 ∷ 5 ∷ 27 ∷ []
+
 -- beside 24: the step's or post's own, 0 where only the text is untrue
 abbrev pub ownNumbers : List ℕ
 ownNumbers = 0 ∷ 11 ∷ 12 ∷ 13 ∷ 14 ∷ 15 ∷ 16 ∷ 17 ∷ 18 ∷ 19 ∷ []

@@ -16,6 +16,8 @@ use Rattle.engine.specs.declared.Written.{Written}
 use Rattle.step_poll.specs.declared.Polled.{Polled}
 use Rattle.step_poll.specs.Poll.{Polling}
 use Rattle.log_judge.specs.declared.Judged.{Judged}
+use Rattle.log_repair.specs.declared.Repaired.{Repaired}
+use Rattle.log_repair.specs.Repair.{Repair, repairedTo}
 use Rattle.engine.specs.Calls.{polledTo, judgedTo}
 use Rattle.engine.specs.Engine.{Left, Stepped, RanTo, WrittenTo, verdictOf, freshened, stepped, postedTo, listedAt, ranTo, writtenTo}
 
@@ -51,3 +53,6 @@ Polls t z w count r y = _≡_ {A = Polling} (record { number = r .number; accept
 
 abbrev pub Judges : List ℕ → ℕ → List ℕ → Judged → Type 0
 Judges t v log r = r ≡ judgedTo t v log
+
+abbrev pub Repairs : List ℕ → List ℕ → Repaired → List ℕ → Type 0
+Repairs text out r y = _≡_ {A = Repair} (record { number = r .number; length = r .length; kept = r .kept; dropped = r .dropped; buffer = y }) (repairedTo text out)

@@ -28,10 +28,10 @@ use Rattle.log_text.specs.declared.Cursor.{Cursor}
 use Rattle.log_text.specs.declared.Move.the-variants.{On}
 use Rattle.log_text.specs.Cursors.{inEvent, named, behindEvent, lacksBy, tagBy as openTag}
 use Rattle.log_text.specs.Logs.{overNamed, lineBy, nameBy, stringBy, stringAt, eventBy, enteredBy, leftBy, advance}
-use Rattle.proof_logs.proofs.Stands.{behind, whole-part, rest}
-use Rattle.proof_logs.proofs.Shifted.{scan-on, markup-opened, found-at}
-use Rattle.proof_logs.proofs.Tags.{value-is, empty-closed}
-use Rattle.proof_logs.proofs.Elements.{StartAt, EndAt, no-blank, newline, at-element, at-end, skipped-empty}
+use Rattle.proof_local.proofs.Stands.{behind, whole-part, rest}
+use Rattle.proof_local.proofs.Shifted.{scan-on, markup-opened, found-at}
+use Rattle.proof_local.proofs.Tags.{value-is, empty-closed}
+use Rattle.proof_local.proofs.Elements.{StartAt, EndAt, no-blank, newline, at-element, at-end, skipped-empty}
 use Rattle.proof_logs.proofs.Known.{string-start, event-start, event-markup, stringOpening, string-opened, key-found, value-found}
 
 -- "A line has no byte that XML would write in another way": every byte is from 32 on and is not `"`, `&` or `<`

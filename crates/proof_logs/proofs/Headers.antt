@@ -40,9 +40,9 @@ use Rattle.log_text.specs.declared.Cursor.{Cursor}
 use Rattle.log_text.specs.declared.Move.the-variants.{On}
 use Rattle.log_text.specs.Cursors.{inLog, reached, traced}
 use Rattle.log_text.specs.Logs.{logMost, traceBy, enteredBy, beginBy, begin, start, closesEvent, advance as advanced}
-use Rattle.proof_logs.proofs.Stands.{behind as stands-behind, within, rest}
-use Rattle.proof_logs.proofs.Tags.{from-second, opens-name, opener-by}
-use Rattle.proof_logs.proofs.Elements.{StartAt, no-blank, newline, at-element, skipped-empty, passed-in-log, passed-in-trace, part-in}
+use Rattle.proof_local.proofs.Stands.{behind as stands-behind, within, rest}
+use Rattle.proof_local.proofs.Tags.{from-second, opens-name, opener-by}
+use Rattle.proof_local.proofs.Elements.{StartAt, no-blank, newline, at-element, skipped-empty, passed-in-log, passed-in-trace, part-in}
 use Rattle.proof_logs.proofs.Known.{log-start, log-markup, extension-start, extension-markup, global-start, global-markup, string-start, unknown-markup, global-end, classifier-start, classifier-markup, trace-start, trace-markup, run-markup}
 use Rattle.proof_logs.proofs.Traces.{Reads, reads-on, InTrace}
 

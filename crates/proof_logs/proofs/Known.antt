@@ -25,8 +25,8 @@ use Rattle.xml_markup.specs.Tokens.{endOf, wholeInTag, wholeInInstruction, whol
 use Rattle.xml_markup.specs.Markup.{advance, opensMarkup, marked, markup}
 use Rattle.xml_markup.specs.declared.Class.the-variants.{Name}
 use Rattle.xml_markup.specs.Spans.{isOf}
-use Rattle.proof_logs.proofs.Shifted.{readTo, markup-past}
-use Rattle.proof_logs.proofs.Elements.{Names, StartAt, start-at, EndAt, end-at}
+use Rattle.proof_local.proofs.Shifted.{readTo, markup-past}
+use Rattle.proof_local.proofs.Elements.{Names, StartAt, start-at, EndAt, end-at}
 
 -- an event's string, up to its line
 abbrev pub stringOpening : List ℕ

@@ -9,10 +9,6 @@ pub mod WordSteps
 pub mod ToldLawful
 pub mod OwnLog
 pub mod LogLaws
-pub mod Stands
-pub mod Shifted
-pub mod Tags
-pub mod Elements
 pub mod Known
 pub mod Events
 pub mod Traces

@@ -20,8 +20,8 @@ use Rattle.log_text.specs.declared.Move.the-variants.{On, Done}
 use Rattle.log_text.specs.Cursors.{reached, inEvent, named, behindEvent, behindTrace, lacksBy, tagBy as openTag}
 use Rattle.log_text.specs.Logs.{leftBy, advance, byMove, scanIn, closesEvent, lineOf, linesIn}
 use Rattle.log_write.specs.Xes.{eventOpening, eventClosing, eventText, eventsText, footer}
-use Rattle.proof_logs.proofs.Stands.{behind, rest}
-use Rattle.proof_logs.proofs.Elements.{EndAt, no-blank, newline, at-end, ends-there}
+use Rattle.proof_local.proofs.Stands.{behind, rest}
+use Rattle.proof_local.proofs.Elements.{EndAt, no-blank, newline, at-end, ends-there}
 use Rattle.proof_logs.proofs.Known.{stringOpening, event-start, event-end, trace-end, log-end}
 use Rattle.proof_logs.proofs.Events.{Plain, event-begun, line-says, string-passed, string-behind, event-ended}
 

@@ -1,7 +1,9 @@
 // What the programs share of what they say on standard output. That a text is said is not part of a promise; what it is, and what becomes of the state, is.
 ghost use mathlib.Core.Path.{_≡_};
-ghost use lib.ListN.{length};
+ghost use lib.ListN.{length, replicate};
 ghost use Rattle.base_words.specs.Words.{greatest, digits};
+ghost use Rattle.base_words.specs.Counts.{textMost};
+ghost use Rattle.log_repair.specs.Repair.{repairedTo};
 ghost use Rattle.write_buffer.specs.Buffers.{Put, lesser};
 ghost use Rattle.write_decimals.specs.Decimals.{shown};
 ghost use Rattle.write_lines.specs.Lines.{unreadLine};
@@ -13,11 +15,13 @@ use base_state::versions::PRESENT;
 use base_table::places::TABLE_WORDS;
 use base_words::DIGITS;
 use base_words::Word;
+use base_words::counts::TEXT_MOST;
 use base_words::numbers::AT_FAULT;
 use base_words::numbers::NOT_A_LOG;
 use engine::Ran;
 use libc::STDOUT_FILENO;
 use log_judge::Judged;
+use log_repair::Repaired;
 use meaning::Answer;
 use meaning::Name;
 use step_run::Steps;
@@ -125,6 +129,48 @@ pub fn tell_judged(r: Judged) -> usize
     let n = put_unlawful(&mut out, r);
     tell(piece(&out, 0, n));
     n
+}
+
+fn tell_named(word: &[u8], n: usize) {
+    tell(word);
+    tell_count(n);
+}
+
+fn tell_kept(r: Repaired) {
+    tell_named(b"kept ", r.kept);
+    tell_named(b" dropped ", r.dropped);
+    tell_named(b" length ", r.length);
+    tell(b"\n");
+}
+
+fn tell_lost(number: Word) -> Word
+    ensures { λ k. ⌜ k ≡ number ⌝ }
+{
+    tell_named(b"refused ", number as usize);
+    tell(b"\n");
+    number
+}
+
+fn tell_mended(r: Repaired, out: &[u8]) -> Word
+    ensures { λ k. ⌜ k ≡ r .number ⌝ }
+{
+    let number = r.number;
+    tell_kept(r);
+    tell(piece(out, 0, r.length));
+    tell(b"\n");
+    number
+}
+
+// Repairs a log into a buffer of 65,536 bytes, and says what is kept of it and the log, or the refusal; gives back the number.
+pub fn tell_repaired(text: &[u8]) -> Word
+    ensures { λ k. ⌜ k ≡ repairedTo (now (text .entry)) (replicate textMost 0) .number ⌝ }
+{
+    let mut out = [0u8; TEXT_MOST];
+    let r = engine::repair(text, &mut out);
+    if r.number != 0 {
+        return tell_lost(r.number);
+    }
+    tell_mended(r, &out)
 }
 
 // The line of a step that was taken.

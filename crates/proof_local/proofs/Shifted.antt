@@ -27,7 +27,7 @@ use Rattle.xml_markup.specs.declared.Found.{Found}
 use Rattle.xml_markup.specs.declared.Found.the-variants.{Behind, Nowhere}
 use Rattle.xml_markup.specs.Tokens.{whole, moveTo, moved, ifOn, isNamed, foundFrom, begun, found, isFound, twice, isFaulty}
 use Rattle.xml_markup.specs.Markup.{advance, scanFrom, scan, opensMarkup, marked, placed, markup}
-use Rattle.proof_logs.proofs.Stands.{inside, byte, piece, within, first}
+use Rattle.proof_local.proofs.Stands.{inside, byte, piece, within, first}
 
 -- the same, p places further
 abbrev pub shifted : ℕ → Cursor → Cursor

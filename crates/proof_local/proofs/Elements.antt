@@ -33,8 +33,8 @@ use Rattle.log_text.specs.declared.Move.the-variants.{On}
 use Rattle.log_text.specs.Inside.{endsAt, closing, between, insideAt}
 use Rattle.log_text.specs.Cursors.{reached, lacksBy, tagBy as openTag}
 use Rattle.log_text.specs.Logs.{over, isOfLog, otherAt, enteredBy, leftBy, byInside, advance}
-use Rattle.proof_logs.proofs.Stands.{within, first}
-use Rattle.proof_logs.proofs.Tags.{start-named, start-called, start-opens, end-named, end-opens, end-markup, end-behind}
+use Rattle.proof_local.proofs.Stands.{within, first}
+use Rattle.proof_local.proofs.Tags.{start-named, start-called, start-opens, end-named, end-opens, end-markup, end-behind}
 
 -- c and then these bytes are a name
 pub record Names (c : ℕ) (name : List ℕ) : Type 0 where
@@ -106,7 +106,7 @@ unfolding enteredBy otherAt isOfLog over if_then_else_
 passed-in-trace t name c p q k a b d e = rw (k .called (bytes "trace"), k .called (bytes "log"), k .called (bytes "event"), a, b, d, e) refl
 
 -- AN END TAG
-same-bytes : (w : List ℕ) → sameBytes w w ≡ true
+pub same-bytes : (w : List ℕ) → sameBytes w w ≡ true
 unfolding sameBytes
 same-bytes [] = refl
 same-bytes (b ∷ w) = and-true (eqb b b) (sameBytes w w) (eq-eqb b b refl) (same-bytes w)

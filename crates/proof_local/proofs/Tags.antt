@@ -39,8 +39,8 @@ use Rattle.xml_markup.specs.Markup.{advance, scanFrom, scan, opensMarkup, marke
 use Rattle.xml_markup.specs.Staying.{isPlain, staysInTag, staysInEnd, stays}
 use Rattle.xml_markup.proofs.StayLaws.{scan-stay, in-state}
 use Rattle.xml_markup.specs.Spans.{isOf, run, after, hasSecond, nameFrom, nameAt, bytesOf, opensName, second, opener, localOf, isCalled, quoteAt, valueAt, valueOf}
-use Rattle.proof_logs.proofs.Shifted.{markup-opened}
-use Rattle.proof_logs.proofs.Stands.{behind as stands-behind, whole-part, within, first, rest, after-is}
+use Rattle.proof_local.proofs.Shifted.{markup-opened}
+use Rattle.proof_local.proofs.Stands.{behind as stands-behind, whole-part, within, first, rest, after-is}
 
 -- THE NAME of a tag at p, from f on, with the byte b behind it
 module _ (t name x : List ℕ) (p f b : ℕ) (from-is : nameFrom t p ≡ f) (stands : drop f t ≡ name ++ (b ∷ x)) (named : each (isOf Name) name ≡ true) (ends : isOf Name b ≡ false) where

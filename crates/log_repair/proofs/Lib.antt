@@ -1,0 +1,2 @@
+pub mod RepairLaws
+pub mod PointsHold
