@@ -20,7 +20,7 @@ struct job { const char *name; const struct setting *setting; enum call call; si
 /* All that the nine calls give back, one after the other; what a call does not give is 0. */
 struct answer { size_t number, beside; ref_name name; ref_tuple tuple; };
 
-struct blocks { word table[REF_TABLE_WORDS], states[BATCH][REF_STATE_WORDS]; uint8_t buffer[REF_TEXT_MOST]; };
+struct blocks { word table[REF_TABLE_WORDS], states[BATCH][REF_STATE_WORDS]; ref_record records[BATCH][POOLS]; uint8_t buffer[REF_TEXT_MOST]; };
 
 static struct blocks lent;
 
@@ -37,8 +37,11 @@ static void make_items(void) {
     }
 }
 
-static __attribute__((noinline)) void engine(const struct job *j, struct blocks *b, word *state, struct answer *a) {
-    size_t tw = CV_TABLE_WORDS, sw = CV_STATE_WORDS;
+/* on the state with a place, and its records */
+static __attribute__((noinline)) void engine(const struct job *j, struct blocks *b, unsigned place, struct answer *a) {
+    size_t tw = CV_TABLE_WORDS, sw = CV_STATE_WORDS, pools = b->table[0];
+    word *state = b->states[place];
+    cv_record *records = (cv_record *)b->records[place];
     cv_name step;
     cv_tuple values;
     switch (j->call) {
@@ -50,7 +53,7 @@ static __attribute__((noinline)) void engine(const struct job *j, struct blocks 
     case FRESH: a->number = cv_fresh(b->table, tw, CV_VERSION_20, state, sw); break;
     case STEP: {
         memcpy(&step, &j->step, sizeof step);
-        cv_answer v = cv_step(b->table, tw, state, sw, step);
+        cv_answer v = cv_step(b->table, tw, state, sw, records, pools, step);
         a->number = v.number, a->beside = v.traffic, a->name.pool = v.name;
         memcpy(&a->tuple, &v.tuple, sizeof a->tuple);
         break;
@@ -66,7 +69,7 @@ static __attribute__((noinline)) void engine(const struct job *j, struct blocks 
         break;
     }
     case RUN: {
-        cv_ran v = cv_run(b->table, tw, state, sw, LIMIT);
+        cv_ran v = cv_run(b->table, tw, state, sw, records, pools, LIMIT);
         a->number = v.number, a->beside = v.steps, a->name.pool = v.left;
         break;
     }
@@ -81,14 +84,17 @@ static __attribute__((noinline)) void engine(const struct job *j, struct blocks 
         break;
     }
     case POLL: {
-        cv_polled v = cv_poll(b->table, tw, state, sw, items, CV_POLL_WORDS, CV_ITEMS);
+        cv_polled v = cv_poll(b->table, tw, state, sw, records, pools, items, CV_POLL_WORDS, CV_ITEMS);
         a->number = v.number, a->beside = v.accepted;
         break;
     }
     }
 }
 
-static __attribute__((noinline)) void reference(const struct job *j, struct blocks *b, word *state, struct answer *a) {
+static __attribute__((noinline)) void reference(const struct job *j, struct blocks *b, unsigned place, struct answer *a) {
+    word *state = b->states[place];
+    ref_record *records = b->records[place];
+    size_t pools = b->table[0];
     switch (j->call) {
     case CHECK: {
         ref_verdict v = ref_check(b->table);
@@ -97,7 +103,7 @@ static __attribute__((noinline)) void reference(const struct job *j, struct bloc
     }
     case FRESH: a->number = ref_fresh(b->table, REF_VERSION_20, state); break;
     case STEP: {
-        ref_answer v = ref_step(b->table, state, j->step);
+        ref_answer v = ref_step(b->table, state, records, pools, j->step);
         a->number = v.number, a->beside = v.traffic, a->name.pool = v.name, a->tuple = v.tuple;
         break;
     }
@@ -108,7 +114,7 @@ static __attribute__((noinline)) void reference(const struct job *j, struct bloc
         break;
     }
     case RUN: {
-        ref_ran v = ref_run(b->table, state, LIMIT);
+        ref_ran v = ref_run(b->table, state, records, pools, LIMIT);
         a->number = v.number, a->beside = v.steps, a->name.pool = v.left;
         break;
     }
@@ -123,14 +129,14 @@ static __attribute__((noinline)) void reference(const struct job *j, struct bloc
         break;
     }
     case POLL: {
-        ref_polled v = ref_poll(b->table, state, items, CV_ITEMS);
+        ref_polled v = ref_poll(b->table, state, records, pools, items, CV_ITEMS);
         a->number = v.number, a->beside = v.accepted;
         break;
     }
     }
 }
 
-typedef void (*side)(const struct job *, struct blocks *, word *, struct answer *);
+typedef void (*side)(const struct job *, struct blocks *, unsigned, struct answer *);
 
 static void prepare(const struct job *j, struct blocks *b, unsigned states) {
     memcpy(b->table, j->setting->table, sizeof b->table);
@@ -140,6 +146,7 @@ static void prepare(const struct job *j, struct blocks *b, unsigned states) {
         word *q = queue_at(b->states[k], 3);
         if (j->empty) memset(q, 0, (1 + SLOT_WORDS * MESSAGES) * sizeof *q);
         if (j->room && q[0] == MESSAGES) memset(q + 1 + SLOT_WORDS * --q[0], 0, SLOT_WORDS * sizeof *q);
+        for (unsigned p = 0; p < POOLS; p++) b->records[k][p] = figures_of(b->states[k], p);
     }
 }
 
@@ -149,11 +156,11 @@ static void compare(const struct job *j) {
     memset(&a, 0, sizeof a), memset(&b, 0, sizeof b);
     memset(lent.buffer, 0xa5, sizeof lent.buffer), memset(other.buffer, 0xa5, sizeof other.buffer);
     prepare(j, &lent, 1), prepare(j, &other, 1);
-    engine(j, &lent, lent.states[0], &a);
-    reference(j, &other, other.states[0], &b);
+    engine(j, &lent, 0, &a);
+    reference(j, &other, 0, &b);
     unsigned wanted = j->call == LIST && j->ordinal && a.number == 6 ? 6 : 0;
     if (memcmp(&a, &b, sizeof a) == 0 && memcmp(&lent, &other, sizeof lent.table + sizeof *lent.states) == 0
-        && memcmp(lent.buffer, other.buffer, sizeof lent.buffer) == 0 && a.number == wanted)
+        && memcmp(lent.records, other.records, sizeof *lent.records) == 0 && memcmp(lent.buffer, other.buffer, sizeof lent.buffer) == 0 && a.number == wanted)
         return;
     fprintf(stderr, "bench: %s on %s: engine and reference differ (numbers %zu and %zu, beside them %zu and %zu)\n", j->name, j->setting->name, a.number, b.number,
             a.beside, b.beside);
@@ -170,7 +177,7 @@ static double timed(side call, const struct job *j, unsigned n) {
     struct answer a;
     prepare(j, &lent, n);
     double from = now();
-    for (unsigned k = 0; k < n; k++) call(j, &lent, lent.states[k], &a);
+    for (unsigned k = 0; k < n; k++) call(j, &lent, k, &a);
     return (now() - from) / n;
 }
 
@@ -204,7 +211,7 @@ static void count_call(side call, const struct job *j, const char *who) {
     snprintf(label, sizeof label, "%s\t%s\t%s\t%u", j->name, j->setting->name, who, j->steps);
     prepare(j, &lent, 1);
     CALLGRIND_TOGGLE_COLLECT;
-    call(j, &lent, lent.states[0], &a);
+    call(j, &lent, 0, &a);
     CALLGRIND_TOGGLE_COLLECT;
     CALLGRIND_DUMP_STATS_AT(label);
 }
@@ -234,11 +241,13 @@ static bool asked(const char *calls, const char *name) {
 
 static void each_job(const char *calls, void (*act)(const struct job *)) {
     static word state[REF_STATE_WORDS];
+    ref_record records[POOLS];
     for (unsigned k = 0; k < SETTINGS; k++) {
         const struct setting *s = &settings[k];
         bool text_only = s->longest;
         size_t n = text_only ? 0 : listed(s);
         memcpy(state, s->state, sizeof state);
+        ref_figures(s->table, state, records, s->table[0]);
         struct job jobs[] = {
             {.name = "check", .call = CHECK, .steps = 1},
             {.name = "fresh", .call = FRESH, .steps = 1},
@@ -247,7 +256,7 @@ static void each_job(const char *calls, void (*act)(const struct job *)) {
             {.name = "list first", .call = LIST, .steps = 1},
             {.name = "list last", .call = LIST, .ordinal = n ? n - 1 : 0, .steps = 1},
             {.name = "list none", .call = LIST, .ordinal = n, .steps = 1},
-            {.name = "run", .call = RUN, .steps = ref_run(s->table, state, LIMIT).steps},
+            {.name = "run", .call = RUN, .steps = ref_run(s->table, state, records, s->table[0], LIMIT).steps},
             {.name = "read", .call = READ, .steps = 1},
             {.name = "write", .call = WRITE, .steps = 1},
             {.name = "poll", .call = POLL, .empty = true, .steps = CV_ITEMS},

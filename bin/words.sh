@@ -76,6 +76,7 @@ meaning() { # NUMBER
     23) echo "not such a log or longer" ;;
     24) echo "event at fault" ;;
     25) echo "another version than 10 or 20, asked for or in a state" ;;
+    26) echo "the number of records isn't the number of pools, or they don't agree with the state at entry" ;;
     27) echo "the text breaks off before the trace opens, is no such log at an earlier place than its end, or is longer" ;;
     *) echo "a number that these words do not have" ;;
     esac

@@ -5,7 +5,9 @@
 
    Each block comes with its length in words. A length other than CV_TABLE_WORDS or CV_STATE_WORDS is refused with 10 before the block is looked at, so a null
    pointer with length 0 is safe. What a length cannot say is the caller's word: that the block has that many words, that a text or a buffer has that
-   many bytes, and that two blocks lent to one call do not overlap. */
+   many bytes, that there are that many records, and that two blocks lent to one call do not overlap.
+
+   The calls that take steps are lent the route desk's records too, one for each pool in the text's order, and bring them up to date; cv_figures sets them. */
 #ifndef CUTTINGVALE_H
 #define CUTTINGVALE_H
 
@@ -98,6 +100,7 @@ enum cv_number {
     CV_NOT_A_LOG = 23,     /* not such a log or longer */
     CV_AT_FAULT = 24,      /* event at fault */
     CV_OTHER_VERSION = 25, /* another version than 10 or 20, asked for or in a state */
+    CV_NOT_COUNTED = 26,   /* the number of records isn't the number of pools, or they don't agree with the state at entry */
     CV_NOT_REPAIRED = 27   /* repair: the text breaks off before the trace opens, is no such log at an earlier place than its end, or is longer */
 };
 
@@ -106,6 +109,9 @@ typedef struct { uint32_t length, values[4]; } cv_tuple;
 
 /* The name of a step: pool number, instance, element place from 0, phase, branch from 0, and the message consumed, else the empty one. */
 typedef struct { uint32_t pool, instance, element, phase, branch; cv_tuple given; } cv_name;
+
+/* A record of the route desk: instances made by a pool, those of them with a token or a task count left, and the others. */
+typedef struct { uint32_t made, unfinished, finished; } cv_record;
 
 enum cv_traffic { CV_NOTHING = 0, CV_CONSUMED = 1, CV_SENT = 2 };
 
@@ -126,7 +132,7 @@ typedef struct { uint32_t number; size_t beside; uint32_t own; } cv_judged;
 /* length written, events kept, bytes dropped: 0 unless the number is 0 */
 typedef struct { uint32_t number; size_t length, kept, dropped; } cv_repaired;
 
-CV_STATIC_ASSERT(sizeof(cv_tuple) == 20 && sizeof(cv_name) == 40, "cuttingvale.h: a tuple is 20 bytes, a name 40");
+CV_STATIC_ASSERT(sizeof(cv_tuple) == 20 && sizeof(cv_name) == 40 && sizeof(cv_record) == 12, "cuttingvale.h: a tuple is 20 bytes, a name 40, a record 12");
 CV_STATIC_ASSERT(sizeof(cv_verdict) == 8 && sizeof(cv_answer) == 32 && sizeof(cv_listed) == 44 && sizeof(cv_ran) == 12, "cuttingvale.h: answers of words");
 CV_STATIC_ASSERT(sizeof(cv_reading) == 16 && sizeof(cv_written) == 16 && sizeof(cv_polled) == 16 && sizeof(cv_judged) == 24 && sizeof(cv_repaired) == 32, "cuttingvale.h: for a 64-bit machine");
 
@@ -137,8 +143,9 @@ cv_verdict cv_check(const uint32_t *table, size_t table_words);
    na_c task waits, as of an na_nc task, until no instance of it is active or ready. */
 uint32_t cv_fresh(const uint32_t *table, size_t table_words, uint32_t version, uint32_t *state, size_t state_words);
 
-/* Takes a named step: 10, 25, 11 to 18, and the state stays; else 0, and what was consumed or sent. */
-cv_answer cv_step(const uint32_t *table, size_t table_words, uint32_t *state, size_t state_words, cv_name name);
+/* Takes a named step: 10, 25, 26, 11 to 18, and state and records stay; else 0, and what was consumed or sent. Of the records it alters only that of its own
+   pool. */
+cv_answer cv_step(const uint32_t *table, size_t table_words, uint32_t *state, size_t state_words, cv_record *records, size_t pools, cv_name name);
 
 /* Posts a message from outside: 10, 25, 19 or 17, and the state stays; else 0, and it is queued. */
 uint32_t cv_post(const uint32_t *table, size_t table_words, uint32_t *state, size_t state_words, uint32_t name, cv_tuple values);
@@ -146,8 +153,13 @@ uint32_t cv_post(const uint32_t *table, size_t table_words, uint32_t *state, siz
 /* The accepted step with an ordinal, from 0: 10, 25, or 6 where there is none; else 0 and its name. */
 cv_listed cv_list(const uint32_t *table, size_t table_words, const uint32_t *state, size_t state_words, size_t ordinal);
 
-/* Takes the first listed step until none is accepted or the limit is used up: 10, 25, and the state stays; else 0. */
-cv_ran cv_run(const uint32_t *table, size_t table_words, uint32_t *state, size_t state_words, uint16_t limit);
+/* Takes the first listed step until none is accepted or the limit is used up: 10, 25, 26, and state and records stay; else 0, and the records are those of the
+   last state. */
+cv_ran cv_run(const uint32_t *table, size_t table_words, uint32_t *state, size_t state_words, cv_record *records, size_t pools, uint16_t limit);
+
+/* Sets the records by counting, whatever they hold: behind cv_fresh, and where a state was saved without them. 10, 25, 26 where pools is not the model's number
+   of pools, and the records stay; else 0. */
+uint32_t cv_figures(const uint32_t *table, size_t table_words, const uint32_t *state, size_t state_words, cv_record *records, size_t pools);
 
 /* Reads a text into the table: 1 to 4 (10 for a wrong length of the table), and the table stays; else 0, and every word of it is the model's. */
 cv_reading cv_read(const uint8_t *text, size_t length, uint32_t *table, size_t table_words);
@@ -159,10 +171,11 @@ cv_reading cv_draw(const uint8_t *text, size_t length, uint32_t *table, size_t t
 /* Writes a table's text, one line: 10, or 5 where the buffer is shorter than it, and the buffer stays; else 0 and its length, at most CV_TEXT_MOST. */
 cv_written cv_write(const uint32_t *table, size_t table_words, uint8_t *buffer, size_t length);
 
-/* A whole poll: takes up to CV_ITEMS named steps and posts one by one until the first refusal. 22 where count is above CV_ITEMS, then 10 and 25, with no items too, and nothing is
-   done; else the accepted ones stay, the refused one changes nothing, and those behind it are not looked at. Table and state are checked once.
+/* A whole poll: takes up to CV_ITEMS named steps and posts one by one until the first refusal. 22 where count is above CV_ITEMS, then 10, 25 and 26, with no items too, and nothing is
+   done; else the accepted ones stay, the refused one changes nothing, and those behind it are not looked at. Table, state and records are checked once.
    items_words is CV_POLL_WORDS. */
-cv_polled cv_poll(const uint32_t *table, size_t table_words, uint32_t *state, size_t state_words, const uint32_t *items, size_t items_words, size_t count);
+cv_polled cv_poll(const uint32_t *table, size_t table_words, uint32_t *state, size_t state_words, cv_record *records, size_t pools, const uint32_t *items,
+                  size_t items_words, size_t count);
 
 /* Judges the run that an XES log of at most CV_LOG_MOST bytes tells, under a version: 10; 25; 23 with the place where it is no such log, 0 where it is longer; 24 with the first event at fault; else 0,
    and every step and post of it is accepted in turn from the fresh state, and what each line says was sent or consumed is true. The state it works on, CV_STATE_WORDS words, is its own. */

@@ -1,5 +1,5 @@
 /* A state that was saved before states had a version, 12,308 words: a field's flag at 80 + d and its value at 96 + d of an instance, the queues behind the
-   instances. It goes on as a state of version 20. */
+   instances. It goes on as a state of version 20; the desk's records are counted once. */
 #include "cuttingvale.h"
 #include <stdio.h>
 #include <string.h>
@@ -27,6 +27,7 @@ static const struct { unsigned place; uint32_t word; } words[] = {
 static const char model[] = "pool(1,start(1,2)|end(2))|miPool(2,startRcv(3:<?d0>,1)|taskSnd(1,1,na_c,d0=7,{},4:<d0,d15>,2)|end(2),3)";
 
 static uint32_t saved[SAVED_WORDS], state[CV_STATE_WORDS], table[CV_TABLE_WORDS];
+static cv_record records[2];
 
 static void print_answer(const char *what, cv_answer a) {
     printf("%s: %u", what, a.number);
@@ -40,8 +41,9 @@ int main(void) {
     cv_read((const uint8_t *)model, strlen(model), table, CV_TABLE_WORDS);
     printf("as it was saved: %u\n", cv_list(table, CV_TABLE_WORDS, saved, SAVED_WORDS, 0).number);
     carry(saved, state);
-    for (; phase.phase <= 3; phase.phase++) print_answer("a phase of the task", cv_step(table, CV_TABLE_WORDS, state, CV_STATE_WORDS, phase));
-    print_answer("the message 3:9", cv_step(table, CV_TABLE_WORDS, state, CV_STATE_WORDS, message));
+    printf("the desk's figures: %u\n", cv_figures(table, CV_TABLE_WORDS, state, CV_STATE_WORDS, records, 2));
+    for (; phase.phase <= 3; phase.phase++) print_answer("a phase of the task", cv_step(table, CV_TABLE_WORDS, state, CV_STATE_WORDS, records, 2, phase));
+    print_answer("the message 3:9", cv_step(table, CV_TABLE_WORDS, state, CV_STATE_WORDS, records, 2, message));
     printf("instances: %u, queued in 15: %u, version %u\n", state[1], state[CV_QUEUE(15)], state[CV_VERSION]);
     return 0;
 }

@@ -1,4 +1,5 @@
-/* A decoder's loop: a model is read once; what comes in is posted, and every step that is accepted is taken. What a step sends goes on to the route desk. */
+/* A decoder's loop: a model is read once; what comes in is posted, and every step that is accepted is taken. What a step sends goes on to the route desk, and so
+   does, once a turn, the line of its figures: they are kept up to date by the steps, and nobody counts. */
 #include "cuttingvale.h"
 #include <stdio.h>
 #include <string.h>
@@ -9,9 +10,11 @@ static const char model[] =
     "xorSplit(3,{(4,d3=1),(5,default)})|interSnd(4,3:<d0,d2>,6)|interSnd(5,4:<d0>,7)|xorJoin({6,7},8)|end(8),4)";
 
 static uint32_t table[CV_TABLE_WORDS], state[CV_STATE_WORDS];
+static cv_record records[1];
 
 #define TABLE table, CV_TABLE_WORDS
 #define STATE state, CV_STATE_WORDS
+#define RECORDS records, 1
 
 struct arrival { uint32_t name; cv_tuple values; };
 
@@ -36,7 +39,7 @@ static unsigned take_steps(void) {
     for (;;) {
         cv_listed next = cv_list(TABLE, STATE, 0);
         if (next.number) return next.number == CV_NOT_LISTED ? CV_ACCEPTED : next.number;
-        cv_answer a = cv_step(TABLE, STATE, next.name);
+        cv_answer a = cv_step(TABLE, STATE, RECORDS, next.name);
         if (a.number) return a.number;
         printf("instance %u, element %u: ", next.name.instance, next.name.element);
         if (a.traffic == CV_NOTHING) puts("no message");
@@ -44,9 +47,12 @@ static unsigned take_steps(void) {
     }
 }
 
+/* One turn of the loop. */
 static unsigned decode(const struct arrival *arrivals, size_t n) {
     unsigned number = post(arrivals, n);
-    return number ? number : take_steps();
+    if (!number) number = take_steps();
+    printf("desk: %u made, %u unfinished, %u finished\n", records[0].made, records[0].unfinished, records[0].finished);
+    return number;
 }
 
 int main(void) {
@@ -54,8 +60,8 @@ int main(void) {
     cv_reading read = cv_read((const uint8_t *)model, strlen(model), TABLE);
     if (read.number) return printf("refused %u at %zu\n", read.number, read.beside), 1;
     unsigned number = cv_fresh(TABLE, CV_VERSION_20, STATE);
+    if (!number) number = cv_figures(TABLE, STATE, RECORDS);
     if (!number) number = decode(requests, 2);
-    printf("two equal requests, %u instances\n", state[0]);
     if (!number) number = decode(answers, 2);
     if (number) return printf("refused %u\n", number), 1;
     return 0;

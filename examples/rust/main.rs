@@ -28,6 +28,14 @@ mod c {
     }
 
     #[repr(C)]
+    #[derive(Clone, Copy, Default)]
+    pub struct Record {
+        pub made: u32,
+        pub unfinished: u32,
+        pub finished: u32,
+    }
+
+    #[repr(C)]
     pub struct Answer {
         pub number: u32,
         pub traffic: u32,
@@ -53,7 +61,8 @@ mod c {
         pub fn cv_fresh(table: *const u32, table_words: usize, version: u32, state: *mut u32, state_words: usize) -> u32;
         pub fn cv_post(table: *const u32, table_words: usize, state: *mut u32, state_words: usize, name: u32, values: Tuple) -> u32;
         pub fn cv_list(table: *const u32, table_words: usize, state: *const u32, state_words: usize, ordinal: usize) -> Listed;
-        pub fn cv_step(table: *const u32, table_words: usize, state: *mut u32, state_words: usize, name: Name) -> Answer;
+        pub fn cv_figures(table: *const u32, table_words: usize, state: *const u32, state_words: usize, records: *mut Record, pools: usize) -> u32;
+        pub fn cv_step(table: *const u32, table_words: usize, state: *mut u32, state_words: usize, records: *mut Record, pools: usize, name: Name) -> Answer;
     }
 }
 
@@ -77,10 +86,11 @@ enum Traffic {
     Sent(Message),
 }
 
-/// A model and its state: the blocks are lent to each call, whole, and to one call at a time.
+/// A model, its state and the desk's records of it: the blocks are lent to each call, whole, and to one call at a time.
 struct Engine {
     table: Vec<u32>,
     state: Vec<u32>,
+    records: Vec<c::Record>,
 }
 
 fn accepted(number: u32) -> Result<(), Refused> {
@@ -89,17 +99,21 @@ fn accepted(number: u32) -> Result<(), Refused> {
 
 impl Engine {
     fn read(text: &str) -> Result<Engine, Refused> {
-        let mut e = Engine { table: vec![0; c::TABLE_WORDS], state: vec![0; c::STATE_WORDS] };
+        let mut e = Engine { table: vec![0; c::TABLE_WORDS], state: vec![0; c::STATE_WORDS], records: Vec::new() };
         let r = unsafe { c::cv_read(text.as_ptr(), text.len(), e.table.as_mut_ptr(), e.table.len()) };
         if r.number != 0 {
             return Err(Refused(r.number, r.beside));
         }
         accepted(unsafe { c::cv_fresh(e.table.as_ptr(), e.table.len(), c::VERSION_20, e.state.as_mut_ptr(), e.state.len()) })?;
+        // The first word of a table is its number of pools.
+        e.records = vec![c::Record::default(); e.table[0] as usize];
+        accepted(unsafe { c::cv_figures(e.table.as_ptr(), e.table.len(), e.state.as_ptr(), e.state.len(), e.records.as_mut_ptr(), e.records.len()) })?;
         Ok(e)
     }
 
-    fn instances(&self, pool: usize) -> u32 {
-        self.state[pool]
+    /// The desk's record of a pool, in the text's order.
+    fn figures(&self, pool: usize) -> c::Record {
+        self.records[pool]
     }
 
     /// More than four values are refused with 19, as the engine does.
@@ -121,7 +135,7 @@ impl Engine {
     }
 
     fn step(&mut self, name: c::Name) -> Result<Traffic, Refused> {
-        let a = unsafe { c::cv_step(self.table.as_ptr(), self.table.len(), self.state.as_mut_ptr(), self.state.len(), name) };
+        let a = unsafe { c::cv_step(self.table.as_ptr(), self.table.len(), self.state.as_mut_ptr(), self.state.len(), self.records.as_mut_ptr(), self.records.len(), name) };
         accepted(a.number)?;
         let message = Message { name: a.name, values: a.tuple.values.iter().take(a.tuple.length as usize).copied().collect() };
         Ok(match a.traffic {
@@ -154,12 +168,13 @@ fn decode(engine: &mut Engine, arrivals: &[(u32, &[u32])]) -> Result<(), Refused
         };
         println!("instance {}, element {}: {}", name.instance, name.element, told);
     }
+    let desk = engine.figures(0);
+    println!("desk: {} made, {} unfinished, {} finished", desk.made, desk.unfinished, desk.finished);
     Ok(())
 }
 
 pub fn main() -> Result<(), Refused> {
     let mut engine = Engine::read(MODEL)?;
     decode(&mut engine, &[(0, &[1234567, 2]), (0, &[1234567, 2])])?;
-    println!("two equal requests, {} instances", engine.instances(0));
     decode(&mut engine, &[(2, &[1234567, 1]), (2, &[1234567, 0])])
 }

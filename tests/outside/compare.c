@@ -1,6 +1,6 @@
 /* The engine against the reference: the same calls on the same blocks, and every byte lent to either compared after each call.
    compare calls CASES SEED              prints how many calls agreed, or the first difference with what led to it, and ends with 1
-   compare drawings CASES SEED           the same for drawings; before the engine has that call, the reference alone against what the generator knows
+   compare drawings CASES SEED           the same for drawings
    compare drawing CASE                  prints the drawing of a case
    compare logs CASES SEED               the same for logs, four for each model, and a beginning of each
    compare repairs CASES SEED            the same for logs that ended in the middle
@@ -15,10 +15,13 @@
 #include <time.h>
 #include <unistd.h>
 
-enum { TEXT_ROOM = REF_TEXT_MOST + 64, DRAWING_ROOM = 80000 };
+enum { TEXT_ROOM = REF_TEXT_MOST + 64, DRAWING_ROOM = 80000, VALUES_TOLD = 300 };
 
 /* Each library has blocks of its own, which end where no page can be read. */
-struct blocks { word *table, *state; uint8_t *buffer; };
+struct blocks { word *table, *state; uint8_t *buffer; ref_record *records; };
+
+/* records lent at most: more than there are pools */
+enum { RECORDS = 6 };
 
 static void *lend(size_t bytes) {
     size_t page = sysconf(_SC_PAGESIZE), room = (bytes + page - 1) / page * page;
@@ -31,7 +34,7 @@ static void *lend(size_t bytes) {
 }
 
 static struct blocks lend_all(void) {
-    return (struct blocks){lend(REF_TABLE_WORDS * sizeof(word)), lend(REF_STATE_WORDS * sizeof(word)), lend(TEXT_ROOM)};
+    return (struct blocks){lend(REF_TABLE_WORDS * sizeof(word)), lend(REF_STATE_WORDS * sizeof(word)), lend(TEXT_ROOM), lend(RECORDS * sizeof(ref_record))};
 }
 
 static struct blocks ours, theirs;
@@ -66,6 +69,7 @@ static void same_blocks(const char *call) {
     calls++;
     same_words(call, "table", ours.table, theirs.table, REF_TABLE_WORDS);
     same_words(call, "state", ours.state, theirs.state, REF_STATE_WORDS);
+    same_words(call, "records", &ours.records->made, &theirs.records->made, RECORDS * sizeof(ref_record) / sizeof(word));
 }
 
 static void same_tuple(const char *call, cv_tuple a, ref_tuple b) {
@@ -90,6 +94,12 @@ static unsigned polled[32];
 
 #define TABLE ours.table, CV_TABLE_WORDS
 #define STATE ours.state, CV_STATE_WORDS
+/* the last records of the block, which end where no page can be read */
+#define OUR_RECORDS (cv_record *)(ours.records + RECORDS - pools), pools
+#define THEIR_RECORDS theirs.records + RECORDS - pools, pools
+
+/* how many records are lent: mostly as many as there are pools */
+static size_t pools;
 
 /* the text, where it ends at a page that cannot be read */
 static const uint8_t *lent(void) { return memcpy(lent_text + DRAWING_ROOM - text_length, text, text_length); }
@@ -115,13 +125,9 @@ static void draw_both(int due) {
         printf("the generator counts on %d\n", due);
         differ("draw", "number", due, b.number);
     }
-#ifdef DRAWINGS
     cv_reading a = cv_draw(lent_here, text_length, TABLE);
     same("draw", "number", a.number, b.number);
     same("draw", "beside", a.beside, b.beside);
-#else
-    if (!b.number) memcpy(ours.table, theirs.table, REF_TABLE_WORDS * sizeof(word));
-#endif
     same_blocks("draw");
     if (b.number) return;
     ref_written w = ref_write(theirs.table, written, sizeof written);
@@ -141,13 +147,11 @@ static ref_judged judge_both(word version, log_due due) {
         differ("judge", "answer", due.number, b.number);
     }
     known += due.number >= 0;
-#ifdef LOGS
     cv_judged a = cv_judge(TABLE, version, log, text_length);
     same("judge", "number", a.number, b.number);
     same("judge", "beside", a.beside, b.beside);
     same("judge", "own", a.own, b.own);
     if (memcmp(log, text, text_length)) differ("judge", "log", 0, 0);
-#endif
     same_blocks("judge");
     return b;
 }
@@ -168,7 +172,6 @@ static ref_repaired repair_into(size_t room) {
     memset(mine, 0xa5, room);
     memset(other, 0xa5, room);
     ref_repaired b = ref_repair(log, text_length, other, room);
-#ifdef REPAIRS
     cv_repaired a = cv_repair(log, text_length, mine, room);
     same("repair", "number", a.number, b.number);
     same("repair", "length", a.length, b.length);
@@ -176,7 +179,6 @@ static ref_repaired repair_into(size_t room) {
     same("repair", "dropped", a.dropped, b.dropped);
     if (memcmp(mine, other, room)) differ("repair", "buffer", 0, 0);
     if (memcmp(log, text, text_length)) differ("repair", "log", 0, 0);
-#endif
     given[b.number]++;
     calls++;
     return b;
@@ -221,9 +223,30 @@ static void fresh_both(word version) {
     same_blocks("fresh");
 }
 
+static void figures_both(void) {
+    same("figures", "number", cv_figures(TABLE, STATE, OUR_RECORDS), ref_figures(theirs.table, theirs.state, THEIR_RECORDS));
+    same_blocks("figures");
+}
+
+/* Behind a call that looked at a state that fits: each record is what a count over the engine's state gives, and where a step was taken, only its pool's has changed. */
+static void agreed(const char *call, unsigned number, const ref_record *before, unsigned pool) {
+    const ref_record *records = ours.records + RECORDS - pools;
+    if (number == 10 || number == 22 || number == 25 || number == 26) return;
+    same(call, "count of records", pools, ours.table[0]);
+    for (unsigned p = 0; p < pools; p++) {
+        ref_record r = figures_of(ours.state, p);
+        same(call, "record", memcmp(&r, records + p, sizeof r), 0);
+        same(call, "made, of unfinished and finished", r.made, r.unfinished + r.finished);
+        if (before && (number || pool_at(ours.table, p)[0] != pool)) same(call, "another pool's record", memcmp(before + RECORDS - pools + p, records + p, sizeof r), 0);
+    }
+}
+
 static void step_both(ref_name n) {
-    cv_answer a = cv_step(TABLE, STATE, (cv_name){n.pool, n.instance, n.element, n.phase, n.branch, as_ours(n.given)});
-    ref_answer b = ref_step(theirs.table, theirs.state, n);
+    ref_record before[RECORDS];
+    memcpy(before, ours.records, sizeof before);
+    cv_answer a = cv_step(TABLE, STATE, OUR_RECORDS, (cv_name){n.pool, n.instance, n.element, n.phase, n.branch, as_ours(n.given)});
+    ref_answer b = ref_step(theirs.table, theirs.state, THEIR_RECORDS, n);
+    agreed("step", b.number, before, n.pool);
     same("step", "number", a.number, b.number);
     same("step", "traffic", a.traffic, b.traffic);
     same("step", "name", a.name, b.name);
@@ -246,8 +269,9 @@ static void list_both(size_t k) {
 }
 
 static void run_both(unsigned limit) {
-    cv_ran a = cv_run(TABLE, STATE, limit);
-    ref_ran b = ref_run(theirs.table, theirs.state, limit);
+    cv_ran a = cv_run(TABLE, STATE, OUR_RECORDS, limit);
+    ref_ran b = ref_run(theirs.table, theirs.state, THEIR_RECORDS, limit);
+    agreed("run", b.number, NULL, 0);
     same("run", "number", a.number, b.number);
     same("run", "steps", a.steps, b.steps);
     same("run", "left", a.left, b.left);
@@ -278,51 +302,62 @@ static void wrong_lengths(struct random *r) {
     same("fresh", "wrong length", cv_fresh(ours.table, n, CV_VERSION_20, STATE), 10);
     same("fresh", "wrong state", cv_fresh(TABLE, CV_VERSION_10, ours.state, n), 10);
     same("fresh", "no block, and another version", cv_fresh(TABLE, 15, NULL, 0), 10);
-    same("step", "wrong length", cv_step(TABLE, ours.state, n, name).number, 10);
+    same("step", "wrong length", cv_step(TABLE, ours.state, n, OUR_RECORDS, name).number, 10);
     same("post", "wrong length", cv_post(ours.table, n, STATE, 0, none), 10);
     same("list", "wrong length", cv_list(TABLE, ours.state, n, 0).number, 10);
-    same("run", "wrong length", cv_run(TABLE, ours.state, n, 1).number, 10);
-    same("poll", "wrong length", cv_poll(TABLE, ours.state, n, items, CV_POLL_WORDS, 1).number, 10);
-    same("poll", "no items lent", cv_poll(TABLE, STATE, NULL, 0, 0).number, 10);
-    same("poll", "too many, and a wrong length", cv_poll(ours.table, n, STATE, items, CV_POLL_WORDS, CV_ITEMS + 1).number, 22);
+    same("run", "wrong length", cv_run(TABLE, ours.state, n, OUR_RECORDS, 1).number, 10);
+    same("poll", "wrong length", cv_poll(TABLE, ours.state, n, OUR_RECORDS, items, CV_POLL_WORDS, 1).number, 10);
+    same("poll", "no items lent", cv_poll(TABLE, STATE, OUR_RECORDS, NULL, 0, 0).number, 10);
+    same("poll", "too many, and a wrong length", cv_poll(ours.table, n, STATE, OUR_RECORDS, items, CV_POLL_WORDS, CV_ITEMS + 1).number, 22);
+    same("figures", "wrong length", cv_figures(ours.table, n, STATE, OUR_RECORDS), 10);
+    same("figures", "no state and no records", cv_figures(TABLE, NULL, 0, NULL, 0), 10);
+    unsigned number = lent_number(theirs.table, theirs.state);
+    if (!number) number = 26;
+    same("figures", "no records", cv_figures(TABLE, STATE, NULL, 0), number);
+    same("step", "no records", cv_step(TABLE, STATE, NULL, 0, name).number, number);
+    same("run", "no records", cv_run(TABLE, STATE, NULL, 0, 1).number, number);
+    same("poll", "no records", cv_poll(TABLE, STATE, NULL, 0, items, CV_POLL_WORDS, 0).number, number);
+    same("poll", "too many, and no records", cv_poll(TABLE, STATE, NULL, 0, items, CV_POLL_WORDS, CV_ITEMS + 1).number, 22);
     same("read", "wrong length", cv_read((const uint8_t *)text, text_length, ours.table, n).number, 10);
     same("write", "wrong length", cv_write(ours.table, n, ours.buffer, TEXT_ROOM).number, 10);
     same("read", "no text", cv_read(NULL, 0, TABLE).number, 2);
     same("write", "no buffer", cv_write(TABLE, NULL, 0).number, ref_write(theirs.table, theirs.buffer, 0).number);
-#ifdef DRAWINGS
     same("draw", "wrong length", cv_draw((const uint8_t *)text, text_length, ours.table, n).number, 10);
     same("draw", "no text", cv_draw(NULL, 0, TABLE).number, 20);
-    calls += 2;
-#endif
-#ifdef LOGS
     same("judge", "wrong length", cv_judge(ours.table, n, CV_VERSION_10, (const uint8_t *)text, text_length).number, 10);
     same("judge", "no table, and another version", cv_judge(NULL, 0, 15, NULL, 0).number, 10);
     same("judge", "no log", cv_judge(TABLE, CV_VERSION_20, NULL, 0).number, ref_judge(theirs.table, REF_VERSION_20, NULL, 0).number);
-    calls += 3;
-#endif
-    calls += 15;
+    calls += 27;
     same_blocks("a call with a wrong length or none");
 }
 
-/* The same word of both, one of n from a place on, changed: mostly to a small number, or in its upper half alone, at a place that is in use. */
-static void damage(struct random *r, word *a, word *b, size_t n, size_t from) {
+/* A word of a block, one of n from a place on, and what it becomes: mostly a small number, or another in its upper half alone, at a place that is in use. */
+struct harm { size_t at; word becomes; };
+
+static struct harm harm_to(struct random *r, const word *block, size_t n, size_t from) {
     size_t at = from + draw(r, n);
-    for (unsigned k = 0; k < 30 && !a[at]; k++) at = from + draw(r, n);
+    for (unsigned k = 0; k < 30 && !block[at]; k++) at = from + draw(r, n);
     if (chance(r, 40)) at = from + draw(r, n);
-    word v = chance(r, 45) ? draw(r, 20) : chance(r, 70) ? a[at] ^ 1u << (chance(r, 75) ? 16 + draw(r, 16) : draw(r, 16)) : chance(r, 50) ? some_end(r) : any_word(r);
-    a[at] = b[at] = v;
+    word flipped = block[at] ^ 1u << (chance(r, 75) ? 16 + draw(r, 16) : draw(r, 16));
+    return (struct harm){at, chance(r, 45) ? draw(r, 20) : chance(r, 70) ? flipped : chance(r, 50) ? some_end(r) : any_word(r)};
+}
+
+static struct harm some_harm(struct random *r, bool table) {
+    bool anywhere = chance(r, 40);
+    unsigned p = draw(r, 2), i = draw(r, 2), e = draw(r, 4);
+    word *t = theirs.table, *z = theirs.state;
+    if (table && anywhere) return harm_to(r, t, REF_TABLE_WORDS, 0);
+    if (table) return harm_to(r, t, ELEMENT_WORDS, element_at(pool_at(t, p), e) - t);
+    if (chance(r, 15)) return (struct harm){VERSION, some_version(r)};
+    if (chance(r, 25)) return harm_to(r, z, 2 * STORES, SHARED);
+    if (anywhere) return harm_to(r, z, REF_STATE_WORDS, 0);
+    return harm_to(r, z, INSTANCE_WORDS, instance_at(z, p, i) - z);
 }
 
 static void damage_both(struct random *r, bool table) {
     for (unsigned k = 1 + draw(r, 2); k; k--) {
-        bool anywhere = chance(r, 40);
-        unsigned p = draw(r, 2), i = draw(r, 2), e = draw(r, 4);
-        if (table && anywhere) damage(r, ours.table, theirs.table, REF_TABLE_WORDS, 0);
-        else if (table) damage(r, ours.table, theirs.table, ELEMENT_WORDS, element_at(pool_at(ours.table, p), e) - ours.table);
-        else if (chance(r, 15)) ours.state[VERSION] = theirs.state[VERSION] = some_version(r);
-        else if (chance(r, 25)) damage(r, ours.state, theirs.state, 2 * STORES, SHARED);
-        else if (anywhere) damage(r, ours.state, theirs.state, REF_STATE_WORDS, 0);
-        else damage(r, ours.state, theirs.state, INSTANCE_WORDS, instance_at(ours.state, p, i) - ours.state);
+        struct harm h = some_harm(r, table);
+        (table ? ours.table : ours.state)[h.at] = (table ? theirs.table : theirs.state)[h.at] = h.becomes;
     }
 }
 
@@ -357,6 +392,21 @@ static void fill_up(struct random *r) {
     memcpy(theirs.state, ours.state, REF_STATE_WORDS * sizeof(word));
 }
 
+/* Records that do not agree: a word changed, two of them exchanged, more or fewer of them than pools, those of another state. */
+static void damage_records(struct random *r) {
+    ref_record *all = theirs.records, *first = all + RECORDS - pools, one = *first, old[RECORDS] = {0};
+    unsigned which = draw(r, 10), other = draw(r, pools);
+    struct harm h = harm_to(r, &first->made, 3 * pools, 0);
+    if (which < 5) (&first->made)[h.at] = h.becomes;
+    else if (which < 6) *first = first[other], first[other] = one;
+    else if (which < 9) {
+        memcpy(old, first, pools * sizeof *old);
+        pools = draw(r, RECORDS + 1);
+        memcpy(all + RECORDS - pools, old, pools * sizeof *old);
+    } else fill_up(r);
+    memcpy(ours.records, all, RECORDS * sizeof *all);
+}
+
 /* A queued message but for one value, or for its upper half alone. */
 static void nearly_queued(struct random *r, unsigned name, ref_tuple *g) {
     const word *q = queue_at(theirs.state, name);
@@ -381,6 +431,7 @@ static unsigned likely_post(struct random *r, ref_tuple *g) {
 /* The items of a poll; a reference plays along on a state of its own, so that most of them are accepted. */
 static size_t some_items(struct random *r) {
     static word state[REF_STATE_WORDS];
+    ref_record records[POOLS];
     size_t count = chance(r, 90) ? draw(r, 10) : chance(r, 50) ? CV_ITEMS : CV_ITEMS + 1 + draw(r, 70000);
     memcpy(state, theirs.state, sizeof state);
     for (size_t k = 0; k < CV_ITEMS; k++) {
@@ -396,15 +447,16 @@ static size_t some_items(struct random *r) {
             g = n.given;
         }
         memcpy(w + 6, &g, sizeof g);
-        if (ref_poll(theirs.table, state, w, 1).number == 10) return count;
+        if (ref_figures(theirs.table, state, records, theirs.table[0]) || ref_poll(theirs.table, state, records, theirs.table[0], w, 1).number == 10) return count;
     }
     return count;
 }
 
 static void poll_both(struct random *r) {
     size_t count = some_items(r);
-    cv_polled a = cv_poll(TABLE, STATE, items, CV_POLL_WORDS, count);
-    ref_polled b = ref_poll(theirs.table, theirs.state, items, count);
+    cv_polled a = cv_poll(TABLE, STATE, OUR_RECORDS, items, CV_POLL_WORDS, count);
+    ref_polled b = ref_poll(theirs.table, theirs.state, THEIR_RECORDS, items, count);
+    agreed("poll", b.number, NULL, 0);
     same("poll", "number", a.number, b.number);
     same("poll", "accepted", a.accepted, b.accepted);
     same_blocks("poll");
@@ -419,9 +471,10 @@ static void one_call(struct random *r) {
     else if (which < 75) name = likely_post(r, &g), post_both(name, g);
     else if (which < 85) list_both(draw(r, chance(r, 80) ? 6 : 200));
     else if (which < 90) run_both(draw(r, chance(r, 80) ? 4 : 40));
-    else if (which < 93) check_both();
+    else if (which < 92) check_both();
+    else if (which < 93) figures_both();
     else if (which < 97) write_both(chance(r, 50) ? draw(r, TEXT_ROOM) : text_length + 4 - draw(r, text_length < 4 ? 1 : 8));
-    else if (which < 98) fresh_both(some_version(r));
+    else if (which < 98) fresh_both(some_version(r)), chance(r, 90) ? figures_both() : (void)0;
     else wrong_lengths(r);
 }
 
@@ -441,18 +494,26 @@ static void compare_case(struct random *r) {
     if (read_both()) return;
     fresh_both(chance(r, 50) ? CV_VERSION_10 : CV_VERSION_20);
     if (chance(r, 40)) fill_up(r);
+    pools = theirs.table[0];
+    figures_both();
     for (unsigned k = 12 + draw(r, 30); k; k--) {
         one_call(r);
-        if (chance(r, 6)) fill_up(r);
-        if (!chance(r, 4)) continue;
+        if (chance(r, 6)) fill_up(r), figures_both();
+        if (!chance(r, 5)) continue;
         /* damaged, used, and put right again */
         static word table[REF_TABLE_WORDS], state[REF_STATE_WORDS];
+        ref_record records[RECORDS];
+        size_t all = pools;
+        unsigned which = draw(r, 10);
         memcpy(table, ours.table, sizeof table);
         memcpy(state, ours.state, sizeof state);
-        damage_both(r, chance(r, 50));
+        memcpy(records, ours.records, sizeof records);
+        which < 3 ? damage_records(r) : damage_both(r, which < 6);
         for (unsigned j = 3; j; j--) one_call(r);
         memcpy(ours.table, table, sizeof table), memcpy(theirs.table, table, sizeof table);
         memcpy(ours.state, state, sizeof state), memcpy(theirs.state, state, sizeof state);
+        memcpy(ours.records, records, sizeof records), memcpy(theirs.records, records, sizeof records);
+        pools = all;
     }
 }
 
@@ -475,11 +536,7 @@ static int compare_drawings(uint64_t cases, uint64_t seed) {
         struct random r = {seed_of_case};
         drawing_case(&r);
     }
-#ifdef DRAWINGS
     printf("%llu drawings, no difference; ", (unsigned long long)cases);
-#else
-    printf("%llu drawings, read by the reference alone, as the engine does not read them; ", (unsigned long long)cases);
-#endif
     print_numbers("numbers:", given);
     putchar('\n');
     return 0;
@@ -519,11 +576,7 @@ static int compare_logs(uint64_t cases, uint64_t seed) {
         struct random r = {seed_of_case};
         log_case(&r);
     }
-    printf("%llu logs", (unsigned long long)calls);
-#ifndef LOGS
-    printf(", judged by the reference alone, as the engine does not judge them");
-#endif
-    printf(", no difference; the answer of %u was known; ", known);
+    printf("%llu logs, no difference; the answer of %u was known; ", (unsigned long long)calls, known);
     print_numbers("numbers:", given);
     print_numbers("; of 24's events:", owned);
     putchar('\n');
@@ -564,9 +617,6 @@ static int compare_repairs(uint64_t cases, uint64_t seed) {
         repair_case(&r);
     }
     printf("%llu repairs", (unsigned long long)calls);
-#ifndef REPAIRS
-    printf(", by the reference alone, as the engine does not repair");
-#endif
     print_numbers(", no difference; numbers:", given);
     putchar('\n');
     return 0;
@@ -597,13 +647,11 @@ static void time_drawing(const char *name) {
     clock_t start = clock();
     ref_reading b = ref_draw((const uint8_t *)text, text_length, theirs.table);
     printf("%-34s %5zu bytes, %2u %5zu, reference %5u ms", name, text_length, b.number, b.beside, since(start));
-#ifdef DRAWINGS
     start = clock();
     cv_reading a = cv_draw((const uint8_t *)text, text_length, TABLE);
     printf(", engine %5u ms", since(start));
     same("draw", "number", a.number, b.number);
     same("draw", "beside", a.beside, b.beside);
-#endif
     putchar('\n');
 }
 
@@ -611,14 +659,12 @@ static void time_log(const char *name) {
     clock_t start = clock();
     ref_judged b = ref_judge(theirs.table, REF_VERSION_20, (const uint8_t *)text, text_length);
     printf("%-34s %5zu bytes, %2u %5zu %2u, reference %5u ms", name, text_length, b.number, b.beside, b.own, since(start));
-#ifdef LOGS
     start = clock();
     cv_judged a = cv_judge(TABLE, CV_VERSION_20, (const uint8_t *)text, text_length);
     printf(", engine %5u ms", since(start));
     same("judge", "number", a.number, b.number);
     same("judge", "beside", a.beside, b.beside);
     same("judge", "own", a.own, b.own);
-#endif
     putchar('\n');
 }
 
@@ -640,7 +686,7 @@ static int print_drawing(uint64_t of_case) {
 
 static void print_values(ref_tuple g) {
     if (!g.length) putchar('-');
-    for (unsigned j = 0; j < g.length; j++) printf(j ? ",%u" : "%u", j < VALUES ? g.values[j] : 0);
+    for (unsigned j = 0; j < g.length && j < VALUES_TOLD; j++) printf(j ? ",%u" : "%u", j < VALUES ? g.values[j] : 0);
 }
 
 static void print_tuple(ref_tuple g) {
@@ -660,26 +706,28 @@ static void print_batch(const word *w, size_t count) {
     }
 }
 
-/* Where the consoles judge logs, a line with one; else one with the state. */
+/* A log to judge or to repair; the state, where there is no model for one. */
 static void print_log(struct random *r) {
-    size_t n = 0;
-    bool repaired = false;
-#ifdef LOGS
     static char log[DRAWING_ROOM];
+    size_t n = 0;
+    bool repaired = chance(r, 40);
     log_due due;
     word version = chance(r, 50) ? REF_VERSION_10 : REF_VERSION_20;
     if (ref_check(theirs.table).number == 0) n = log_text(r, theirs.table, version, false, log, sizeof log, &due);
     for (size_t k = 0; k < n; k++)
         if (log[k] == '\n') log[k] = ' ';
-#ifdef REPAIRS
-    repaired = chance(r, 40);
     if (repaired && n) printf("repair %.*s\n", (int)(chance(r, 30) ? n : draw(r, n + 1)), log);
-#endif
     if (n && !repaired) printf("judge %u %.*s\n", chance(r, 80) ? version : some_version(r) % 65536, (int)n, log);
-#else
-    (void)r;
-#endif
     if (!n) puts("state");
+}
+
+/* The records as the consoles have them, but where they were set by hand. */
+static bool by_hand;
+
+static void recount(void) {
+    if (by_hand) return;
+    pools = theirs.table[0] <= POOLS ? theirs.table[0] : POOLS;
+    ref_figures(theirs.table, theirs.state, THEIR_RECORDS);
 }
 
 /* A line for the consoles; the reference plays along, so that most steps named are accepted ones. */
@@ -687,11 +735,12 @@ static void session_line(struct random *r) {
     static word extra[CV_POLL_WORDS + CV_ITEM_WORDS];
     unsigned which = draw(r, 100), name;
     ref_tuple g;
+    recount();
     if (which < 45) {
         ref_name n = some_name(r, theirs.table, theirs.state);
         printf("step %u %u %u %u %u ", n.pool, n.instance, n.element, n.phase, n.branch);
         print_tuple(n.given);
-        ref_step(theirs.table, theirs.state, n);
+        ref_step(theirs.table, theirs.state, THEIR_RECORDS, n);
     } else if (which < 70) {
         name = likely_post(r, &g);
         printf("post %u ", name);
@@ -702,13 +751,14 @@ static void session_line(struct random *r) {
         if (count > CV_ITEMS + 1) count = CV_ITEMS + 1;
         if (count > CV_ITEMS) memcpy(extra, items, sizeof items), memcpy(extra + CV_POLL_WORDS, items, sizeof *items * CV_ITEM_WORDS);
         print_batch(count > CV_ITEMS ? extra : items, count);
-        ref_poll(theirs.table, theirs.state, items, count);
+        ref_poll(theirs.table, theirs.state, THEIR_RECORDS, items, count);
     } else if (which < 80) printf("list %u\n", draw(r, chance(r, 80) ? 6 : 200));
     else if (which < 88) {
         unsigned limit = draw(r, chance(r, 80) ? 4 : 40);
         printf("run %u\n", limit);
-        ref_run(theirs.table, theirs.state, limit);
-    } else if (which < 91) puts("write");
+        ref_run(theirs.table, theirs.state, THEIR_RECORDS, limit);
+    } else if (which < 89) puts("figures");
+    else if (which < 91) puts("write");
     else if (which < 94) print_log(r);
     else if (which < 98) puts("state");
     else if (which < 99) {
@@ -719,14 +769,11 @@ static void session_line(struct random *r) {
     } else puts(chance(r, 30) ? "list 1 " : chance(r, 50) ? "stap" : chance(r, 50) ? "fresh 010" : "judge <log><trace/></log>");
 }
 
-/* A line that reads a model: a text or, where the consoles know them, now and then a drawing. */
+/* A line that reads a model: a text or, now and then, a drawing. */
 static bool print_model(struct random *r) {
-    bool drawing = false;
-#ifdef DRAWINGS
+    bool drawing = chance(r, 15);
     int due;
-    drawing = chance(r, 15);
     if (drawing) text_length = drawing_text(r, text, sizeof text, &due);
-#endif
     if (!drawing) text_length = model_text(r, text);
     if (!drawing && chance(r, 25)) text_length = spoiled_text(r, text, text_length);
     for (size_t k = 0; k < text_length; k++)
@@ -735,6 +782,52 @@ static bool print_model(struct random *r) {
     fwrite(text, 1, text_length, stdout);
     putchar('\n');
     return drawing;
+}
+
+/* a word of the table or the state of the consoles set, by its command */
+static void set_word(bool table, struct harm h) {
+    printf("%s %zu %u\n", table ? "table" : "state", h.at, h.becomes);
+    (table ? theirs.table : theirs.state)[h.at] = h.becomes;
+}
+
+/* the counts by which a state is told */
+static struct harm harm_to_count(struct random *r, bool table) {
+    size_t at = table ? 0 : chance(r, 50) ? draw(r, POOLS) : QUEUES + QUEUE_WORDS * draw(r, NAMES) + draw(r, 2);
+    return (struct harm){at, chance(r, 50) ? some_end(r) : draw(r, 70)};
+}
+
+/* records that do not agree, by their commands, and then right again */
+static void print_records(struct random *r) {
+    recount();
+    unsigned p = draw(r, 6), k = draw(r, 4), all = pools;
+    by_hand = true;
+    if (chance(r, 60)) {
+        word v = chance(r, 60) ? draw(r, 5) : some_end(r);
+        printf("record %u %u %u\n", p, k, v);
+        if (p < pools && k < 3) (&theirs.records[RECORDS - pools + p].made)[k] = v;
+    } else {
+        unsigned n = draw(r, 7);
+        printf("records %u\n", n);
+        if (n < 6) pools = n;
+    }
+    for (unsigned lines = 1 + draw(r, 4); lines; lines--) session_line(r);
+    printf("records %u\nfigures\n", all);
+    by_hand = false;
+}
+
+/* words set, lines that tell what is there, and the words put right again; or the table empty until the next model */
+static void print_damage(struct random *r) {
+    static const char *const telling[] = {"state", "check", "again", "write", "list 0", "run 3", "write 0", "write 65535", "figures", "figures", "batch"};
+    bool table = chance(r, 50);
+    struct harm was[2];
+    if (chance(r, 5)) puts("clear"), memset(theirs.table, 0, REF_TABLE_WORDS * sizeof(word));
+    for (unsigned k = 0; k < 2; k++) {
+        struct harm h = chance(r, 20) ? harm_to_count(r, table) : some_harm(r, table);
+        was[k] = (struct harm){h.at, (table ? theirs.table : theirs.state)[h.at]};
+        set_word(table, h);
+    }
+    for (unsigned k = 1 + draw(r, 4); k; k--) chance(r, 60) ? (void)puts(telling[draw(r, 11)]) : session_line(r);
+    for (unsigned k = 2; k--;) set_word(table, was[k]);
 }
 
 /* It begins with a model of its own, so that nothing of an earlier session is left. */
@@ -748,7 +841,7 @@ static void print_session(struct random *r) {
         ref_reading read = drawing ? ref_draw((const uint8_t *)text, text_length, theirs.table) : ref_read((const uint8_t *)text, text_length, theirs.table);
         if (read.number == 0) ref_fresh(theirs.table, REF_VERSION_20, theirs.state);
         if (chance(r, 40)) puts("fresh 10"), ref_fresh(theirs.table, REF_VERSION_10, theirs.state);
-        for (unsigned k = 20 + draw(r, 40); k; k--) session_line(r);
+        for (unsigned k = 20 + draw(r, 40); k; k--) chance(r, 2) ? print_damage(r) : chance(r, 2) ? print_records(r) : session_line(r);
     }
 }
 

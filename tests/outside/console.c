@@ -4,18 +4,35 @@
 #include <stdio.h>
 #include <stdlib.h>
 
-/* DRAWINGS: the engine's console has the command draw, and takes longer lines; LOGS: it has the command judge; REPAIRS: repair */
-#ifdef DRAWINGS
 enum { LINE_MOST = 80000, ARGUMENTS = 8 };
-#else
-enum { LINE_MOST = 40000, ARGUMENTS = 8 };
-#endif
 
 /* a text, drawing or log has at most as many bytes */
 enum { WHOLE = 65536 };
 
 static word table[REF_TABLE_WORDS], state[REF_STATE_WORDS];
 static bool loaded;
+
+/* the records of the route desk: one more than a table has pools, and how many of them are lent */
+enum { KEPT = 5, RECORD_WORDS = 3 };
+static ref_record records[KEPT];
+static unsigned lent;
+
+static unsigned at_most(word n, unsigned most) { return n < most ? n : most; }
+
+/* counted anew where table and state fit */
+static word recount(void) { return ref_figures(table, state, records, lent); }
+
+/* as many as there are pools, where a table or a state is made */
+static void hold(void) {
+    lent = at_most(table[0], KEPT);
+    recount();
+}
+
+static word make_fresh(word version) {
+    word number = ref_fresh(table, version, state);
+    if (!number) hold();
+    return number;
+}
 
 struct text { const char *s; size_t n; };
 
@@ -73,14 +90,14 @@ static void print_done(unsigned number) { number ? printf("refused %u\n", number
 static void do_run(uint16_t limit) {
     static word before[REF_STATE_WORDS];
     memcpy(before, state, sizeof state);
-    ref_ran r = ref_run(table, state, limit);
+    ref_ran r = ref_run(table, state, records, lent, limit);
     if (r.number) {
         print_done(r.number);
         return;
     }
     for (unsigned k = 0; k < r.steps; k++) {
         ref_listed next = ref_list(table, before, 0);
-        ref_answer a = ref_step(table, before, next.name);
+        ref_answer a = take_step(table, before, next.name);
         print_place(&next.name);
         print_traffic(&a);
         putchar('\n');
@@ -105,8 +122,6 @@ static void print_stores(void) {
     print_pairs(state + SHARED, state + SHARED + 1, 2, STORES, 0);
     putchar('\n');
 }
-
-static unsigned at_most(word n, unsigned most) { return n < most ? n : most; }
 
 /* what doesn't fit is told as far as the layout goes */
 static void do_state(void) {
@@ -148,7 +163,7 @@ static void do_read(const char *text, size_t n, bool drawing) {
         return;
     }
     loaded = true;
-    print_done(ref_fresh(table, REF_VERSION_20, state));
+    print_done(make_fresh(REF_VERSION_20));
 }
 
 static void do_judge(word version, const char *text, size_t n) {
@@ -191,6 +206,16 @@ static void do_write(size_t room) {
 static void do_check(void) {
     ref_verdict v = ref_check(table);
     v.number ? printf("refused %u %u\n", v.number, v.beside) : printf("ok\n");
+}
+
+static void do_figures(void) {
+    word number = recount();
+    if (number) {
+        print_done(number);
+        return;
+    }
+    for (unsigned p = 0; p < table[0]; p++) printf("figures %u %u %u %u\n", pool_at(table, p)[0], records[p].made, records[p].unfinished, records[p].finished);
+    puts("end");
 }
 
 /* the text written, read into a second table and written from there */
@@ -249,7 +274,7 @@ static bool do_batch(const char *s, size_t n, bool none) {
         from = to;
     }
     if (!loaded) return true;
-    ref_polled p = ref_poll(table, state, items, count);
+    ref_polled p = ref_poll(table, state, records, lent, items, count);
     printf("accepted %zu refused %u\n", p.accepted, p.number);
     return true;
 }
@@ -263,7 +288,7 @@ static int command(struct text *w, unsigned n) {
             if (!number_of(w[1 + k], &v[k])) return 0;
         if (!tuple_of(w[6], &g)) return 0;
         if (!loaded) return 1;
-        ref_answer a = ref_step(table, state, (ref_name){v[0], v[1], v[2], v[3], v[4], g});
+        ref_answer a = ref_step(table, state, records, lent, (ref_name){v[0], v[1], v[2], v[3], v[4], g});
         if (a.number) return print_done(a.number), 1;
         fputs("ok ", stdout);
         print_traffic(&a);
@@ -294,17 +319,28 @@ static int command(struct text *w, unsigned n) {
     } else if (n == 1 && is(w[0], "clear")) {
         memset(table, 0, sizeof table);
         loaded = true;
+        hold();
         puts("ok");
     } else if (n == 3 && is(w[0], "table")) {
         if (!set_word(w, table, REF_TABLE_WORDS, true)) return 0;
         loaded = true;
+        hold();
     } else if (n == 3 && is(w[0], "state")) {
-        return set_word(w, state, REF_STATE_WORDS, loaded);
+        if (!set_word(w, state, REF_STATE_WORDS, loaded)) return 0;
+        if (loaded) recount();
+    } else if (n == 4 && is(w[0], "record")) {
+        if (!number_of(w[1], v) || v[0] >= KEPT || !number_of(w[2], v + 1) || v[1] >= RECORD_WORDS || !value_of(w[3], v + 2)) return 0;
+        if (loaded) (&records[v[0]].made)[v[1]] = v[2], puts("ok");
+    } else if (n == 2 && is(w[0], "records")) {
+        if (!number_of(w[1], v) || v[0] > KEPT) return 0;
+        if (loaded) lent = v[0], puts("ok");
     } else if (n == 1 && is(w[0], "fresh")) {
-        if (loaded) print_done(ref_fresh(table, REF_VERSION_20, state));
+        if (loaded) print_done(make_fresh(REF_VERSION_20));
     } else if (n == 2 && is(w[0], "fresh")) {
         if (!number_of(w[1], v)) return 0;
-        if (loaded) print_done(ref_fresh(table, v[0], state));
+        if (loaded) print_done(make_fresh(v[0]));
+    } else if (n == 1 && is(w[0], "figures")) {
+        if (loaded) do_figures();
     } else if (n == 1 && is(w[0], "state")) {
         if (loaded) do_state();
     } else return 0;
@@ -334,24 +370,18 @@ static void do_line(const char *s, size_t n) {
         do_read(s + 5, n - 5, false);
         return;
     }
-#ifdef DRAWINGS
     if (n >= 5 && memcmp(s, "draw ", 5) == 0) {
         do_read(s + 5, n - 5, true);
         return;
     }
-#endif
-#ifdef LOGS
     if (n >= 6 && memcmp(s, "judge ", 6) == 0) {
         if (!judge_line(s + 6, n - 6)) puts("bad line");
         return;
     }
-#endif
-#ifdef REPAIRS
     if (n >= 7 && memcmp(s, "repair ", 7) == 0) {
         do_repair(s + 7, n - 7);
         return;
     }
-#endif
     bool batch = n >= 6 && memcmp(s, "batch ", 6) == 0, empty = n == 5 && memcmp(s, "batch", 5) == 0;
     if (batch || empty ? !do_batch(s + 6, batch ? n - 6 : 0, empty) : !command(w, words_of(s, n, w))) puts("bad line");
     else if (!loaded) puts("no model");

@@ -70,7 +70,7 @@ static bool do_next(struct journal *j, const word *table, word *state, struct li
         some_post(j, table, l);
         return ref_post(table, state, l->name, l->tuple) == 0;
     }
-    ref_answer a = ref_step(table, state, next.name);
+    ref_answer a = take_step(table, state, next.name);
     l->step = next.name;
     l->sign = "-?!"[a.traffic];
     l->name = a.name, l->tuple = a.tuple;
@@ -191,7 +191,7 @@ static log_due spoil_turn(struct journal *j, const word *table, word version) {
         ref_name step = x->step;
         if (x->sign == '?') step.given = x->tuple;
         if (x->post) ref_post(table, state, x->name, x->tuple);
-        else ref_step(table, state, step);
+        else take_step(table, state, step);
     }
     if (chance(j->r, 50) || !one_more(table, state, &l.step)) l.step = some_name(j->r, table, state);
     l.tuple = l.step.given;
@@ -199,7 +199,7 @@ static log_due spoil_turn(struct journal *j, const word *table, word version) {
     if (l.tuple.length > VALUES || numbers > 65535) return j->due; /* a line could not say it */
     if (l.tuple.length || chance(j->r, 20)) l.sign = '?', l.name = draw(j->r, NAMES);
     spell(&l), insert_line(j, l);
-    unsigned own = ref_step(table, state, l.step).number;
+    unsigned own = take_step(table, state, l.step).number;
     return own ? at_fault(j, own) : unknown;
 }
 
@@ -424,15 +424,16 @@ static size_t next_of(struct journal *j, size_t at, const char *bytes) {
     return found ? (size_t)(found - j->text) : at;
 }
 
-/* the text ends in a reference, that could become a right one or not, or right behind it */
+/* the text ends in a reference, that could become a right one or not, or right behind it: behind a tag the first is the end's place */
 static log_due cut_reference(struct journal *j, size_t root) {
-    static const char *const cuts[] = {"&", "&1", "&.", "&-", "&#a", "&#xg", "&a#", "&l", "&#", "&#x", "&#x4", "&lt", "&nbsp", "&#99999999", "&#xd800", "&#0", "&:_\xff", "&##", "&l;", "&1;", "&#xg;", "& "};
+    static const char *const cuts[] = {"&", "&1", "&.", "&-", "&#a", "&#xg", "&a#", "&l", "&#", "&#x", "&#x4", "&lt", "&nbsp", "&#99999999", "&#xd800", "&#0", "&:_\xff", "&##"};
+    static const char *const whole[] = {"&l;", "&1;", "&#xg;", "&#;", "& ", "&1 ", "&a#\t", "&lt"};
     size_t at = draw(j->r, root);
-    const char *piece = ONE_OF(j, cuts);
     while (at && j->text[at] != '"' && j->text[at] != '\'' && j->text[at] != '>') at--; /* in a value, most likely, or between tags */
+    bool ends = chance(j->r, 80), known = ends && at && j->text[at] == '>' && j->due.number >= 0;
     j->n = ++at;
-    insert(j, at, piece);
-    return unknown;
+    insert(j, at, ends ? ONE_OF(j, cuts) : ONE_OF(j, whole));
+    return known && (j->due.number != 23 || j->due.beside >= at) ? (log_due){23, j->n, 0} : unknown;
 }
 
 static log_due cut_off(struct journal *j, size_t at, size_t root) {

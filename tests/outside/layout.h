@@ -83,6 +83,10 @@ bool fitting(const word *t, const word *z);
 bool known_version(word version);
 /* 10 or 25 for a table and a state that are lent, else 0 */
 unsigned lent_number(const word *t, const word *z);
+/* what a count over a state that fits gives, for one pool */
+ref_record figures_of(const word *z, unsigned p);
+/* a step where nobody keeps records */
+ref_answer take_step(const word *t, word *z, ref_name n);
 /* a condition of an xorSplit by itself: 2 where the text is none, 3 with the place of the first number outside its range, else 0 */
 unsigned condition_of(const uint8_t *text, size_t length, word *x, size_t *place);
 

@@ -195,7 +195,7 @@ static bool done(const word *t, word *z, const struct line *l, unsigned *own) {
     if (l->post) return *own = ref_post(t, z, l->name, l->tuple), *own == 0;
     ref_name name = {l->numbers[0], l->numbers[1], l->numbers[2], l->numbers[3], l->numbers[4], {0}};
     if (l->sign == '?') name.given = l->tuple;
-    ref_answer a = ref_step(t, z, name);
+    ref_answer a = take_step(t, z, name);
     *own = a.number;
     return !a.number && is_true(l, &a);
 }

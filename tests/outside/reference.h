@@ -24,20 +24,24 @@ typedef struct { ref_word number; size_t beside; ref_word own; } ref_judged;
 
 /* the length written, the events kept, the bytes dropped */
 typedef struct { ref_word number; size_t length, kept, dropped; } ref_repaired;
+/* document 02's ninth request: of one pool, how many instances it made, and how many of them are unfinished and finished */
+typedef struct { ref_word made, unfinished, finished; } ref_record;
 
 ref_verdict ref_check(const ref_word *table);
 /* document 02's seventh request: the state is of version 10 or 20, and keeps it */
 ref_word ref_fresh(const ref_word *table, ref_word version, ref_word *state);
-ref_answer ref_step(const ref_word *table, ref_word *state, ref_name name);
+/* the records are those of the pools, in text order */
+ref_answer ref_step(const ref_word *table, ref_word *state, ref_record *records, size_t pools, ref_name name);
 ref_word ref_post(const ref_word *table, ref_word *state, ref_word name, ref_tuple values);
 ref_listed ref_list(const ref_word *table, const ref_word *state, size_t ordinal);
-ref_ran ref_run(const ref_word *table, ref_word *state, uint16_t limit);
+ref_ran ref_run(const ref_word *table, ref_word *state, ref_record *records, size_t pools, uint16_t limit);
+ref_word ref_figures(const ref_word *table, const ref_word *state, ref_record *records, size_t pools);
 ref_reading ref_read(const uint8_t *text, size_t length, ref_word *table);
 /* document 02's first request: the text is a drawing */
 ref_reading ref_draw(const uint8_t *text, size_t length, ref_word *table);
 ref_written ref_write(const ref_word *table, uint8_t *buffer, size_t length);
 /* an item: 1 for a post, else a step; pool or name, instance, element, phase, branch, length, 4 values */
-ref_polled ref_poll(const ref_word *table, ref_word *state, const ref_word *items, size_t count);
+ref_polled ref_poll(const ref_word *table, ref_word *state, ref_record *records, size_t pools, const ref_word *items, size_t count);
 /* document 02's fourth request: the text is a log, judged from the fresh state of a version */
 ref_judged ref_judge(const ref_word *table, ref_word version, const uint8_t *text, size_t length);
 /* document 02's tenth request: a log that ended in the middle, as far as it goes */

@@ -620,8 +620,13 @@ static int spoil_text(struct pen *o, size_t root, int due) {
     static const char *const pieces[] = {"<", ">", "/", "&", ";", "\"", "'", "=", "<a>", "</a>", "<a/>", "<!--", "-->", "--", "<![CDATA[", "]]>", "<?", "?>", "<?xml ?>",
                                          "<!DOCTYPE a>", "&lt;", "&x;", "&#0;", "&#x41;", "&#xFFFE;", "&#55296;", " ", "\r", "\t", "\x01", "\x1f", "\x7f", "\xff",
                                          ":", "id=\"n0\"", " id=\"n1\"", "<task/>", "1", "-", "]", "<!", "x", "&#13;", "<?XML?>", "&#", "</"};
+    static const char *const cuts[] = {"&", "&1", "&.", "&-", "&#a", "&#xg", "&a#", "&l", "&#x4", "&lt", "&#xd800", "&:_\xff", "&l;", "&1;", "&#xg;", "& "};
     size_t at = below(o->k, o->n);
-    switch (below(o->k, 14)) {
+    switch (below(o->k, 15)) {
+    case 14: /* it ends in a reference, or right behind one */
+        while (at && !strchr("\"'>", o->text[at])) at--;
+        o->n = at + 1;
+        return insert(o, o->n, ONE_OF(o->k, cuts)), 20;
     case 12: return twice(o, at);
     case 13: return renamed(o, at, due);
     case 0: return o->n = at, at < root ? 20 : -1;

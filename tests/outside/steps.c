@@ -1,4 +1,4 @@
-/* One named step, a post, the listing, the run and a whole poll. */
+/* One named step, a post, the listing, the run, a whole poll, and the figures of the pools. */
 #include "layout.h"
 
 enum { EVERY = 1, BRANCH = 2, UP = 1, DOWN = 2 };
@@ -263,7 +263,46 @@ static ref_answer step_on(const word *t, word *z, const ref_name *n, bool take) 
     return a;
 }
 
-ref_answer ref_step(const word *t, word *z, ref_name n) {
+/* THE FIGURES. A token or a task count is left in an unfinished instance. */
+ref_record figures_of(const word *z, unsigned p) {
+    ref_record r = {.made = z[p]};
+    for (unsigned i = 0; i < r.made; i++) all_zero(instance_at((word *)z, p, i), DEFINED) ? r.finished++ : r.unfinished++;
+    return r;
+}
+
+static bool same_record(ref_record a, ref_record b) { return a.made == b.made && a.unfinished == b.unfinished && a.finished == b.finished; }
+
+/* what is lent to a call that takes steps: 10, 25, 26, else 0 */
+static unsigned desk_number(const word *t, const word *z, const ref_record *records, size_t pools) {
+    unsigned number = lent_number(t, z);
+    if (number) return number;
+    if (pools != t[0]) return 26;
+    for (unsigned p = 0; p < pools; p++)
+        if (!same_record(records[p], figures_of(z, p))) return 26;
+    return 0;
+}
+
+/* a step on what is right, and the record of its pool brought up to date */
+static ref_answer recorded_step(const word *t, word *z, ref_record *records, const ref_name *n) {
+    ref_answer a = step_on(t, z, n, true);
+    if (!a.number) records[find_pool(t, n->pool)] = figures_of(z, find_pool(t, n->pool));
+    return a;
+}
+
+word ref_figures(const word *t, const word *z, ref_record *records, size_t pools) {
+    unsigned number = lent_number(t, z);
+    if (number) return number;
+    if (pools != t[0]) return 26;
+    for (unsigned p = 0; p < pools; p++) records[p] = figures_of(z, p);
+    return 0;
+}
+
+ref_answer ref_step(const word *t, word *z, ref_record *records, size_t pools, ref_name n) {
+    unsigned number = desk_number(t, z, records, pools);
+    return number ? (ref_answer){.number = number} : recorded_step(t, z, records, &n);
+}
+
+ref_answer take_step(const word *t, word *z, ref_name n) {
     unsigned number = lent_number(t, z);
     return number ? (ref_answer){.number = number} : step_on(t, z, &n, true);
 }
@@ -371,27 +410,27 @@ ref_listed ref_list(const word *t, const word *z, size_t k) {
     return r;
 }
 
-ref_ran ref_run(const word *t, word *z, uint16_t limit) {
-    unsigned number = lent_number(t, z);
+ref_ran ref_run(const word *t, word *z, ref_record *records, size_t pools, uint16_t limit) {
+    unsigned number = desk_number(t, z, records, pools);
     if (number) return (ref_ran){number, 0, 0};
     for (unsigned steps = 0;; steps++) {
         struct search s = {.t = t, .z = z, .left = 0};
         if (!search_all(&s)) return (ref_ran){0, steps, 0};
         if (steps == limit) return (ref_ran){0, steps, 1};
-        step_on(t, z, &s.name, true);
+        recorded_step(t, z, records, &s.name);
     }
 }
 
 /* document 02, wish 2: given one by one until the first refusal */
-ref_polled ref_poll(const word *t, word *z, const word *items, size_t count) {
+ref_polled ref_poll(const word *t, word *z, ref_record *records, size_t pools, const word *items, size_t count) {
     if (count > REF_ITEMS) return (ref_polled){22, 0};
-    unsigned number = lent_number(t, z);
+    unsigned number = desk_number(t, z, records, pools);
     if (number) return (ref_polled){number, 0};
     for (size_t k = 0; k < count; k++) {
         const word *w = items + REF_ITEM_WORDS * k;
         ref_tuple g = {w[6], {w[7], w[8], w[9], w[10]}};
         ref_name name = {w[1], w[2], w[3], w[4], w[5], g};
-        word n = w[0] == 1 ? post_on(z, w[1], g) : step_on(t, z, &name, true).number;
+        word n = w[0] == 1 ? post_on(z, w[1], g) : recorded_step(t, z, records, &name).number;
         if (n) return (ref_polled){n, k};
     }
     return (ref_polled){0, count};

@@ -11,6 +11,7 @@ use base_table::places::TABLE_WORDS;
 use base_words::Word;
 use base_words::put;
 use meaning::Tuple;
+use state_figures::RECORD_WORDS;
 use step_poll::A_POST;
 use step_poll::BRANCH;
 use step_poll::ELEMENT;
@@ -153,6 +154,7 @@ pub(super) fn do_batch(
     loaded: bool,
     t: &[Word; TABLE_WORDS],
     z: &mut [Word; STATE_WORDS],
+    rs: &mut [[Word; RECORD_WORDS]],
 ) {
     let mut items: [Word; POLL_WORDS] = [0; POLL_WORDS];
     let f = fill_line(line, &mut items);
@@ -164,5 +166,5 @@ pub(super) fn do_batch(
         no_model();
         return;
     }
-    tell_polled(engine::poll(t, z, &items, f.count));
+    tell_polled(engine::poll(t, z, rs, &items, f.count));
 }

@@ -11,6 +11,7 @@ use base_words::Word;
 use base_words::counts::TEXT_MOST;
 use base_words::put;
 use base_words::word;
+use state_figures::RECORD_WORDS;
 use text_lexer::piece;
 use text_numerals::same;
 use text_read::Reading;
@@ -20,10 +21,9 @@ use tool_print::tell_unread;
 
 // clear, table, state
 
-pub(super) fn do_clear(t: &mut [Word; TABLE_WORDS]) -> bool {
+pub(super) fn do_clear(t: &mut [Word; TABLE_WORDS]) {
     *t = [0; TABLE_WORDS];
     tell(b"ok\n");
-    true
 }
 
 // Whether a line sets a word of a block of so many.
@@ -39,17 +39,24 @@ fn set(line: &[u8], s: &mut [Word]) {
     tell(b"ok\n");
 }
 
-pub(super) fn do_set_table(line: &[u8], t: &mut [Word; TABLE_WORDS]) -> bool {
+pub(super) fn do_set_table(line: &[u8], t: &mut [Word; TABLE_WORDS]) {
     set(line, t);
-    true
 }
 
-pub(super) fn do_set_state(line: &[u8], loaded: bool, z: &mut [Word; STATE_WORDS]) {
+// The records are counted anew, where table and state fit.
+pub(super) fn do_set_state(
+    line: &[u8],
+    loaded: bool,
+    t: &[Word; TABLE_WORDS],
+    z: &mut [Word; STATE_WORDS],
+    rs: &mut [[Word; RECORD_WORDS]],
+) {
     if !loaded {
         no_model();
         return;
     }
     set(line, z);
+    engine::figures(t, z, rs);
 }
 
 // check

@@ -12,6 +12,13 @@ use super::blocks::do_clear;
 use super::blocks::do_set_state;
 use super::blocks::do_set_table;
 use super::blocks::is_setting;
+use super::desk::Held;
+use super::desk::do_figures;
+use super::desk::do_record;
+use super::desk::do_records;
+use super::desk::hold;
+use super::desk::is_record;
+use super::desk::is_records;
 use super::output::bad_line;
 use super::output::no_model;
 use super::output::tell_done;
@@ -27,6 +34,7 @@ use base_words::counts::TEXT_MOST;
 use engine::Written;
 use meaning::Answer;
 use meaning::Name;
+use state_figures::RECORD_WORDS;
 use text_lexer::piece;
 use text_numerals::same;
 use text_read::Reading;
@@ -51,33 +59,41 @@ fn is_draw(line: &[u8]) -> bool {
 }
 
 // What a text or a drawing was read as: a model gets a fresh state.
-fn begin(r: Reading, loaded: bool, t: &[Word; TABLE_WORDS], z: &mut [Word; STATE_WORDS]) -> bool {
+fn begin(
+    r: Reading,
+    h: Held,
+    t: &[Word; TABLE_WORDS],
+    z: &mut [Word; STATE_WORDS],
+    rs: &mut [[Word; RECORD_WORDS]],
+) -> Held {
     if r.number != 0 {
         tell_unread(r);
-        return loaded;
+        return h;
     }
     tell_done(engine::fresh(t, PRESENT, z));
-    true
+    hold(t, z, rs)
 }
 
 fn do_read(
     line: &[u8],
-    loaded: bool,
+    h: Held,
     t: &mut [Word; TABLE_WORDS],
     z: &mut [Word; STATE_WORDS],
-) -> bool {
+    rs: &mut [[Word; RECORD_WORDS]],
+) -> Held {
     let r = engine::read(piece(line, READ, line.len()), t);
-    begin(r, loaded, t, z)
+    begin(r, h, t, z, rs)
 }
 
 fn do_draw(
     line: &[u8],
-    loaded: bool,
+    h: Held,
     t: &mut [Word; TABLE_WORDS],
     z: &mut [Word; STATE_WORDS],
-) -> bool {
+    rs: &mut [[Word; RECORD_WORDS]],
+) -> Held {
     let r = engine::draw(piece(line, READ, line.len()), t);
-    begin(r, loaded, t, z)
+    begin(r, h, t, z, rs)
 }
 
 // step, post, list, run
@@ -103,12 +119,18 @@ fn name_of(line: &[u8]) -> Name {
     }
 }
 
-fn do_step(line: &[u8], loaded: bool, t: &[Word; TABLE_WORDS], z: &mut [Word; STATE_WORDS]) {
+fn do_step(
+    line: &[u8],
+    loaded: bool,
+    t: &[Word; TABLE_WORDS],
+    z: &mut [Word; STATE_WORDS],
+    rs: &mut [[Word; RECORD_WORDS]],
+) {
     if !loaded {
         no_model();
         return;
     }
-    tell_answer(engine::step(t, z, name_of(line)));
+    tell_answer(engine::step(t, z, rs, name_of(line)));
 }
 
 fn do_post(line: &[u8], loaded: bool, t: &[Word; TABLE_WORDS], z: &mut [Word; STATE_WORDS]) {
@@ -133,12 +155,18 @@ fn do_list(line: &[u8], loaded: bool, t: &[Word; TABLE_WORDS], z: &[Word; STATE_
     tell_name(name);
 }
 
-fn do_run(line: &[u8], loaded: bool, t: &[Word; TABLE_WORDS], z: &mut [Word; STATE_WORDS]) {
+fn do_run(
+    line: &[u8],
+    loaded: bool,
+    t: &[Word; TABLE_WORDS],
+    z: &mut [Word; STATE_WORDS],
+    rs: &mut [[Word; RECORD_WORDS]],
+) {
     if !loaded {
         no_model();
         return;
     }
-    let r = tell_run(t, z, number_at(line, 1));
+    let r = tell_run(t, z, rs, number_at(line, 1));
     if r.number != 0 {
         tell_refused(r.number);
     }
@@ -177,12 +205,23 @@ fn is_repair(line: &[u8]) -> bool {
 
 // fresh, state
 
-fn do_fresh(version: Word, loaded: bool, t: &[Word; TABLE_WORDS], z: &mut [Word; STATE_WORDS]) {
-    if !loaded {
+fn do_fresh(
+    version: Word,
+    h: Held,
+    t: &[Word; TABLE_WORDS],
+    z: &mut [Word; STATE_WORDS],
+    rs: &mut [[Word; RECORD_WORDS]],
+) -> Held {
+    if !h.loaded {
         no_model();
-        return;
+        return h;
     }
-    tell_done(engine::fresh(t, version, z));
+    let number = engine::fresh(t, version, z);
+    tell_done(number);
+    if number != 0 {
+        return h;
+    }
+    hold(t, z, rs)
 }
 
 fn do_state(loaded: bool, t: &[Word; TABLE_WORDS], z: &[Word; STATE_WORDS]) {
@@ -240,30 +279,38 @@ fn on_table(line: &[u8], loaded: bool, t: &[Word; TABLE_WORDS]) {
 }
 
 // The commands on a state as a whole, then those on a table.
-fn on_state(line: &[u8], loaded: bool, t: &[Word; TABLE_WORDS], z: &mut [Word; STATE_WORDS]) {
-    if is_command(line, b"fresh", b"") {
-        do_fresh(PRESENT, loaded, t, z);
-        return;
-    }
-    if is_command(line, b"fresh", b"n") {
-        do_fresh(number_at(line, 1) as Word, loaded, t, z);
-        return;
-    }
+fn on_state(
+    line: &[u8],
+    loaded: bool,
+    t: &[Word; TABLE_WORDS],
+    z: &mut [Word; STATE_WORDS],
+    rs: &mut [[Word; RECORD_WORDS]],
+) {
     if is_command(line, b"state", b"") {
         do_state(loaded, t, z);
         return;
     }
     if is_setting(line, b"state", STATE_WORDS) {
-        do_set_state(line, loaded, z);
+        do_set_state(line, loaded, t, z, rs);
+        return;
+    }
+    if is_command(line, b"figures", b"") {
+        do_figures(loaded, t, z, rs);
         return;
     }
     on_table(line, loaded, t);
 }
 
 // The commands on a model and its state, then those on a state.
-fn on_model(line: &[u8], loaded: bool, t: &[Word; TABLE_WORDS], z: &mut [Word; STATE_WORDS]) {
+fn on_model(
+    line: &[u8],
+    loaded: bool,
+    t: &[Word; TABLE_WORDS],
+    z: &mut [Word; STATE_WORDS],
+    rs: &mut [[Word; RECORD_WORDS]],
+) {
     if is_command(line, b"step", b"nnnnnv") {
-        do_step(line, loaded, t, z);
+        do_step(line, loaded, t, z, rs);
         return;
     }
     if is_command(line, b"post", b"nv") {
@@ -275,11 +322,11 @@ fn on_model(line: &[u8], loaded: bool, t: &[Word; TABLE_WORDS], z: &mut [Word; S
         return;
     }
     if is_command(line, b"run", b"n") {
-        do_run(line, loaded, t, z);
+        do_run(line, loaded, t, z, rs);
         return;
     }
     if is_batch(line) {
-        do_batch(line, loaded, t, z);
+        do_batch(line, loaded, t, z, rs);
         return;
     }
     if is_judge(line) {
@@ -290,28 +337,67 @@ fn on_model(line: &[u8], loaded: bool, t: &[Word; TABLE_WORDS], z: &mut [Word; S
         tell_repaired(piece(line, REPAIR, line.len()));
         return;
     }
-    on_state(line, loaded, t, z);
+    on_state(line, loaded, t, z, rs);
 }
 
-// Does what a line says: the commands that make a table, then those on a model.
+// As many of the records as are lent.
+fn on_lent(
+    line: &[u8],
+    h: Held,
+    t: &[Word; TABLE_WORDS],
+    z: &mut [Word; STATE_WORDS],
+    rs: &mut [[Word; RECORD_WORDS]],
+) -> Held {
+    let n = least(h.records, rs.len());
+    on_model(line, h.loaded, t, z, &mut rs[..n]);
+    h
+}
+
+// The commands that make a state or set the records, then those on a model.
+fn on_records(
+    line: &[u8],
+    h: Held,
+    t: &[Word; TABLE_WORDS],
+    z: &mut [Word; STATE_WORDS],
+    rs: &mut [[Word; RECORD_WORDS]],
+) -> Held {
+    if is_command(line, b"fresh", b"") {
+        return do_fresh(PRESENT, h, t, z, rs);
+    }
+    if is_command(line, b"fresh", b"n") {
+        return do_fresh(number_at(line, 1) as Word, h, t, z, rs);
+    }
+    if is_record(line) {
+        do_record(line, h.loaded, rs);
+        return h;
+    }
+    if is_records(line) {
+        return do_records(line, h);
+    }
+    on_lent(line, h, t, z, rs)
+}
+
+// Does what a line says: the commands that make a table, then those on its records.
 pub(super) fn command(
     line: &[u8],
-    loaded: bool,
+    h: Held,
     t: &mut [Word; TABLE_WORDS],
     z: &mut [Word; STATE_WORDS],
-) -> bool {
+    rs: &mut [[Word; RECORD_WORDS]],
+) -> Held {
     if is_read(line) {
-        return do_read(line, loaded, t, z);
+        return do_read(line, h, t, z, rs);
     }
     if is_draw(line) {
-        return do_draw(line, loaded, t, z);
+        return do_draw(line, h, t, z, rs);
     }
     if is_command(line, b"clear", b"") {
-        return do_clear(t);
+        do_clear(t);
+        return hold(t, z, rs);
     }
     if is_setting(line, b"table", TABLE_WORDS) {
-        return do_set_table(line, t);
+        do_set_table(line, t);
+        return hold(t, z, rs);
     }
-    on_model(line, loaded, t, z);
-    loaded
+    on_records(line, h, t, z, rs)
 }

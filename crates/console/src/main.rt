@@ -13,6 +13,9 @@
 //   write              the text of the model, or refused N
 //   write N            the same, into a buffer of N bytes
 //   fresh, fresh V     a fresh state for version 20 or V: ok, or refused N
+//   figures            the records of the route desk, counted anew: figures P MADE UNFINISHED FINISHED for each pool, then: end; or refused N
+//   record P K V       word K, 0 to 2, of record P, 0 to 4, is V: ok
+//   records N          N records are lent, 0 to 5, until a table or a state is made: ok
 //   state              version 10 where it is that, a line for each made instance and each queue that is not empty, then: end
 //   again              the text of the model is read into a second table and written from there: same N, the length of the text; or table differs,
 //                      text differs, refused N
@@ -26,6 +29,7 @@ use base_state::places::STATE_WORDS;
 use base_table::places::TABLE_WORDS;
 use base_words::Word;
 use libc::STDIN_FILENO;
+use state_figures::RECORD_WORDS;
 use text_lexer::piece;
 use tool_print::tell;
 
@@ -33,21 +37,25 @@ mod arguments;
 mod batch;
 mod blocks;
 mod commands;
+mod desk;
 mod output;
 mod report;
 
 use commands::command;
+use desk::Held;
+use desk::KEPT;
 
 const NEWLINE: u8 = 10;
 
 // The bytes of the longest line.
 const LINE: usize = 80000;
 
-// How much of a line there is so far, and whether more came than fits; whether there is a model, and whether the input is at its end.
+// How much of a line there is so far, and whether more came than fits; whether there is a model, how many records are lent, and whether the input is at its end.
 struct Session {
     length: usize,
     excess: bool,
     loaded: bool,
+    records: usize,
     over: bool,
 }
 
@@ -56,6 +64,7 @@ fn opened() -> Session {
         length: 0,
         excess: false,
         loaded: false,
+        records: 0,
         over: false,
     }
 }
@@ -66,6 +75,7 @@ fn complete(
     line: &[u8; LINE],
     t: &mut [Word; TABLE_WORDS],
     z: &mut [Word; STATE_WORDS],
+    rs: &mut [[Word; RECORD_WORDS]; KEPT],
 ) -> Session {
     if s.excess {
         tell(b"bad line\n");
@@ -73,14 +83,20 @@ fn complete(
             length: 0,
             excess: false,
             loaded: s.loaded,
+            records: s.records,
             over: false,
         };
     }
-    let loaded = command(piece(line, 0, s.length), s.loaded, t, z);
+    let held = Held {
+        loaded: s.loaded,
+        records: s.records,
+    };
+    let h = command(piece(line, 0, s.length), held, t, z, rs);
     Session {
         length: 0,
         excess: false,
-        loaded: loaded,
+        loaded: h.loaded,
+        records: h.records,
         over: false,
     }
 }
@@ -94,6 +110,7 @@ fn extend(s: Session, line: &mut [u8; LINE], b: u8) -> Session {
             length: n + 1,
             excess: false,
             loaded: s.loaded,
+            records: s.records,
             over: false,
         };
     }
@@ -101,6 +118,7 @@ fn extend(s: Session, line: &mut [u8; LINE], b: u8) -> Session {
         length: n,
         excess: true,
         loaded: s.loaded,
+        records: s.records,
         over: false,
     }
 }
@@ -111,9 +129,10 @@ fn take_byte(
     line: &mut [u8; LINE],
     t: &mut [Word; TABLE_WORDS],
     z: &mut [Word; STATE_WORDS],
+    rs: &mut [[Word; RECORD_WORDS]; KEPT],
 ) -> Session {
     if b == NEWLINE {
-        return complete(s, line, t, z);
+        return complete(s, line, t, z, rs);
     }
     extend(s, line, b)
 }
@@ -124,11 +143,12 @@ fn take_piece(
     line: &mut [u8; LINE],
     t: &mut [Word; TABLE_WORDS],
     z: &mut [Word; STATE_WORDS],
+    rs: &mut [[Word; RECORD_WORDS]; KEPT],
 ) -> Session {
     let mut s = first;
     let mut i: usize = 0;
     while i < piece.len() {
-        s = take_byte(s, piece[i], line, t, z);
+        s = take_byte(s, piece[i], line, t, z, rs);
         i += 1;
     }
     s
@@ -140,9 +160,10 @@ fn take_rest(
     line: &[u8; LINE],
     t: &mut [Word; TABLE_WORDS],
     z: &mut [Word; STATE_WORDS],
+    rs: &mut [[Word; RECORD_WORDS]; KEPT],
 ) {
     if s.length > 0 {
-        complete(s, line, t, z);
+        complete(s, line, t, z, rs);
     }
 }
 
@@ -152,6 +173,7 @@ fn read_some(
     line: &mut [u8; LINE],
     t: &mut [Word; TABLE_WORDS],
     z: &mut [Word; STATE_WORDS],
+    rs: &mut [[Word; RECORD_WORDS]; KEPT],
 ) -> Session {
     let mut piece = io::buffer();
     let n = io::read_full(STDIN_FILENO, &mut piece);
@@ -160,22 +182,24 @@ fn read_some(
             length: s.length,
             excess: s.excess,
             loaded: s.loaded,
+            records: s.records,
             over: true,
         };
     }
-    take_piece(s, &piece[..n], line, t, z)
+    take_piece(s, &piece[..n], line, t, z, rs)
 }
 
 fn main() {
     let mut t: [Word; TABLE_WORDS] = [0; TABLE_WORDS];
     let mut z: [Word; STATE_WORDS] = [0; STATE_WORDS];
+    let mut rs: [[Word; RECORD_WORDS]; KEPT] = [[0; RECORD_WORDS]; KEPT];
     let mut line: [u8; LINE] = [0; LINE];
     let mut s = opened();
     // A proved loop has to end, and nothing says that an input does: the turns are more than any run uses up.
     let mut turns = u64::MAX;
     while turns > 0 && !s.over {
-        s = read_some(s, &mut line, &mut t, &mut z);
+        s = read_some(s, &mut line, &mut t, &mut z, &mut rs);
         turns -= 1;
     }
-    take_rest(s, &line, &mut t, &mut z);
+    take_rest(s, &line, &mut t, &mut z, &mut rs);
 }

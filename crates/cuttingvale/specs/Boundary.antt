@@ -16,11 +16,13 @@ use Rattle.step_names.specs.Names.{blank}
 use Rattle.text_read.specs.Notation.{ReadInto, readInto}
 use Rattle.draw_read.specs.Drawings.{drawInto}
 use Rattle.engine.specs.declared.Verdict.{Verdict}
-use Rattle.engine.specs.Engine.{verdictOf, Left, freshened, Stepped, stepped, postedTo, listedAt, RanTo, ranTo, WrittenTo, writtenTo}
+use Rattle.engine.specs.Engine.{verdictOf, Left, freshened, Stepped, postedTo, listedAt, RanTo, WrittenTo, writtenTo}
 use Rattle.step_poll.specs.Items.{itemWords, itemsMost}
 use Rattle.step_poll.specs.Poll.{Polling}
 use Rattle.log_judge.specs.declared.Judged.{Judged}
-use Rattle.engine.specs.Calls.{polledTo, judgedTo}
+use Rattle.state_figures.specs.Figures.{Figured}
+use Rattle.engine.specs.Calls.{judgedTo}
+use Rattle.engine.specs.Desk.{AtDesk, steppedAt, ranAt, polledAt, figuredTo}
 use Rattle.cuttingvale.specs.declared.Taken.{Taken}
 
 -- n words of a table and m words of a state
@@ -51,9 +53,14 @@ told s =
       state = s .state;
     }
 
-unfoldable pub steppedBy : List ℕ → ℕ → List ℕ → ℕ → Name → TakenTo
-steppedBy t n z m name =
-    if areWhole n m then told (stepped t z name) else record { answer = record { number = 10; traffic = 0; name = 0; tuple = empty }; state = z }
+unfoldable pub toldAt : AtDesk Stepped → AtDesk TakenTo
+toldAt s = record { done = told (s .done); records = s .records }
+
+-- the pool records rs come with their number, which the call itself looks at
+unfoldable pub steppedBy : List ℕ → ℕ → List ℕ → ℕ → List (List ℕ) → Name → AtDesk TakenTo
+steppedBy t n z m rs name =
+    if areWhole n m then toldAt (steppedAt t z rs name)
+    else record { done = record { answer = record { number = 10; traffic = 0; name = 0; tuple = empty }; state = z }; records = rs }
 
 unfoldable pub postedBy : List ℕ → ℕ → List ℕ → ℕ → ℕ → Tuple → Left
 postedBy t n z m name g = if areWhole n m then postedTo t z name g else record { number = 10; state = z }
@@ -61,8 +68,12 @@ postedBy t n z m name g = if areWhole n m then postedTo t z name g else record {
 unfoldable pub listedBy : List ℕ → ℕ → List ℕ → ℕ → ℕ → Listed
 listedBy t n z m k = if areWhole n m then listedAt t z k else record { number = 10; name = blank }
 
-unfoldable pub ranBy : List ℕ → ℕ → List ℕ → ℕ → ℕ → RanTo
-ranBy t n z m limit = if areWhole n m then ranTo t z limit else record { number = 10; steps = 0; left = 0; state = z }
+unfoldable pub ranBy : List ℕ → ℕ → List ℕ → ℕ → List (List ℕ) → ℕ → AtDesk RanTo
+ranBy t n z m rs limit =
+    if areWhole n m then ranAt t z rs limit else record { done = record { number = 10; steps = 0; left = 0; state = z }; records = rs }
+
+unfoldable pub figuredBy : List ℕ → ℕ → List ℕ → ℕ → List (List ℕ) → Figured
+figuredBy t n z m rs = if areWhole n m then figuredTo t z rs else record { number = 10; records = rs }
 
 unfoldable pub readBy : List ℕ → List ℕ → ℕ → ReadInto
 readBy text t n = if eqb n tableWords then readInto text t else record { number = 10; beside = 0; table = t }
@@ -83,8 +94,9 @@ areLent n m k = eqb k pollWords && areWhole n m
 unfoldable pub lentWrong : ℕ → ℕ
 lentWrong count = if ltb itemsMost count then 22 else 10
 
-unfoldable pub polledAt : List ℕ → ℕ → List ℕ → ℕ → List ℕ → ℕ → ℕ → Polling
-polledAt t n z m w k count = if areLent n m k then polledTo t z w count else record { number = lentWrong count; accepted = 0; state = z }
+unfoldable pub polledBy : List ℕ → ℕ → List ℕ → ℕ → List (List ℕ) → List ℕ → ℕ → ℕ → AtDesk Polling
+polledBy t n z m rs w k count =
+    if areLent n m k then polledAt t z rs w count else record { done = record { number = lentWrong count; accepted = 0; state = z }; records = rs }
 
 unfoldable pub judgedBy : List ℕ → ℕ → ℕ → List ℕ → Judged
 judgedBy t n v log = if eqb n tableWords then judgedTo t v log else record { number = 10; beside = 0; own = 0 }

@@ -4,7 +4,7 @@ ghost use Rattle.meaning.specs.Tuples.{empty};
 ghost use Rattle.step_poll.specs.Poll.{Polling};
 ghost use Rattle.step_names.specs.Names.{blank};
 ghost use Rattle.log_repair.specs.Repair.{Repair, repairedTo};
-ghost use Rattle.cuttingvale.specs.Boundary.{areWhole, checkedBy, freshenedBy, trafficNumber, steppedBy, postedBy, listedBy, ranBy, readBy, drawnBy, writtenBy, lentWrong, areLent, polledAt, judgedBy};
+ghost use Rattle.cuttingvale.specs.Boundary.{areWhole, checkedBy, freshenedBy, trafficNumber, steppedBy, postedBy, listedBy, ranBy, figuredBy, readBy, drawnBy, writtenBy, lentWrong, areLent, polledBy, judgedBy};
 use base_state::places::STATE_WORDS;
 use base_table::places::TABLE_WORDS;
 use base_words::Word;
@@ -19,6 +19,7 @@ use meaning::Name;
 use meaning::Traffic;
 use meaning::Tuple;
 use meaning::empty_tuple;
+use state_figures::RECORD_WORDS;
 use step_list::Listed;
 use step_poll::ITEMS;
 use step_poll::POLL_WORDS;
@@ -107,14 +108,15 @@ pub extern "C" fn cv_step(
     tablelength: usize,
     state: &mut [Word; STATE_WORDS],
     statelength: usize,
+    records: &mut [[Word; RECORD_WORDS]],
     name: Name,
 ) -> Taken
-    ensures { λ r. ⌜ record { answer = r; state = now (state .exit) } ≡ steppedBy (now (table .entry)) tablelength (now (state .entry)) statelength name ⌝ }
+    ensures { λ r. ⌜ record { done = record { answer = r; state = now (state .exit) }; records = now (records .exit) } ≡ steppedBy (now (table .entry)) tablelength (now (state .entry)) statelength (now (records .entry)) name ⌝ }
 {
     if !are_whole(tablelength, statelength) {
         return untaken();
     }
-    let a = engine::step(table, state, name);
+    let a = engine::step(table, state, records, name);
     let traffic = a.traffic;
     let tuple = a.tuple;
     Taken {
@@ -180,9 +182,10 @@ pub extern "C" fn cv_run(
     tablelength: usize,
     state: &mut [Word; STATE_WORDS],
     statelength: usize,
+    records: &mut [[Word; RECORD_WORDS]],
     limit: Steps,
 ) -> Ran
-    ensures { λ r. ⌜ record { number = r .number; steps = r .steps; left = r .left; state = now (state .exit) } ≡ ranBy (now (table .entry)) tablelength (now (state .entry)) statelength limit ⌝ }
+    ensures { λ r. ⌜ record { done = record { number = r .number; steps = r .steps; left = r .left; state = now (state .exit) }; records = now (records .exit) } ≡ ranBy (now (table .entry)) tablelength (now (state .entry)) statelength (now (records .entry)) limit ⌝ }
 {
     if !are_whole(tablelength, statelength) {
         return Ran {
@@ -191,7 +194,24 @@ pub extern "C" fn cv_run(
             left: 0,
         };
     }
-    engine::run(table, state, limit)
+    engine::run(table, state, records, limit)
+}
+
+// The records' number comes with them, as a text's length does.
+#[no_mangle]
+pub extern "C" fn cv_figures(
+    table: &[Word; TABLE_WORDS],
+    tablelength: usize,
+    state: &[Word; STATE_WORDS],
+    statelength: usize,
+    records: &mut [[Word; RECORD_WORDS]],
+) -> Word
+    ensures { λ r. ⌜ record { number = r; records = now (records .exit) } ≡ figuredBy (now (table .entry)) tablelength (now (state .entry)) statelength (now (records .entry)) ⌝ }
+{
+    if !are_whole(tablelength, statelength) {
+        return BAD;
+    }
+    engine::figures(table, state, records)
 }
 
 #[no_mangle]
@@ -270,11 +290,12 @@ pub extern "C" fn cv_poll(
     tablelength: usize,
     state: &mut [Word; STATE_WORDS],
     statelength: usize,
+    records: &mut [[Word; RECORD_WORDS]],
     items: &[Word; POLL_WORDS],
     itemslength: usize,
     count: usize,
 ) -> Polled
-    ensures { λ r. ⌜ record { number = r .number; accepted = r .accepted; state = now (state .exit) } ≡ polledAt (now (table .entry)) tablelength (now (state .entry)) statelength (now (items .entry)) itemslength count ⌝ }
+    ensures { λ r. ⌜ record { done = record { number = r .number; accepted = r .accepted; state = now (state .exit) }; records = now (records .exit) } ≡ polledBy (now (table .entry)) tablelength (now (state .entry)) statelength (now (records .entry)) (now (items .entry)) itemslength count ⌝ }
 {
     if !are_lent(tablelength, statelength, itemslength) {
         return Polled {
@@ -282,7 +303,7 @@ pub extern "C" fn cv_poll(
             accepted: 0,
         };
     }
-    engine::poll(table, state, items, count)
+    engine::poll(table, state, records, items, count)
 }
 
 #[no_mangle]

@@ -2,3 +2,4 @@ pub mod CallLaws
 pub mod KeepsValid
 pub mod PollLaws
 pub mod JudgeLaws
+pub mod DeskLaws

@@ -4,8 +4,11 @@ ghost use mathlib.Core.Bool.{true};
 ghost use lib.Dec.{leb};
 ghost use lib.ListN.{length};
 ghost use Rattle.base_state.specs.Places.{stateWords};
-ghost use Rattle.engine.specs.Engine.{valid, verdictOf, Left, versionNumber, askedNumber, freshened, lentNumber, Stepped, stepped, postedTo, listedAt, RanTo, ranTo, WrittenTo, writtenTo};
-ghost use Rattle.engine.specs.Calls.{polledTo, judgedTo};
+ghost use Rattle.base_state.specs.Instances.{instancesOf};
+ghost use Rattle.state_figures.specs.Figures.{counted, Figured};
+ghost use Rattle.engine.specs.Engine.{valid, verdictOf, Left, versionNumber, askedNumber, freshened, lentNumber, Stepped, postedTo, listedAt, RanTo, WrittenTo, writtenTo};
+ghost use Rattle.engine.specs.Calls.{judgedTo};
+ghost use Rattle.engine.specs.Desk.{AtDesk, recordsNumber, steppedAt, ranAt, polledAt, figuredTo};
 ghost use Rattle.step_poll.specs.Poll.{Polling};
 ghost use Rattle.step_names.specs.Names.{blank};
 ghost use Rattle.text_read.specs.Notation.{readInto};
@@ -30,12 +33,20 @@ use meaning::Answer;
 use meaning::Name;
 use meaning::Tuple;
 use meaning::empty_tuple;
+use state_figures::RECORD_WORDS;
 use step_effects::refuse;
 use step_list::Listed;
 use step_poll::POLL_WORDS;
 use step_poll::Polled;
 use step_run::Steps;
 use text_read::Reading;
+
+mod desk;
+
+use desk::figure_in;
+use desk::follow_in;
+use desk::number_in;
+use desk::recount_in;
 
 // The answer of a check: a number, and beside 4 the lowest check broken.
 #[repr(C)]
@@ -120,15 +131,34 @@ fn lent_number(t: &[Word; TABLE_WORDS], z: &[Word; STATE_WORDS]) -> Word
     version_number(version_of(z))
 }
 
-// Takes a named step: 10 where the table or the state is bad, 25 for another version, 11 to 18 where it is refused, and the state stays; else 0, and what was consumed or sent.
-pub fn step(t: &[Word; TABLE_WORDS], z: &mut [Word; STATE_WORDS], n: Name) -> Answer
-    ensures { λ r. ⌜ record { answer = r; state = now (z .exit) } ≡ stepped (now (t .entry)) (now (z .entry)) n ⌝ }
+// The number that a lent table, a state and the desk's records are refused with, or 0.
+fn records_number(
+    t: &[Word; TABLE_WORDS],
+    z: &[Word; STATE_WORDS],
+    rs: &[[Word; RECORD_WORDS]],
+) -> Word
+    ensures { λ r. ⌜ (r ≡ recordsNumber (now (t .entry)) (now (z .entry)) (now (rs .entry))) × (r ≡ 0 → length (now (z .entry)) ≡ stateWords) × (r ≡ 0 → now (rs .entry) ≡ counted (now (t .entry)) (instancesOf (now (z .entry)))) ⌝ }
 {
-    let number = lent_number(t, z);
+    number_in(rs, t, z, lent_number(t, z))
+}
+
+// Takes a named step: 10 where the table or the state is bad, 25 for another version, 26 where the desk's records are not what a count over the state gives, 11 to 18 where it is refused, and state and records stay;
+// else 0, and what was consumed or sent, and the record of its own pool follows.
+pub fn step(
+    t: &[Word; TABLE_WORDS],
+    z: &mut [Word; STATE_WORDS],
+    rs: &mut [[Word; RECORD_WORDS]],
+    n: Name,
+) -> Answer
+    ensures { λ r. ⌜ record { done = record { answer = r; state = now (z .exit) }; records = now (rs .exit) } ≡ steppedAt (now (t .entry)) (now (z .entry)) (now (rs .entry)) n ⌝ }
+{
+    let number = records_number(t, z, rs);
     if number != ACCEPTED {
         return refuse(number);
     }
-    step_take::step_on(t, z, n)
+    let a = step_take::step_on(t, z, n);
+    follow_in(rs, t, z, n.pool, n.instance, a.number);
+    a
 }
 
 // Posts a message from outside: 10, 25, 19 or 17, and the state stays; else 0.
@@ -177,12 +207,17 @@ pub struct Ran {
     pub left: Word,
 }
 
-// Takes the first listed step until none is accepted or the limit is used up: 10 where the table or the state is bad, 25 for another version, and the
-// state stays; else 0.
-pub fn run(t: &[Word; TABLE_WORDS], z: &mut [Word; STATE_WORDS], limit: Steps) -> Ran
-    ensures { λ r. ⌜ record { number = r .number; steps = r .steps; left = r .left; state = now (z .exit) } ≡ ranTo (now (t .entry)) (now (z .entry)) limit ⌝ }
+// Takes the first listed step until none is accepted or the limit is used up: 10 where the table or the state is bad, 25 for another version, 26 where the desk's records are not what a count over the state gives, and
+// state and records stay; else 0, and the records are those of the last state.
+pub fn run(
+    t: &[Word; TABLE_WORDS],
+    z: &mut [Word; STATE_WORDS],
+    rs: &mut [[Word; RECORD_WORDS]],
+    limit: Steps,
+) -> Ran
+    ensures { λ r. ⌜ record { done = record { number = r .number; steps = r .steps; left = r .left; state = now (z .exit) }; records = now (rs .exit) } ≡ ranAt (now (t .entry)) (now (z .entry)) (now (rs .entry)) limit ⌝ }
 {
-    let number = lent_number(t, z);
+    let number = records_number(t, z, rs);
     if number != ACCEPTED {
         return Ran {
             number: number,
@@ -191,6 +226,7 @@ pub fn run(t: &[Word; TABLE_WORDS], z: &mut [Word; STATE_WORDS], limit: Steps) -
         };
     }
     let r = step_run::run_on(t, z, limit);
+    recount_in(rs, t, z, number);
     Ran {
         number: ACCEPTED,
         steps: r.steps,
@@ -261,18 +297,32 @@ pub fn write(t: &[Word; TABLE_WORDS], out: &mut [u8]) -> Written
     }
 }
 
-// Takes up to 64 named steps and posts out of lent words (`step_poll`), one by one until the first refusal: 22 where there are more, then 10 and 25, and the state stays; else
-// how many were accepted, and the number of the refusal.
+// Takes up to 64 named steps and posts out of lent words (`step_poll`), one by one until the first refusal: 22 where there are more, then 10, 25 and 26, and state and records stay; else
+// how many were accepted, and the number of the refusal, and the records are those of the accepted part.
 pub fn poll(
     t: &[Word; TABLE_WORDS],
     z: &mut [Word; STATE_WORDS],
+    rs: &mut [[Word; RECORD_WORDS]],
     items: &[Word; POLL_WORDS],
     count: usize,
 ) -> Polled
-    ensures { λ r. ⌜ record { number = r .number; accepted = r .accepted; state = now (z .exit) } ≡ polledTo (now (t .entry)) (now (z .entry)) (now (items .entry)) count ⌝ }
+    ensures { λ r. ⌜ record { done = record { number = r .number; accepted = r .accepted; state = now (z .exit) }; records = now (rs .exit) } ≡ polledAt (now (t .entry)) (now (z .entry)) (now (rs .entry)) (now (items .entry)) count ⌝ }
 {
-    let number = lent_number(t, z);
-    step_poll::poll_on(t, z, items, count, number)
+    let number = records_number(t, z, rs);
+    let p = step_poll::poll_on(t, z, items, count, number);
+    recount_in(rs, t, z, number);
+    p
+}
+
+// Sets the desk's records by counting, whatever they hold: 10 where the table or the state is bad, 25 for another version, 26 where they are not as many as the pools, and they stay; else 0.
+pub fn figures(
+    t: &[Word; TABLE_WORDS],
+    z: &[Word; STATE_WORDS],
+    rs: &mut [[Word; RECORD_WORDS]],
+) -> Word
+    ensures { λ r. ⌜ record { number = r; records = now (rs .exit) } ≡ figuredTo (now (t .entry)) (now (z .entry)) (now (rs .entry)) ⌝ }
+{
+    figure_in(rs, t, z, lent_number(t, z))
 }
 
 // Judges the run that a log tells, under version 10 or 20: 10 where the table is bad; 25 for another version; 23 with its place where it is no such log; 24 with the first event at fault and its number; else 0. The state

@@ -10,10 +10,15 @@ use log_write::FOOTER;
 use log_write::HEADER;
 use meaning::Answer;
 use meaning::Name;
+use state_figures::RECORD_WORDS;
 use step_run::Steps;
 use text_lexer::piece;
 use text_read::Reading;
+use tool_print::RECORDS;
 use tool_print::asked_version;
+use tool_print::run_all;
+use tool_print::set_records;
+use tool_print::take;
 use tool_print::tell;
 use tool_print::tell_unread;
 
@@ -42,20 +47,25 @@ fn tell_footer() {
 }
 
 // Takes the first listed step and says its event.
-fn log_once(t: &[Word; TABLE_WORDS], z: &mut [Word; STATE_WORDS]) {
+fn log_once(t: &[Word; TABLE_WORDS], z: &mut [Word; STATE_WORDS], rs: &mut [[Word; RECORD_WORDS]]) {
     let r = engine::list(t, z, 0);
     if r.number != 0 {
         return;
     }
     let name = r.name;
-    let a = engine::step(t, z, name);
+    let a = take(t, z, rs, name);
     tell_event(name, a);
 }
 
-fn log_steps(t: &[Word; TABLE_WORDS], z: &mut [Word; STATE_WORDS], steps: Steps) {
+fn log_steps(
+    t: &[Word; TABLE_WORDS],
+    z: &mut [Word; STATE_WORDS],
+    rs: &mut [[Word; RECORD_WORDS]],
+    steps: Steps,
+) {
     let mut n: Steps = 0;
     while n < steps {
-        log_once(t, z);
+        log_once(t, z, rs);
         n += 1;
     }
 }
@@ -63,9 +73,12 @@ fn log_steps(t: &[Word; TABLE_WORDS], z: &mut [Word; STATE_WORDS], steps: Steps)
 // A run on a copy of the state says how many steps there are; they are then taken again, one by one.
 fn log_run(t: &[Word; TABLE_WORDS], z: &mut [Word; STATE_WORDS]) {
     let mut y: [Word; STATE_WORDS] = *z;
-    let r = engine::run(t, &mut y, STEPS);
+    let mut rs: [[Word; RECORD_WORDS]; RECORDS] = [[0; RECORD_WORDS]; RECORDS];
+    set_records(t, z, &mut rs);
+    let r = run_all(t, &mut y, &mut rs, STEPS);
+    set_records(t, z, &mut rs);
     tell_header();
-    log_steps(t, z, r.steps);
+    log_steps(t, z, &mut rs, r.steps);
     tell_footer();
 }
 

@@ -18,7 +18,9 @@ use Rattle.step_poll.specs.Poll.{Polling}
 use Rattle.engine.specs.declared.Ran.{Ran}
 use Rattle.engine.specs.declared.Verdict.{Verdict}
 use Rattle.engine.specs.declared.Written.{Written}
+use Rattle.state_figures.specs.Figures.{Figured}
 use Rattle.engine.specs.Engine.{Left, Stepped, RanTo, WrittenTo}
+use Rattle.engine.specs.Desk.{AtDesk}
 use Rattle.engine.specs.Calls.{Act, aStep, aPost, did, numbers, after}
 use Rattle.engine.proofs.check.Reads as check
 use Rattle.engine.proofs.fresh.Reads as fresh
@@ -32,8 +34,10 @@ use Rattle.engine.proofs.write.Reads as write
 use Rattle.engine.proofs.poll.Reads as poll
 use Rattle.engine.proofs.judge.Reads as judge
 use Rattle.engine.proofs.repair.Reads as repair
-use Rattle.proof_demands.specs.Demands.{Allowed, AllAllowed}
-use Rattle.proof_demands.proofs.Promises.{Lent, One, Two, Three}
+use Rattle.engine.proofs.figures.Reads as figures
+use Rattle.proof_demands.specs.Demands.{Agrees, Allowed, AllAllowed}
+use Rattle.proof_demands.proofs.Promises.{Lent, Desk, One, Two, Three, Four}
+use Rattle.proof_demands.proofs.AtDesk.{step-agrees, post-agrees}
 
 -- each statement takes the promise of the code twice, for what was lent before
 pub check-firm : (κ : One) (t t₁ t₂ : Lent) (r₁ r₂ : Verdict) → check.Post κ (t, tt) r₁ (t₁, tt) → check.Post κ (t, tt) r₂ (t₂, tt) → r₁ ≡ r₂
@@ -45,11 +49,6 @@ module _ (κ : Two) where
       → (r₁ ≡ r₂) × (now z₁ ≡ now z₂)
   fresh-firm t z t₁ t₂ z₁ z₂ v v₁ v₂ r₁ r₂ p₁ p₂ = let p = p₁ ∙ sym p₂ in (ap (λ (o : Left). o .number) p, ap (λ (o : Left). o .state) p)
 
-  pub step-firm : (t z t₁ t₂ z₁ z₂ : Lent) (n n₁ n₂ : Name) (r₁ r₂ : Answer)
-      → step.Post κ (t, (z, (n, tt))) r₁ (t₁, (z₁, (n₁, tt))) → step.Post κ (t, (z, (n, tt))) r₂ (t₂, (z₂, (n₂, tt)))
-      → (r₁ ≡ r₂) × (now z₁ ≡ now z₂)
-  step-firm t z t₁ t₂ z₁ z₂ n n₁ n₂ r₁ r₂ p₁ p₂ = let p = p₁ ∙ sym p₂ in (ap (λ (o : Stepped). o .answer) p, ap (λ (o : Stepped). o .state) p)
-
   pub post-firm : (t z t₁ t₂ z₁ z₂ : Lent) (name name₁ name₂ : ℕ) (g g₁ g₂ : Tuple) (r₁ r₂ : ℕ)
       → post.Post κ (t, (z, (name, (g, tt)))) r₁ (t₁, (z₁, (name₁, (g₁, tt)))) → post.Post κ (t, (z, (name, (g, tt)))) r₂ (t₂, (z₂, (name₂, (g₂, tt))))
       → (r₁ ≡ r₂) × (now z₁ ≡ now z₂)
@@ -59,15 +58,6 @@ module _ (κ : Two) where
       → list.Post κ (t, (z, (k, tt))) r₁ (t₁, (z₁, (k₁, tt))) → list.Post κ (t, (z, (k, tt))) r₂ (t₂, (z₂, (k₂, tt)))
       → r₁ ≡ r₂
   list-firm t z t₁ t₂ z₁ z₂ k k₁ k₂ r₁ r₂ p₁ p₂ = p₁ ∙ sym p₂
-
-  pub run-firm : (t z t₁ t₂ z₁ z₂ : Lent) (limit limit₁ limit₂ : ℕ) (r₁ r₂ : Ran)
-      → run.Post κ (t, (z, (limit, tt))) r₁ (t₁, (z₁, (limit₁, tt))) → run.Post κ (t, (z, (limit, tt))) r₂ (t₂, (z₂, (limit₂, tt)))
-      → (r₁ ≡ r₂) × (now z₁ ≡ now z₂)
-  run-firm t z t₁ t₂ z₁ z₂ limit limit₁ limit₂ r₁ r₂ p₁ p₂ =
-      let p = p₁ ∙ sym p₂ in (
-        ap (λ (o : RanTo). record { number = o .number; steps = o .steps; left = o .left }) p,
-        ap (λ (o : RanTo). o .state) p,
-      )
 
   pub read-firm : (text t text₁ text₂ t₁ t₂ : Lent) (r₁ r₂ : Reading)
       → read.Post κ (text, (t, tt)) r₁ (text₁, (t₁, tt)) → read.Post κ (text, (t, tt)) r₂ (text₂, (t₂, tt))
@@ -101,29 +91,62 @@ module _ (κ : Two) where
         ap (λ (o : Repair). o .buffer) p,
       )
 
-pub poll-firm : (κ : Three) (t z w t₁ t₂ z₁ z₂ w₁ w₂ : Lent) (count count₁ count₂ : ℕ) (r₁ r₂ : Polled)
-    → poll.Post κ (t, (z, (w, (count, tt)))) r₁ (t₁, (z₁, (w₁, (count₁, tt)))) → poll.Post κ (t, (z, (w, (count, tt)))) r₂ (t₂, (z₂, (w₂, (count₂, tt))))
-    → (r₁ ≡ r₂) × (now z₁ ≡ now z₂)
-poll-firm κ t z w t₁ t₂ z₁ z₂ w₁ w₂ count count₁ count₂ r₁ r₂ p₁ p₂ =
-    let p = p₁ ∙ sym p₂ in (ap (λ (o : Polling). record { number = o .number; accepted = o .accepted }) p, ap (λ (o : Polling). o .state) p)
+-- the calls with records
+module _ (κ : Three) where
+  pub step-firm : (t z t₁ t₂ z₁ z₂ : Lent) (rs rs₁ rs₂ : Desk) (n n₁ n₂ : Name) (r₁ r₂ : Answer)
+      → step.Post κ (t, (z, (rs, (n, tt)))) r₁ (t₁, (z₁, (rs₁, (n₁, tt)))) → step.Post κ (t, (z, (rs, (n, tt)))) r₂ (t₂, (z₂, (rs₂, (n₂, tt))))
+      → (r₁ ≡ r₂) × (now z₁ ≡ now z₂) × (now rs₁ ≡ now rs₂)
+  step-firm t z t₁ t₂ z₁ z₂ rs rs₁ rs₂ n n₁ n₂ r₁ r₂ p₁ p₂ =
+      let p = p₁ ∙ sym p₂ in (ap (λ (o : AtDesk Stepped). o .done .answer) p, ap (λ (o : AtDesk Stepped). o .done .state) p, ap (λ (o : AtDesk Stepped). o .records) p)
 
--- WHAT THE PROMISES ALLOW is what the demands speak of
+  pub run-firm : (t z t₁ t₂ z₁ z₂ : Lent) (rs rs₁ rs₂ : Desk) (limit limit₁ limit₂ : ℕ) (r₁ r₂ : Ran)
+      → run.Post κ (t, (z, (rs, (limit, tt)))) r₁ (t₁, (z₁, (rs₁, (limit₁, tt)))) → run.Post κ (t, (z, (rs, (limit, tt)))) r₂ (t₂, (z₂, (rs₂, (limit₂, tt))))
+      → (r₁ ≡ r₂) × (now z₁ ≡ now z₂) × (now rs₁ ≡ now rs₂)
+  run-firm t z t₁ t₂ z₁ z₂ rs rs₁ rs₂ limit limit₁ limit₂ r₁ r₂ p₁ p₂ =
+      let p = p₁ ∙ sym p₂ in (
+        ap (λ (o : AtDesk RanTo). record { number = o .done .number; steps = o .done .steps; left = o .done .left }) p,
+        ap (λ (o : AtDesk RanTo). o .done .state) p,
+        ap (λ (o : AtDesk RanTo). o .records) p,
+      )
+
+  pub figures-firm : (t z t₁ t₂ z₁ z₂ : Lent) (rs rs₁ rs₂ : Desk) (r₁ r₂ : ℕ)
+      → figures.Post κ (t, (z, (rs, tt))) r₁ (t₁, (z₁, (rs₁, tt))) → figures.Post κ (t, (z, (rs, tt))) r₂ (t₂, (z₂, (rs₂, tt)))
+      → (r₁ ≡ r₂) × (now rs₁ ≡ now rs₂)
+  figures-firm t z t₁ t₂ z₁ z₂ rs rs₁ rs₂ r₁ r₂ p₁ p₂ = let p = p₁ ∙ sym p₂ in (ap (λ (o : Figured). o .number) p, ap (λ (o : Figured). o .records) p)
+
+pub poll-firm : (κ : Four) (t z w t₁ t₂ z₁ z₂ w₁ w₂ : Lent) (rs rs₁ rs₂ : Desk) (count count₁ count₂ : ℕ) (r₁ r₂ : Polled)
+    → poll.Post κ (t, (z, (rs, (w, (count, tt))))) r₁ (t₁, (z₁, (rs₁, (w₁, (count₁, tt))))) → poll.Post κ (t, (z, (rs, (w, (count, tt))))) r₂ (t₂, (z₂, (rs₂, (w₂, (count₂, tt)))))
+    → (r₁ ≡ r₂) × (now z₁ ≡ now z₂) × (now rs₁ ≡ now rs₂)
+poll-firm κ t z w t₁ t₂ z₁ z₂ w₁ w₂ rs rs₁ rs₂ count count₁ count₂ r₁ r₂ p₁ p₂ =
+    let p = p₁ ∙ sym p₂ in (
+      ap (λ (o : AtDesk Polling). record { number = o .done .number; accepted = o .done .accepted }) p,
+      ap (λ (o : AtDesk Polling). o .done .state) p,
+      ap (λ (o : AtDesk Polling). o .records) p,
+    )
+
+-- WHAT THE PROMISES ALLOW is what the demands speak of, with records that agree; and so they do again
 module _ (t : List ℕ) where
   -- one call
-  pub allowed-is : (a : Act) (z : List ℕ) (r : ℕ) (y : List ℕ) → Allowed t a z r y → (r ≡ did t a z .number) × (y ≡ did t a z .state)
+  pub allowed-is : (a : Act) (z : List ℕ) (rs : List (List ℕ)) → Agrees t z rs → (r : ℕ) (y : List ℕ) (ys : List (List ℕ)) → Allowed t a z rs r y ys
+      → (r ≡ did t a z .number) × (y ≡ did t a z .state) × Agrees t y ys
   unfolding Allowed did
-  allowed-is (aStep n) z r y h = (h .1 ∙ ap (λ (o : Stepped). o .answer .number) (h .2), ap (λ (o : Stepped). o .state) (h .2))
-  allowed-is (aPost name g) z r y h = (ap (λ (o : Left). o .number) h, ap (λ (o : Left). o .state) h)
+  allowed-is (aStep n) z rs e r y ys h =
+      let w = step-agrees t z rs e n (h .0) y ys (h .2) in
+      (h .1 ∙ ap (λ (o : Stepped). o .answer .number) (w .0), ap (λ (o : Stepped). o .state) (w .0), w .1)
+  allowed-is (aPost name g) z rs e r y ys h =
+      (ap (λ (o : Left). o .number) (h .0), ap (λ (o : Left). o .state) (h .0), post-agrees t z rs e name g r y ys (h .0) (h .1))
 
   -- and calls one after the other: no later one does anything but its own
-  pub all-allowed-is : (acts : List Act) (z : List ℕ) (rs : List ℕ) (y : List ℕ) → AllAllowed t acts z rs y → (rs ≡ numbers t acts z) × (y ≡ after t acts z)
+  pub all-allowed-is : (acts : List Act) (z : List ℕ) (rs : List (List ℕ)) → Agrees t z rs → (ks y : List ℕ) (ys : List (List ℕ)) → AllAllowed t acts z rs ks y ys
+      → (ks ≡ numbers t acts z) × (y ≡ after t acts z) × Agrees t y ys
   unfolding AllAllowed after numbers
-  all-allowed-is [] z [] y h = (refl, h)
-  all-allowed-is [] z (r ∷ rs) y h = absurd h
-  all-allowed-is (a ∷ rest) z [] y h = absurd h
-  all-allowed-is (a ∷ rest) z (r ∷ rs) y h =
-      let one = allowed-is a z r (h .0) (h .1) in
-      let others = all-allowed-is rest (h .0) rs y (h .2) in (
+  all-allowed-is [] z rs e [] y ys h = (refl, h .0, rw (h .0, h .1) e)
+  all-allowed-is [] z rs e (k ∷ ks) y ys h = absurd h
+  all-allowed-is (a ∷ rest) z rs e [] y ys h = absurd h
+  all-allowed-is (a ∷ rest) z rs e (k ∷ ks) y ys h =
+      let one = allowed-is a z rs e k (h .0) (h .1) (h .2) in
+      let others = all-allowed-is rest (h .0) (h .1) (one .2) ks y ys (h .3) in (
         ap₂ _∷_ (one .0) (others .0 ∙ ap (numbers t rest) (one .1)),
         others .1 ∙ ap (after t rest) (one .1),
+        others .2,
       )

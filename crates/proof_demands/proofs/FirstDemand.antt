@@ -27,7 +27,7 @@ use Rattle.state_fits.specs.Fresh.{fresh}
 use Rattle.proof_steps.proofs.Choices.{by-choice, chosen, passed}
 use Rattle.engine.specs.Engine.{Left, valid, versionNumber, askedNumber, lentNumber, verdictOf, freshened, fitting, Stepped, stepped, postedTo}
 use Rattle.engine.specs.Calls.{Act, aStep, aPost, did}
-use Rattle.proof_demands.specs.Promises.{Freshens, Steps, Posts}
+use Rattle.proof_demands.specs.Promises.{Freshens, StepsOn, Posts}
 use Rattle.proof_demands.specs.Demands.{among, checkNumbers, freshNumbers, stepNumbers, postNumbers, permitted, given, stateGiven}
 use Rattle.engine.proofs.CallLaws.{asked-invalid, asked-valid, asked-known}
 use Rattle.proof_valid.proofs.NumberGiven.{stepped-number, posted-number}
@@ -91,7 +91,7 @@ module _ (t : List ℕ) (v : ℕ) (z : List ℕ) (r : ℕ) (y : List ℕ) (promi
       (asked-valid t v asked, asked-known t v asked, ap (λ (o : Left). o .state) (promise ∙ chosen (eqb (askedNumber t v) 0) _ _ (eq-eqb (askedNumber t v) 0 asked)))
 
 -- STEP
-module _ (t z : List ℕ) (n : Name) (r : Answer) (y : List ℕ) (promise : Steps t z n r y) where
+module _ (t z : List ℕ) (n : Name) (r : Answer) (y : List ℕ) (promise : StepsOn t z n r y) where
   step-is : r .number ≡ stepped t z n .answer .number
   step-is = ap (λ (o : Stepped). o .answer .number) promise
 

@@ -24,3 +24,6 @@ pub mod Polls
 pub mod Judgements
 pub mod RepairNumbers
 pub mod Boards
+pub mod Counted
+pub mod AtDesk
+pub mod Figures

@@ -27,7 +27,7 @@ use Rattle.engine.specs.declared.Ran.{Ran}
 use Rattle.engine.specs.Engine.{lentNumber, fitting, listedAt, RanTo, ended, ranTo}
 use Rattle.engine.proofs.CallLaws.{table-fits, checks-hold, state-fits, by-lent, lent-zero}
 use Rattle.engine.specs.Calls.{Act, aStep, did, allAccepted, after, Valid}
-use Rattle.proof_demands.specs.Promises.{Lists, Runs}
+use Rattle.proof_demands.specs.Promises.{Lists, RunsOn}
 use Rattle.proof_demands.specs.Demands.{among, listNumbers, runNumbers, acceptedSteps, runSteps, runLeft, ranGiven}
 use Rattle.proof_demands.proofs.StatesLeft.{step-number}
 use Rattle.proof_demands.proofs.RunSteps.{listed-is, listed-accepts, run-accepted, run-is-steps}
@@ -101,7 +101,7 @@ module _ (t z : List ℕ) (v : Valid t z) where
       (sym (listed-is t z v j) ∙ same ∙ listed-is t z v k)
 
 -- RUN
-module _ (t z : List ℕ) (limit : ℕ) (r : Ran) (y : List ℕ) (promise : Runs t z limit r y) where
+module _ (t z : List ℕ) (limit : ℕ) (r : Ran) (y : List ℕ) (promise : RunsOn t z limit r y) where
   by-ran : (P : RanTo → Type 0) → (fitting t z ≡ true → P (ended (ran t limit (instancesOf z) (queuesOf z)))) → (fitting t z ≡ false → P (record { number = lentNumber t z; steps = 0; left = 0; state = z }))
       → P (record { number = r .number; steps = r .steps; left = r .left; state = y })
   unfolding ranTo

@@ -26,7 +26,8 @@ use Rattle.state_fits.specs.Fresh.{fresh}
 use Rattle.engine.specs.declared.Verdict.{Verdict}
 use Rattle.engine.specs.Engine.{Left, askedNumber, lentNumber, verdictOf, freshened, fitting, Stepped, leaving, stepped, postedTo}
 use Rattle.engine.proofs.CallLaws.{by-lent, by-asked}
-use Rattle.proof_valid.proofs.NumberGiven.{traffic-zero, stepped-number, posted-number}
+use Rattle.proof_figures.proofs.EveryStep.{traffic-zero}
+use Rattle.proof_valid.proofs.NumberGiven.{stepped-number, posted-number}
 use Rattle.proof_demands.specs.Demands.{among, checkNumbers, freshNumbers, stepNumbers, postNumbers}
 
 -- a refused step says its number and nothing else

@@ -14,14 +14,14 @@ use Rattle.step_list.specs.Listing.{listed, chosen}
 use Rattle.proof_listing.proofs.OneBranch.{withBranch, one-branch, listed-one-branch}
 use Rattle.engine.specs.Calls.{Valid}
 use Rattle.engine.proofs.CallLaws.{table-fits, checks-hold, state-fits}
-use Rattle.proof_demands.specs.Promises.{Steps, Lists}
+use Rattle.proof_demands.specs.Promises.{StepsOn, Lists}
 use Rattle.proof_demands.proofs.SecondDemand.{step-permits}
 use Rattle.proof_demands.proofs.RunSteps.{listed-is}
 
 module _ (t z : List ℕ) where
   -- two accepted steps that differ only in the branch (and in values) at an xorSplit do not differ in it
   pub step-one-branch : (n : Name) (b : ℕ) (g : Tuple) (r o : Answer) (y x : List ℕ) → kindIn (elementNamed t n) ≡ xorSplit
-      → Steps t z n r y → Steps t z (withBranch n b g) o x → r .number ≡ 0 → o .number ≡ 0 → n .branch ≡ b
+      → StepsOn t z n r y → StepsOn t z (withBranch n b g) o x → r .number ≡ 0 → o .number ≡ 0 → n .branch ≡ b
   step-one-branch n b g r o y x split p c d e =
       let h = step-permits t z n r y p d in
       let k = step-permits t z (withBranch n b g) o x c e in

@@ -14,11 +14,11 @@ use Rattle.paper.specs.Collaborations.{Seen, Steps as Transition, Posts as Deli
 use Rattle.proof_paper.specs.Decoders.{collaborationOf, namedOf, valuesOf, seenAs, toldOf}
 use Rattle.proof_paper.specs.Calls.{stateOf}
 use Rattle.proof_paper.proofs.Theorems.{step-sound, step-complete, post-sound, post-complete}
-use Rattle.proof_demands.specs.Promises.{Steps, Posts}
+use Rattle.proof_demands.specs.Promises.{StepsOn, Posts}
 
 module _ (t z : List ℕ) (valid : Valid t z) where
   -- A STEP
-  module _ (n : Name) (r : Answer) (y : List ℕ) (promise : Steps t z n r y) where
+  module _ (n : Name) (r : Answer) (y : List ℕ) (promise : StepsOn t z n r y) where
     answer-is : r ≡ stepped t z n .answer
     answer-is = ap (λ (o : Stepped). o .answer) promise
 

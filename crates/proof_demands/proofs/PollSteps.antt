@@ -6,7 +6,7 @@ use mathlib.Core.Bool.{Bool, true, false}
 use mathlib.Core.List.{List, [], _∷_, _++_}
 use native.Mathlib.Omega.{arith}
 use borrow.Author.Tests.{eqb-true, eqb-false, eq-eqb}
-use lib.Dec.{eqb}
+use lib.Dec.{eqb, ltb}
 use lib.ListN.{length, take, drop}
 use lib.Seq.{drop-drop}
 use Rattle.base_words.specs.Pick.{if_then_else_}
@@ -14,10 +14,11 @@ use Rattle.base_words.specs.Words.{at}
 use Rattle.base_words.proofs.AllLaws.{and-left, and-right}
 use Rattle.base_words.proofs.PickLaws.{and-true}
 use Rattle.proof_steps.proofs.Choices.{by-choice}
-use Rattle.step_poll.specs.Items.{itemWords, actIn, actsIn}
-use Rattle.step_poll.specs.Poll.{Left, Polling, oneBefore, polledBy}
+use Rattle.step_poll.specs.Items.{itemWords, itemsMost, actIn, actsIn}
+use Rattle.step_poll.specs.Poll.{Left, Polling, oneBefore, polledBy, polledFrom}
 use Rattle.step_poll.proofs.PollLaws.{first-accepted}
-use Rattle.engine.specs.Calls.{Act, did, numbers, allAccepted, after, Valid}
+use Rattle.engine.specs.Engine.{lentNumber}
+use Rattle.engine.specs.Calls.{Act, did, numbers, allAccepted, after, Valid, polledTo}
 use Rattle.engine.proofs.KeepsValid.{after-valid}
 use Rattle.proof_demands.specs.Polls.{untilRefused, thenPoll}
 use Rattle.proof_demands.proofs.FirstDemand.{act-refused}
@@ -96,6 +97,15 @@ module _ (t : List ℕ) where
 
   pub poll-valid : (acts : List Act) (z : List ℕ) → Valid t z → Valid t (polledBy (did t) acts z .state)
   poll-valid acts z v = rw (state-after acts z) (after-valid t (take (polledBy (did t) acts z .accepted) acts) z v)
+
+-- a poll leaves a valid state
+pub polled-valid : (t z : List ℕ) → Valid t z → (w : List ℕ) (count : ℕ) → Valid t (polledTo t z w count .state)
+unfolding polledTo polledFrom
+polled-valid t z v w count =
+    by-choice (λ (p : Polling). Valid t (p .state)) (ltb itemsMost count) (record { number = 22; accepted = 0; state = z }) _ (λ b. v)
+    (λ b.
+    by-choice (λ (p : Polling). Valid t (p .state)) (eqb (lentNumber t z) 0) (polledBy (did t) (actsIn w count) z)
+    (record { number = lentNumber t z; accepted = 0; state = z }) (λ b. poll-valid t (actsIn w count) z v) (λ b. v))
 
 -- TWO POLLS
 before-then : (p q : Polling) → oneBefore (thenPoll p q) ≡ thenPoll (oneBefore p) q

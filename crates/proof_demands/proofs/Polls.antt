@@ -24,9 +24,9 @@ use Rattle.engine.specs.Engine.{fitting, lentNumber}
 use Rattle.engine.proofs.CallLaws.{by-lent, lent-zero}
 use Rattle.engine.specs.Calls.{Act, aStep, aPost, did, numbers, allAccepted, after, Valid, polledTo}
 use Rattle.proof_valid.proofs.NumberGiven.{stepped-number, posted-number}
-use Rattle.proof_demands.specs.Promises.{Polls}
+use Rattle.proof_demands.specs.Promises.{PollsOn}
 use Rattle.proof_demands.specs.Polls.{untilRefused, thenPoll, pollNumbers}
-use Rattle.proof_demands.specs.Demands.{among, allPermitted, numbersGiven, givenAfter, Further, neverPasses, AllAllowed}
+use Rattle.proof_demands.specs.Demands.{among, allPermitted, numbersGiven, givenAfter, Further, neverPasses, Agrees, AllAllowed}
 use Rattle.proof_demands.proofs.Numbers.{first-among, unfit-number}
 use Rattle.proof_demands.proofs.Firmness.{all-allowed-is}
 use Rattle.proof_demands.proofs.SecondDemand.{steps-exactly, numbers-exactly, after-exactly}
@@ -82,7 +82,7 @@ poll-numbers t z w count =
     (λ b. by-lent Known t z refl refl refl))
 
 -- A POLL EQUALS THE CALLS ONE BY ONE
-module _ (t z w : List ℕ) (count : ℕ) (few : count ≤ itemsMost) (fits : fitting t z ≡ true) (r : Polled) (y : List ℕ) (promise : Polls t z w count r y) where
+module _ (t z w : List ℕ) (count : ℕ) (few : count ≤ itemsMost) (fits : fitting t z ≡ true) (r : Polled) (y : List ℕ) (promise : PollsOn t z w count r y) where
   abbrev acts : List Act
   acts = actsIn w count
 
@@ -107,14 +107,14 @@ module _ (t z w : List ℕ) (count : ℕ) (few : count ≤ itemsMost) (fits : fi
   pub poll-part : allAccepted t (take (r .accepted) acts) z ≡ true
   poll-part = ap (λ (p : Polling). allAccepted t (take (p .accepted) acts) z) is ∙ accepted-part t acts z
 
-  -- rs are the numbers that the promises of the single calls allow them to return; the accepted ones leave the poll's state
-  pub poll-called : (rs x : List ℕ) → AllAllowed t acts z rs x → (r .accepted ≡ untilRefused rs) × (r .number ≡ at rs (r .accepted))
-  poll-called rs x c =
-      let e = all-allowed-is t acts z rs x c .0 in
+  -- ks are the numbers that the promises of the single calls allow them to return, with records that agree; the accepted ones leave the poll's state
+  pub poll-called : (rs : List (List ℕ)) → Agrees t z rs → (ks x : List ℕ) (xs : List (List ℕ)) → AllAllowed t acts z rs ks x xs → (r .accepted ≡ untilRefused ks) × (r .number ≡ at ks (r .accepted))
+  poll-called rs a ks x xs c =
+      let e = all-allowed-is t acts z rs a ks x xs c .0 in
       (poll-accepted ∙ ap untilRefused (sym e), poll-number ∙ ap (λ (ks : List ℕ). at ks (r .accepted)) (sym e))
 
-  pub poll-left : (rs x : List ℕ) → AllAllowed t (take (r .accepted) acts) z rs x → y ≡ x
-  poll-left rs x c = poll-state ∙ sym (all-allowed-is t (take (r .accepted) acts) z rs x c .1)
+  pub poll-left : (rs : List (List ℕ)) → Agrees t z rs → (ks x : List ℕ) (xs : List (List ℕ)) → AllAllowed t (take (r .accepted) acts) z rs ks x xs → y ≡ x
+  poll-left rs a ks x xs c = poll-state ∙ sym (all-allowed-is t (take (r .accepted) acts) z rs a ks x xs c .1)
 
   -- DEMAND 2 for the accepted part, and the numbers of all as the rules give them
   pub poll-permitted : (allPermitted t (take (r .accepted) acts) z ≡ true) × (y ≡ givenAfter t (take (r .accepted) acts) z)

@@ -28,12 +28,16 @@ use Rattle.engine.proofs.write.Reads as write
 use Rattle.engine.proofs.poll.Reads as poll
 use Rattle.engine.proofs.judge.Reads as judge
 use Rattle.engine.proofs.repair.Reads as repair
-use Rattle.proof_demands.specs.Promises.{Checks, Freshens, Steps, Posts, Lists, Runs, Reads, Draws, Writes, Polls, Judges, Repairs}
+use Rattle.engine.proofs.figures.Reads as figures
+use Rattle.proof_demands.specs.Promises.{Checks, Freshens, Steps, Posts, Lists, Runs, Reads, Draws, Writes, Polls, Figures, Judges, Repairs}
 use Rattle.proof_demands.specs.Demands.{Allowed}
 
--- a slice or an array that is lent, and the lifetimes of one, of two and of three
+-- a slice or an array that is lent, the desk's records, and the lifetimes of one, of two, of three and of four
 abbrev pub Lent : Type 0
 Lent = RefT (List ℕ)
+
+abbrev pub Desk : Type 0
+Desk = RefT (List (List ℕ))
 
 abbrev pub None : Type 0
 None = Unit {0}
@@ -47,6 +51,9 @@ Two = List ℕ × One
 abbrev pub Three : Type 0
 Three = List ℕ × Two
 
+abbrev pub Four : Type 0
+Four = List ℕ × Three
+
 pub check-promise : (κ : One) (t t₁ : Lent) (r : Verdict) → check.Post κ (t, tt) r (t₁, tt) ≡ Checks (now t) r
 check-promise κ t t₁ r = refl
 
@@ -54,18 +61,12 @@ module _ (κ : Two) where
   pub fresh-promise : (t z t₁ z₁ : Lent) (v v₁ : ℕ) (r : ℕ) → fresh.Post κ (t, (v, (z, tt))) r (t₁, (v₁, (z₁, tt))) ≡ Freshens (now t) v (now z) r (now z₁)
   fresh-promise t z t₁ z₁ v v₁ r = refl
 
-  pub step-promise : (t z t₁ z₁ : Lent) (n n₁ : Name) (r : Answer) → step.Post κ (t, (z, (n, tt))) r (t₁, (z₁, (n₁, tt))) ≡ Steps (now t) (now z) n r (now z₁)
-  step-promise t z t₁ z₁ n n₁ r = refl
-
   pub post-promise : (t z t₁ z₁ : Lent) (name name₁ : ℕ) (g g₁ : Tuple) (r : ℕ)
       → post.Post κ (t, (z, (name, (g, tt)))) r (t₁, (z₁, (name₁, (g₁, tt)))) ≡ Posts (now t) (now z) name g r (now z₁)
   post-promise t z t₁ z₁ name name₁ g g₁ r = refl
 
   pub list-promise : (t z t₁ z₁ : Lent) (k k₁ : ℕ) (r : Listed) → list.Post κ (t, (z, (k, tt))) r (t₁, (z₁, (k₁, tt))) ≡ Lists (now t) (now z) k r
   list-promise t z t₁ z₁ k k₁ r = refl
-
-  pub run-promise : (t z t₁ z₁ : Lent) (limit limit₁ : ℕ) (r : Ran) → run.Post κ (t, (z, (limit, tt))) r (t₁, (z₁, (limit₁, tt))) ≡ Runs (now t) (now z) limit r (now z₁)
-  run-promise t z t₁ z₁ limit limit₁ r = refl
 
   pub read-promise : (text t text₁ t₁ : Lent) (r : Reading) → read.Post κ (text, (t, tt)) r (text₁, (t₁, tt)) ≡ Reads (now text) (now t) r (now t₁)
   read-promise text t text₁ t₁ r = refl
@@ -82,17 +83,30 @@ module _ (κ : Two) where
   pub repair-promise : (text out text₁ out₁ : Lent) (r : Repaired) → repair.Post κ (text, (out, tt)) r (text₁, (out₁, tt)) ≡ Repairs (now text) (now out) r (now out₁)
   repair-promise text out text₁ out₁ r = refl
 
-  -- so too what the demands say that a step and a post are allowed
-  pub step-allowed : (t z t₁ z₁ : Lent) (n n₁ : Name) (k : ℕ)
-      → ((a : Answer) × (k ≡ a .number) × step.Post κ (t, (z, (n, tt))) a (t₁, (z₁, (n₁, tt)))) ≡ Allowed (now t) (aStep n) (now z) k (now z₁)
+  -- so too what the demands say that a post is allowed, which is lent no records
+  pub post-allowed : (t z t₁ z₁ : Lent) (rs : List (List ℕ)) (name name₁ : ℕ) (g g₁ : Tuple) (r : ℕ)
+      → (post.Post κ (t, (z, (name, (g, tt)))) r (t₁, (z₁, (name₁, (g₁, tt)))) × (rs ≡ rs)) ≡ Allowed (now t) (aPost name g) (now z) rs r (now z₁) rs
   unfolding Allowed
-  step-allowed t z t₁ z₁ n n₁ k = refl
+  post-allowed t z t₁ z₁ rs name name₁ g g₁ r = refl
 
-  pub post-allowed : (t z t₁ z₁ : Lent) (name name₁ : ℕ) (g g₁ : Tuple) (r : ℕ)
-      → post.Post κ (t, (z, (name, (g, tt)))) r (t₁, (z₁, (name₁, (g₁, tt)))) ≡ Allowed (now t) (aPost name g) (now z) r (now z₁)
+-- THE CALLS WITH RECORDS
+module _ (κ : Three) where
+  pub step-promise : (t z t₁ z₁ : Lent) (rs rs₁ : Desk) (n n₁ : Name) (r : Answer)
+      → step.Post κ (t, (z, (rs, (n, tt)))) r (t₁, (z₁, (rs₁, (n₁, tt)))) ≡ Steps (now t) (now z) (now rs) n r (now z₁) (now rs₁)
+  step-promise t z t₁ z₁ rs rs₁ n n₁ r = refl
+
+  pub run-promise : (t z t₁ z₁ : Lent) (rs rs₁ : Desk) (limit limit₁ : ℕ) (r : Ran)
+      → run.Post κ (t, (z, (rs, (limit, tt)))) r (t₁, (z₁, (rs₁, (limit₁, tt)))) ≡ Runs (now t) (now z) (now rs) limit r (now z₁) (now rs₁)
+  run-promise t z t₁ z₁ rs rs₁ limit limit₁ r = refl
+
+  pub figures-promise : (t z t₁ z₁ : Lent) (rs rs₁ : Desk) (r : ℕ) → figures.Post κ (t, (z, (rs, tt))) r (t₁, (z₁, (rs₁, tt))) ≡ Figures (now t) (now z) (now rs) r (now rs₁)
+  figures-promise t z t₁ z₁ rs rs₁ r = refl
+
+  pub step-allowed : (t z t₁ z₁ : Lent) (rs rs₁ : Desk) (n n₁ : Name) (k : ℕ)
+      → ((a : Answer) × (k ≡ a .number) × step.Post κ (t, (z, (rs, (n, tt)))) a (t₁, (z₁, (rs₁, (n₁, tt))))) ≡ Allowed (now t) (aStep n) (now z) (now rs) k (now z₁) (now rs₁)
   unfolding Allowed
-  post-allowed t z t₁ z₁ name name₁ g g₁ r = refl
+  step-allowed t z t₁ z₁ rs rs₁ n n₁ k = refl
 
-pub poll-promise : (κ : Three) (t z w t₁ z₁ w₁ : Lent) (count count₁ : ℕ) (r : Polled)
-    → poll.Post κ (t, (z, (w, (count, tt)))) r (t₁, (z₁, (w₁, (count₁, tt)))) ≡ Polls (now t) (now z) (now w) count r (now z₁)
-poll-promise κ t z w t₁ z₁ w₁ count count₁ r = refl
+pub poll-promise : (κ : Four) (t z w t₁ z₁ w₁ : Lent) (rs rs₁ : Desk) (count count₁ : ℕ) (r : Polled)
+    → poll.Post κ (t, (z, (rs, (w, (count, tt))))) r (t₁, (z₁, (rs₁, (w₁, (count₁, tt))))) ≡ Polls (now t) (now z) (now rs) (now w) count r (now z₁) (now rs₁)
+poll-promise κ t z w t₁ z₁ w₁ rs rs₁ count count₁ r = refl

@@ -1,5 +1,5 @@
 -- DEMAND 2: "A step is accepted exactly when the rules permit it, and the state afterwards is the one they give." r is what a call returns and y the
--- state that it leaves, as its promise has them. Assumes nothing.
+-- state that it leaves, as its promise has them, a step's with records that agree (AtDesk.antt). Assumes nothing.
 use Prim.Native.Nat.{ℕ}
 use mathlib.Core.Path.{_≡_, refl, sym, _∙_, ap, ap₂}
 use mathlib.Core.Bool.{Bool, true, false, _&&_}
@@ -19,8 +19,8 @@ use Rattle.proof_steps.proofs.AcceptedParts.{Accepted, accepted-parts, parts-ac
 use Rattle.proof_steps.proofs.Choices.{chosen}
 use Rattle.engine.specs.Engine.{Left, lentNumber, fitting, Stepped, stepped, postedTo}
 use Rattle.engine.specs.Calls.{Act, aStep, aPost, did, numbers, allAccepted, after}
-use Rattle.proof_demands.specs.Promises.{Steps, Posts}
-use Rattle.proof_demands.specs.Demands.{allHold, permitted, given, stateGiven, allPermitted, numbersGiven, givenAfter, AllAllowed}
+use Rattle.proof_demands.specs.Promises.{StepsOn, Posts}
+use Rattle.proof_demands.specs.Demands.{allHold, permitted, given, stateGiven, allPermitted, numbersGiven, givenAfter, Agrees, AllAllowed}
 use Rattle.proof_valid.proofs.NumberGiven.{stepped-number}
 use Rattle.proof_demands.proofs.Numbers.{stepped-traffic, unfit-number}
 use Rattle.proof_demands.proofs.Exactly.{accepted-exactly, state-exactly, number-exactly, accepted-gives}
@@ -41,7 +41,7 @@ module _ (t z : List ℕ) where
     abbrev q : List ℕ
     q = queuesOf z
 
-    module _ (r : Answer) (y : List ℕ) (promise : Steps t z n r y) where
+    module _ (r : Answer) (y : List ℕ) (promise : StepsOn t z n r y) where
       step-is : r .number ≡ stepped t z n .answer .number
       step-is = ap (λ (o : Stepped). o .answer .number) promise
 
@@ -107,8 +107,8 @@ module _ (t : List ℕ) where
   after-exactly [] z = refl
   after-exactly (a ∷ rest) z = after-exactly rest (did t a z .state) ∙ ap (givenAfter t rest) (state-exactly t a z)
 
-  -- so too of what their promises allow them to return, rs, and to leave, y: none does its step in name only
-  pub calls-exactly : (acts : List Act) (z rs y : List ℕ) → AllAllowed t acts z rs y → (rs ≡ numbersGiven t acts z) × (y ≡ givenAfter t acts z)
-  calls-exactly acts z rs y h =
-      let w = all-allowed-is t acts z rs y h in
+  -- so too of what their promises allow them to return, ks, and to leave, y, where the desk's records agree: none does its step in name only
+  pub calls-exactly : (acts : List Act) (z : List ℕ) (rs : List (List ℕ)) → Agrees t z rs → (ks y : List ℕ) (ys : List (List ℕ)) → AllAllowed t acts z rs ks y ys → (ks ≡ numbersGiven t acts z) × (y ≡ givenAfter t acts z)
+  calls-exactly acts z rs a ks y ys h =
+      let w = all-allowed-is t acts z rs a ks y ys h in
       (w .0 ∙ numbers-exactly acts z, w .1 ∙ after-exactly acts z)

@@ -11,9 +11,11 @@ use borrow.Author.Tests.{eqb-true, eq-eqb}
 use Rattle.base_words.specs.Each.{each}
 use Rattle.base_words.proofs.AllLaws.{and-left, and-right}
 use Rattle.base_words.proofs.PickLaws.{and-true}
+use Rattle.base_state.specs.Instances.{instancesOf}
 use Rattle.meaning.specs.declared.Tuple.{Tuple}
+use Rattle.state_figures.specs.Figures.{counted}
 use Rattle.engine.specs.Calls.{Act, did, numbers, allAccepted, after, Valid}
-use Rattle.proof_demands.specs.Demands.{Further, roomFor, neverPasses, AllAllowed}
+use Rattle.proof_demands.specs.Demands.{Further, roomFor, neverPasses, Agrees, AllAllowed}
 use Rattle.engine.proofs.KeepsValid.{did-valid}
 use Rattle.proof_demands.proofs.OneMore.{one-more}
 use Rattle.proof_demands.proofs.Firmness.{all-allowed-is}
@@ -43,23 +45,29 @@ module _ (t : List ℕ) (e : ℕ → List Tuple) where
       (and-right (eqb (did t a z₁ .number) 0) (allAccepted t rest (did t a z₁ .state)) h) never in
       (and-true (eqb (did t a z₂ .number) 0) (allAccepted t rest (did t a z₂ .state)) (eq-eqb (did t a z₂ .number) 0 (o .0)) (w .0), w .1)
 
-  -- THE SAME OF THE CALLS: rs the numbers that their promises allow them to return, y the state that they leave
+  -- THE SAME OF THE CALLS: ks the numbers that their promises allow them to return, y the state and ys the records that they leave; "in the third demand each run's records agree with its state at the start, and both runs end with equal records"
   accepted-zero : (acts : List Act) (z : List ℕ) → allAccepted t acts z ≡ each (λ (k : ℕ). eqb k 0) (numbers t acts z)
   unfolding allAccepted numbers each
   accepted-zero [] z = refl
   accepted-zero (a ∷ rest) z = ap (λ b. eqb (did t a z .number) 0 && b) (accepted-zero rest (did t a z .state))
 
-  pub more-messages-called : (acts : List Act) (z₁ z₂ rs₁ rs₂ y₁ y₂ : List ℕ)
+  pub more-messages-called : (acts : List Act) (z₁ z₂ : List ℕ) (rs₁ rs₂ : List (List ℕ)) (ks₁ ks₂ y₁ y₂ : List ℕ) (ys₁ ys₂ : List (List ℕ))
       → Valid t z₁
       → Valid t z₂
       → Further e z₁ z₂
-      → AllAllowed t acts z₁ rs₁ y₁
-      → AllAllowed t acts z₂ rs₂ y₂
-      → each (λ (k : ℕ). eqb k 0) rs₁ ≡ true
+      → rs₁ ≡ counted t (instancesOf z₁)
+      → rs₂ ≡ counted t (instancesOf z₂)
+      → AllAllowed t acts z₁ rs₁ ks₁ y₁ ys₁
+      → AllAllowed t acts z₂ rs₂ ks₂ y₂ ys₂
+      → each (λ (k : ℕ). eqb k 0) ks₁ ≡ true
       → neverPasses t e acts z₁ ≡ true
-      → (each (λ (k : ℕ). eqb k 0) rs₂ ≡ true) × Further e y₁ y₂
-  more-messages-called acts z₁ z₂ rs₁ rs₂ y₁ y₂ v₁ v₂ f c₁ c₂ h r =
-      let w₁ = all-allowed-is t acts z₁ rs₁ y₁ c₁ in
-      let w₂ = all-allowed-is t acts z₂ rs₂ y₂ c₂ in
+      → (each (λ (k : ℕ). eqb k 0) ks₂ ≡ true) × Further e y₁ y₂ × (ys₁ ≡ ys₂)
+  more-messages-called acts z₁ z₂ rs₁ rs₂ ks₁ ks₂ y₁ y₂ ys₁ ys₂ v₁ v₂ f a₁ a₂ c₁ c₂ h r =
+      let w₁ = all-allowed-is t acts z₁ rs₁ (record { long = v₁ .long; same = a₁ }) ks₁ y₁ ys₁ c₁ in
+      let w₂ = all-allowed-is t acts z₂ rs₂ (record { long = v₂ .long; same = a₂ }) ks₂ y₂ ys₂ c₂ in
       let d = more-messages acts z₁ z₂ v₁ v₂ f (accepted-zero acts z₁ ∙ ap (λ (ks : List ℕ). each (λ (k : ℕ). eqb k 0) ks) (sym (w₁ .0)) ∙ h) r in
-      rw (w₁ .1, w₂ .0, w₂ .1, ← accepted-zero acts z₂) d
+      let more : Further e y₁ y₂ = rw (w₁ .1, w₂ .1) (d .1) in (
+        rw (w₂ .0, ← accepted-zero acts z₂) (d .0),
+        more,
+        w₁ .2 .same ∙ ap (counted t) (more .alike) ∙ sym (w₂ .2 .same),
+      )

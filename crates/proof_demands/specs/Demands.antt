@@ -13,6 +13,8 @@ use Rattle.base_words.specs.Sum.{oneIf}
 use Rattle.base_words.specs.Counts.{names, messages}
 use Rattle.base_words.specs.Words.{at, greatest}
 use Rattle.base_table.specs.Places.{tableWords}
+use Rattle.base_table.specs.Table.{poolCount}
+use Rattle.base_state.specs.Places.{stateWords}
 use Rattle.base_state.specs.Instances.{instancesOf, queuesOf}
 use Rattle.base_state.specs.Versions.{isVersion}
 use Rattle.meaning.specs.declared.Name.{Name}
@@ -24,8 +26,10 @@ use Rattle.meaning.specs.Refusals.{Refusal, firstRefusal}
 use Rattle.meaning.specs.Step.{siteOf, refusals, instancesAfter, queuesAfter}
 use Rattle.meaning.specs.Post.{postRefusals}
 use Rattle.step_list.specs.Listing.{listed}
-use Rattle.engine.specs.Engine.{verdictOf, freshened, lentNumber, fitting, stepped, postedTo, listedAt, RanTo, ranTo, WrittenTo, writtenTo}
+use Rattle.state_figures.specs.Figures.{counted, recordAt}
+use Rattle.engine.specs.Engine.{verdictOf, freshened, lentNumber, fitting, postedTo, listedAt, RanTo, ranTo, WrittenTo, writtenTo}
 use Rattle.engine.specs.Calls.{Act, aStep, aPost, did, after, polledTo, judgedTo}
+use Rattle.engine.specs.Desk.{steppedAt, ranAt, polledAt, figuredTo}
 use Rattle.proof_demands.specs.Promises.{Steps, Posts}
 
 -- DEMAND 1. "Bad ones are refused with the number document 01 gives": 10 where table or state are bad, 25 for another version, else that of the first
@@ -46,7 +50,7 @@ abbrev pub freshNumbers : List ℕ
 freshNumbers = 0 ∷ 10 ∷ 25 ∷ []
 
 abbrev pub stepNumbers : List ℕ
-stepNumbers = 0 ∷ 10 ∷ 11 ∷ 12 ∷ 13 ∷ 14 ∷ 15 ∷ 16 ∷ 17 ∷ 18 ∷ 25 ∷ []
+stepNumbers = 0 ∷ 10 ∷ 11 ∷ 12 ∷ 13 ∷ 14 ∷ 15 ∷ 16 ∷ 17 ∷ 18 ∷ 25 ∷ 26 ∷ []
 
 abbrev pub postNumbers : List ℕ
 postNumbers = 0 ∷ 10 ∷ 17 ∷ 19 ∷ 25 ∷ []
@@ -55,7 +59,10 @@ abbrev pub listNumbers : List ℕ
 listNumbers = 0 ∷ 6 ∷ 10 ∷ 25 ∷ []
 
 abbrev pub runNumbers : List ℕ
-runNumbers = 0 ∷ 10 ∷ 25 ∷ []
+runNumbers = 0 ∷ 10 ∷ 25 ∷ 26 ∷ []
+
+abbrev pub figuresNumbers : List ℕ
+figuresNumbers = 0 ∷ 10 ∷ 25 ∷ 26 ∷ []
 
 abbrev pub readNumbers : List ℕ
 readNumbers = 0 ∷ 1 ∷ 2 ∷ 3 ∷ 4 ∷ []
@@ -139,6 +146,15 @@ unfoldable pub neverPasses : List ℕ → (ℕ → List Tuple) → List Act → 
 neverPasses t e [] z = roomFor e z
 neverPasses t e (a ∷ rest) z = roomFor e z && neverPasses t e rest (did t a z .state)
 
+-- RECORDS THAT AGREE with a state, which is as long as its type says
+pub record Agrees (t z : List ℕ) (rs : List (List ℕ)) : Type 0 where
+  pub long : length z ≡ stateWords
+  pub same : rs ≡ counted t (instancesOf z)
+
+-- what the type of lent records says of each
+abbrev pub Records : List (List ℕ) → Type 0
+Records rs = (p : ℕ) → p < length rs → length (recordAt rs p) ≡ 3
+
 -- THE ROUND TRIP: what the type of a lent table says of its words
 pub record Table (t : List ℕ) : Type 0 where
   pub long : length t ≡ tableWords
@@ -155,34 +171,35 @@ pub data Made (t : List ℕ) : List ℕ → Type 0 where
   byRun : {z : List ℕ} (limit : ℕ) → Made t z → Made t (ranTo t z limit .state)
   byPoll : {z : List ℕ} (w : List ℕ) (count : ℕ) → Made t z → Made t (polledTo t z w count .state)
 
--- neither 10 nor 25
+-- neither 10 nor 25 nor 26
 abbrev pub Right : ℕ → Type 0
-Right k = (k ≡ 10 → ⊥) × (k ≡ 25 → ⊥)
+Right k = (k ≡ 10 → ⊥) × (k ≡ 25 → ⊥) × (k ≡ 26 → ⊥)
 
--- no call answers 10 or 25 to a table and a state, nor for a version that there is
+-- no call answers 10, 25 or 26 to a table, a state and the records that a count over it gives, nor for a version that there is
 pub record NeverBad (t z : List ℕ) : Type 0 where
   pub check : Right (verdictOf t .number)
   pub fresh : (v : ℕ) → isVersion v ≡ true → (y : List ℕ) → Right (freshened t v y .number)
-  pub step : (n : Name) → Right (stepped t z n .answer .number)
+  pub step : (n : Name) → Right (steppedAt t z (counted t (instancesOf z)) n .done .answer .number)
   pub post : (name : ℕ) (g : Tuple) → Right (postedTo t z name g .number)
   pub list : (k : ℕ) → Right (listedAt t z k .number)
-  pub run : (limit : ℕ) → Right (ranTo t z limit .number)
+  pub run : (limit : ℕ) → Right (ranAt t z (counted t (instancesOf z)) limit .done .number)
   pub write : (out : List ℕ) → Right (writtenTo t out .number)
-  pub poll : (w : List ℕ) (count : ℕ) → Right (polledTo t z w count .number)
+  pub poll : (w : List ℕ) (count : ℕ) → Right (polledAt t z (counted t (instancesOf z)) w count .done .number)
+  pub figures : (rs : List (List ℕ)) → length rs ≡ poolCount t → Right (figuredTo t z rs .number)
   pub judge : (v : ℕ) → isVersion v ≡ true → (log : List ℕ) → Right (judgedTo t v log .number)
 
 -- how many steps are accepted
 unfoldable pub acceptedSteps : List ℕ → List ℕ → ℕ
 acceptedSteps t z = length (listed t (instancesOf z) (queuesOf z))
 
--- HOW FIRM THE PROMISES ARE: what the promise of the public call allows, r the number returned and y the state left
-unfoldable pub Allowed : List ℕ → Act → List ℕ → ℕ → List ℕ → Type 0
-Allowed t (aStep n) z r y = (a : Answer) × (r ≡ a .number) × Steps t z n a y
-Allowed t (aPost name g) z r y = Posts t z name g r y
+-- HOW FIRM THE PROMISES ARE: what the promise of the public call allows, r the number returned, y the state and ys the records left; a post is lent no records
+unfoldable pub Allowed : List ℕ → Act → List ℕ → List (List ℕ) → ℕ → List ℕ → List (List ℕ) → Type 0
+Allowed t (aStep n) z rs r y ys = (a : Answer) × (r ≡ a .number) × Steps t z rs n a y ys
+Allowed t (aPost name g) z rs r y ys = Posts t z name g r y × (ys ≡ rs)
 
--- and of calls one after the other, each lent the state x that the one before left
-unfoldable pub AllAllowed : List ℕ → List Act → List ℕ → List ℕ → List ℕ → Type 0
-AllAllowed t [] z [] y = y ≡ z
-AllAllowed t [] z (r ∷ rs) y = ⊥
-AllAllowed t (a ∷ rest) z [] y = ⊥
-AllAllowed t (a ∷ rest) z (r ∷ rs) y = (x : List ℕ) × Allowed t a z r x × AllAllowed t rest x rs y
+-- and of calls one after the other, each lent the state x and the records xs that the one before left
+unfoldable pub AllAllowed : List ℕ → List Act → List ℕ → List (List ℕ) → List ℕ → List ℕ → List (List ℕ) → Type 0
+AllAllowed t [] z rs [] y ys = (y ≡ z) × (ys ≡ rs)
+AllAllowed t [] z rs (k ∷ ks) y ys = ⊥
+AllAllowed t (a ∷ rest) z rs [] y ys = ⊥
+AllAllowed t (a ∷ rest) z rs (k ∷ ks) y ys = (x : List ℕ) × (xs : List (List ℕ)) × Allowed t a z rs k x xs × AllAllowed t rest x xs ks y ys

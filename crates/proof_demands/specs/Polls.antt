@@ -15,4 +15,4 @@ unfoldable pub thenPoll : Polling → Polling → Polling
 thenPoll p q = if eqb (p .number) 0 then record { number = q .number; accepted = q .accepted + p .accepted; state = q .state } else p
 
 abbrev pub pollNumbers : List ℕ
-pollNumbers = 0 ∷ 10 ∷ 11 ∷ 12 ∷ 13 ∷ 14 ∷ 15 ∷ 16 ∷ 17 ∷ 18 ∷ 19 ∷ 22 ∷ 25 ∷ []
+pollNumbers = 0 ∷ 10 ∷ 11 ∷ 12 ∷ 13 ∷ 14 ∷ 15 ∷ 16 ∷ 17 ∷ 18 ∷ 19 ∷ 22 ∷ 25 ∷ 26 ∷ []

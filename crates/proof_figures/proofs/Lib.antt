@@ -1,3 +1,4 @@
 pub mod CountLaws
 pub mod Leaves
 pub mod OwnRecord
+pub mod EveryStep

@@ -8,26 +8,16 @@ use borrow.Author.Tests.{eqb-true}
 use Rattle.base_words.specs.Pick.{if_then_else_}
 use Rattle.base_state.specs.Instances.{instancesOf, queuesOf}
 use Rattle.meaning.specs.declared.Name.{Name}
-use Rattle.meaning.specs.declared.Answer.{Answer}
 use Rattle.meaning.specs.declared.Tuple.{Tuple}
-use Rattle.meaning.specs.declared.Traffic.the-variants.{Nothing, Consumed, Sent}
+use Rattle.meaning.specs.declared.Traffic.the-variants.{Nothing}
 use Rattle.meaning.specs.Tuples.{empty}
 use Rattle.meaning.specs.Queues.{sending}
 use Rattle.meaning.specs.Refusals.{firstRefusal}
 use Rattle.meaning.specs.Post.{Posted, postRefusals, post}
-use Rattle.meaning.specs.Step.{Outcome, Site, siteOf, receives, sends, messageNamed, template, sent, instancesAfter, queuesAfter, traffic, refusals, refused, step}
+use Rattle.meaning.specs.Step.{Outcome, siteOf, instancesAfter, queuesAfter, traffic, refusals, refused, step}
 use Rattle.proof_steps.proofs.Choices.{by-choice}
+use Rattle.proof_figures.proofs.EveryStep.{traffic-zero}
 use Rattle.engine.specs.Engine.{Left, lentNumber, fitting, Stepped, leaving, stepped, postedTo}
-
--- an accepted step gives 0
-pub traffic-zero : (x : Site) → traffic x .number ≡ 0
-unfolding traffic
-traffic-zero x =
-    by-choice (λ (a : Answer). a .number ≡ 0) (receives x) (record { number = 0; traffic = Consumed; name = messageNamed x; tuple = template x .tuple }) _
-    (λ e. refl)
-    (λ e.
-    by-choice (λ (a : Answer). a .number ≡ 0) (sends x) (record { number = 0; traffic = Sent; name = messageNamed x; tuple = sent x .tuple })
-    (record { number = 0; traffic = Nothing; name = 0; tuple = empty }) (λ f. refl) (λ f. refl))
 
 step-number : (t s q : List ℕ) (n : Name) → step t s q n .answer .number ≡ firstRefusal (refusals t s q n)
 unfolding step

@@ -8,7 +8,7 @@ use libc::STDIN_FILENO;
 use step_run::Steps;
 use text_read::Reading;
 use tool_print::asked_version;
-use tool_print::tell_run;
+use tool_print::tell_fresh_run;
 use tool_print::tell_unread;
 
 // The most steps of the run.
@@ -31,7 +31,7 @@ fn run(text: &[u8], t: &mut [Word; TABLE_WORDS], z: &mut [Word; STATE_WORDS]) {
         });
         return;
     }
-    tell_run(t, z, STEPS);
+    tell_fresh_run(t, z, STEPS);
 }
 
 fn main() {

@@ -7,28 +7,33 @@ ghost use Rattle.log_repair.specs.Repair.{repairedTo};
 ghost use Rattle.write_buffer.specs.Buffers.{Put, lesser};
 ghost use Rattle.write_decimals.specs.Decimals.{shown};
 ghost use Rattle.write_lines.specs.Lines.{unreadLine};
-ghost use Rattle.engine.specs.Engine.{RanTo, ranTo};
+ghost use Rattle.engine.specs.Engine.{RanTo};
+ghost use Rattle.engine.specs.Desk.{AtDesk, ranAt};
 ghost use Prim.Native.Nat.{_+_, _≤_};
 ghost use Rattle.tool_print.specs.Judged.{besideLine, hasBeside, unlawfulLine, judgedLine, judgedMost};
 use base_state::places::STATE_WORDS;
 use base_state::versions::PRESENT;
 use base_table::places::TABLE_WORDS;
+use base_table::pool_count;
 use base_words::DIGITS;
 use base_words::Word;
 use base_words::counts::TEXT_MOST;
 use base_words::numbers::AT_FAULT;
 use base_words::numbers::NOT_A_LOG;
+use base_words::wide;
 use engine::Ran;
 use libc::STDOUT_FILENO;
 use log_judge::Judged;
 use log_repair::Repaired;
 use meaning::Answer;
 use meaning::Name;
+use state_figures::RECORD_WORDS;
 use step_run::Steps;
 use text_lexer::piece;
 use text_numerals::Number;
 use text_numerals::number_of;
 use text_read::Reading;
+use write_buffer::least;
 use write_buffer::put_byte;
 use write_buffer::put_bytes;
 use write_decimals::put_number;
@@ -181,24 +186,76 @@ fn tell_step(n: Name, a: Answer) {
     tell(b"\n");
 }
 
+// Records of as many pools as a table can have. A call is lent those of the pools that the table has, the first of them.
+pub const RECORDS: usize = 4;
+
+pub fn lent(t: &[Word; TABLE_WORDS], records: usize) -> usize
+    ensures { λ r. ⌜ r ≤ records ⌝ }
+{
+    least(wide(pool_count(t)), records)
+}
+
+// Sets the records by counting.
+pub fn set_records(
+    t: &[Word; TABLE_WORDS],
+    z: &[Word; STATE_WORDS],
+    rs: &mut [[Word; RECORD_WORDS]],
+) -> Word {
+    let n = lent(t, rs.len());
+    engine::figures(t, z, &mut rs[..n])
+}
+
+// Takes a step.
+pub fn take(
+    t: &[Word; TABLE_WORDS],
+    z: &mut [Word; STATE_WORDS],
+    rs: &mut [[Word; RECORD_WORDS]],
+    name: Name,
+) -> Answer {
+    let n = lent(t, rs.len());
+    engine::step(t, z, &mut rs[..n], name)
+}
+
+// A run.
+pub fn run_all(
+    t: &[Word; TABLE_WORDS],
+    z: &mut [Word; STATE_WORDS],
+    rs: &mut [[Word; RECORD_WORDS]],
+    limit: Steps,
+) -> Ran {
+    let n = lent(t, rs.len());
+    engine::run(t, z, &mut rs[..n], limit)
+}
+
 // Takes the first listed step and says it.
-fn run_once(t: &[Word; TABLE_WORDS], y: &mut [Word; STATE_WORDS]) {
+fn run_once(t: &[Word; TABLE_WORDS], y: &mut [Word; STATE_WORDS], ys: &mut [[Word; RECORD_WORDS]]) {
     let r = engine::list(t, y, 0);
     if r.number != 0 {
         return;
     }
     let name = r.name;
-    let a = engine::step(t, y, name);
+    let a = take(t, y, ys, name);
     tell_step(name, a);
+}
+
+fn run_each(
+    t: &[Word; TABLE_WORDS],
+    y: &mut [Word; STATE_WORDS],
+    ys: &mut [[Word; RECORD_WORDS]],
+    steps: Steps,
+) {
+    let mut n: Steps = 0;
+    while n < steps {
+        run_once(t, y, ys);
+        n += 1;
+    }
 }
 
 // Takes the first listed step of a copy of the state as often as a run would, and says each.
 fn tell_steps(t: &[Word; TABLE_WORDS], y: &mut [Word; STATE_WORDS], steps: Steps) {
-    let mut n: Steps = 0;
-    while n < steps {
-        run_once(t, y);
-        n += 1;
-    }
+    let mut ys: [[Word; RECORD_WORDS]; RECORDS] = [[0; RECORD_WORDS]; RECORDS];
+    set_records(t, y, &mut ys);
+    run_each(t, y, &mut ys, steps);
 }
 
 fn tell_end(steps: Steps, left: Word) {
@@ -210,15 +267,37 @@ fn tell_end(steps: Steps, left: Word) {
 }
 
 // A run, and a line for each of its steps, taken again on a copy of the state; last the steps and the flag. A refused run says nothing.
-pub fn tell_run(t: &[Word; TABLE_WORDS], z: &mut [Word; STATE_WORDS], limit: Steps) -> Ran
-    ensures { λ r. ⌜ record { number = r .number; steps = r .steps; left = r .left; state = now (z .exit) } ≡ ranTo (now (t .entry)) (now (z .entry)) limit ⌝ }
+pub fn tell_run(
+    t: &[Word; TABLE_WORDS],
+    z: &mut [Word; STATE_WORDS],
+    rs: &mut [[Word; RECORD_WORDS]],
+    limit: Steps,
+) -> Ran
+    ensures { λ r. ⌜ record { done = record { number = r .number; steps = r .steps; left = r .left; state = now (z .exit) }; records = now (rs .exit) } ≡ ranAt (now (t .entry)) (now (z .entry)) (now (rs .entry)) limit ⌝ }
 {
     let mut y: [Word; STATE_WORDS] = *z;
-    let r = engine::run(t, z, limit);
+    let r = engine::run(t, z, rs, limit);
     if r.number != 0 {
         return r;
     }
     tell_steps(t, &mut y, r.steps);
     tell_end(r.steps, r.left);
     r
+}
+
+// The run of a fresh state, with the records of its own.
+pub fn tell_fresh_run(t: &[Word; TABLE_WORDS], z: &mut [Word; STATE_WORDS], limit: Steps) {
+    let mut rs: [[Word; RECORD_WORDS]; RECORDS] = [[0; RECORD_WORDS]; RECORDS];
+    set_records(t, z, &mut rs);
+    tell_lent_run(t, z, &mut rs, limit);
+}
+
+fn tell_lent_run(
+    t: &[Word; TABLE_WORDS],
+    z: &mut [Word; STATE_WORDS],
+    rs: &mut [[Word; RECORD_WORDS]],
+    limit: Steps,
+) {
+    let n = lent(t, rs.len());
+    tell_run(t, z, &mut rs[..n], limit);
 }

@@ -6,10 +6,10 @@ use Rattle.console.proofs.take_piece.Statement.{statement}
 use Rattle.console.proofs.take_piece.Tie as tie
 
 abbrev Inv-loop : tie.InvT-loop
-Inv-loop piece line₀ t₀ z₀ s₀ i₀ line t z s i = Unit {0}
+Inv-loop piece line₀ t₀ z₀ rs₀ s₀ i₀ line t z rs s i = Unit {0}
 
 abbrev μ-loop : tie.MeasureT-loop
-μ-loop piece line₀ t₀ z₀ s₀ i₀ line t z s i = length piece - i
+μ-loop piece line₀ t₀ z₀ rs₀ s₀ i₀ line t z rs s i = length piece - i
 
 pub take-piece-spec : {M : Type 1} → statement M
 take-piece-spec =

@@ -11,7 +11,9 @@ returns c = pick-no _ _ _ _ (flag-no _ _ (c .before .are-whole .ensures) (c .if1
 
 returns-2 : tie.Need-returns-2
 unfolding ranBy
-returns-2 c = pick-yes _ _ _ _ (flag-yes _ _ (c .before .before .before .are-whole .ensures) (c .before .before .if1 .left)) (c .run .ensures)
+returns-2 c = pick-yes _ _ _ _ (flag-yes _ _ (c .before .before .before .before .before .are-whole .ensures) (c .before .before .before .before .if1 .left)) (c .before .run .ensures)
 
 pub cv-run-spec : {M : Type 1} → statement M
-cv-run-spec = tie.close (tie.spec (λ c κs. search needs) returns (λ c κs. search needs) returns-2)
+cv-run-spec =
+    tie.close
+    (tie.spec (λ c κs. search needs) returns (λ c κs. search needs) (λ c. search needs) returns-2)

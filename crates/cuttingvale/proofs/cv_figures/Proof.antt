@@ -1,0 +1,19 @@
+use Rattle.cuttingvale.specs.Boundary.{figuredBy}
+use Rattle.base_words.proofs.PickLaws.{pick-yes, pick-no, flag-yes, flag-no}
+use mathlib.Core.Path.{refl}
+use borrow.Author.Needs.{needs}
+use Rattle.cuttingvale.proofs.cv_figures.Statement.{statement}
+use Rattle.cuttingvale.proofs.cv_figures.Tie as tie
+
+returns : tie.Need-returns
+unfolding figuredBy
+returns c = pick-no _ _ _ _ (flag-no _ _ (c .before .are-whole .ensures) (c .if1 .taken)) refl
+
+returns-2 : tie.Need-returns-2
+unfolding figuredBy
+returns-2 c = pick-yes _ _ _ _ (flag-yes _ _ (c .before .before .before .before .are-whole .ensures) (c .before .before .before .if1 .left)) (c .before .figures .ensures)
+
+pub cv-figures-spec : {M : Type 1} → statement M
+cv-figures-spec =
+    tie.close
+    (tie.spec (λ c κs. search needs) returns (λ c κs. search needs) (λ c. search needs) returns-2)

@@ -1,0 +1,2 @@
+pub mod FourLaws
+pub mod PutLaws
