@@ -77,7 +77,7 @@ static void print_split(struct setting *s, unsigned p) {
 static void print_end(struct setting *s, unsigned p) {
     if (s->longest) print_events(s, p, 46, 47, 2);
     else print(s, "|xorSplit(46,{(47,d0=65535),(48,default)})");
-    print(s, "|%s(47)|endSnd(48,", p == 3 ? "terminate" : "end"), print_message(s, p, 3), print(s, "),16)");
+    print(s, "|%s(47)|end(48),16)", p == 3 ? "terminate" : "end");
 }
 
 static void print_pool(struct setting *s, unsigned p) {

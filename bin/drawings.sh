@@ -27,6 +27,7 @@ explain_drawing() { # NUMBER BESIDE FILE NAME
         at_place "$2" "$room/plain" "$4" "$(meaning "$1") ($1)$(standing_in "$2" "$room/plain")"
         ;;
     4) explain "$@" ;;
+    28) explain_room "$4" "$(tr '\0' '?' <"$3" | LC_ALL=C awk -v room=1 -f "$root/bin/suspects.awk")" ;;
     21) echo "$4: $(suspected "$3")" ;;
     *) echo "$4: $(meaning "$1") ($1)" ;;
     esac

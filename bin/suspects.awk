@@ -1,4 +1,5 @@
-# A drawing that was refused with 21: says in a line what is perhaps at fault, by a plain look at its elements; nothing where it finds nothing.
+# A drawing that was refused with 21: says in a line what is perhaps at fault, by a plain look at its elements; nothing where it finds nothing. With room=1, of one that was refused
+# with 28: the first pool that has no room, as room.awk says it of a text.
 # The drawing is XML as the engine reads it, or it would have been refused with 20.
 function found(at, words) { if (said == "" || at < first) { said = words; first = at } }
 function attribute(name,    s) {
@@ -144,9 +145,25 @@ NR > 1 {
     next
 }
 { line += gsub(/\n/, "\n") }
+# the pool of the process that stands w-th: the catch event behind an event gateway is a branch of it, and neither it nor the flow into it is numbered
+function crowded(pool, w,    i, elements, last, edges) {
+    for (i = 1; i <= n; i++) {
+        if (within[i] != w) continue
+        if (sorts[i] == "node") { elements++; if (kind[i] == "endEvent" && what[i] == "message") last++; if (kind[i] == "startEvent" && what[i] == "") edges++ }
+        if (sorts[i] != "sequenceFlow") continue
+        if (kind[known[source[i]]] == "eventBasedGateway") elements--
+        else edges++
+    }
+    if (elements + last > 32 || edges + last > 48) { print pool + 0, elements, last + 0, edges; exit }
+}
+function full(    i, pool) {
+    for (i = 1; i <= n; i++) if (sorts[i] == "participant" && named[i] != "") crowded(++pool, within[known[named[i]]])
+    if (!pool) for (i = 1; i <= n; i++) if (sorts[i] == "process") crowded(++pool, within[i])
+}
 function tell() { if (said != "") { print "line " first ": " said; exit } }
 # one fault makes others, so that those of elements come first, then those of references, then what is counted
 END {
+    if (room) { full(); exit }
     tell()
     for (i = 1; i <= n; i++) if (sorts[i] == "sequenceFlow") flow(i)
     pools()

@@ -78,6 +78,7 @@ meaning() { # NUMBER
     25) echo "another version than 10 or 20, asked for or in a state" ;;
     26) echo "the number of records isn't the number of pools, or they don't agree with the state at entry" ;;
     27) echo "the text breaks off before the trace opens, is no such log at an earlier place than its end, or is longer" ;;
+    28) echo "no edge or element number free" ;;
     *) echo "a number that these words do not have" ;;
     esac
 }
@@ -106,9 +107,23 @@ explain() { # NUMBER BESIDE FILE NAME
         unseen "$2" "$3"
         ;;
     4) echo "$4: $(meaning 4) (4): check $2 wants that $(model_check "$2")" ;;
+    28) explain_room "$4" "$(tr '\0' '?' <"$3" | LC_ALL=C awk -f "$root/bin/room.awk")" ;;
     *) echo "$4: $(meaning "$1") ($1)" ;;
     esac
     [ "$1" != 3 ] || echo "the ranges: $ranges"
+}
+
+# A pool without room in words: its number, how many elements it has, how many of them are endSnds, and how many edges it uses.
+explain_room() { # NAME 'POOL ELEMENTS ENDS EDGES'
+    local pool elements ends edges
+    read -r pool elements ends edges <<<"$2"
+    if [ -z "$pool" ]; then
+        echo "$1: $(meaning 28) (28)"
+    elif [ $((elements + ends)) -gt 32 ]; then
+        echo "$1: no element number free in pool $pool (28): with an end for each endSnd it has $elements and $ends elements, and at most 32 are allowed"
+    else
+        echo "$1: no edge free in pool $pool (28): with one for each endSnd it has $edges and $ends edges, and there are 48"
+    fi
 }
 
 # A refused log in words: the place of 23, or the event of 24, its line and what is said of it.

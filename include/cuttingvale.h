@@ -38,8 +38,8 @@ extern "C" {
        + 1                its limit: n of a miPool, 1 to 16; 0 of a `pool`
        + 2                the count of its elements, 1 to 32
        + 3 + 262 e        element e:
-           + 0            its kind, 1 to 15: start, startRcv, end, terminate, endSnd, interRcv, interSnd, eventBased, andSplit, andJoin, xorJoin,
-                          xorSplit, task, taskRcv, taskSnd
+           + 0            its kind, 1 to 4 or 6 to 15: start, startRcv, end, terminate; interRcv, interSnd, eventBased, andSplit, andJoin, xorJoin,
+                          xorSplit, task, taskRcv, taskSnd (5 was endSnd, which texts may have: a table holds a send and an end for it)
            + 1            task number, 1 to 16
            + 2            mode: 1 a, 2 na_c, 3 na_nc
            + 3            the count of its entries, then 8 places for edges, 1 to 48
@@ -101,7 +101,8 @@ enum cv_number {
     CV_AT_FAULT = 24,      /* event at fault */
     CV_OTHER_VERSION = 25, /* another version than 10 or 20, asked for or in a state */
     CV_NOT_COUNTED = 26,   /* the number of records isn't the number of pools, or they don't agree with the state at entry */
-    CV_NOT_REPAIRED = 27   /* repair: the text breaks off before the trace opens, is no such log at an earlier place than its end, or is longer */
+    CV_NOT_REPAIRED = 27,  /* repair: the text breaks off before the trace opens, is no such log at an earlier place than its end, or is longer */
+    CV_NONE_FREE = 28      /* reading: no edge or element number free for what an endSnd becomes */
 };
 
 /* A message: its length, 0 to 4, and its values; what stands behind them is ignored, and 0 in an answer. */
@@ -161,11 +162,11 @@ cv_ran cv_run(const uint32_t *table, size_t table_words, uint32_t *state, size_t
    of pools, and the records stay; else 0. */
 uint32_t cv_figures(const uint32_t *table, size_t table_words, const uint32_t *state, size_t state_words, cv_record *records, size_t pools);
 
-/* Reads a text into the table: 1 to 4 (10 for a wrong length of the table), and the table stays; else 0, and every word of it is the model's. */
+/* Reads a text into the table: 1 to 4 or 28 (10 for a wrong length of the table), and the table stays; else 0, and every word of it is the model's. */
 cv_reading cv_read(const uint8_t *text, size_t length, uint32_t *table, size_t table_words);
 
-/* Reads a drawing, BPMN 2.0 XML, into the table: 1, 20, 21, 3 or 4 (10 for a wrong length of the table), and the table stays; else 0, and every word of it
-   is the model's. */
+/* Reads a drawing, BPMN 2.0 XML, into the table: 1, 20, 21, 3, 4 or 28 (10 for a wrong length of the table), and the table stays; else 0, and every word
+   of it is the model's. */
 cv_reading cv_draw(const uint8_t *text, size_t length, uint32_t *table, size_t table_words);
 
 /* Writes a table's text, one line: 10, or 5 where the buffer is shorter than it, and the buffer stays; else 0 and its length, at most CV_TEXT_MOST. */

@@ -52,8 +52,9 @@ static bool message_fits(const word *m, bool receives) {
     return all_zero(item_at(m, m[1]), EXPRESSION_WORDS * (VALUES - m[1]));
 }
 
+/* an endSnd is in no table */
 static bool element_fits(const word *el) {
-    if (el[KIND] < 1 || el[KIND] >= KINDS) return false;
+    if (el[KIND] < 1 || el[KIND] >= KINDS || el[KIND] == END_SND) return false;
     const struct kind *k = &kinds[el[KIND]];
     if (k->task) {
         if (el[TASK_NUMBER] < 1 || el[TASK_NUMBER] > TASKS || el[MODE] < ATOMIC || el[MODE] > NA_NC || el[ASSIGNED] > ASSIGNMENTS) return false;

@@ -42,7 +42,7 @@ static char text[DRAWING_ROOM];
 static uint8_t *lent_text; /* ends where no page can be read */
 static size_t text_length;
 static uint64_t calls, seed_of_case;
-static unsigned given[32], owned[32], known;
+static unsigned given[32], owned[32], known, readings[32];
 
 static void differ(const char *call, const char *what, unsigned engine, unsigned reference) {
     printf("difference in %s, case %llu: %s: engine %u, reference %u\n", call, (unsigned long long)seed_of_case, what, engine, reference);
@@ -111,7 +111,21 @@ static unsigned read_both(void) {
     same("read", "number", a.number, b.number);
     same("read", "beside", a.beside, b.beside);
     same_blocks("read");
+    readings[b.number]++;
     return b.number;
+}
+
+/* The model that the generator made, before it is spoiled: its table is the one that it must be read as, 28 where there is none. */
+static void read_rewritten(void) {
+    static char out[REF_TEXT_MOST];
+    static word table[REF_TABLE_WORDS];
+    size_t n = model_without_end_sends(text, text_length, out);
+    unsigned number = read_both();
+    if (number == 4) return; /* a generated model that breaks a check */
+    same("read", "28 where no edge or element is free", number, n ? 0 : 28);
+    if (number) return;
+    same("read", "the rewritten text", cv_read((const uint8_t *)out, n, table, REF_TABLE_WORDS).number, 0);
+    same_words("read", "table of the rewritten text", ours.table, table, REF_TABLE_WORDS);
 }
 
 /* The number due is the generator's; what was drawn is also what its text gives. */
@@ -361,6 +375,17 @@ static void damage_both(struct random *r, bool table) {
     }
 }
 
+/* An end, or a send, as the endSnd that it may have been before there was none: the table breaks a limit. */
+static void damage_end(struct random *r) {
+    const word *pool = pool_at(theirs.table, draw(r, theirs.table[0]));
+    word *el = (word *)element_at(pool, draw(r, pool[POOL_COUNT]));
+    if (el[KIND] != END && el[KIND] != INTER_SND) return;
+    el[KIND] = END_SND;
+    memset(el + EXITS, 0, (CONDITIONS - EXITS) * sizeof *el);
+    memcpy(ours.table, theirs.table, REF_TABLE_WORDS * sizeof *el);
+    same("check", "10 for an endSnd", ref_check(theirs.table).number, 10);
+}
+
 /* A state near its ends: counts at 254 and 255, queues at 63 and 64; it still fits. */
 static void fill_up(struct random *r) {
     for (unsigned p = 0; p < ours.table[0]; p++)
@@ -489,6 +514,7 @@ static size_t lengthened(struct random *r, size_t n) {
 
 static void compare_case(struct random *r) {
     text_length = model_text(r, text);
+    read_rewritten();
     if (chance(r, 25)) text_length = spoiled_text(r, text, text_length);
     if (chance(r, 3)) text_length = lengthened(r, text_length);
     if (read_both()) return;
@@ -508,7 +534,8 @@ static void compare_case(struct random *r) {
         memcpy(table, ours.table, sizeof table);
         memcpy(state, ours.state, sizeof state);
         memcpy(records, ours.records, sizeof records);
-        which < 3 ? damage_records(r) : damage_both(r, which < 6);
+        if (which == 6) damage_end(r);
+        else which < 3 ? damage_records(r) : damage_both(r, which < 6);
         for (unsigned j = 3; j; j--) one_call(r);
         memcpy(ours.table, table, sizeof table), memcpy(theirs.table, table, sizeof table);
         memcpy(ours.state, state, sizeof state), memcpy(theirs.state, state, sizeof state);
@@ -852,7 +879,8 @@ static int compare_calls(uint64_t cases, uint64_t seed) {
         compare_case(&r);
     }
     printf("%llu calls in %llu cases, no difference; ", (unsigned long long)calls, (unsigned long long)cases);
-    print_numbers("numbers of steps:", given);
+    print_numbers("numbers of readings:", readings);
+    print_numbers("; of steps:", given);
     print_numbers("; of polls:", polled);
     putchar('\n');
     return 0;

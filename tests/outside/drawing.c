@@ -1,5 +1,6 @@
 /* Drawings: a text of BPMN 2.0 XML read into a table, as document 02's first request says. First one walk over the XML from left to right, which notes what
-   is drawn and stops at the first place at fault (20); then what is drawn wrong (21), what is too large (3), and the table with its checks (4). */
+   is drawn and stops at the first place at fault (20); then what is drawn wrong (21), what is too large (3), the table with its checks (4), and its message ends as the
+   notation's (28). */
 #include "layout.h"
 #include "xml.h"
 
@@ -468,6 +469,7 @@ ref_reading ref_draw(const uint8_t *text, size_t length, word *t) {
     fill(&w, drawn);
     unsigned k = lowest_broken(drawn);
     if (k) return (ref_reading){4, k};
+    if (!rewritten(drawn)) return (ref_reading){28, 0};
     memcpy(t, drawn, sizeof drawn);
     return (ref_reading){0, 0};
 }

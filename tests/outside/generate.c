@@ -23,10 +23,14 @@ word some_version(struct random *r) {
     return chance(r, 48) ? REF_VERSION_10 : chance(r, 92) ? REF_VERSION_20 : chance(r, 80) ? others[draw(r, sizeof others / sizeof *others)] : any_word(r);
 }
 
+/* The last model made, pool by pool: the edges it mentions, its elements, where its ends would stand, and where each endSnd and its closing bracket do. */
+static struct { uint64_t edges; unsigned elements, sends; size_t behind, word[ELEMENTS], close[ELEMENTS]; } made[POOLS];
+static unsigned pools_made;
+
 /* A pool under construction: edges still to be taken, edges still to be put, numbers still free. */
 struct draft {
     struct random *r;
-    char *o;
+    char *text, *o;
     unsigned pool, pools, elements;
     unsigned open[EDGES], opens, wanted[EDGES], wants;
     unsigned free[EDGES], frees, task, stores; /* stores: how many of a hundred fields are */
@@ -41,7 +45,11 @@ static unsigned take_from(struct draft *d, unsigned *list, unsigned *n) {
     return e;
 }
 
-static unsigned new_edge(struct draft *d) { return take_from(d, d->free, &d->frees); }
+static unsigned new_edge(struct draft *d) {
+    unsigned e = take_from(d, d->free, &d->frees);
+    made[d->pool].edges |= UINT64_C(1) << e;
+    return e;
+}
 
 /* an edge that this element puts: one that is wanted, or a new one, open from now on */
 static unsigned exit_edge(struct draft *d) {
@@ -185,8 +193,20 @@ static void join(struct draft *d) {
 static void close_edge(struct draft *d) {
     unsigned e = take_from(d, d->open, &d->opens), which = draw(d->r, 10);
     begin(d, which < 6 ? "end" : which < 8 ? "endSnd" : "terminate");
+    if (which == 6 || which == 7) made[d->pool].word[made[d->pool].sends] = d->o - d->text - strlen("endSnd(");
     print_number(d, e);
-    if (which == 6 || which == 7) print(d, ","), message(d, false);
+    if (which == 6 || which == 7) {
+        print(d, ","), message(d, false);
+        made[d->pool].close[made[d->pool].sends++] = d->o - d->text;
+    }
+    print(d, ")");
+}
+
+static void pass_on(struct draft *d, unsigned e) {
+    bool receives = chance(d->r, 50);
+    begin(d, receives ? "interRcv" : "interSnd");
+    print_number(d, e), print(d, ","), message(d, receives), print(d, ",");
+    print_number(d, exit_edge(d));
     print(d, ")");
 }
 
@@ -197,22 +217,40 @@ static void grow(struct draft *d) {
         unsigned e = take_from(d, d->open, &d->opens);
         if (which < 6) split(d, e);
         else if (which < 8 && d->task < TASKS) chance(d->r, 20) ? doubled_task(d, e) : task(d, e);
-        else {
-            bool receives = chance(d->r, 50);
-            begin(d, receives ? "interRcv" : "interSnd");
-            print_number(d, e), print(d, ","), message(d, receives), print(d, ",");
-            print_number(d, exit_edge(d));
-            print(d, ")");
-        }
+        else pass_on(d, e);
     }
+}
+
+/* one edge into n, or n into one */
+static void fan(struct draft *d, const char *keyword, unsigned n, bool out) {
+    unsigned e = out ? take_from(d, d->open, &d->opens) : 0;
+    begin(d, keyword);
+    if (out) print_number(d, e), print(d, ",");
+    for (unsigned k = 0; k < n; k++) print(d, k ? "," : "{"), print_number(d, out ? (d->open[d->opens++] = new_edge(d)) : take_from(d, d->open, &d->opens));
+    print(d, "}");
+    if (!out) print(d, ","), print_number(d, d->open[d->opens++] = new_edge(d));
+    print(d, ")");
+}
+
+/* about as many elements or edges as there may be, with some ends left to close */
+static void fill_process(struct draft *d) {
+    unsigned elements = 29 + draw(d->r, 4), spare = draw(d->r, 4), ends = 1 + draw(d->r, 5), behind = ends > 1 ? ends : 0;
+    while (d->frees > spare + behind + 9 && d->elements + 3 + ends < elements && chance(d->r, 85)) {
+        unsigned n = 2 + draw(d->r, 7);
+        fan(d, "andSplit", n, true), fan(d, chance(d->r, 50) ? "andJoin" : "xorJoin", n, false);
+    }
+    while (d->frees > spare + behind && d->elements + (ends > 1) + ends < elements) pass_on(d, take_from(d, d->open, &d->opens));
+    if (ends > 1) fan(d, "andSplit", ends, true);
 }
 
 static void process(struct draft *d, bool many) {
     unsigned size = draw(d->r, chance(d->r, 80) ? 6 : 20);
+    bool full = chance(d->r, 4);
+    memset(&made[d->pool], 0, sizeof *made);
     d->elements = d->opens = d->wants = d->task = 0;
     d->frees = EDGES;
     for (unsigned e = 0; e < EDGES; e++) d->free[e] = e + 1;
-    if (!chance(d->r, 30)) /* mostly the low numbers */
+    if (!full && !chance(d->r, 30)) /* mostly the low numbers */
         d->frees = 40;
     if (many || chance(d->r, 40)) {
         begin(d, "startRcv");
@@ -223,6 +261,7 @@ static void process(struct draft *d, bool many) {
     }
     print_number(d, d->open[d->opens++] = new_edge(d));
     print(d, ")");
+    if (full) fill_process(d), size = 0;
     while (size-- && d->opens && d->opens < 10 && d->elements + d->opens + d->wants < 26 && d->frees > 12) grow(d);
     while (d->wants) {
         unsigned w = take_from(d, d->wanted, &d->wants);
@@ -240,10 +279,12 @@ static void process(struct draft *d, bool many) {
         print_number(d, d->open[d->opens++] = new_edge(d)), print(d, ",default)})");
     }
     while (d->opens) close_edge(d);
+    made[d->pool].elements = d->elements;
+    made[d->pool].behind = d->o - d->text;
 }
 
 size_t model_text(struct random *r, char *text) {
-    struct draft d = {.r = r, .o = text};
+    struct draft d = {.r = r, .text = text, .o = text};
     unsigned numbers[9], left = 9;
     for (unsigned k = 0; k < 9; k++) numbers[k] = k + 1;
     d.pools = 1 + draw(r, 4);
@@ -260,7 +301,30 @@ size_t model_text(struct random *r, char *text) {
         if (many) print(&d, ","), print_number(&d, chance(r, 80) ? 1 + draw(r, 3) : 1 + draw(r, INSTANCES));
         print(&d, ")");
     }
+    pools_made = d.pools;
     return d.o - text;
+}
+
+static unsigned unused_in(uint64_t edges, unsigned k) {
+    for (unsigned f = 1; f <= EDGES; f++)
+        if (!(edges >> f & 1) && k-- == 0) return f;
+    return 0;
+}
+
+size_t model_without_end_sends(const char *text, size_t n, char *out) {
+    char *o = out;
+    size_t at = 0;
+    for (unsigned p = 0; p < pools_made; p++) {
+        unsigned sends = made[p].sends;
+        if (sends && (made[p].elements + sends > ELEMENTS || !unused_in(made[p].edges, sends - 1))) return 0;
+        for (unsigned k = 0; k < sends; k++) {
+            o += sprintf(o, "%.*sinterSnd", (int)(made[p].word[k] - at), text + at), at = made[p].word[k] + strlen("endSnd");
+            o += sprintf(o, "%.*s,%u", (int)(made[p].close[k] - at), text + at, unused_in(made[p].edges, k)), at = made[p].close[k];
+        }
+        o += sprintf(o, "%.*s", (int)(made[p].behind - at), text + at), at = made[p].behind;
+        for (unsigned k = 0; k < sends; k++) o += sprintf(o, "|end(%u)", unused_in(made[p].edges, k));
+    }
+    return o + sprintf(o, "%.*s", (int)(n - at), text + at) - out;
 }
 
 size_t spoiled_text(struct random *r, char *text, size_t n) {

@@ -14,6 +14,8 @@ word any_word(struct random *r);
 
 /* a model's text: mostly one that passes every check; returns its length, at most REF_TEXT_MOST */
 size_t model_text(struct random *r, char *text);
+/* the last model's text as it must be read, each endSnd an interSnd and an end, into a buffer of 40,000 bytes or more: returns its length, 0 where no edge or element is free */
+size_t model_without_end_sends(const char *text, size_t n, char *out);
 /* the same text with a few bytes, tokens or numbers changed */
 size_t spoiled_text(struct random *r, char *text, size_t n);
 /* a drawing, into a buffer of 70,000 bytes or more: returns its length; due is the number that it must get, or -1 where that is not known */

@@ -86,6 +86,20 @@ static void do_all(struct journal *j, const word *table, word version, bool fill
         if (do_next(j, table, state, &j->lines[j->count])) spell(&j->lines[j->count++]);
 }
 
+static bool is_end(const word *table, const struct line *l) {
+    for (unsigned p = 0; p < table[0] && !l->post; p++)
+        if (pool_at(table, p)[0] == l->step.pool) return element_at(pool_at(table, p), l->step.element)[KIND] == END;
+    return false;
+}
+
+/* A site's log from the days of endSnd: the ends that came with the sends are not in it. What an end takes nobody else does, so the rest stays lawful while its edge has room. */
+static void leave_out_ends(struct journal *j, const word *table) {
+    unsigned kept = 0;
+    for (unsigned k = 0; k < j->count; k++)
+        if (!is_end(table, &j->lines[k])) j->lines[kept++] = j->lines[k];
+    j->count = kept;
+}
+
 /* WHAT IS UNTRUE, or not done in turn. */
 static log_due at_fault(struct journal *j, unsigned own) { return (log_due){24, j->at, own}; }
 
@@ -482,6 +496,7 @@ size_t log_text(struct random *r, const word *table, word version, bool filling,
     *j = (struct journal){.r = r, .text = text, .room = room};
     j->prefix = ONE_OF(j, prefixes), j->gap = ONE_OF(j, gaps), j->quote = chance(r, 80) ? '"' : '\'', j->plain = chance(r, 20);
     do_all(j, table, version, filling);
+    if (j->count <= COUNT_MOST && chance(r, 15)) leave_out_ends(j, table);
     if (chance(r, 50)) j->due = spoil_line(j, table, version);
     if (j->due.number == 24 && chance(r, 10)) spoil_line(j, table, version), j->due = unknown;
     if (chance(r, 30)) { /* 23 goes before 24 */

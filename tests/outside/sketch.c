@@ -105,7 +105,23 @@ static void add_join(struct sketch *k, unsigned p) {
     k->open[k->opens++] = s;
 }
 
+/* about as many elements or edges as there may be: gateways that split and join, tasks */
+static void fill_process(struct sketch *k, unsigned p) {
+    unsigned elements = 29 + below(k, 4), edges = 45 + below(k, 4);
+    while (k->opens && k->elements + k->opens + 2 <= elements && k->edges + k->opens + 3 <= edges) {
+        unsigned room = edges - k->edges - k->opens - 1, branches = 2 + below(k, room < BRANCHES ? room - 1 : BRANCHES - 1);
+        int g = new_node(k, p, "parallelGateway"), j;
+        k->nodes[g].splits = true;
+        enter(k, g);
+        j = new_node(k, p, "parallelGateway");
+        while (branches--) new_flow(k, g, j);
+        k->open[k->opens++] = j;
+        for (unsigned n = below(k, 4); n && k->elements + k->opens < elements && k->edges + k->opens < edges; n--) add_activity(k, p);
+    }
+}
+
 static void sketch_process(struct sketch *k, unsigned p, bool many) {
+    bool full = !k->over && any(k, 6);
     unsigned size = any(k, 80) ? below(k, 8) : below(k, k->over ? 60 : 20);
     k->opens = k->elements = k->tasks = k->edges = 0;
     int s = new_node(k, p, "startEvent");
@@ -119,9 +135,10 @@ static void sketch_process(struct sketch *k, unsigned p, bool many) {
         else if (which < 5) add_split(k, p);
         else add_activity(k, p);
     }
+    if (full) fill_process(k, p);
     while (k->opens) {
         int e = new_node(k, p, "endEvent");
-        if (k->budget && any(k, 20)) k->nodes[e].messages = 1, k->budget--;
+        if (k->budget && any(k, full ? 60 : 20)) k->nodes[e].messages = 1, k->budget--;
         else if (any(k, 20)) k->nodes[e].terminates = 1;
         enter(k, e);
     }
@@ -203,18 +220,36 @@ static bool unheard(const struct sketch *k) {
     return false;
 }
 
-static bool excessive_process(const struct sketch *k, unsigned p) {
-    unsigned elements = 0, tasks = 0, edges = 0;
+/* what a process has; sends: its message end events; listed: the longest list of entries or exits */
+struct size { unsigned elements, tasks, edges, sends, listed; };
+
+static struct size size_of(const struct sketch *k, unsigned p) {
+    struct size s = {0};
     for (unsigned n = 0; n < k->node_count; n++) {
         const struct node *x = &k->nodes[n];
         unsigned in = 0, out = 0;
         if (x->process != p) continue;
         for (unsigned f = 0; f < k->flow_count; f++) in += k->flows[f].to == (int)n, out += k->flows[f].from == (int)n;
-        elements += !x->behind, tasks += is_task(x), edges += !strcmp(x->tag, "startEvent") && !x->messages;
-        if (in > BRANCHES || out > BRANCHES) return true;
+        s.elements += !x->behind, s.tasks += is_task(x), s.edges += !strcmp(x->tag, "startEvent") && !x->messages, s.sends += !strcmp(x->tag, "endEvent") && x->messages;
+        if (in > s.listed) s.listed = in;
+        if (out > s.listed) s.listed = out;
     }
-    for (unsigned f = 0; f < k->flow_count; f++) edges += k->flows[f].process == p && !k->nodes[k->flows[f].to].behind;
-    return elements > ELEMENTS || tasks > TASKS || edges > EDGES;
+    for (unsigned f = 0; f < k->flow_count; f++) s.edges += k->flows[f].process == p && !k->nodes[k->flows[f].to].behind;
+    return s;
+}
+
+static bool excessive_process(const struct sketch *k, unsigned p) {
+    struct size s = size_of(k, p);
+    return s.elements > ELEMENTS || s.tasks > TASKS || s.edges > EDGES || s.listed > BRANCHES;
+}
+
+/* whether a message end event finds no edge or no element number free */
+static bool crowded(const struct sketch *k) {
+    for (unsigned p = 0; p < k->process_count; p++) {
+        struct size s = size_of(k, p);
+        if (s.sends && (s.elements + s.sends > ELEMENTS || s.edges + s.sends > EDGES)) return true;
+    }
+    return false;
 }
 
 static bool excessive(const struct sketch *k) {
@@ -666,7 +701,7 @@ size_t drawing_text(struct random *r, char *text, size_t room, int *due) {
     sketch_whole(k);
     bool silent = unheard(k);
     int spoiled = any(k, 45) ? spoil_structure(k) : 0;
-    int over = (spoiled == 0 || spoiled == 4) && excessive(k) ? 3 : 0;
+    int over = (spoiled == 0 || spoiled == 4) && excessive(k) ? 3 : spoiled == 0 && crowded(k) ? 28 : 0;
     *due = silent && spoiled != 20 ? (spoiled < 0 ? -1 : 21) : spoiled == 4 ? (over ? 3 : 4) : spoiled == 0 ? over : spoiled;
     o.plain = any(k, 20), o.quote = any(k, 80) ? '"' : '\'';
     o.prefix = ONE_OF(k, prefixes), o.gap = ONE_OF(k, gaps), o.id = ONE_OF(k, ids), o.reference = any(k, 20) ? "tns:" : "";

@@ -11,7 +11,6 @@ static const struct move plain[KINDS] = {
     [START_RCV] = {.there = 1, .puts = EVERY, .receives = 1, .makes = 1},
     [END] = {.there = 1, .takes = EVERY},
     [TERMINATE] = {.there = 1, .takes = EVERY, .clears = 1},
-    [END_SND] = {.there = 1, .takes = EVERY, .sends = 1},
     [INTER_RCV] = {.there = 1, .takes = EVERY, .puts = EVERY, .receives = 1},
     [INTER_SND] = {.there = 1, .takes = EVERY, .puts = EVERY, .sends = 1},
     [EVENT_BASED] = {.there = 1, .takes = EVERY, .puts = BRANCH, .receives = 1},

@@ -254,6 +254,44 @@ static bool model(struct reader *r, word *t) {
     return r->form == TEXT_END || refuse(r, 2);
 }
 
+static uint64_t mentioned(const word *pool) {
+    uint64_t edges = 0;
+    for (unsigned e = 0; e < pool[POOL_COUNT]; e++) {
+        const word *el = element_at(pool, e);
+        for (unsigned j = 0; j < el[ENTRIES]; j++) edges |= UINT64_C(1) << el[ENTRIES + 1 + j];
+        for (unsigned j = 0; j < el[EXITS]; j++) edges |= UINT64_C(1) << el[EXITS + 1 + j];
+    }
+    return edges;
+}
+
+/* the lowest edge that is not among some: 49 where there is none */
+static unsigned lowest_unused(uint64_t edges) {
+    unsigned f = 1;
+    while (f <= EDGES && edges >> f & 1) f++;
+    return f;
+}
+
+static bool rewritten_pool(word *pool) {
+    uint64_t edges = mentioned(pool);
+    for (unsigned e = 0, n = pool[POOL_COUNT]; e < n; e++) {
+        word *send = (word *)element_at(pool, e), *end = (word *)element_at(pool, pool[POOL_COUNT]);
+        unsigned f = lowest_unused(edges);
+        if (send[KIND] != END_SND) continue;
+        if (f > EDGES || pool[POOL_COUNT] == ELEMENTS) return false;
+        edges |= UINT64_C(1) << f;
+        send[KIND] = INTER_SND, send[EXITS] = 1, send[EXITS + 1] = f;
+        end[KIND] = END, end[ENTRIES] = 1, end[ENTRIES + 1] = f;
+        pool[POOL_COUNT]++;
+    }
+    return true;
+}
+
+bool rewritten(word *t) {
+    for (unsigned p = 0; p < t[0]; p++)
+        if (!rewritten_pool((word *)pool_at(t, p))) return false;
+    return true;
+}
+
 ref_reading ref_read(const uint8_t *text, size_t length, word *t) {
     if (length > REF_TEXT_MOST) return (ref_reading){1, 0};
     word read[REF_TABLE_WORDS];
@@ -263,6 +301,7 @@ ref_reading ref_read(const uint8_t *text, size_t length, word *t) {
     if (!model(&r, read)) return (ref_reading){r.number, r.refused};
     unsigned k = lowest_broken(read);
     if (k) return (ref_reading){4, k};
+    if (!rewritten(read)) return (ref_reading){28, 0};
     memcpy(t, read, sizeof read);
     return (ref_reading){0, 0};
 }

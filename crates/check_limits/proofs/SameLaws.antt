@@ -14,14 +14,14 @@ use Rattle.base_words.specs.Each.{each}
 use Rattle.base_words.specs.Counts.{fewest, branches, names, values, tasks, assignments}
 use Rattle.base_words.specs.Pick.{if_then_else_}
 use Rattle.base_words.specs.Words.{at}
-use Rattle.base_words.proofs.AllLaws.{all-at, and-left, and-right}
+use Rattle.base_words.proofs.AllLaws.{all-at, all-of, and-left, and-right}
 use Rattle.base_words.proofs.ListLaws.{each-at}
 use Rattle.base_kinds.specs.declared.Kind.{Kind}
-use Rattle.base_kinds.specs.Kinds.{kinds, noKind, kindOf, used, one, many}
+use Rattle.base_kinds.specs.Kinds.{kinds, noKind, kindOf, used, one, many, endSnd}
 use Rattle.base_kinds.specs.Moves.{a, na-nc}
 use Rattle.base_table.specs.Places.{kindPlace, taskPlace, modePlace, entriesPlace, exitsPlace, conditionPlace, messagePlace, assignmentsPlace, assignmentPlace, elementWords}
 use Rattle.base_table.specs.Table.{kindIn}
-use Rattle.check_limits.specs.Limits.{within, zeros, things, operandFits, expressionFits, bindFits, itemFits, conditionFits, messageFits, assignmentFits, countFits, edgeFits, edgesFit, taskFits, conditionsFit, messagesFit, assignmentsFit, partsFit, elementFits}
+use Rattle.check_limits.specs.Limits.{within, zeros, things, operandFits, expressionFits, bindFits, itemFits, conditionFits, messageFits, assignmentFits, countFits, edgeFits, edgesFit, taskFits, conditionsFit, messagesFit, assignmentsFit, partsFit, elementFits, heldFits}
 
 -- the first n words are the same
 abbrev pub Same : ℕ → List ℕ → List ℕ → Type 0
@@ -207,6 +207,20 @@ module _ (x z : List ℕ) (s : Same elementWords x z) where
       ∙ guarded (not (eqb (kindOf (kindIn x) .letters) 0)) _ _ _ refl
       (λ _. parts-same (kindOf (kindIn x)) (low (λ r. r .entries) refl refl (kindIn x)) (low (λ r. r .exits) refl refl (kindIn x)) (low (λ r. r .conditions) refl refl (kindIn x)) (low (λ r. r .receives + r .sends) refl refl (kindIn x)))
 
--- an element cut out of what stands behind it
-pub element-cut : (n : ℕ) (x : List ℕ) → n ≡ elementWords → elementFits (take n x) ≡ elementFits x
-element-cut n x e = element-same x (take n x) (λ i l. getD-take n x i 0 (omega (arith, l, e)))
+-- an element cut out of what stands behind it, as a table holds it
+pub held-cut : (n : ℕ) (x : List ℕ) → n ≡ elementWords → heldFits (take n x) ≡ heldFits x
+unfolding heldFits
+held-cut n x e =
+    ap₂ (λ b k. b && not (eqb k endSnd)) (element-same x (take n x) (λ i l. getD-take n x i 0 (omega (arith, l, e)))) (getD-take n x kindPlace 0 (omega (arith, e)))
+
+-- what a table holds is within the limits of an element
+pub held-fits : (el : List ℕ) → heldFits el ≡ true → elementFits el ≡ true
+unfolding heldFits
+held-fits el h = and-left (elementFits el) _ h
+
+pub held-all : (x : List ℕ) (w n k : ℕ) → things x w n k heldFits ≡ true → things x w n k elementFits ≡ true
+unfolding things
+held-all x w n k h =
+    ap₂ _&&_
+    (all-of (λ j. elementFits (drop (w * j) x)) k (λ j l. held-fits (drop (w * j) x) (all-at (λ j. heldFits (drop (w * j) x)) k (and-left _ (zeros (drop (w * k) x) (w * (n - k))) h) j l)))
+    (and-right (all (λ j. heldFits (drop (w * j) x)) k) _ h)

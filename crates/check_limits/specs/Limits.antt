@@ -10,7 +10,7 @@ use Rattle.base_words.specs.Pick.{if_then_else_}
 use Rattle.base_words.specs.Words.{at}
 use Rattle.base_words.specs.Counts.{pools, elements, fewest, branches, poolNumbers, edges, tasks, names, instances, named, values, assignments}
 use Rattle.base_kinds.specs.declared.Kind.{Kind}
-use Rattle.base_kinds.specs.Kinds.{none, one, many, kindOf, used}
+use Rattle.base_kinds.specs.Kinds.{none, one, many, kindOf, used, endSnd}
 use Rattle.base_kinds.specs.Moves.{a, na-nc}
 use Rattle.base_table.specs.Places.{operandWords, aField, operandNumber, formPlace, leftPlace, rightPlace, expressionWords, single, plus, minus, binding, always, default, equals, below, firstEdge, entriesPlace, exitsPlace, conditionPlace, lengthIn, itemsIn, messageWords, messagePlace, assignedIn, assignmentWords, assignmentPlace, elementWords, poolWords, poolPlace, limitPlace, elementPlace}
 use Rattle.base_table.specs.Table.{poolCount, elementCount, elementAt, kindIn, taskIn, modeIn, assignmentCount}
@@ -99,13 +99,17 @@ partsFit k el =
 unfoldable pub elementFits : List ℕ → Bool
 elementFits el = not (eqb (kindOf (kindIn el) .letters) 0) && partsFit (kindOf (kindIn el)) el
 
+-- an element that a table holds: of `endSnd`, "in a lent table it breaks a limit"
+unfoldable pub heldFits : List ℕ → Bool
+heldFits el = elementFits el && not (eqb (kindIn el) endSnd)
+
 -- a pool: number 1 to 9, limit 1 to 16 or none, 1 to 32 elements
 unfoldable pub poolFits : List ℕ → ℕ → Bool
 poolFits t p =
     within 1 poolNumbers (at t (poolPlace p))
     && leb (at t (limitPlace p)) instances
     && within 1 elements (elementCount t p)
-    && things (elementAt t p 0) elementWords elements (elementCount t p) elementFits
+    && things (elementAt t p 0) elementWords elements (elementCount t p) heldFits
 
 -- a table: 1 to 4 pools, and 0 behind them
 unfoldable pub tableFits : List ℕ → Bool

@@ -9,12 +9,16 @@ use lib.ListN.{replicate, set}
 use Rattle.base_kinds.specs.Kinds as kinds
 use Rattle.base_kinds.specs.Moves.{a}
 use Rattle.base_table.specs.Places.{single, binding, aField, leftPlace, rightPlace, always, default, kindPlace, taskPlace, modePlace, entriesPlace, exitsPlace, edgePlace, conditionPlace, messagePlace, lengthPlace, itemPlace, elementWords}
-use Rattle.check_limits.specs.Limits.{elementFits, tableFits}
+use Rattle.check_limits.specs.Limits.{elementFits, heldFits, tableFits}
 
 -- an element with one entry, 1, and one exit, e
 abbrev passing : ℕ → ℕ → List ℕ
 passing kind e =
     set (set (set (set (set (replicate elementWords 0) kindPlace kind) entriesPlace 1) (edgePlace entriesPlace 0) 1) exitsPlace 1) (edgePlace exitsPlace 0) e
+
+-- endSnd(1,0:<>)
+abbrev ending : List ℕ
+ending = set (set (set (replicate elementWords 0) kindPlace kinds.endSnd) entriesPlace 1) (edgePlace entriesPlace 0) 1
 
 -- task(1,n,a,C,{},2), C of a form
 abbrev guarded : ℕ → ℕ → List ℕ
@@ -74,6 +78,9 @@ points =
     "an edge behind the last" fails elementFits (set (passing kinds.start 2) (edgePlace exitsPlace 1) 3) ∷
     "an item behind the last" fails elementFits (set (speaking kinds.interRcv 15 15) (itemPlace 0 2) single) ∷
     "a second operand of an operand alone" fails elementFits (set (speaking kinds.interRcv 15 15) (itemPlace 0 1 + rightPlace) aField) ∷
+    "endSnd(1,0:<>) as it is read" holds elementFits ending ∷
+    "endSnd(1,0:<>) in a table" fails heldFits ending ∷
+    "start(1,2) in a table" holds heldFits (passing kinds.start 2) ∷
     "no pool" fails tableFits [] ∷
     "a pool with no element" fails tableFits (1 ∷ 1 ∷ []) ∷ []
 

@@ -1,20 +1,21 @@
 -- A pool of a table by the tests of its parts: b and n are what calls say of a part. Assumes nothing.
-use mathlib.Core.Path.{_≡_, _∙_}
+use mathlib.Core.Path.{_≡_, _∙_, ap}
 use mathlib.Core.Bool.{Bool, true, false, not, _&&_}
 use mathlib.Core.List.{List}
 use Prim.Native.Nat.{ℕ, _+_, _-_, _*_, _≤_, _<_}
 use native.Mathlib.Omega.{arith}
-use lib.Dec.{leb}
+use lib.Dec.{eqb, leb}
 use lib.ListN.{length, drop, length-drop}
 use borrow.Author.Tests.{leb-true}
 use Rattle.base_words.specs.Words.{at, part}
 use Rattle.base_words.specs.Counts.{pools, poolNumbers, instances, elements}
 use Rattle.base_words.proofs.AllLaws.{lt-leb-by, and-right}
 use Rattle.base_words.proofs.PickLaws.{and-yes, and-no, and-true, and-false-left, and-false-right, flag-yes, flag-no}
+use Rattle.base_kinds.specs.Kinds.{endSnd}
 use Rattle.base_table.specs.Places.{elementWords, poolPlace, limitPlace, elementPlace, tableWords}
-use Rattle.base_table.specs.Table.{elementCount, elementAt}
-use Rattle.check_limits.specs.Limits.{within, things, elementFits, poolFits}
-use Rattle.check_limits.proofs.SameLaws.{element-cut}
+use Rattle.base_table.specs.Table.{elementCount, elementAt, kindIn}
+use Rattle.check_limits.specs.Limits.{within, things, elementFits, heldFits, poolFits}
+use Rattle.check_limits.proofs.SameLaws.{held-cut}
 
 module _ (t : List ℕ) (p : ℕ) where
   abbrev pub Numbered : Bool
@@ -27,7 +28,7 @@ module _ (t : List ℕ) (p : ℕ) where
   Counted = within 1 elements (elementCount t p)
 
   abbrev pub Filled : Bool
-  Filled = things (elementAt t p 0) elementWords elements (elementCount t p) elementFits
+  Filled = things (elementAt t p 0) elementWords elements (elementCount t p) heldFits
 
   pub no-number : (b : Bool) → b ≡ Numbered → not b ≡ true → false ≡ poolFits t p
   unfolding poolFits
@@ -56,6 +57,16 @@ top-by r n high e h = omega arith
 pub room : (t y : List ℕ) (p : ℕ) → y ≡ elementAt t p 0 → p < pools → tableWords ≤ length t → elementWords * elements ≤ length y
 room t y p e l h = rw (e, length-drop (elementPlace p 0) t) (omega arith)
 
+-- an element that a table holds, by what calls say of its limits and its kind
+module _ (el : List ℕ) (b : Bool) (e : b ≡ elementFits el) where
+  pub held-no : not b ≡ true → false ≡ heldFits el
+  unfolding heldFits
+  held-no h = and-no _ (not (eqb (kindIn el) endSnd)) (flag-no b (elementFits el) e h)
+
+  pub held-yes : (k : ℕ) → not b ≡ false → k ≡ kindIn el → not (eqb k endSnd) ≡ heldFits el
+  unfolding heldFits
+  held-yes k h q = and-yes _ (not (eqb (kindIn el) endSnd)) _ (flag-yes b (elementFits el) e h) (ap (λ n. not (eqb n endSnd)) q)
+
 -- an element cut out
-pub cut-out : (x : List ℕ) (j : ℕ) (r : Bool) → r ≡ elementFits (part x (elementWords * j) (elementWords * j + elementWords)) → r ≡ elementFits (drop (elementWords * j) x)
-cut-out x j r h = h ∙ element-cut (elementWords * j + elementWords - elementWords * j) (drop (elementWords * j) x) (omega arith)
+pub cut-out : (x : List ℕ) (j : ℕ) (r : Bool) → r ≡ heldFits (part x (elementWords * j) (elementWords * j + elementWords)) → r ≡ heldFits (drop (elementWords * j) x)
+cut-out x j r h = h ∙ held-cut (elementWords * j + elementWords - elementWords * j) (drop (elementWords * j) x) (omega arith)

@@ -6,9 +6,11 @@ ghost use Rattle.base_words.specs.All.{all};
 ghost use Rattle.base_words.specs.Counts.{pools, elements};
 ghost use Rattle.base_table.specs.Places.{elementWords, poolWords, poolPlace, tableWords};
 ghost use Rattle.base_table.specs.Table.{poolCount, elementCount, elementAt};
-ghost use Rattle.check_limits.specs.Limits.{zeros, things, elementFits, poolFits, tableFits};
+ghost use Rattle.check_limits.specs.Limits.{zeros, things, heldFits, poolFits, tableFits};
+use base_kinds::moves::END_SND;
 use base_table::element_at;
 use base_table::element_count;
+use base_table::kind_in;
 use base_table::places::ELEMENT_COUNT;
 use base_table::places::ELEMENT_WORDS;
 use base_table::places::FIRST_POOL;
@@ -34,18 +36,28 @@ pub mod parts;
 
 use elements::element_fits;
 
+// An element of a table is no endSnd.
+fn held_fits(el: &[Word]) -> bool
+    ensures { λ r. ⌜ r ≡ heldFits (now (el .entry)) ⌝ }
+{
+    if !element_fits(el) {
+        return false;
+    }
+    kind_in(el) != END_SND
+}
+
 // Element j, cut out whole: so the compiler knows how long it is.
 fn element_in(x: &[Word], j: Word) -> bool
     requires { ⌜ elementWords * j + elementWords ≤ length (now x) ⌝ }
-    ensures { λ r. ⌜ r ≡ elementFits (drop (elementWords * j) (now (x .entry))) ⌝ }
+    ensures { λ r. ⌜ r ≡ heldFits (drop (elementWords * j) (now (x .entry))) ⌝ }
 {
     let from = ELEMENT_WORDS * (j as usize);
-    element_fits(&x[from..from + ELEMENT_WORDS])
+    held_fits(&x[from..from + ELEMENT_WORDS])
 }
 
 fn element_things(x: &[Word], k: Word) -> bool
     requires { ⌜ (k ≤ elements) × (elementWords * elements ≤ length (now x)) ⌝ }
-    ensures { λ r. ⌜ r ≡ things (now (x .entry)) elementWords elements k elementFits ⌝ }
+    ensures { λ r. ⌜ r ≡ things (now (x .entry)) elementWords elements k heldFits ⌝ }
 {
     let mut j: Word = 0;
     while j < k {
@@ -60,7 +72,7 @@ fn element_things(x: &[Word], k: Word) -> bool
 // The elements of a pool.
 fn elements_fit(t: &[Word], p: Word) -> bool
     requires { ⌜ (elementCount (now t) p ≤ elements) × (p < pools) × (tableWords ≤ length (now t)) ⌝ }
-    ensures { λ r. ⌜ r ≡ things (elementAt (now (t .entry)) p 0) elementWords elements (elementCount (now (t .entry)) p) elementFits ⌝ }
+    ensures { λ r. ⌜ r ≡ things (elementAt (now (t .entry)) p 0) elementWords elements (elementCount (now (t .entry)) p) heldFits ⌝ }
 {
     element_things(element_at(t, p, 0), element_count(t, p))
 }

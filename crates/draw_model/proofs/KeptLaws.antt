@@ -9,11 +9,9 @@ use Rattle.base_words.specs.Each.{joined}
 use Rattle.base_words.specs.Pick.{if_then_else_}
 use Rattle.base_words.proofs.JoinLaws.{joined-none, joined-more}
 use Rattle.base_words.proofs.PickLaws.{pick-yes, pick-no}
-use Rattle.check_tally.specs.Tally.{tally, marksOf}
-use Rattle.check_summary.specs.Summary.{regions, summaryWords}
-use Rattle.check_verdict.specs.Verdict.{summaryRegions}
 use Rattle.check_model.specs.Checks.{Pool}
-use Rattle.text_passes.specs.Passes.{storedAs, stored, keptElement, keptAll, summed, placed, headedAs, headed, keptHead, keptPool}
+use Rattle.text_ends.specs.Room.{notedWords}
+use Rattle.text_passes.specs.Passes.{storedAs, stored, summedUp, keptElement, keptAll, summed, placed, headedAs, headed, judgedBy, keptHead, keptPool}
 
 module _ {A : Type 0} (keep : ℕ → A → List ℕ → List ℕ) where
   -- those behind others
@@ -66,7 +64,7 @@ one-at-most true x i k r h e = let q : r ≡ i + 1 = e in omega arith
 one-at-most false x i k r h e = let q : r ≡ i + 0 = e in omega arith
 
 -- what is kept with its count
-pub element-kept : (fills : Bool) (i n : ℕ) (x w u : List ℕ) → u ≡ (if fills then storedAs i n (n + 1) x w else tally w (marksOf (regions x))) → u ≡ keptElement fills i n x w
+pub element-kept : (fills : Bool) (i n : ℕ) (x w u : List ℕ) → u ≡ (if fills then storedAs i n (n + 1) x w else summedUp (n + 1) x w) → u ≡ keptElement fills i n x w
 unfolding keptElement stored
 element-kept fills i n x w u e = e
 
@@ -81,6 +79,6 @@ module _ (fills : Bool) (i : ℕ) (els : List (List ℕ)) (s v : List ℕ) where
 
 -- a pool: its elements, then its head
 module _ (fills : Bool) (i : ℕ) (p : Pool) (v s y : List ℕ) where
-  pub pool-kept : (number limit : ℕ) (els : List (List ℕ)) (u : List ℕ) → number ≡ p .number → limit ≡ p .limit → els ≡ p .elements → s ≡ summed fills i els (replicate summaryWords 0) → y ≡ placed fills i els v → u ≡ (if fills then headedAs i (i + 1) number limit y else tally y (marksOf (summaryRegions number limit s))) → u ≡ keptPool fills i p v
+  pub pool-kept : (number limit : ℕ) (els : List (List ℕ)) (u : List ℕ) → number ≡ p .number → limit ≡ p .limit → els ≡ p .elements → s ≡ summed fills i els (replicate notedWords 0) → y ≡ placed fills i els v → u ≡ (if fills then headedAs i (i + 1) number limit y else judgedBy number limit s y) → u ≡ keptPool fills i p v
   unfolding keptPool keptHead headed
   pool-kept number limit els u a b c d e f = rw (a, b, d, e, c) at f

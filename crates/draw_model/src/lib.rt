@@ -9,7 +9,6 @@ ghost use Rattle.draw_model.specs.Drawn.{elementDrawn};
 ghost use Rattle.draw_model.specs.Content.{elementIf, elementsOf, limitOf, processOf, numberOf, poolDrawn, poolIf, content, isUnfit, firstUnfit};
 use base_table::places::ELEMENT_WORDS;
 use base_words::Word;
-use check_summary::SUMMARY_WORDS;
 use check_table::elements::element_fits;
 use draw_faults::pools::has_participants;
 use draw_faults::pools::is_pool;
@@ -23,6 +22,7 @@ use draw_things::things::one_more;
 use draw_things::things::source_of;
 use draw_things::things::within_of;
 use element::element_drawn;
+use text_ends::NOTED_WORDS;
 use text_passes::keep::keep_counted;
 use text_passes::keep::keep_counted_head;
 
@@ -122,7 +122,7 @@ fn keep_pool(
     requires { ⌜ i < greatest ⌝ }
     ensures { λ _. ⌜ now (v .exit) ≡ keptPool fills i (poolDrawn owned (now (text .entry)) (now (w .entry)) n k) (now (v .entry)) ⌝ }
 {
-    let mut s = [0; SUMMARY_WORDS];
+    let mut s = [0; NOTED_WORDS];
     keep_all(fills, text, w, n, process_of(owned, w, k), i, &mut s, v);
     let number = number_of(owned, w, k);
     let limit = limit_of(text, w, n, k);

@@ -1,21 +1,28 @@
 -- The ways out of reading a drawing. Assumes nothing.
 use Prim.Native.Nat.{ℕ, _≤_, _<_}
-use mathlib.Core.Path.{_≡_, refl, sym, _∙_, ap, subst}
+use mathlib.Core.Path.{_≡_, refl, sym, _∙_, ap, ap₂, subst}
 use mathlib.Core.Bool.{Bool, true, false, not, false≢true}
-use mathlib.Core.List.{List}
+use mathlib.Core.List.{List, map}
 use native.Mathlib.Omega.{arith}
 use lib.Dec.{eqb, ltb}
-use lib.ListN.{length, replicate}
+use lib.ListN.{length, take, replicate}
 use borrow.Author.Tests.{eq-eqb, ne-eqb, lt-ltb, le-ltb}
+use Rattle.base_words.specs.Each.{each}
 use Rattle.base_words.specs.Pick.{if_then_else_}
+use Rattle.base_words.specs.Words.{at}
 use Rattle.base_words.proofs.PickLaws.{pick-yes, pick-no}
 use Rattle.base_table.specs.Places.{tableWords}
 use Rattle.check_model.specs.Checks.{Pool, lowest}
+use Rattle.check_verdict.specs.Verdict.{modelWords, lowestIn}
 use Rattle.text_readers.specs.Reading.{excessive}
+use Rattle.text_ends.specs.Room.{roomIn, judgedWords}
 use Rattle.text_passes.specs.Passes.{keptAll, keptPool}
 use Rattle.text_passes.proofs.FillLaws.{table-filled}
+use Rattle.text_passes.proofs.MarkLaws.{judged-by, room-by}
+use Rattle.text_rewrite.specs.InTable.{rewrittenIn}
+use Rattle.text_rewrite.proofs.TableLaws.{table-rewritten}
 use Rattle.text_read.specs.declared.Reading.{Reading}
-use Rattle.text_read.specs.Notation.{ReadInto, tableOf}
+use Rattle.text_read.specs.Notation.{ReadInto, tableOf, rewritten, hasRoom, answerFor}
 use Rattle.xml_skip.specs.declared.Skipped.{Skipped}
 use Rattle.xml_skip.specs.declared.Skipped.the-variants.{Past, Fault}
 use Rattle.draw_things.specs.Things.{blockWords, place}
@@ -24,44 +31,68 @@ use Rattle.draw_walk.specs.declared.Walked.{Walked}
 use Rattle.draw_faults.specs.Amiss.{isDrawing}
 use Rattle.draw_limits.specs.Excess.{firstBeyond, beyondAt}
 use Rattle.draw_model.specs.Content.{content, firstUnfit}
-use Rattle.draw_read.specs.Drawings.{drawingMost, tooLong, checkBroken, notXml, notRun, answer, checkedAs, fittedBy, meantBy, walked, settledBy, thingsOf, judged, answered, filledBy, drawInto}
+use Rattle.draw_read.specs.Drawings.{drawingMost, tooLong, notXml, notRun, answer, checkedAs, fittedBy, meantBy, walked, settledBy, thingsOf, judged, answered, filledBy, drawInto}
 use Rattle.draw_read.proofs.RoomLaws.{content-fits}
 
 abbrev with-table : Reading → List ℕ → ReadInto
 with-table a v = record { number = a .number; beside = a .beside; table = v }
 
-pub checks-kept : (k : ℕ) (a : Reading) → k ≡ 0 → a ≡ answer 0 0 → a ≡ checkedAs k
-unfolding checkedAs if_then_else_
-checks-kept k a z e = rw z e
+module _ (text w : List ℕ) (n : ℕ) where
+  abbrev drawn : List Pool
+  drawn = content text w n
 
-pub check-broken : (k : ℕ) (a : Reading) → (k ≡ 0 → ⊥) → a ≡ answer checkBroken k → a ≡ checkedAs k
-unfolding checkedAs if_then_else_
-check-broken k a z e = rw (ne-eqb k 0 z) e
+  -- the model is answered by what the first pass kept of it
+  pub answered-by : (m : List ℕ) (a : Reading) → m ≡ keptAll (keptPool false) 0 drawn (replicate judgedWords 0) → a ≡ answerFor (lowestIn (take modelWords m)) (eqb (at m roomIn) 0)
+      → ltb (firstBeyond text w n) n ≡ false → a ≡ checkedAs drawn
+  unfolding checkedAs
+  answered-by m a e f h = f ∙ ap₂ answerFor (judged-by drawn (content-fits text w n h) m e _ refl) (room-by drawn (content-fits text w n h) m e)
 
--- the model fills the cleared table
-pub filled : (text w : List ℕ) (n : ℕ) (t u v : List ℕ) → length t ≡ tableWords → u ≡ replicate (length t) 0 → v ≡ keptAll (keptPool true) 0 (content text w n) u
-    → ltb (firstBeyond text w n) n ≡ false → v ≡ tableOf (content text w n)
-filled text w n t u v l z e h = e ∙ table-filled (content text w n) u (content-fits text w n h) (z ∙ ap (λ (k : ℕ). replicate k 0) l)
+  -- the model fills the cleared table, and its pools are rewritten
+  pub filled : (t u v y : List ℕ) → length t ≡ tableWords → u ≡ replicate (length t) 0 → v ≡ keptAll (keptPool true) 0 drawn u → y ≡ rewrittenIn v
+      → ltb (firstBeyond text w n) n ≡ false → each hasRoom drawn ≡ true → y ≡ tableOf (map rewritten drawn)
+  filled t u v y l z e f h room =
+      f ∙ ap rewrittenIn (e ∙ table-filled drawn u (content-fits text w n h) (z ∙ ap (λ (k : ℕ). replicate k 0) l)) ∙ table-rewritten drawn (content-fits text w n h) room
 
 module _ (text w : List ℕ) (n : ℕ) where
-  not-beyond : meantBy text w n .number ≡ 0 → ltb (firstBeyond text w n) n ≡ false
+  -- what is answered 0 is not beyond the limits, and has room
+  room-zero : (k : ℕ) (r : Bool) → answerFor k r .number ≡ 0 → r ≡ true
+  unfolding answerFor
+  room-zero k r = go (eqb k 0) r
+    where
+      go : (c b : Bool) → _≡_ {A = ℕ} (if c then (if b then 0 else 28) else 4) 0 → b ≡ true
+      go true true e = refl
+      go true false e = absurd (let z : _≡_ {A = ℕ} 28 0 = unfold if_then_else_ in e in omega (arith, z))
+      go false b e = absurd (let z : _≡_ {A = ℕ} 4 0 = unfold if_then_else_ in e in omega (arith, z))
+
+  fitted-zero : fittedBy text w n .number ≡ 0 → each hasRoom (content text w n) ≡ true
+  unfolding fittedBy
+  fitted-zero = go (ltb (firstUnfit text w n) n)
+    where
+      go : (b : Bool) → (if b then answer excessive (place w (firstUnfit text w n)) else checkedAs (content text w n)) .number ≡ 0 → each hasRoom (content text w n) ≡ true
+      go true e = absurd (let z : _≡_ {A = ℕ} 3 0 = unfold if_then_else_ in e in omega (arith, z))
+      go false e = room-zero (lowest (content text w n)) (each hasRoom (content text w n)) (unfold if_then_else_ checkedAs in e)
+
+  not-beyond : meantBy text w n .number ≡ 0 → (ltb (firstBeyond text w n) n ≡ false) × (each hasRoom (content text w n) ≡ true)
   unfolding meantBy if_then_else_
   not-beyond = go (isDrawing text w n) (ltb (firstBeyond text w n) n) refl
     where
       go : (a b : Bool) → ltb (firstBeyond text w n) n ≡ b
-          → (if not a then answer notRun 0 else if b then answer excessive (beyondAt text w (firstBeyond text w n)) else fittedBy text w n) .number ≡ 0 → ltb (firstBeyond text w n) n ≡ false
+          → (if not a then answer notRun 0 else if b then answer excessive (beyondAt text w (firstBeyond text w n)) else fittedBy text w n) .number ≡ 0
+          → (ltb (firstBeyond text w n) n ≡ false) × (each hasRoom (content text w n) ≡ true)
       go false b e h = absurd (omega (arith, h))
       go true true e h = absurd (omega (arith, h))
-      go true false e h = e
+      go true false e h = (e, fitted-zero h)
 
   module _ (t : List ℕ) (a : Reading) (e : a ≡ meantBy text w n) where
     pub table-stays : (a .number ≡ 0 → ⊥) → with-table a t ≡ filledBy (meantBy text w n) (content text w n) t
     unfolding filledBy if_then_else_
     table-stays z = rw (← e, ne-eqb (a .number) 0 z) refl
 
-    pub table-drawn : (v : List ℕ) → a .number ≡ 0 → (ltb (firstBeyond text w n) n ≡ false → v ≡ tableOf (content text w n)) → with-table a v ≡ filledBy (meantBy text w n) (content text w n) t
+    pub table-drawn : (v : List ℕ) → a .number ≡ 0 → (ltb (firstBeyond text w n) n ≡ false → each hasRoom (content text w n) ≡ true → v ≡ tableOf (map rewritten (content text w n))) → with-table a v ≡ filledBy (meantBy text w n) (content text w n) t
     unfolding filledBy if_then_else_
-    table-drawn v z f = rw (← e, eq-eqb (a .number) 0 z, f (not-beyond (ap (λ (r : Reading). r .number) (sym e) ∙ z))) refl
+    table-drawn v z f =
+        let right = not-beyond (ap (λ (r : Reading). r .number) (sym e) ∙ z) in
+        rw (← e, eq-eqb (a .number) 0 z, f (right .0) (right .1)) refl
 
 module _ (text t : List ℕ) where
   pub too-long : (a : Reading) → drawingMost < length text → a ≡ answer tooLong 0 → with-table a t ≡ drawInto text t

@@ -1,15 +1,16 @@
--- A DRAWING READ into a lent table t. "Refusals: 1 above 65,536 bytes; 20 not the XML named here or nested deeper, with its place; 21 ..; then 3 and 4 as they are." "By class, not by position: a 20 at the
+-- A DRAWING READ into a lent table t. "Refusals: 1 above 65,536 bytes; 20 not the XML named here or nested deeper, with its place; 21 ..; then 3 and 4 as they are", and 28 after 4: a message end event is an endSnd of the same content (wish 11). "By class, not by position: a 20 at the
 -- end of the text goes before a 21 at its start; 21 before 3; 3 before 4" (R1).
 use Prim.Native.Nat.{ℕ}
 use mathlib.Core.Bool.{not}
-use mathlib.Core.List.{List}
+use mathlib.Core.List.{List, map}
 use lib.Dec.{eqb, ltb}
 use lib.ListN.{length, replicate}
+use Rattle.base_words.specs.Each.{each}
 use Rattle.base_words.specs.Pick.{if_then_else_}
 use Rattle.check_model.specs.Checks.{Pool, lowest}
 use Rattle.text_readers.specs.Reading.{excessive}
 use Rattle.text_read.specs.declared.Reading.{Reading}
-use Rattle.text_read.specs.Notation.{ReadInto, tableOf}
+use Rattle.text_read.specs.Notation.{ReadInto, tableOf, rewritten, hasRoom, answerFor}
 use Rattle.xml_skip.specs.declared.Skipped.{Skipped}
 use Rattle.xml_skip.specs.declared.Skipped.the-variants.{Past, Fault}
 use Rattle.draw_things.specs.Things.{blockWords, place}
@@ -27,9 +28,6 @@ drawingMost = 65536
 abbrev pub tooLong : ℕ
 tooLong = 1
 
-abbrev pub checkBroken : ℕ
-checkBroken = 4
-
 -- "not the XML named here or nested deeper"
 abbrev pub notXml : ℕ
 notXml = 20
@@ -41,15 +39,15 @@ notRun = 21
 abbrev pub answer : ℕ → ℕ → Reading
 answer number beside = record { number = number; beside = beside }
 
--- w is the things of the drawing, n their count: "no 3": 4 with the lowest check broken, else 0
-unfoldable pub checkedAs : ℕ → Reading
-checkedAs k = answer (if eqb k 0 then 0 else checkBroken) k
+-- w is the things of the drawing, n their count: "no 3": 4 with the lowest check broken, then 28, else 0, as of a text
+unfoldable pub checkedAs : List Pool → Reading
+checkedAs ps = answerFor (lowest ps) (each hasRoom ps)
 
 -- 3 at a node whose element is not within the limits: a case that should not come up where nothing is beyond them, and that is refused if it does
 unfoldable pub fittedBy : List ℕ → List ℕ → ℕ → Reading
 fittedBy text w n =
     if ltb (firstUnfit text w n) n then answer excessive (place w (firstUnfit text w n))
-    else checkedAs (lowest (content text w n))
+    else checkedAs (content text w n)
 
 -- 21 beside 0; "no 21": 3 at the first thing that is beyond the limits
 unfoldable pub meantBy : List ℕ → List ℕ → ℕ → Reading
@@ -80,7 +78,7 @@ answered text =
 
 -- a refusal leaves the table; else every word of it is the model's
 unfoldable pub filledBy : Reading → List Pool → List ℕ → ReadInto
-filledBy a ps t = record { number = a .number; beside = a .beside; table = if eqb (a .number) 0 then tableOf ps else t }
+filledBy a ps t = record { number = a .number; beside = a .beside; table = if eqb (a .number) 0 then tableOf (map rewritten ps) else t }
 
 unfoldable pub drawInto : List ℕ → List ℕ → ReadInto
 drawInto text t = filledBy (answered text) (content text (thingsOf text) (walked text .count)) t

@@ -1,10 +1,11 @@
 // A drawing read into a lent table: judged first, so that a refusal changes nothing; then its model fills the table.
 ghost use mathlib.Core.Path.{_≡_};
-ghost use mathlib.Core.Bool.{false};
+ghost use mathlib.Core.Bool.{true, false};
+ghost use mathlib.Core.List.{map};
 ghost use Prim.Native.Nat.{ℕ};
 ghost use lib.Dec.{ltb};
-ghost use Rattle.check_model.specs.Checks.{lowest};
-ghost use Rattle.text_read.specs.Notation.{tableOf};
+ghost use Rattle.base_words.specs.Each.{each};
+ghost use Rattle.text_read.specs.Notation.{tableOf, rewritten, hasRoom};
 ghost use Rattle.draw_model.specs.Content.{content};
 ghost use Rattle.draw_limits.specs.Excess.{firstBeyond};
 ghost use Rattle.xml_skip.specs.declared.Skipped.the-variants.{Fault};
@@ -13,13 +14,10 @@ use base_table::places::TABLE_WORDS;
 use base_words::Word;
 use base_words::clear;
 use base_words::numbers::ACCEPTED;
-use base_words::numbers::CHECK_BROKEN;
 use base_words::numbers::EXCESSIVE;
 use base_words::numbers::NOT_RUN;
 use base_words::numbers::NOT_XML;
 use base_words::numbers::TOO_LONG;
-use check_verdict::MODEL_WORDS;
-use check_verdict::lowest_in;
 use draw_faults::is_drawing;
 use draw_kinds::roles;
 use draw_limits::beyond_at;
@@ -30,7 +28,10 @@ use draw_model::keep_content;
 use draw_things::things::BLOCK_WORDS;
 use draw_things::things::place_of;
 use draw_walk::walk;
+use text_ends::JUDGED_WORDS;
 use text_read::Reading;
+use text_read::answer_for;
+use text_rewrite::rewrite;
 use xml_skip::Skipped;
 
 // Bytes of a drawing.
@@ -45,31 +46,23 @@ fn answer(number: Word, beside: usize) -> Reading
     }
 }
 
-fn checked(broken: Word) -> Reading
-    ensures { λ a. ⌜ a ≡ checkedAs broken ⌝ }
+// What is answered to the model of a drawing that is not beyond the limits.
+fn checked(text: &[u8], w: &[Word], n: Word) -> Reading
+    ensures { λ a. ⌜ (ltb (firstBeyond (now (text .entry)) (now (w .entry)) n) n ≡ false → a ≡ checkedAs (content (now (text .entry)) (now (w .entry)) n)) ⌝ }
 {
-    if broken == 0 {
-        return answer(ACCEPTED, 0);
-    }
-    answer(CHECK_BROKEN, broken as usize)
-}
-
-fn lowest_of(text: &[u8], w: &[Word], n: Word) -> Word
-    ensures { λ r. ⌜ r ≡ lowest (content (now (text .entry)) (now (w .entry)) n) ⌝ }
-{
-    let mut m = [0; MODEL_WORDS];
+    let mut m = [0; JUDGED_WORDS];
     keep_content(false, text, w, n, &mut m);
-    lowest_in(&m)
+    answer_for(&m)
 }
 
 fn fitted(text: &[u8], w: &[Word], n: Word) -> Reading
-    ensures { λ a. ⌜ a ≡ fittedBy (now (text .entry)) (now (w .entry)) n ⌝ }
+    ensures { λ a. ⌜ (ltb (firstBeyond (now (text .entry)) (now (w .entry)) n) n ≡ false → a ≡ fittedBy (now (text .entry)) (now (w .entry)) n) ⌝ }
 {
     let k = first_unfit(text, w, n);
     if k < n {
         return answer(EXCESSIVE, place_of(w, k) as usize);
     }
-    checked(lowest_of(text, w, n))
+    checked(text, w, n)
 }
 
 // The answer to a drawing whose walk met the things w.
@@ -88,10 +81,11 @@ fn meant(text: &[u8], w: &[Word], n: Word) -> Reading
 
 // The table of a drawing that is not beyond the limits.
 fn fill(text: &[u8], w: &[Word], n: Word, t: &mut [Word; TABLE_WORDS])
-    ensures { λ _. ⌜ (ltb (firstBeyond (now (text .entry)) (now (w .entry)) n) n ≡ false → now (t .exit) ≡ tableOf (content (now (text .entry)) (now (w .entry)) n)) ⌝ }
+    ensures { λ _. ⌜ (ltb (firstBeyond (now (text .entry)) (now (w .entry)) n) n ≡ false → each hasRoom (content (now (text .entry)) (now (w .entry)) n) ≡ true → now (t .exit) ≡ tableOf (map rewritten (content (now (text .entry)) (now (w .entry)) n))) ⌝ }
 {
     clear(t);
     keep_content(true, text, w, n, t);
+    rewrite(t);
 }
 
 fn judge(text: &[u8], w: &[Word], n: Word, t: &mut [Word; TABLE_WORDS]) -> Reading
@@ -121,7 +115,7 @@ fn stopped(end: Skipped) -> Reading
     }
 }
 
-// Reads a drawing into the table: 1, 20, 21, 3 or 4, and the table stays; else 0, and every word of the table is the model's.
+// Reads a drawing into the table: 1, 20, 21, 3, 4 or 28, and the table stays; else 0, and every word of the table is the model's.
 pub fn draw_into(text: &[u8], t: &mut [Word; TABLE_WORDS]) -> Reading
     ensures { λ a. ⌜ record { number = a .number; beside = a .beside; table = now (t .exit) } ≡ drawInto (now (text .entry)) (now (t .entry)) ⌝ }
 {

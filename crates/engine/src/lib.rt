@@ -234,14 +234,14 @@ pub fn run(
     }
 }
 
-// Reads a text into the lent table: 1, 2 or 3 with its place, 4 with the lowest check broken, and the table stays; else 0, and every word of it is the model's.
+// Reads a text into the lent table: 1, 2 or 3 with its place, 4 with the lowest check broken, 28 where an endSnd finds no edge or element number free, and the table stays; else 0, and every word of it is the model's.
 pub fn read(text: &[u8], t: &mut [Word; TABLE_WORDS]) -> Reading
     ensures { λ r. ⌜ record { number = r .number; beside = r .beside; table = now (t .exit) } ≡ readInto (now (text .entry)) (now (t .entry)) ⌝ }
 {
     text_read::read_into(text, t)
 }
 
-// Reads a drawing into the lent table: 1, 20 with its place, 21, 3 with its place, 4 with the lowest check broken, and the table stays; else 0, and every word of it is the model's.
+// Reads a drawing into the lent table: 1, 20 with its place, 21, 3 with its place, 4 with the lowest check broken, 28 as of a text, and the table stays; else 0, and every word of it is the model's.
 pub fn draw(text: &[u8], t: &mut [Word; TABLE_WORDS]) -> Reading
     ensures { λ r. ⌜ record { number = r .number; beside = r .beside; table = now (t .exit) } ≡ drawInto (now (text .entry)) (now (t .entry)) ⌝ }
 {

@@ -49,7 +49,7 @@ pub data Moves (v : ℕ) : Element → ℕ → ℕ → Local → Label → Local
   -- startRcv(m:t̃,e) —new m:ẽt→ ⟨inc(σe,e)⟩   eval(t̃,σd,ẽt)
   P-StartRcv : {m e : ℕ} {ts : List Item} {us : List Evaluated} {σ : Local} → Templates (σ .σd) ts us → room (σ .σe) e
       → Moves v (startRcv m ts e) 0 0 σ (new m us) (σ edges: inc (σ .σe) e)
-  -- endSnd(e,m:e͠xp) —!m:ṽ→ ⟨dec(σe,e)⟩   σe(e) > 0, eval(e͠xp,σd,ṽ)
+  -- endSnd(e,m:e͠xp) —!m:ṽ→ ⟨dec(σe,e)⟩   σe(e) > 0, eval(e͠xp,σd,ṽ): the paper's rule, of no table within the limits (`no-end-snd`)
   P-EndSnd : {e m : ℕ} {xs : List Exp} {vs : List ℕ} {σ : Local} → 0 < σ .σe e → Evals (σ .σd) xs vs
       → Moves v (endSnd e m xs) 0 0 σ (sends m vs) (σ edges: dec (σ .σe) e)
   -- interRcv(e,m:t̃,e′) —?m:ẽt,ε→ ⟨inc(dec(σe,e),e′)⟩   σe(e) > 0, eval(t̃,σd,ẽt)

@@ -2,11 +2,12 @@
 use Prim.Native.Nat.{ℕ, _+_, _<_}
 use mathlib.Core.Path.{_≡_, _∙_, refl, sym, ap, subst}
 use mathlib.Core.Bool.{Bool, true, false}
-use mathlib.Core.List.{List, [], _∷_}
+use mathlib.Core.List.{List, [], _∷_, map}
 use native.Mathlib.Omega.{arith}
 use lib.Dec.{eqb, ltb}
 use lib.ListN.{length}
 use Rattle.base_words.specs.Counts.{textMost}
+use Rattle.base_words.specs.Each.{each}
 use Rattle.base_words.specs.Pick.{if_then_else_}
 use Rattle.base_words.specs.Words.{part}
 use Rattle.check_model.specs.Checks.{lowest}
@@ -19,7 +20,7 @@ use Rattle.text_readers.specs.declared.Read.{Read}
 use Rattle.text_readers.specs.declared.Read.the-variants.{At, Refused}
 use Rattle.text_readers.specs.Reading.{misplaced, excessive, ifAt, placeOf, behind, letters, endAt, startsNumber, startsField, startsSign}
 use Rattle.text_elements.specs.Elements.{startsElement}
-use Rattle.text_read.specs.Notation.{ReadInto, startsPool, poolsAt, model, tableOf, checked, judged, readInto}
+use Rattle.text_read.specs.Notation.{ReadInto, startsPool, poolsAt, model, tableOf, rewritten, hasRoom, checked, judged, readInto}
 use Rattle.proof_places.proofs.PlaceRight.{place-right}
 use Rattle.proof_continues.specs.Continued.{resumed, Nowhere, GoesOn, whole, tooMany, Misplaced, isNumeral, startsItem, Exceeds, range, count, Excessive}
 use Rattle.proof_continues.proofs.Pieces.{Lexeme, lexeme, isEnd, Piece, met, written, Cut, cut-resumed, cut-here, piece-lexeme}
@@ -162,7 +163,7 @@ exceeds t p e = go (refusal t excessive p e)
 pub three-right : (t : List ℕ) (p : ℕ) → model t .end ≡ Refused excessive p → Excessive t p
 three-right t p e = record { cause = exceeds t p e; with = λ u agree. place-right t u excessive p e agree }
 
--- WHAT READING INTO A TABLE ANSWERS: 2 and 3 with their place are these refusals; a text of at most 65,536 bytes that is read whole is answered 0 or 4.
+-- WHAT READING INTO A TABLE ANSWERS: 2 and 3 with their place are these refusals; a text of at most 65,536 bytes that is read whole is answered 0, 4 or 28.
 neither : (n : ℕ) (c : Bool) (x y : ReadInto) → (x .number ≡ n → ⊥) → (y .number ≡ n → ⊥) → (if c then x else y) .number ≡ n → ⊥
 unfolding if_then_else_
 neither n true x y f g h = f h
@@ -176,9 +177,13 @@ module _ (t table : List ℕ) where
       by-end : (r : Read) → judged r (model t .value) table .number ≡ n → r ≡ Refused n (judged r (model t .value) table .beside)
       by-end (At q) h =
           absurd (neither n (eqb (lowest (model t .value)) 0)
-          (record { number = 0; beside = 0; table = tableOf (model t .value) })
+          (if each hasRoom (model t .value) then record { number = 0; beside = 0; table = tableOf (map rewritten (model t .value)) } else record { number = 28; beside = 0; table = table })
           (record { number = 4; beside = lowest (model t .value); table = table })
-          (λ z. omega (arith, z, l)) (λ z. omega (arith, z, u)) h)
+          (neither n (each hasRoom (model t .value))
+          (record { number = 0; beside = 0; table = tableOf (map rewritten (model t .value)) })
+          (record { number = 28; beside = 0; table = table })
+          (λ z. omega (arith, z, l)) (λ z. omega (arith, z, u)))
+          (λ z. omega (arith, z, u)) h)
       by-end (Refused m q) h = ap (λ (k : ℕ). Refused k q) h
 
       by-length : (c : Bool) → if_then_else_ {A = ReadInto} c (record { number = 1; beside = 0; table = table }) (judged (model t .end) (model t .value) table) .number ≡ n → model t .end ≡ Refused n (if_then_else_ {A = ReadInto} c (record { number = 1; beside = 0; table = table }) (judged (model t .end) (model t .value) table) .beside)

@@ -4,19 +4,20 @@ use Prim.Native.Nat.{ℕ, _≤_, _<_}
 use mathlib.Core.Path.{_≡_, refl, sym, _∙_, ap, subst}
 use mathlib.Core.Bool.{Bool, true, false, false≢true}
 use mathlib.Core.Logic.{_⊎_, inl, inr, ⊎-elim}
-use mathlib.Core.List.{List, [], _∷_, _++_}
+use mathlib.Core.List.{List, [], _∷_, _++_, map}
 use native.Mathlib.Omega.{arith}
 use lib.Dec.{eqb, ltb}
 use lib.ListN.{length, drop}
 use borrow.Author.Tests.{eqb-true, eq-eqb, ne-eqb, lt-ltb, le-ltb}
 use Rattle.base_words.specs.Counts.{textMost}
+use Rattle.base_words.specs.Each.{each}
 use Rattle.base_words.specs.Pick.{if_then_else_}
 use Rattle.text_readers.specs.declared.Read.{Read}
 use Rattle.text_readers.specs.declared.Read.the-variants.{At, Refused}
 use Rattle.text_readers.specs.Reading.{misplaced, excessive}
 use Rattle.check_model.specs.Checks.{lowest}
 use Rattle.text_read.specs.declared.Reading.{Reading}
-use Rattle.text_read.specs.Notation.{ReadInto, model, tableOf, checked, judged, readInto}
+use Rattle.text_read.specs.Notation.{ReadInto, model, tableOf, rewritten, hasRoom, checked, judged, readInto}
 use Rattle.write_shown.specs.Shown.{shownTable}
 use Rattle.engine.specs.declared.Written.{Written}
 use Rattle.engine.specs.Engine.{valid, WrittenTo, written, writtenTo}
@@ -25,12 +26,13 @@ use Rattle.proof_demands.specs.Promises.{Reads, Writes}
 use Rattle.proof_demands.specs.Demands.{among, readNumbers, writeNumbers}
 use Rattle.proof_demands.proofs.ReaderNumbers.{told, model-told}
 
--- WHAT A READING LEAVES: a table that was read whole, and no check broken; or a number other than 0 and the table as it was
+-- WHAT A READING LEAVES: a table that was read whole, no check broken and with room for what its endSnds become; or a number other than 0 and the table as it was
 pub record Whole (text : List ℕ) (r : ReadInto) : Type 0 where
   pub place : ℕ
   pub ended : model text .end ≡ At place
   pub sound : lowest (model text .value) ≡ 0
-  pub is : r ≡ record { number = 0; beside = 0; table = tableOf (model text .value) }
+  pub room : each hasRoom (model text .value) ≡ true
+  pub is : r ≡ record { number = 0; beside = 0; table = tableOf (map rewritten (model text .value)) }
 
 pub record Stays (t : List ℕ) (r : ReadInto) : Type 0 where
   pub refused : r .number ≡ 0 → ⊥
@@ -55,9 +57,13 @@ two-or-three n p t h = go (eqb n misplaced) (eqb n excessive) refl refl h
 checked-either : (text t : List ℕ) (q : ℕ) → model text .end ≡ At q → Either text t (checked (lowest (model text .value)) (model text .value) t)
 unfolding checked among if_then_else_
 checked-either text t q e =
-    by-choice (Either text t) (eqb (lowest (model text .value)) 0) (record { number = 0; beside = 0; table = tableOf (model text .value) })
+    by-choice (Either text t) (eqb (lowest (model text .value)) 0)
+    (if each hasRoom (model text .value) then record { number = 0; beside = 0; table = tableOf (map rewritten (model text .value)) } else record { number = 28; beside = 0; table = t })
     (record { number = 4; beside = lowest (model text .value); table = t })
-    (λ z. inl (record { place = q; ended = e; sound = eqb-true (lowest (model text .value)) 0 z; is = refl }))
+    (λ z.
+    by-choice (Either text t) (each hasRoom (model text .value)) (record { number = 0; beside = 0; table = tableOf (map rewritten (model text .value)) }) (record { number = 28; beside = 0; table = t })
+    (λ room. inl (record { place = q; ended = e; sound = eqb-true (lowest (model text .value)) 0 z; room = room; is = refl }))
+    (λ full. inr (record { refused = λ k. omega (arith, k); among-them = refl; table = refl })))
     (λ z. inr (record { refused = λ k. omega (arith, k); among-them = refl; table = refl }))
 
 judged-either : (text t : List ℕ) (r : Read) → model text .end ≡ r → told r ≡ true → Either text t (judged r (model text .value) t)
@@ -72,7 +78,7 @@ taken-either text t =
     (λ z. inr (record { refused = λ k. omega (arith, k); among-them = refl; table = refl }))
     (λ z. judged-either text t (model text .end) refl (model-told text))
 
--- READ: "1: text above 65,536 bytes", then 2 or 3 with its place, then 4 with the lowest check broken, else 0
+-- READ: "1: text above 65,536 bytes", then 2 or 3 with its place, then 4 with the lowest check broken, then 28 where a pool has no room for what its endSnds become, else 0
 module _ (text t : List ℕ) where
   pub read-above : textMost < length text → readInto text t ≡ record { number = 1; beside = 0; table = t }
   unfolding readInto
@@ -96,9 +102,20 @@ module _ (text t : List ℕ) where
       unfolding checked
       read-broken n = to-check ∙ passed (eqb (lowest (model text .value)) 0) _ (record { number = 4; beside = lowest (model text .value); table = t }) (ne-eqb (lowest (model text .value)) 0 n)
 
-      pub read-passed : lowest (model text .value) ≡ 0 → readInto text t ≡ record { number = 0; beside = 0; table = tableOf (model text .value) }
-      unfolding checked
-      read-passed n = to-check ∙ chosen (eqb (lowest (model text .value)) 0) (record { number = 0; beside = 0; table = tableOf (model text .value) }) _ (eq-eqb (lowest (model text .value)) 0 n)
+      module _ (n : lowest (model text .value) ≡ 0) where
+        to-room : readInto text t ≡ (if each hasRoom (model text .value) then record { number = 0; beside = 0; table = tableOf (map rewritten (model text .value)) } else record { number = 28; beside = 0; table = t })
+        unfolding checked
+        to-room =
+            to-check
+            ∙ chosen (eqb (lowest (model text .value)) 0)
+            (if each hasRoom (model text .value) then record { number = 0; beside = 0; table = tableOf (map rewritten (model text .value)) } else record { number = 28; beside = 0; table = t }) _
+            (eq-eqb (lowest (model text .value)) 0 n)
+
+        pub read-full : each hasRoom (model text .value) ≡ false → readInto text t ≡ record { number = 28; beside = 0; table = t }
+        read-full full = to-room ∙ passed (each hasRoom (model text .value)) _ (record { number = 28; beside = 0; table = t }) full
+
+        pub read-passed : each hasRoom (model text .value) ≡ true → readInto text t ≡ record { number = 0; beside = 0; table = tableOf (map rewritten (model text .value)) }
+        read-passed room = to-room ∙ chosen (each hasRoom (model text .value)) (record { number = 0; beside = 0; table = tableOf (map rewritten (model text .value)) }) _ room
 
 -- the numbers; a number other than 0 leaves the table as it was
 module _ (text t : List ℕ) (r : Reading) (y : List ℕ) (promise : Reads text t r y) where
@@ -121,7 +138,7 @@ module _ (text t : List ℕ) (r : Reading) (y : List ℕ) (promise : Reads text 
       read-left
       ∙ ⊎-elim (λ (w : Whole text (readInto text t)). absurd (n (read-is ∙ ap (λ (o : ReadInto). o .number) (w .is)))) (λ (s : Stays t (readInto text t)). s .table) (taken-either text t)
 
-  pub read-made : r .number ≡ 0 → (lowest (model text .value) ≡ 0) × (y ≡ tableOf (model text .value))
+  pub read-made : r .number ≡ 0 → (lowest (model text .value) ≡ 0) × (y ≡ tableOf (map rewritten (model text .value)))
   read-made n =
       ⊎-elim (λ (w : Whole text (readInto text t)). (w .sound, read-left ∙ ap (λ (o : ReadInto). o .table) (w .is)))
       (λ (s : Stays t (readInto text t)). absurd (s .refused (sym read-is ∙ n)))

@@ -3,7 +3,7 @@ use Prim.Native.Nat.{ℕ, _≤_}
 use mathlib.Core.Path.{_≡_, refl, sym, _∙_, ap, subst}
 use mathlib.Core.Bool.{true}
 use mathlib.Core.Logic.{⊎-elim}
-use mathlib.Core.List.{List, _++_}
+use mathlib.Core.List.{List, _++_, map}
 use native.Mathlib.Omega.{arith}
 use lib.Dec.{eqb, ltb}
 use lib.ListN.{length, drop}
@@ -14,14 +14,14 @@ use Rattle.base_words.proofs.PickLaws.{and-true}
 use Rattle.check_limits.specs.Limits.{tableFits}
 use Rattle.check_model.specs.Checks.{lowest}
 use Rattle.check_lowest.specs.Model.{modelOf}
-use Rattle.text_read.specs.Notation.{ReadInto, model, tableOf, readInto}
+use Rattle.text_read.specs.Notation.{ReadInto, model, tableOf, rewritten, readInto}
 use Rattle.write_shown.specs.Shown.{shownTable}
 use Rattle.base_state.specs.Versions.{isVersion}
 use Rattle.engine.proofs.CallLaws.{asked-good}
 use Rattle.engine.specs.Engine.{valid, verdictOf, freshened, WrittenTo, written, writtenTo}
 use Rattle.proof_steps.proofs.Choices.{by-choice, chosen, passed}
 use Rattle.proof_valid.proofs.ChecksHold.{valid-fits, valid-sound}
-use Rattle.proof_roundtrip.proofs.RoundTrip.{read-back, read-fits, read-small, read-long, read-lowest}
+use Rattle.proof_roundtrip.proofs.RoundTrip.{read-back, read-fits, read-small, read-long, read-sound}
 use Rattle.proof_lengths.proofs.Short.{short}
 use Rattle.proof_demands.specs.Demands.{Table, textIn}
 use Rattle.proof_demands.proofs.Numbers.{fresh-number}
@@ -82,18 +82,20 @@ module _ (text t₀ : List ℕ) (n : readInto text t₀ .number ≡ 0) where
   whole : Whole text (readInto text t₀)
   whole = ⊎-elim (λ (w : Whole text (readInto text t₀)). w) (λ (s : Stays t₀ (readInto text t₀)). absurd (s .refused n)) (taken-either text t₀)
 
-  read-table : tableOf (model text .value) ≡ readInto text t₀ .table
+  abbrev made : List ℕ
+  made = tableOf (map rewritten (model text .value))
+
+  read-table : made ≡ readInto text t₀ .table
   read-table = sym (ap (λ (r : ReadInto). r .table) (whole .is))
 
-  model-valid : valid (tableOf (model text .value)) ≡ true
+  model-valid : valid made ≡ true
   unfolding valid
   model-valid =
-      let t : List ℕ = tableOf (model text .value) in
-      and-true (tableFits t) (eqb (lowest (modelOf t)) 0) (read-fits text (whole .place) (whole .ended))
-      (eq-eqb (lowest (modelOf t)) 0 (read-lowest text (whole .place) (whole .ended) ∙ whole .sound))
+      and-true (tableFits made) (eqb (lowest (modelOf made)) 0) (read-fits text (whole .place) (whole .ended) (whole .room))
+      (eq-eqb (lowest (modelOf made)) 0 (read-sound text (whole .place) (whole .ended) (whole .room) (whole .sound)))
 
-  model-table : Table (tableOf (model text .value))
-  model-table = record { long = read-long text (whole .place) (whole .ended); small = read-small text (whole .place) (whole .ended) }
+  model-table : Table made
+  model-table = record { long = read-long text (whole .place) (whole .ended) (whole .room); small = read-small text (whole .place) (whole .ended) (whole .room) }
 
   pub read-valid : (valid (readInto text t₀ .table) ≡ true) × Table (readInto text t₀ .table)
   read-valid = subst (λ (t : List ℕ). (valid t ≡ true) × Table t) read-table (model-valid, model-table)

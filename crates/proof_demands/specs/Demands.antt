@@ -65,7 +65,7 @@ abbrev pub figuresNumbers : List ℕ
 figuresNumbers = 0 ∷ 10 ∷ 25 ∷ 26 ∷ []
 
 abbrev pub readNumbers : List ℕ
-readNumbers = 0 ∷ 1 ∷ 2 ∷ 3 ∷ 4 ∷ []
+readNumbers = 0 ∷ 1 ∷ 2 ∷ 3 ∷ 4 ∷ 28 ∷ []
 
 abbrev pub writeNumbers : List ℕ
 writeNumbers = 0 ∷ 5 ∷ 10 ∷ []

@@ -1,31 +1,32 @@
 -- WHAT THE ANSWERS OF DRAW SAY: which numbers can come, that a refusal leaves the table, and what 0 says of the drawing. Assumes nothing.
 use Prim.Native.Nat.{ℕ, suc}
-use mathlib.Core.Path.{_≡_, refl, ap}
+use mathlib.Core.Path.{_≡_, refl, ap, ap₂}
 use mathlib.Core.Bool.{Bool, true, false, not}
-use mathlib.Core.List.{List, [], _∷_}
+use mathlib.Core.List.{List, [], _∷_, map}
 use native.Mathlib.Omega.{arith}
 use lib.Dec.{eqb, ltb}
 use lib.ListN.{length}
 use borrow.Author.Tests.{eqb-true, ne-eqb}
+use Rattle.base_words.specs.Each.{each}
 use Rattle.base_words.specs.Pick.{if_then_else_}
 use Rattle.text_readers.specs.Reading.{excessive}
-use Rattle.check_model.specs.Checks.{lowest}
+use Rattle.check_model.specs.Checks.{Pool, lowest}
 use Rattle.text_read.specs.declared.Reading.{Reading}
-use Rattle.text_read.specs.Notation.{tableOf}
+use Rattle.text_read.specs.Notation.{tableOf, rewritten, hasRoom, answerFor}
 use Rattle.xml_skip.specs.declared.Skipped.{Skipped}
 use Rattle.xml_skip.specs.declared.Skipped.the-variants.{Past, Fault}
 use Rattle.draw_things.specs.Things.{place}
 use Rattle.draw_faults.specs.Amiss.{isDrawing}
 use Rattle.draw_limits.specs.Excess.{firstBeyond, beyondAt}
 use Rattle.draw_model.specs.Content.{content, firstUnfit}
-use Rattle.draw_read.specs.Drawings.{drawingMost, tooLong, checkBroken, notXml, notRun, answer, checkedAs, fittedBy, meantBy, walked, thingsOf, judged, answered, filledBy, drawInto}
+use Rattle.draw_read.specs.Drawings.{drawingMost, tooLong, notXml, notRun, answer, checkedAs, fittedBy, meantBy, walked, thingsOf, judged, answered, filledBy, drawInto}
 use Rattle.proof_steps.proofs.Choices.{passed}
 use Rattle.proof_demands.specs.Demands.{among}
 use Rattle.proof_drawings.proofs.TermLaws.{either}
 
 -- THE NUMBERS
 abbrev pub drawNumbers : List ℕ
-drawNumbers = 0 ∷ tooLong ∷ excessive ∷ checkBroken ∷ notXml ∷ notRun ∷ []
+drawNumbers = 0 ∷ tooLong ∷ excessive ∷ 4 ∷ notXml ∷ notRun ∷ 28 ∷ []
 
 record Told (a : Reading) : Type 0 where
   pub number : among drawNumbers (a .number) ≡ true
@@ -33,13 +34,14 @@ record Told (a : Reading) : Type 0 where
 told : (n p : ℕ) → among drawNumbers n ≡ true → Told (answer n p)
 told n p h = record { number = h }
 
-checked-told : (k : ℕ) → Told (checkedAs k)
-unfolding checkedAs among if_then_else_
-checked-told k = go (eqb k 0)
+checked-told : (ps : List Pool) → Told (checkedAs ps)
+unfolding checkedAs answerFor among if_then_else_
+checked-told ps = go (eqb (lowest ps) 0) (each hasRoom ps)
   where
-    go : (b : Bool) → Told (answer (if b then 0 else checkBroken) k)
-    go true = record { number = refl }
-    go false = record { number = refl }
+    go : (b c : Bool) → Told (answer (if b then (if c then 0 else 28) else 4) (lowest ps))
+    go true true = record { number = refl }
+    go true false = record { number = refl }
+    go false c = record { number = refl }
 
 too-long : among drawNumbers tooLong ≡ true
 unfolding among if_then_else_
@@ -61,7 +63,7 @@ meant-told : (text w : List ℕ) (n : ℕ) → Told (meantBy text w n)
 unfolding meantBy fittedBy
 meant-told text w n =
     either Told _ _ _ (told notRun 0 run-told)
-    (either Told _ _ _ (told excessive _ beyond-told) (either Told _ _ _ (told excessive _ beyond-told) (checked-told (lowest (content text w n)))))
+    (either Told _ _ _ (told excessive _ beyond-told) (either Told _ _ _ (told excessive _ beyond-told) (checked-told (content text w n))))
 
 judged-told : (e : Skipped) (a : Reading) → Told a → Told (judged e a)
 unfolding judged
@@ -72,7 +74,7 @@ answered-told : (text : List ℕ) → Told (answered text)
 unfolding answered
 answered-told text = either Told _ _ _ (told tooLong 0 too-long) (judged-told (walked text .end) _ (meant-told text (thingsOf text) (walked text .count)))
 
--- "1, 20 .., 21, 3 .., 4 ..", else 0; a number other than 0 leaves the table as it was
+-- "1, 20 .., 21, 3 .., 4 ..", 28, else 0; a number other than 0 leaves the table as it was
 module _ (text t : List ℕ) where
   pub draw-number : among drawNumbers (drawInto text t .number) ≡ true
   unfolding drawInto filledBy
@@ -88,26 +90,28 @@ pub record Clear (text w : List ℕ) (n : ℕ) (a : Reading) : Type 0 where
   pub beyond : ltb (firstBeyond text w n) n ≡ false
   pub unfit : ltb (firstUnfit text w n) n ≡ false
   pub sound : lowest (content text w n) ≡ 0
+  pub room : each hasRoom (content text w n) ≡ true
   pub is : a ≡ answer 0 0
 
 none-more : (k : ℕ) → suc k ≡ 0 → ⊥
 none-more k e = omega (arith, e)
 
-checked-zero : (k : ℕ) → checkedAs k .number ≡ 0 → k ≡ 0
-unfolding checkedAs
-checked-zero k = go (eqb k 0) refl
+checked-zero : (ps : List Pool) → checkedAs ps .number ≡ 0 → (lowest ps ≡ 0) × (each hasRoom ps ≡ true)
+unfolding checkedAs answerFor
+checked-zero ps = go (eqb (lowest ps) 0) (each hasRoom ps) refl
   where
-    go : (b : Bool) → eqb k 0 ≡ b → (if b then 0 else checkBroken) ≡ 0 → k ≡ 0
-    go true q e = eqb-true k 0 q
-    go false q e = absurd (none-more 3 (unfold if_then_else_ in e))
+    go : (b c : Bool) → eqb (lowest ps) 0 ≡ b → _≡_ {A = ℕ} (if b then (if c then 0 else 28) else 4) 0 → (lowest ps ≡ 0) × (c ≡ true)
+    go true true q e = (eqb-true (lowest ps) 0 q, refl)
+    go true false q e = absurd (none-more 27 (unfold if_then_else_ in e))
+    go false c q e = absurd (none-more 3 (unfold if_then_else_ in e))
 
-checked-is : (k : ℕ) → k ≡ 0 → checkedAs k ≡ answer 0 0
-unfolding checkedAs if_then_else_
-checked-is k e = ap checkedAs e
+checked-is : (ps : List Pool) → lowest ps ≡ 0 → each hasRoom ps ≡ true → checkedAs ps ≡ answer 0 0
+unfolding checkedAs answerFor if_then_else_
+checked-is ps e r = ap₂ answerFor e r
 
 module _ (text w : List ℕ) (n : ℕ) where
   abbrev fitting : Bool → Reading
-  fitting c = if c then answer excessive (place w (firstUnfit text w n)) else checkedAs (lowest (content text w n))
+  fitting c = if c then answer excessive (place w (firstUnfit text w n)) else checkedAs (content text w n)
 
   fitted-clear : isDrawing text w n ≡ true → ltb (firstBeyond text w n) n ≡ false → fittedBy text w n .number ≡ 0 → Clear text w n (fittedBy text w n)
   unfolding fittedBy
@@ -117,8 +121,8 @@ module _ (text w : List ℕ) (n : ℕ) where
       go true q e = absurd (none-more 2 (unfold if_then_else_ in e))
       go false q e =
           unfold if_then_else_ in
-          let s = checked-zero (lowest (content text w n)) e in
-          record { drawn = d; beyond = b; unfit = q; sound = s; is = checked-is (lowest (content text w n)) s }
+          let s = checked-zero (content text w n) e in
+          record { drawn = d; beyond = b; unfit = q; sound = s .0; room = s .1; is = checked-is (content text w n) (s .0) (s .1) }
 
   abbrev meaning : Bool → Bool → Reading
   meaning a b = if not a then answer notRun 0 else if b then answer excessive (beyondAt text w (firstBeyond text w n)) else fittedBy text w n
@@ -147,8 +151,8 @@ answered-clear text = go (ltb drawingMost (length text)) (walked text .end)
     go false (Past q) h = unfold if_then_else_ judged in meant-clear text w n h
     go false (Fault q) h = absurd (none-more 19 (unfold if_then_else_ judged in h))
 
--- a table that was drawn is the content's
-pub drawn-is : (text t : List ℕ) → drawInto text t .number ≡ 0 → drawInto text t ≡ record { number = 0; beside = 0; table = tableOf (content text (thingsOf text) (walked text .count)) }
+-- a table that was drawn is that of the content as it is rewritten
+pub drawn-is : (text t : List ℕ) → drawInto text t .number ≡ 0 → drawInto text t ≡ record { number = 0; beside = 0; table = tableOf (map rewritten (content text (thingsOf text) (walked text .count))) }
 unfolding drawInto filledBy if_then_else_
 drawn-is text t h = ap (λ (a : Reading). filledBy a (content text (thingsOf text) (walked text .count)) t) (answered-clear text h .is)
 

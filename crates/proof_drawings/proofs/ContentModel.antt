@@ -29,8 +29,7 @@ use Rattle.draw_limits.specs.Excess.{isLimit, isFifthPool, isNodeBeyond, isFlow
 use Rattle.draw_model.specs.Drawn.{elementDrawn}
 use Rattle.draw_model.specs.Content.{elementIf, elementsOf, limitOf, processOf, numberOf, poolDrawn, poolIf, content, isUnfit, firstUnfit}
 use Rattle.draw_read.proofs.RoomLaws.{content-fits}
-use Rattle.proof_roundtrip.proofs.ReadElements.{Right}
-use Rattle.proof_roundtrip.proofs.ReadPools.{Every, Fit, Model}
+use Rattle.proof_ends.proofs.Models.{Every, Right, Fit, Model}
 use Rattle.proof_drawings.proofs.SmallLaws.{element-right}
 
 -- TESTS

@@ -28,7 +28,7 @@ use Rattle.draw_model.specs.Drawn.{withEdge, receivedBy, sentBy, withMessage, w
 use Rattle.draw_read.proofs.LongLaws.{element-long}
 use Rattle.proof_roundtrip.proofs.BlankLaws.{zero-word}
 use Rattle.proof_roundtrip.proofs.KindLaws.{kind-bounds}
-use Rattle.proof_roundtrip.proofs.ReadElements.{Right}
+use Rattle.proof_ends.proofs.Models.{Right}
 use Rattle.proof_drawings.proofs.TermLaws.{either, Stored, Plain, plain-at}
 
 -- the words behind the kind

@@ -2,16 +2,17 @@
 use Prim.Native.Nat.{ℕ, _≤_}
 use mathlib.Core.Path.{_≡_, sym, _∙_, ap, subst}
 use mathlib.Core.Bool.{true}
-use mathlib.Core.List.{List}
+use mathlib.Core.List.{List, map}
 use lib.Dec.{eqb}
 use lib.ListN.{length}
 use borrow.Author.Tests.{eq-eqb}
 use Rattle.base_words.specs.Counts.{textMost}
+use Rattle.base_words.specs.Each.{each}
 use Rattle.base_words.proofs.PickLaws.{and-true}
 use Rattle.check_limits.specs.Limits.{tableFits}
 use Rattle.check_model.specs.Checks.{Pool, lowest}
 use Rattle.check_lowest.specs.Model.{modelOf}
-use Rattle.text_read.specs.Notation.{ReadInto, tableOf, readInto}
+use Rattle.text_read.specs.Notation.{ReadInto, tableOf, rewritten, hasRoom, readInto}
 use Rattle.write_shown.specs.Shown.{shownTable}
 use Rattle.engine.specs.Engine.{valid, verdictOf, freshened, writtenTo}
 use Rattle.base_state.specs.Versions.{isVersion}
@@ -21,7 +22,8 @@ use Rattle.draw_model.specs.Content.{content}
 use Rattle.draw_read.specs.Drawings.{walked, thingsOf, drawInto}
 use Rattle.proof_lengths.proofs.Short.{short}
 use Rattle.proof_roundtrip.proofs.LowestLaws.{lowest-same}
-use Rattle.proof_roundtrip.proofs.ReadPools.{Model}
+use Rattle.proof_ends.proofs.Models.{Model}
+use Rattle.proof_ends.proofs.Rewritten.{rewritten-fits, rewritten-sound, none-left}
 use Rattle.proof_roundtrip.proofs.ReadTables.{table-small, table-fits, table-long, blocks-are}
 use Rattle.proof_roundtrip.proofs.RoundTrip.{read-back}
 use Rattle.proof_demands.specs.Demands.{Table, textIn, Made, NeverBad}
@@ -39,31 +41,41 @@ drawnModel text = content text (thingsOf text) (walked text .count)
 
 -- A DRAWING THAT IS ACCEPTED
 module _ (text t : List ℕ) (h : drawInto text t .number ≡ 0) where
-  -- its content is a model within its limits, with no check broken, and the table is that model's
+  -- its content is a model within its limits, with no check broken and room for what its endSnds become, and the table is that model's as it is rewritten
   pub accepted : Model (drawnModel text)
   accepted = let c = drawn-clear text t h in content-model text (thingsOf text) (walked text .count) (c .drawn) (c .beyond) (c .unfit) (things-placed text) (c .sound)
 
   pub accepted-sound : lowest (drawnModel text) ≡ 0
   accepted-sound = drawn-clear text t h .sound
 
-  pub accepted-table : drawInto text t ≡ record { number = 0; beside = 0; table = tableOf (drawnModel text) }
+  accepted-room : each hasRoom (drawnModel text) ≡ true
+  accepted-room = drawn-clear text t h .room
+
+  -- as it is rewritten, too
+  abbrev rs : List Pool
+  rs = map rewritten (drawnModel text)
+
+  rewrites : Model rs
+  rewrites = rewritten-fits (drawnModel text) accepted accepted-room
+
+  pub accepted-table : drawInto text t ≡ record { number = 0; beside = 0; table = tableOf rs }
   accepted-table = drawn-is text t h
 
-  table-is : tableOf (drawnModel text) ≡ drawInto text t .table
+  table-is : tableOf rs ≡ drawInto text t .table
   table-is = sym (ap (λ (r : ReadInto). r .table) accepted-table)
 
-  fits : tableFits (tableOf (drawnModel text)) ≡ true
-  fits = table-fits (drawnModel text) accepted
+  fits : tableFits (tableOf rs) ≡ true
+  fits = table-fits rs rewrites (none-left (drawnModel text) accepted accepted-room)
 
-  sound : lowest (modelOf (tableOf (drawnModel text))) ≡ 0
-  sound = sym (lowest-same (tableOf (drawnModel text)) fits) ∙ ap lowest (blocks-are (drawnModel text) accepted) ∙ accepted-sound
+  sound : lowest (modelOf (tableOf rs)) ≡ 0
+  sound = sym (lowest-same (tableOf rs) fits) ∙ ap lowest (blocks-are rs rewrites) ∙ rewritten-sound (drawnModel text) accepted accepted-room accepted-sound
 
-  model-valid : valid (tableOf (drawnModel text)) ≡ true
+  model-valid : valid (tableOf rs) ≡ true
   unfolding valid
-  model-valid = and-true (tableFits (tableOf (drawnModel text))) (eqb (lowest (modelOf (tableOf (drawnModel text)))) 0) fits (eq-eqb (lowest (modelOf (tableOf (drawnModel text)))) 0 sound)
+  model-valid = and-true (tableFits (tableOf rs)) (eqb (lowest (modelOf (tableOf rs))) 0) fits (eq-eqb (lowest (modelOf (tableOf rs))) 0 sound)
 
-  model-table : Table (tableOf (drawnModel text))
-  model-table = record { long = table-long (drawnModel text) accepted; small = table-small (drawnModel text) accepted }
+  model-table : Table (tableOf rs)
+  model-table = record { long = table-long rs rewrites; small = table-small rs rewrites }
 
   -- so it is a table that no later call refuses, and the three demands hold of it as of every other
   pub draw-valid : (valid (drawInto text t .table) ≡ true) × Table (drawInto text t .table)

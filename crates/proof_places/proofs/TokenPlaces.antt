@@ -2,11 +2,12 @@
 use Prim.Native.Nat.{ℕ, zero, suc, _≤_}
 use mathlib.Core.Path.{_≡_, _∙_, sym, ap, subst}
 use mathlib.Core.Bool.{Bool, true, false}
-use mathlib.Core.List.{List}
+use mathlib.Core.List.{List, map}
 use mathlib.Core.Logic.{_⊎_, inl, inr}
 use native.Mathlib.Omega.{arith}
 use lib.Dec.{eqb, ltb}
 use lib.ListN.{length}
+use Rattle.base_words.specs.Each.{each}
 use Rattle.base_words.specs.Pick.{if_then_else_}
 use Rattle.base_words.specs.Counts.{textMost}
 use Rattle.text_lexer.specs.declared.Token.{Token}
@@ -16,7 +17,7 @@ use Rattle.text_readers.specs.declared.Read.{Read}
 use Rattle.text_readers.specs.declared.Read.the-variants.{At, Refused}
 use Rattle.text_readers.specs.Reading.{misplaced, excessive}
 use Rattle.check_model.specs.Checks.{Pool, lowest}
-use Rattle.text_read.specs.Notation.{model, tableOf, ReadInto, checked, judged, readInto}
+use Rattle.text_read.specs.Notation.{model, tableOf, rewritten, hasRoom, ReadInto, checked, judged, readInto}
 use Rattle.proof_places.specs.Places.{behindFirst, kthToken, TokenPlace, EndAlike, both-read, both-refused}
 use Rattle.proof_places.proofs.Steady.{itself, model-steady}
 
@@ -65,11 +66,14 @@ neither n a b (inr e) = absurd (b e)
 judged-place : (t : List ℕ) (r : Read) (ps : List Pool) (table : List ℕ) → Placed t r → AtPlace (judged r ps table) → TokenPlace t (judged r ps table .beside)
 unfolding judged Placed checked if_then_else_
 judged-place t (Refused n p) ps table placed e = placed
-judged-place t (At q) ps table placed e = go (eqb (lowest ps) 0) e
+judged-place t (At q) ps table placed e = go (eqb (lowest ps) 0) (each hasRoom ps) e
   where
-    go : (b : Bool) → AtPlace (if b then record { number = 0; beside = 0; table = tableOf ps } else record { number = 4; beside = lowest ps; table = table }) → TokenPlace t (judged (At q) ps table .beside)
-    go true e = neither 0 (λ n. omega arith) (λ n. omega arith) e
-    go false e = neither 4 (λ n. omega arith) (λ n. omega arith) e
+    go : (b r : Bool)
+        → AtPlace (if b then (if r then record { number = 0; beside = 0; table = tableOf (map rewritten ps) } else record { number = 28; beside = 0; table = table }) else record { number = 4; beside = lowest ps; table = table })
+        → TokenPlace t (judged (At q) ps table .beside)
+    go true true e = neither 0 (λ n. omega arith) (λ n. omega arith) e
+    go true false e = neither 28 (λ n. omega arith) (λ n. omega arith) e
+    go false r e = neither 4 (λ n. omega arith) (λ n. omega arith) e
 
 pub answer-place : (t table : List ℕ) → AtPlace (readInto t table) → TokenPlace t (readInto t table .beside)
 unfolding readInto if_then_else_

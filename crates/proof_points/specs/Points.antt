@@ -3,7 +3,7 @@
 use Prim.Native.Nat.{ℕ, _+_, _-_}
 use Prim.Native.String.{String}
 use mathlib.Core.Bool.{Bool, true, false, _&&_}
-use mathlib.Core.List.{List, [], _∷_, _++_}
+use mathlib.Core.List.{List, [], _∷_, _++_, map}
 use lib.Dec.{eqb}
 use lib.ListN.{replicate}
 use Rattle.base_words.specs.Each.{joined}
@@ -16,7 +16,7 @@ use Rattle.meaning.specs.declared.Name.{Name}
 use Rattle.meaning.specs.Tuples.{empty, sameTuple}
 use Rattle.meaning.specs.Queues.{withMessages}
 use Rattle.text_numerals.specs.Numerals.{sameBytes}
-use Rattle.text_read.specs.Notation.{readInto, elementAlone, model, tableOf}
+use Rattle.text_read.specs.Notation.{readInto, elementAlone, model, tableOf, rewritten}
 use Rattle.step_list.specs.Listing.{listed, chosen}
 use Rattle.step_run.specs.Run.{Run, ran}
 use Rattle.write_shown.specs.Shown.{shownTable}
@@ -89,7 +89,7 @@ ran-to r steps left = eqb (r .steps) steps && eqb (r .left) left
 
 -- WRITING the table of a text
 abbrev writes : String → String → Bool
-writes text written = sameBytes (shownTable (tableOf (model (bytes text) .value))) (bytes written)
+writes text written = sameBytes (shownTable (tableOf (map rewritten (model (bytes text) .value)))) (bytes written)
 
 abbrev pub points : List Point
 points =
@@ -164,4 +164,8 @@ points =
     "until none is accepted" shown-by ran-to (ran (pool 1 0 1 (words "end(1)")) 100 (made 1 (tokens 1 2)) (queue [])) 2 0 ∷
     "the writer writes no blanks and ends with one newline" shown-by writes " pool ( 1 , start ( 1 , 2 ) | end ( 2 ) ) " "pool(1,start(1,2)|end(2))\n" ∷
     "keeps the order of the table" shown-by writes "pool(2,end(2)|start(1,2))|miPool(1,startRcv(3:<?d0,1+d0>,1)|end(1),2)" "pool(2,end(2)|start(1,2))|miPool(1,startRcv(3:<?d0,1+d0>,1)|end(1),2)\n" ∷
-    "and stores as they were read" shown-by writes "pool(1,startRcv(3:<?s0,d15+s15>,1)|end(1))" "pool(1,startRcv(3:<?s0,d15+s15>,1)|end(1))\n" ∷ []
+    "and stores as they were read" shown-by writes "pool(1,startRcv(3:<?s0,d15+s15>,1)|end(1))" "pool(1,startRcv(3:<?s0,d15+s15>,1)|end(1))\n" ∷
+    "an endSnd is written as a send to the lowest unused edge and an end for it" shown-by writes "pool(1,start(1,2)|endSnd(2,3:<>))" "pool(1,start(1,2)|interSnd(2,3:<>,3)|end(3))\n" ∷
+    "edge 1 where it is unused" shown-by writes "pool(1,start(2,3)|endSnd(3,3:<1>))" "pool(1,start(2,3)|interSnd(3,3:<1>,1)|end(1))\n" ∷
+    "several in text order" shown-by writes "pool(1,endSnd(5,3:<>)|startRcv(4:<>,1)|andSplit(1,{5,6})|endSnd(6,3:<d0>))" "pool(1,interSnd(5,3:<>,2)|startRcv(4:<>,1)|andSplit(1,{5,6})|interSnd(6,3:<d0>,3)|end(2)|end(3))\n" ∷
+    "a broken check goes before 28: 32 elements, all of them endSnds" shown-by ((bytes "pool(1," ++ repeated "endSnd(1,3:<>)|" 31 ++ bytes "endSnd(1,3:<>))") gives 4 beside 2) ∷ []

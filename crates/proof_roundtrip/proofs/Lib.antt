@@ -29,5 +29,6 @@ pub mod ReadElements
 pub mod ReadPools
 pub mod FlatLaws
 pub mod ReadTables
+pub mod PlainLaws
 pub mod RoundTrip
 pub mod Points

@@ -21,17 +21,13 @@ use Rattle.text_lexer.specs.Lexer.{tokenAt}
 use Rattle.text_readers.specs.Reading.{misplaced, passed, refused, placeOf, behind, letters}
 use Rattle.text_elements.specs.Elements.{kindCount, isKeyword, kindNamed, blank, partsOf, elementOf, element}
 use Rattle.proof_trips.specs.Trip.{spans, regionOf}
+use Rattle.proof_ends.proofs.Models.{Right}
 use Rattle.proof_roundtrip.proofs.BlankLaws.{blank-kind, blank-length, blank-zero}
 use Rattle.proof_roundtrip.proofs.KindLaws.{of-kind}
 use Rattle.proof_roundtrip.proofs.FillLaws.{Fills, Filled, refused-passed, idle-sign, fills-before}
 use Rattle.proof_roundtrip.proofs.WordFills.{word-passed}
 use Rattle.proof_roundtrip.proofs.RowFills.{stores, Good, row-clear, row-suits, fills-row}
 use Rattle.proof_roundtrip.proofs.ElementFills.{parts-right}
-
-pub record Right (y : List ℕ) : Type 0 where
-  pub fits : elementFits y ≡ true
-  pub long : length y ≡ elementWords
-  pub small : (i : ℕ) → at y i ≤ greatest
 
 -- a row has a keyword, and no part of it stores the kind
 row-letters : (k : ℕ) → 0 < k → k < kindCount + 1 → not (eqb (kindOf k .letters) 0) ≡ true

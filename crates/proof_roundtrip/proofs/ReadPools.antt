@@ -20,14 +20,10 @@ use Rattle.text_readers.specs.Reading.{Parsed, Reader, misplaced, passed, ifAt,
 use Rattle.text_elements.specs.Elements.{element, startsElement}
 use Rattle.check_model.specs.Checks.{Pool}
 use Rattle.text_read.specs.Notation.{Got, oneTooMany, putBefore, barred, elementAlone, elementsAt, plain, poolWord, opening, closing, unread, closed, insidePool, poolOfWord, pool, startsPool, poolsAt, model}
+use Rattle.proof_ends.proofs.Models.{Every, Right, Fit, Model}
 use Rattle.proof_roundtrip.proofs.FillLaws.{onward-passed}
 use Rattle.proof_roundtrip.proofs.WordFills.{Kept, number-passed}
-use Rattle.proof_roundtrip.proofs.ReadElements.{Right, element-right}
-
--- a property of each thing of a list
-abbrev pub Every : {A : Type 0} → (A → Type 0) → List A → Type 0
-Every P [] = 0 ≤ 0
-Every P (x ∷ xs) = P x × Every P xs
+use Rattle.proof_roundtrip.proofs.ReadElements.{element-right}
 
 -- a refusal is no place
 pub not-at : (n p q : ℕ) → Refused n p ≡ At q → ⊥
@@ -81,14 +77,6 @@ unfolding elementsAt Elements
 elements-good text from q e = barred-some elementAlone startsElement Right element-good elements text from q e
 
 -- A POOL
-pub record Fit (p : Pool) : Type 0 where
-  pub number-low : 1 ≤ p .number
-  pub number-high : p .number ≤ poolNumbers
-  pub limit-high : p .limit ≤ instances
-  pub low : 0 < length (p .elements)
-  pub high : length (p .elements) ≤ elements
-  pub every : Every Right (p .elements)
-
 -- a number between two signs
 number-kept : (least most place : ℕ) (g : Reader) (text x y : List ℕ) (from q : ℕ) (w : List ℕ) → x ≡ y → ((text z : List ℕ) (from q : ℕ) (w : List ℕ) → g text from z ≡ passed q w → w ≡ z)
     → onward (number least most place text from y) (g text) ≡ passed q w → Kept least most place x w
@@ -182,11 +170,6 @@ pool-fit text from q e =
     (pool-of-fit (poolWord (letters text from)) (placeOf text from) text (behind text from) q) e
 
 -- THE MODEL: 1 to 4 pools
-pub record Model (ps : List Pool) : Type 0 where
-  pub low : 0 < length ps
-  pub high : length ps ≤ pools
-  pub every : Every Fit ps
-
 pub model-fit : (text : List ℕ) (q : ℕ) → model text .end ≡ At q → Model (model text .value)
 unfolding model
 model-fit text q e = by (poolsAt text 0 .end) refl e

@@ -1,9 +1,10 @@
--- A TABLE THAT WAS READ passes the limits and the checks as its text does, so that all that is said of writing and reading back holds of it. Assumes nothing.
+-- THE TABLE OF A MODEL within the limits: its words; and where no endSnd is left, it passes the limits and the checks as the model does, so that all that is said of writing and reading back holds of it. Assumes nothing.
 use Prim.Native.Nat.{ℕ, zero, suc, _+_, _-_, _*_, _≤_, _<_}
 use mathlib.Core.Path.{_≡_, _∙_, refl, sym, ap, subst}
-use mathlib.Core.Bool.{true}
+use mathlib.Core.Bool.{true, not}
 use mathlib.Core.List.{List, [], _∷_, map}
 use native.Mathlib.Omega.{arith}
+use lib.Dec.{eqb}
 use lib.ListN.{length, getD, drop, length-map}
 use lib.Seq.{getD-drop, getD-take, ext-getD, length-take-le}
 use borrow.Author.Tests.{le-leb}
@@ -12,10 +13,12 @@ use Rattle.base_words.specs.Each.{tab}
 use Rattle.base_words.specs.Words.{at, greatest}
 use Rattle.base_words.proofs.AllLaws.{all-of}
 use Rattle.base_words.proofs.PickLaws.{and-true}
-use Rattle.base_table.specs.Places.{elementsIn, elementWords, poolWords, poolPlace, limitPlace, elementPlace, tableWords}
+use Rattle.base_kinds.specs.Kinds.{endSnd}
+use Rattle.base_table.specs.Places.{kindPlace, elementsIn, elementWords, poolWords, poolPlace, limitPlace, elementPlace, tableWords}
 use Rattle.base_table.specs.Table.{poolCount, elementCount, elementAt}
-use Rattle.check_limits.specs.Limits.{things, elementFits, poolFits, tableFits}
+use Rattle.check_limits.specs.Limits.{things, elementFits, heldFits, poolFits, tableFits}
 use Rattle.check_model.specs.Checks.{Pool}
+use Rattle.text_ends.specs.Rewriting.{isEndSnd}
 use Rattle.text_read.specs.Notation.{noPool, flat, filled, poolTable, tableOf}
 use Rattle.proof_roundtrip.specs.Blocks.{wordsAt, blockAt, blocksOf}
 use Rattle.proof_roundtrip.proofs.BarLaws.{tab-front}
@@ -24,8 +27,8 @@ use Rattle.proof_roundtrip.proofs.TableFits.{element-long}
 use Rattle.check_limits.proofs.SameLaws.{element-same}
 use Rattle.proof_roundtrip.proofs.ExpressionFills.{zeros-of}
 use Rattle.proof_roundtrip.proofs.ListFills.{things-of}
-use Rattle.proof_roundtrip.proofs.ReadElements.{Right}
-use Rattle.proof_roundtrip.proofs.ReadPools.{Every, Fit, Model}
+use Rattle.proof_ends.proofs.Models.{Every, every-in, Right, Fit, Model}
+use Rattle.proof_ends.proofs.Rewritten.{Plain, no-end-at}
 use Rattle.proof_roundtrip.proofs.FlatLaws.{every-at, every-map, every-as, at-filled, length-filled, Wide, length-flat, at-flat, flat-beyond, Small, small-flat}
 
 -- a list by its places
@@ -141,24 +144,26 @@ module _ (ps : List Pool) (m : Model ps) where
     element-right : (e : ℕ) → e < length (nth p .elements) → Right (getD (nth p .elements) e [])
     element-right e h = every-at Right (nth p .elements) [] e (f .every) h
 
-    pool-fits : poolFits (tableOf ps) p ≡ true
+    pool-fits : Plain (nth p) → poolFits (tableOf ps) p ≡ true
     unfolding poolFits
-    pool-fits =
+    pool-fits plain =
         and-true _ _
         (and-true _ _
         (and-true _ _
         (and-true _ _ (le-leb 1 (at (tableOf ps) (poolPlace p)) (omega (arith, number-is, f .number-low))) (le-leb (at (tableOf ps) (poolPlace p)) poolNumbers (omega (arith, number-is, f .number-high))))
         (le-leb (at (tableOf ps) (limitPlace p)) instances (omega (arith, limit-is, f .limit-high))))
         (and-true _ _ (le-leb 1 (elementCount (tableOf ps) p) (omega (arith, count-is, f .low))) (le-leb (elementCount (tableOf ps) p) elements (omega (arith, count-is, f .high)))))
-        (ap (λ (n : ℕ). things (elementAt (tableOf ps) p 0) elementWords elements n elementFits) count-is
-        ∙ things-of (tableOf ps) (elementPlace p 0) elementWords elements (length (nth p .elements)) elementFits right
+        (ap (λ (n : ℕ). things (elementAt (tableOf ps) p 0) elementWords elements n heldFits) count-is
+        ∙ things-of (tableOf ps) (elementPlace p 0) elementWords elements (length (nth p .elements)) heldFits right
         (λ i s. beyond-is i (omega (arith, s .0)) (omega (arith, s .1, f .high))))
       where
-        right : (e : ℕ) → e < length (nth p .elements) → elementFits (drop (elementPlace p 0 + elementWords * e) (tableOf ps)) ≡ true
+        right : (e : ℕ) → e < length (nth p .elements) → heldFits (drop (elementPlace p 0 + elementWords * e) (tableOf ps)) ≡ true
         right e h =
-            ap (λ (k : ℕ). elementFits (drop k (tableOf ps))) (let q : elementPlace p 0 + elementWords * e ≡ elementPlace p e = omega arith in q)
-            ∙ element-same (getD (nth p .elements) e []) (elementAt (tableOf ps) p e) (λ i u. element-is e i h u)
-            ∙ element-right e h .fits
+            unfold heldFits isEndSnd in
+            ap (λ (k : ℕ). heldFits (drop k (tableOf ps))) (let q : elementPlace p 0 + elementWords * e ≡ elementPlace p e = omega arith in q)
+            ∙ and-true _ _
+            (element-same (getD (nth p .elements) e []) (elementAt (tableOf ps) p e) (λ i u. element-is e i h u) ∙ element-right e h .fits)
+            (ap (λ (k : ℕ). not (eqb k endSnd)) (element-is e kindPlace h (omega arith)) ∙ ap not (no-end-at (nth p .elements) e (plain .ends) h))
 
     -- the pool that the table holds is the one that was read
     words-is : (e : ℕ) → e < length (nth p .elements) → wordsAt (tableOf ps) p e ≡ getD (nth p .elements) e []
@@ -183,13 +188,13 @@ module _ (ps : List Pool) (m : Model ps) where
         ∙ ap (λ (els : List (List ℕ)). record { number = nth p .number; limit = nth p .limit; elements = els }) elements-are
 
   -- THE LAWS
-  pub table-fits : tableFits (tableOf ps) ≡ true
+  pub table-fits : Every Plain ps → tableFits (tableOf ps) ≡ true
   unfolding tableFits
-  table-fits =
+  table-fits plain =
       and-true _ _
       (and-true _ _
       (and-true _ _ (le-leb 1 (poolCount (tableOf ps)) (omega (arith, table-count, m .low))) (le-leb (poolCount (tableOf ps)) pools (omega (arith, table-count, m .high))))
-      (all-of (poolFits (tableOf ps)) (poolCount (tableOf ps)) (λ p h. pool-fits p (omega (arith, h, table-count)))))
+      (all-of (poolFits (tableOf ps)) (poolCount (tableOf ps)) (λ p h. let l : p < length ps = omega (arith, h, table-count) in pool-fits p l (every-in Plain ps noPool p plain l))))
       (zeros-of (tableOf ps) (poolPlace (poolCount (tableOf ps))) (poolWords * (pools - poolCount (tableOf ps)))
       (λ i a b. ap (at (tableOf ps)) (let q : i ≡ 1 + (i - 1) = omega (arith, a) in q) ∙ table-tail (i - 1) ∙ flat-beyond poolWords tables (i - 1) tables-wide (omega (arith, a, tables-length, table-count))))
 

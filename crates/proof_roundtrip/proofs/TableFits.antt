@@ -1,19 +1,22 @@
 -- A table within its limits, pool by pool and element by element. Assumes nothing.
 use Prim.Native.Nat.{ℕ, _+_, _-_, _*_, _≤_, _<_}
 use mathlib.Core.Path.{_≡_, _∙_, ap}
-use mathlib.Core.Bool.{true, _&&_}
+use mathlib.Core.Bool.{true, false, not, _&&_}
 use mathlib.Core.List.{List}
 use native.Mathlib.Omega.{arith}
-use lib.Dec.{leb}
+use lib.Dec.{eqb, leb}
 use lib.ListN.{length, drop, length-drop}
-use borrow.Author.Tests.{leb-true}
+use borrow.Author.Tests.{leb-true, not-true}
 use Rattle.base_words.specs.All.{all}
 use Rattle.base_words.specs.Words.{at}
 use Rattle.base_words.specs.Counts.{pools, elements, poolNumbers, instances}
 use Rattle.base_words.proofs.AllLaws.{all-at, and-left, and-right}
-use Rattle.base_table.specs.Places.{elementWords, poolWords, poolPlace, limitPlace, elementPlace, tableWords}
+use Rattle.base_kinds.specs.Kinds.{endSnd}
+use Rattle.base_table.specs.Places.{kindPlace, elementWords, poolWords, poolPlace, limitPlace, elementPlace, tableWords}
 use Rattle.base_table.specs.Table.{poolCount, elementCount, elementAt}
-use Rattle.check_limits.specs.Limits.{within, zeros, things, elementFits, poolFits, tableFits}
+use Rattle.check_limits.specs.Limits.{within, zeros, things, elementFits, heldFits, poolFits, tableFits}
+use Rattle.check_limits.proofs.SameLaws.{held-all}
+use Rattle.text_ends.specs.Rewriting.{isEndSnd}
 use Rattle.proof_trips.proofs.ExpressionLaws.{zeros-at}
 use Rattle.proof_trips.proofs.FitsLaws.{within-low, within-high, things-right, things-none}
 
@@ -45,7 +48,7 @@ module _ (t : List ℕ) (p : ℕ) (h : poolFits t p ≡ true) where
   unfolding poolFits
   numbered =
       and-left (within 1 poolNumbers (at t (poolPlace p)) && leb (at t (limitPlace p)) instances && within 1 elements (elementCount t p))
-      (things (elementAt t p 0) elementWords elements (elementCount t p) elementFits) h
+      (things (elementAt t p 0) elementWords elements (elementCount t p) heldFits) h
 
   limited : within 1 poolNumbers (at t (poolPlace p)) && leb (at t (limitPlace p)) instances ≡ true
   limited = and-left (within 1 poolNumbers (at t (poolPlace p)) && leb (at t (limitPlace p)) instances) (within 1 elements (elementCount t p)) numbered
@@ -53,11 +56,14 @@ module _ (t : List ℕ) (p : ℕ) (h : poolFits t p ≡ true) where
   counts : within 1 elements (elementCount t p) ≡ true
   counts = and-right (within 1 poolNumbers (at t (poolPlace p)) && leb (at t (limitPlace p)) instances) (within 1 elements (elementCount t p)) numbered
 
-  filled : things (elementAt t p 0) elementWords elements (elementCount t p) elementFits ≡ true
+  held : things (elementAt t p 0) elementWords elements (elementCount t p) heldFits ≡ true
   unfolding poolFits
-  filled =
+  held =
       and-right (within 1 poolNumbers (at t (poolPlace p)) && leb (at t (limitPlace p)) instances && within 1 elements (elementCount t p))
-      (things (elementAt t p 0) elementWords elements (elementCount t p) elementFits) h
+      (things (elementAt t p 0) elementWords elements (elementCount t p) heldFits) h
+
+  filled : things (elementAt t p 0) elementWords elements (elementCount t p) elementFits ≡ true
+  filled = held-all (elementAt t p 0) elementWords elements (elementCount t p) held
 
   pub number-low : 1 ≤ at t (poolPlace p)
   number-low = within-low 1 poolNumbers (at t (poolPlace p)) (and-left (within 1 poolNumbers (at t (poolPlace p))) (leb (at t (limitPlace p)) instances) limited)
@@ -78,6 +84,13 @@ module _ (t : List ℕ) (p : ℕ) (h : poolFits t p ≡ true) where
   elements-fit e l =
       ap (λ (k : ℕ). elementFits (drop k t)) (let z : elementPlace p e ≡ elementPlace p 0 + elementWords * e = omega arith in z)
       ∙ things-right t (elementPlace p 0) elementWords elements (elementCount t p) elementFits filled e l
+
+  pub elements-held : (e : ℕ) → e < elementCount t p → isEndSnd (elementAt t p e) ≡ false
+  unfolding heldFits isEndSnd
+  elements-held e l =
+      not-true _
+      (ap (λ (k : ℕ). not (eqb (at (drop k t) kindPlace) endSnd)) (let z : elementPlace p e ≡ elementPlace p 0 + elementWords * e = omega arith in z)
+      ∙ and-right (elementFits (drop (elementPlace p 0 + elementWords * e) t)) _ (things-right t (elementPlace p 0) elementWords elements (elementCount t p) heldFits held e l))
 
   pub elements-behind : (i : ℕ) → elementPlace p (elementCount t p) ≤ i → i < elementPlace p elements → at t i ≡ 0
   elements-behind i l u =

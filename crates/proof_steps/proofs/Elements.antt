@@ -13,11 +13,12 @@ use Rattle.base_words.specs.Words.{at}
 use Rattle.base_words.specs.Counts.{pools, elements, fewest, branches, poolNumbers, edges, tasks, names, instances, values, assignments, named}
 use Rattle.base_words.proofs.AllLaws.{and-left, and-right, all-at}
 use Rattle.base_kinds.specs.declared.Kind.{Kind}
-use Rattle.base_kinds.specs.Kinds.{none, one, many, kindOf, used}
+use Rattle.base_kinds.specs.Kinds.{none, one, many, kindOf, used, endSnd}
 use Rattle.base_kinds.specs.Moves.{a, na-nc}
 use Rattle.base_table.specs.Places.{aField, operandNumber, formPlace, leftPlace, expressionWords, binding, firstEdge, entriesPlace, exitsPlace, edgePlace, lengthIn, itemsIn, messageWords, messagePlace, assignmentWords, assignmentPlace, elementWords, poolWords, poolPlace, limitPlace, elementPlace, itemPlace}
 use Rattle.base_table.specs.Table.{poolCount, elementCount, elementAt, limitOf, kindIn, taskIn, modeIn, entryCount, exitCount, entryAt, exitAt, messageName, messageLength, itemAt, assignmentCount, assignmentAt}
-use Rattle.check_limits.specs.Limits.{within, zeros, things, expressionFits, bindFits, itemFits, messageFits, assignmentFits, countFits, edgeFits, edgesFit, taskFits, conditionsFit, messagesFit, assignmentsFit, partsFit, elementFits, poolFits, tableFits}
+use Rattle.check_limits.specs.Limits.{within, zeros, things, expressionFits, bindFits, itemFits, messageFits, assignmentFits, countFits, edgeFits, edgesFit, taskFits, conditionsFit, messagesFit, assignmentsFit, partsFit, elementFits, heldFits, poolFits, tableFits}
+use Rattle.check_limits.proofs.SameLaws.{held-all}
 use Rattle.proof_steps.proofs.Choices.{by-test, by-choice, chosen-true, passed-true}
 
 -- a number within two others; a thing of a list of things
@@ -228,7 +229,7 @@ module _ (t : List ℕ) (fits : tableFits t ≡ true) where
     elementPart = within 1 elements (elementCount t p)
 
     abbrev filledPart : Bool
-    filledPart = things (elementAt t p 0) elementWords elements (elementCount t p) elementFits
+    filledPart = things (elementAt t p 0) elementWords elements (elementCount t p) heldFits
 
     pub limit-few : limitOf t p ≤ instances
     unfolding poolFits limitOf
@@ -246,6 +247,15 @@ module _ (t : List ℕ) (fits : tableFits t ≡ true) where
     pub element-fits : (e : ℕ) → e < elementCount t p → elementFits (elementAt t p e) ≡ true
     unfolding poolFits
     element-fits e l =
-        let h = things-from t (elementPlace p 0) elementWords elements (elementCount t p) elementFits (and-right (numberPart && limitPart && elementPart) filledPart pool-fits) e l in
+        let h = things-from t (elementPlace p 0) elementWords elements (elementCount t p) elementFits (held-all (elementAt t p 0) elementWords elements (elementCount t p) (and-right (numberPart && limitPart && elementPart) filledPart pool-fits)) e l in
         let k : elementPlace p 0 + elementWords * e ≡ elementPlace p e = omega arith in
         subst (λ y. elementFits (drop y t) ≡ true) k h
+
+    -- an element of a table is no endSnd, so that the row of the table of moves for it, and the paper's rule, are of no table within the limits
+    pub no-end-snd : (e : ℕ) → e < elementCount t p → kindIn (elementAt t p e) ≡ endSnd → ⊥
+    unfolding poolFits heldFits
+    no-end-snd e l is =
+        let h = things-from t (elementPlace p 0) elementWords elements (elementCount t p) heldFits (and-right (numberPart && limitPart && elementPart) filledPart pool-fits) e l in
+        let k : elementPlace p 0 + elementWords * e ≡ elementPlace p e = omega arith in
+        let n : not (eqb (kindIn (elementAt t p e)) endSnd) ≡ true = and-right (elementFits (elementAt t p e)) _ (subst (λ y. heldFits (drop y t) ≡ true) k h) in
+        false≢true (sym (ap not (eq-eqb (kindIn (elementAt t p e)) endSnd is)) ∙ n)

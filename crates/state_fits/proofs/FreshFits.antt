@@ -22,6 +22,7 @@ use Rattle.base_table.specs.Table.{poolCount, elementCount, elementAt, limitOf,
 use Rattle.base_state.specs.Instances.{instancesOf, queuesOf, instanceAt}
 use Rattle.base_state.specs.Places.{definedPlace, instanceWords, instancePlace, sharedPlace, versionAt, instancesWords, stateWords, slotWords, slotPlace, queuePlace}
 use Rattle.check_limits.specs.Limits.{within, zeros, things, countFits as edgeCountFits, edgeFits, edgesFit, taskFits, conditionsFit, messagesFit, partsFit, elementFits, poolFits, tableFits}
+use Rattle.check_limits.proofs.SameLaws.{held-all}
 use Rattle.step_queues.proofs.SlotLaws.{by-below}
 use Rattle.state_fits.specs.Fits.{startPlace, hasStart, madeFits, usable, placeFits, fieldFits, fieldsFit, instanceFits, instancesFit, slotFits, sharedFits, queueFits, stateFits}
 use Rattle.state_fits.specs.Fresh.{firstEdge, fresh}
@@ -237,7 +238,7 @@ module _ (t : List ℕ) (fit : tableFits t ≡ true) where
   unfolding poolFits things
   element-fit p l e r =
       let filled : things (elementAt t p 0) elementWords elements (elementCount t p) elementFits ≡ true =
-      and-right (within 1 poolNumbers (at t (poolPlace p)) && leb (at t (limitPlace p)) instances && within 1 elements (elementCount t p)) _ (pool-fit p l) in
+      held-all (elementAt t p 0) elementWords elements (elementCount t p) (and-right (within 1 poolNumbers (at t (poolPlace p)) && leb (at t (limitPlace p)) instances && within 1 elements (elementCount t p)) _ (pool-fit p l)) in
       let firsts : all (λ j. elementFits (drop (elementWords * j) (elementAt t p 0))) (elementCount t p) ≡ true = and-left _ _ filled in
       let place : elementPlace p 0 + elementWords * e ≡ elementPlace p e = omega arith in
       ap (λ n. elementFits (drop n t)) (sym place)

@@ -1,3 +1,4 @@
 pub mod RewriteLaws
 pub mod RoomLaws
+pub mod SideLaws
 pub mod PointsHold

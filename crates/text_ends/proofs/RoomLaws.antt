@@ -23,7 +23,7 @@ use Rattle.check_tally.proofs.TallyLaws.{tally-at, length-marked, eqb-capped}
 use Rattle.check_tally.proofs.RegionLaws.{count-in, count-out}
 use Rattle.check_summary.specs.Summary.{edgeRegion}
 use Rattle.text_ends.specs.Rewriting.{isEndSnd, timesIn, mentioned, isUnused, endSends, unusedCount, roomFor}
-use Rattle.text_ends.specs.Room.{countIn, endsIn, usedFrom, noteWords, oneMore, endsWith, counted, noted, freeBy, roomBy, roomNoted}
+use Rattle.text_ends.specs.Room.{countIn, endsIn, usedFrom, notedWords, oneMore, endsWith, counted, noted, freeBy, roomBy, roomNoted}
 
 -- THE CODE: e, f, c are what calls say of the notes s
 module _ (s : List ℕ) (e f : ℕ) (p : e ≡ at s endsIn) (q : f ≡ freeBy s) where
@@ -36,14 +36,14 @@ module _ (s : List ℕ) (e f : ℕ) (p : e ≡ at s endsIn) (q : f ≡ freeBy s)
   room-whole c r h = and-yes _ _ _ (le-leb (at s endsIn) (freeBy s) (omega arith)) (ap₂ (λ a b. leb (a + b) elements) r p)
 
 -- THE COUNTS
-untouched : (s ks : List ℕ) (k : ℕ) → count k ks ≡ 0 → at (tally s ks) k ≡ at s k
+pub untouched : (s ks : List ℕ) (k : ℕ) → count k ks ≡ 0 → at (tally s ks) k ≡ at s k
 unfolding tally total marked
 untouched s [] k h = refl
 untouched s (j ∷ ks) k h =
     untouched (marked s j) ks k (omega arith)
     ∙ getD-set-other s j k _ 0 (λ e. let z : hit j k ≡ 1 = ap oneIf (eq-eqb j k (sym e)) in omega arith)
 
-long-tally : (s ks : List ℕ) → length (tally s ks) ≡ length s
+pub long-tally : (s ks : List ℕ) → length (tally s ks) ≡ length s
 unfolding tally
 long-tally s [] = refl
 long-tally s (k ∷ ks) = long-tally (marked s k) ks ∙ length-marked s k
@@ -59,14 +59,14 @@ few-ends (x ∷ els) = go (isEndSnd x) (few-ends els)
 
 -- what the notes s say of the elements so far
 pub record Noted (els : List (List ℕ)) (s : List ℕ) : Type 0 where
-  pub long : noteWords ≤ length s
+  pub long : notedWords ≤ length s
   pub counts : at s countIn ≡ length els
   pub ends : at s endsIn ≡ endSends els
   pub used : (e : ℕ) → 0 < e → e ≤ edges → at s (usedFrom + e) ≡ capped (total (mentioned e) els)
 
-pub noted-none : (n : ℕ) → noteWords ≤ n → Noted [] (replicate n 0)
+pub noted-none : (n : ℕ) → notedWords ≤ n → Noted [] (replicate n 0)
 unfolding endSends total capped
-noted-none n h = record { long = rw (length-replicate {A = ℕ}) h; counts = zeros n 0; ends = zeros n 1; used = λ e a b. zeros n (usedFrom + e) }
+noted-none n h = record { long = rw (length-replicate {A = ℕ}) h; counts = zeros n countIn; ends = zeros n endsIn; used = λ e a b. zeros n (usedFrom + e) }
   where
     zeros : (n k : ℕ) → _≡_ {A = ℕ} (getD (replicate n 0) k 0) 0
     zeros zero k = refl
@@ -149,7 +149,7 @@ module _ (els : List (List ℕ)) (x s : List ℕ) (h : Noted els s) (few : lengt
           ∙ sym (plus-one (mentioned e)))
 
 -- WHETHER THERE IS ROOM
-total-zero : (f : List ℕ → ℕ) (els : List (List ℕ)) → eqb (total f els) 0 ≡ each (λ el. eqb (f el) 0) els
+pub total-zero : (f : List ℕ → ℕ) (els : List (List ℕ)) → eqb (total f els) 0 ≡ each (λ el. eqb (f el) 0) els
 unfolding total each
 total-zero f [] = refl
 total-zero f (x ∷ els) = go (f x) (total-zero f els)

@@ -1,4 +1,4 @@
--- What a pass notes of a pool, element by element, so that 28 is known before the first word is written: s is its notes, w what is noted of the pools.
+-- What the first pass notes of a pool, element by element, so that 28 is known before the first word is written: s is the pool's summary with these notes behind it, w the tally of the model with a word behind it.
 use Prim.Native.Nat.{ℕ, _+_}
 use mathlib.Core.Bool.{Bool, _&&_}
 use mathlib.Core.List.{List}
@@ -10,21 +10,29 @@ use Rattle.base_words.specs.Sum.{sum, oneIf}
 use Rattle.base_words.specs.Words.{at, greatest}
 use Rattle.base_table.specs.Places.{entriesPlace, exitsPlace}
 use Rattle.check_tally.specs.Tally.{Region, tally, regionMarks}
-use Rattle.check_summary.specs.Summary.{edgeRegion}
+use Rattle.check_summary.specs.Summary.{summaryWords, edgeRegion}
+use Rattle.check_verdict.specs.Verdict.{modelWords}
 use Rattle.text_ends.specs.Rewriting.{isEndSnd}
 
 -- the count of its elements, of its endSnds, and the edges that are mentioned
 abbrev pub countIn : ℕ
-countIn = 0
+countIn = summaryWords
 
 abbrev pub endsIn : ℕ
-endsIn = 1
+endsIn = countIn + 1
 
 abbrev pub usedFrom : ℕ
-usedFrom = 2
+usedFrom = endsIn + 1
 
-abbrev pub noteWords : ℕ
-noteWords = usedFrom + 1 + edges
+abbrev pub notedWords : ℕ
+notedWords = usedFrom + 1 + edges
+
+-- not 0 where a pool has no room
+abbrev pub roomIn : ℕ
+roomIn = modelWords
+
+abbrev pub judgedWords : ℕ
+judgedWords = roomIn + 1
 
 -- one more, as far as a word goes
 unfoldable pub oneMore : ℕ → ℕ
@@ -49,4 +57,4 @@ unfoldable pub roomBy : List ℕ → Bool
 roomBy s = leb (at s endsIn) (freeBy s) && leb (at s countIn + at s endsIn) elements
 
 unfoldable pub roomNoted : List ℕ → List ℕ → List ℕ
-roomNoted s w = if roomBy s then w else set w 0 1
+roomNoted s w = if roomBy s then w else set w roomIn 1

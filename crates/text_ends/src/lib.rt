@@ -1,7 +1,8 @@
-// What a pass notes of a pool, so that it is known whether there is room for what its endSnds become.
+// What the first pass notes of a pool behind its summary, so that it is known whether there is room for what its endSnds become.
 ghost use mathlib.Core.Path.{_≡_};
 ghost use Prim.Native.Nat.{_+_, _≤_};
 ghost use lib.Dec.{eqb};
+ghost use lib.ListN.{take};
 ghost use Rattle.base_words.specs.Sum.{sum, oneIf};
 ghost use Rattle.base_words.specs.Words.{at};
 ghost use Rattle.text_ends.specs.Rewriting.{isEndSnd};
@@ -17,14 +18,34 @@ use base_words::counts::EDGES;
 use base_words::counts::ELEMENTS;
 use base_words::put;
 use base_words::word;
+use check_summary::SUMMARY_WORDS;
 use check_summary::mark_list;
+use check_verdict::MODEL_WORDS;
 
 // The notes of a pool: the count of its elements, of its endSnds, and the edges that are mentioned.
-const COUNT: usize = 0;
+const COUNT: usize = SUMMARY_WORDS;
 
-const ENDS: usize = 1;
+const ENDS: usize = COUNT + 1;
 
-const USED_FROM: Word = 2;
+const USED_FROM: Word = ENDS as Word + 1;
+
+// A pool's summary with these notes behind it.
+pub const NOTED_WORDS: usize = USED_FROM as usize + 1 + EDGES as usize;
+
+// The word behind a model's tally: not 0 where a pool has no room.
+pub const ROOM: usize = MODEL_WORDS;
+
+pub const JUDGED_WORDS: usize = ROOM + 1;
+
+// The first n words.
+pub fn head(s: &[Word], n: usize) -> &[Word]
+    ensures { λ r. ⌜ now r ≡ take n (now (s .entry)) ⌝ }
+{
+    if n <= s.len() {
+        return &s[..n];
+    }
+    s
+}
 
 pub fn is_end_snd(el: &[Word]) -> bool
     ensures { λ r. ⌜ r ≡ isEndSnd (now (el .entry)) ⌝ }
@@ -99,6 +120,6 @@ pub fn note_room(w: &mut [Word], s: &[Word])
     ensures { λ _. ⌜ now (w .exit) ≡ roomNoted (now (s .entry)) (now (w .entry)) ⌝ }
 {
     if !room_by(s) {
-        put(w, 0, 1);
+        put(w, ROOM, 1);
     }
 }

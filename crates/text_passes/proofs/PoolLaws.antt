@@ -26,8 +26,8 @@ use Rattle.text_readers.proofs.ReadingLaws.{then-passed, then-stopped, sign-pas
 use Rattle.text_readers.proofs.WordLaws.{word-read, word-missed}
 use Rattle.text_elements.specs.Elements.{element}
 use Rattle.text_elements.proofs.ElementLaws.{element-any}
-use Rattle.check_summary.specs.Summary.{summaryWords}
 use Rattle.check_model.specs.Checks.{Pool}
+use Rattle.text_ends.specs.Room.{notedWords}
 use Rattle.text_passes.specs.Model.{Got, elementAlone, elementsAt, plain, multiple, poolWord, opening, closing, unread, closed, insidePool, poolOfWord, pool, startsPool, poolsAt, model}
 use Rattle.text_passes.specs.Passes.{keptElement, keptAll, summed, placed, headed, keptHead, keptPool, Passed}
 use Rattle.text_passes.proofs.BarLaws.{stopped}
@@ -81,7 +81,7 @@ module _ (i : ℕ) (g : Got (List (List ℕ))) (s w : List ℕ) (r : Read) where
 
 -- BEHIND THE OPENING, whose words are h
 module _ (fills : Bool) (i k : ℕ) (text : List ℕ) (a : ℕ) (h : List ℕ) (w : List ℕ) (r : Read) (s u : List ℕ)
-    (es : Passed (summed fills i) (elementsAt text a) (replicate summaryWords 0) r s) (eu : Passed (placed fills i) (elementsAt text a) w r u) where
+    (es : Passed (summed fills i) (elementsAt text a) (replicate notedWords 0) r s) (eu : Passed (placed fills i) (elementsAt text a) w r u) where
   abbrev Whole : Read → List ℕ → Type 0
   Whole e v = Passed (keptPool fills i) (insidePool k text (record { end = At a; words = h })) w e v
 

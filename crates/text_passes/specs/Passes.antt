@@ -1,10 +1,10 @@
 -- READING TWICE. Both passes go over a text in the same way, and so they end alike. They differ in what they keep: the first marks elements and pools in
--- tallies, from which the model checks are answered; the second stores them in a table of zeros.
+-- tallies, from which the model checks are answered, and notes behind them whether there is room for what endSnds become; the second stores them in a table of zeros.
 use Prim.Native.Nat.{ℕ, zero, suc, _+_}
 use mathlib.Core.Path.{_≡_}
 use mathlib.Core.Bool.{Bool, true, false}
 use mathlib.Core.List.{List, [], _∷_}
-use lib.ListN.{set, replicate}
+use lib.ListN.{set, take, replicate}
 use Rattle.base_words.specs.Pick.{if_then_else_}
 use Rattle.base_words.specs.Words.{at}
 use Rattle.base_words.specs.Writes.{writes}
@@ -13,6 +13,7 @@ use Rattle.check_tally.specs.Tally.{tally, marksOf}
 use Rattle.check_summary.specs.Summary.{regions, summaryWords}
 use Rattle.check_model.specs.Checks.{Pool}
 use Rattle.check_verdict.specs.Verdict.{summaryRegions}
+use Rattle.text_ends.specs.Room.{notedWords, noted, roomNoted}
 use Rattle.text_readers.specs.declared.Read.{Read}
 use Rattle.text_readers.specs.declared.Read.the-variants.{At}
 use Rattle.text_passes.specs.Model.{Got}
@@ -24,8 +25,12 @@ storedAs i n count x t = set (writes (λ j. at x j) t (elementPlace i n) element
 unfoldable pub stored : ℕ → ℕ → List ℕ → List ℕ → List ℕ
 stored i n x t = storedAs i n (n + 1) x t
 
+-- an element, the count-th, in the summary s of its pool and in the notes behind it
+unfoldable pub summedUp : ℕ → List ℕ → List ℕ → List ℕ
+summedUp count x s = noted count x (tally s (marksOf (regions x)))
+
 unfoldable pub keptElement : Bool → ℕ → ℕ → List ℕ → List ℕ → List ℕ
-keptElement fills i n x w = if fills then stored i n x w else tally w (marksOf (regions x))
+keptElement fills i n x w = if fills then stored i n x w else summedUp (n + 1) x w
 
 -- things one after the other, from thing n on
 unfoldable pub keptAll : {A : Type 0} → (ℕ → A → List ℕ → List ℕ) → ℕ → List A → List ℕ → List ℕ
@@ -46,11 +51,14 @@ headedAs i count number limit t = set (set (set t (poolPlace i) number) (limitPl
 unfoldable pub headed : ℕ → ℕ → ℕ → List ℕ → List ℕ
 headed i number limit t = headedAs i (i + 1) number limit t
 
+unfoldable pub judgedBy : ℕ → ℕ → List ℕ → List ℕ → List ℕ
+judgedBy number limit s w = roomNoted s (tally w (marksOf (summaryRegions number limit (take summaryWords s))))
+
 unfoldable pub keptHead : Bool → ℕ → ℕ → ℕ → List ℕ → List ℕ → List ℕ
-keptHead fills i number limit s w = if fills then headed i number limit w else tally w (marksOf (summaryRegions number limit s))
+keptHead fills i number limit s w = if fills then headed i number limit w else judgedBy number limit s w
 
 unfoldable pub keptPool : Bool → ℕ → Pool → List ℕ → List ℕ
-keptPool fills i p w = keptHead fills i (p .number) (p .limit) (summed fills i (p .elements) (replicate summaryWords 0)) (placed fills i (p .elements) w)
+keptPool fills i p w = keptHead fills i (p .number) (p .limit) (summed fills i (p .elements) (replicate notedWords 0)) (placed fills i (p .elements) w)
 
 -- WHAT A PASS PROMISES of reading g, where it ended at r and left v in the words w: where it ended; and what was kept, where it was not refused
 pub record Passed {A : Type 0} (keep : A → List ℕ → List ℕ) (g : Got A) (w : List ℕ) (r : Read) (v : List ℕ) : Type 0 where

@@ -5,10 +5,7 @@ ghost use Rattle.base_words.specs.Words.{at};
 ghost use Rattle.base_words.specs.Writes.{writes};
 ghost use Rattle.base_table.specs.Places.{elementWords, elementPlace};
 ghost use Rattle.base_words.specs.Pick.{if_then_else_};
-ghost use Rattle.check_tally.specs.Tally.{tally, marksOf};
-ghost use Rattle.check_summary.specs.Summary.{regions};
-ghost use Rattle.check_verdict.specs.Verdict.{summaryRegions};
-ghost use Rattle.text_passes.specs.Passes.{storedAs, keptElement, headedAs, keptHead};
+ghost use Rattle.text_passes.specs.Passes.{storedAs, summedUp, keptElement, headedAs, judgedBy, keptHead};
 use base_table::places::ELEMENT_COUNT;
 use base_table::places::ELEMENT_WORDS;
 use base_table::places::FIRST_ELEMENT;
@@ -18,8 +15,12 @@ use base_table::places::POOL_COUNT;
 use base_table::places::POOL_WORDS;
 use base_words::Word;
 use base_words::put;
+use check_summary::SUMMARY_WORDS;
 use check_summary::mark_element;
 use check_verdict::mark_pool;
+use text_ends::head;
+use text_ends::note_element;
+use text_ends::note_room;
 
 // How many words of an element at a place fit into a table of n words: all, but for what a table's length says.
 fn fitting(place: usize, n: usize) -> usize
@@ -61,6 +62,14 @@ fn store_element(t: &mut [Word], i: Word, n: Word, count: Word, x: &[Word; ELEME
     );
 }
 
+// The count-th element in the summary s of its pool, and in the notes behind it.
+fn sum_up(s: &mut [Word], count: Word, x: &[Word; ELEMENT_WORDS])
+    ensures { λ _. ⌜ now (s .exit) ≡ summedUp count (now (x .entry)) (now (s .entry)) ⌝ }
+{
+    mark_element(s, x);
+    note_element(s, count, x);
+}
+
 // Element n of pool i, and the count of its elements.
 pub fn keep_counted(
     fills: bool,
@@ -70,13 +79,13 @@ pub fn keep_counted(
     count: Word,
     x: &[Word; ELEMENT_WORDS],
 )
-    ensures { λ _. ⌜ now (w .exit) ≡ (if fills then storedAs i n count (now (x .entry)) (now (w .entry)) else tally (now (w .entry)) (marksOf (regions (now (x .entry))))) ⌝ }
+    ensures { λ _. ⌜ now (w .exit) ≡ (if fills then storedAs i n count (now (x .entry)) (now (w .entry)) else summedUp count (now (x .entry)) (now (w .entry))) ⌝ }
 {
     if fills {
         store_element(w, i, n, count, x);
         return;
     }
-    mark_element(w, x);
+    sum_up(w, count, x);
 }
 
 // Element n of pool i.
@@ -94,6 +103,14 @@ fn store_head(t: &mut [Word], i: Word, count: Word, number: Word, limit: Word)
     put(t, POOL_COUNT, count);
 }
 
+// A pool in the tally of its model, by its summary s and the notes behind it.
+fn judge_pool(w: &mut [Word], number: Word, limit: Word, s: &[Word])
+    ensures { λ _. ⌜ now (w .exit) ≡ judgedBy number limit (now (s .entry)) (now (w .entry)) ⌝ }
+{
+    mark_pool(w, number, limit, head(s, SUMMARY_WORDS));
+    note_room(w, s);
+}
+
 // Pool i behind its elements, with its summary s, and the count of pools.
 pub fn keep_counted_head(
     fills: bool,
@@ -104,13 +121,13 @@ pub fn keep_counted_head(
     limit: Word,
     s: &[Word],
 )
-    ensures { λ _. ⌜ now (w .exit) ≡ (if fills then headedAs i count number limit (now (w .entry)) else tally (now (w .entry)) (marksOf (summaryRegions number limit (now (s .entry))))) ⌝ }
+    ensures { λ _. ⌜ now (w .exit) ≡ (if fills then headedAs i count number limit (now (w .entry)) else judgedBy number limit (now (s .entry)) (now (w .entry))) ⌝ }
 {
     if fills {
         store_head(w, i, count, number, limit);
         return;
     }
-    mark_pool(w, number, limit, s);
+    judge_pool(w, number, limit, s);
 }
 
 // Pool i behind its elements, with its summary s.

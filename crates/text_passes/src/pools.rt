@@ -16,10 +16,10 @@ use base_words::counts::POOL_NUMBERS;
 use base_words::counts::POOLS;
 use base_words::numbers::MISPLACED;
 use base_words::word;
-use check_summary::SUMMARY_WORDS;
 use text_bounds::too_many;
 use text_elements::element;
 use text_elements::starts_element;
+use text_ends::NOTED_WORDS;
 use text_lexer::Form;
 use text_lexer::piece;
 use text_lexer::token_at;
@@ -129,7 +129,7 @@ fn pool_inside(
 ) -> Read
     ensures { λ r. ⌜ Passed (keptPool fills i) (insidePool k (now (text .entry)) (record { end = At at; words = now (h .entry) })) (now (w .entry)) r (now (w .exit)) ⌝ }
 {
-    let mut s = [0; SUMMARY_WORDS];
+    let mut s = [0; NOTED_WORDS];
     let r = elements_of(fills, text, at, i, &mut s, w);
     let Read::At(q) = r else {
         return r;

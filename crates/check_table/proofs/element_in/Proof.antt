@@ -16,4 +16,4 @@ element-in-spec =
     (λ c. search L)
     (λ c. search L)
     (λ c κs. search L)
-    (λ c. cut-out (c .before .before .before .args .x .now) (c .before .before .before .args .j) _ (c .element-fits .ensures)))
+    (λ c. cut-out (c .before .before .before .args .x .now) (c .before .before .before .args .j) _ (c .held-fits .ensures)))

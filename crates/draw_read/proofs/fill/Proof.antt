@@ -11,4 +11,5 @@ fill-spec =
     (tie.spec
     (λ c κs. search L)
     (λ c κs. search L)
-    (λ c. filled _ _ _ (c .before .before .before .before .before .before .args .t .now) _ _ (search L) (c .before .before .clear .ensures) (c .keep-content .ensures)))  -- returns
+    (λ c κs. search L)
+    (λ c. filled _ _ _ (c .before .before .before .before .before .before .before .before .args .t .now) _ _ _ (search L) (c .before .before .before .before .clear .ensures) (c .before .before .keep-content .ensures) (c .rewrite .ensures)))  -- returns

@@ -18,7 +18,6 @@ fitted-spec =
     (λ c κs. search L)
     (λ c. search L)
     (λ c κs. search L)
-    (λ c. pick-yes _ _ _ _ (lt-ltb-by _ _ _ (c .before .before .before .first-unfit .ensures) (c .before .before .if1 .taken)) (rw (c .before .place-of .ensures, c .before .before .before .first-unfit .ensures) at (c .answer .ensures)))  -- returns
+    (λ c h. pick-yes _ _ _ _ (lt-ltb-by _ _ _ (c .before .before .before .first-unfit .ensures) (c .before .before .if1 .taken)) (rw (c .before .place-of .ensures, c .before .before .before .first-unfit .ensures) at (c .answer .ensures)))  -- returns
     (λ c κs. search L)
-    (λ c κs. search L)
-    (λ c. pick-no _ _ _ _ (le-ltb-by _ _ _ (c .before .before .before .first-unfit .ensures) (c .before .before .if1 .left)) (rw (c .before .lowest-of .ensures) at (c .checked .ensures))))  -- returns-2
+    (λ c h. pick-no _ _ _ _ (le-ltb-by _ _ _ (c .before .before .first-unfit .ensures) (c .before .if1 .left)) (c .checked .ensures h)))  -- returns-2

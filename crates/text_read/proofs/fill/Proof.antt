@@ -11,4 +11,5 @@ fill-spec =
     (tie.spec
     (λ c κs. search L)
     (λ c κs. search L)
-    (λ c. filled-by _ (c .before .before .before .before .before .args .t .now) _ _ _ (search L) (c .before .before .clear .ensures) (c .pass .ensures)))  -- returns
+    (λ c κs. search L)
+    (λ c. filled-by _ (c .before .before .before .before .before .before .before .args .t .now) _ _ _ _ (search L) (c .before .before .before .before .clear .ensures) (c .before .before .pass .ensures) (c .rewrite .ensures)))  -- returns

@@ -12,4 +12,4 @@ keep-counted-spec =
     (λ c. pick-yes _ _ _ _ (c .before .before .before .before .if1 .taken) (c .before .before .store-element .ensures))
     (λ c κs. search needs)
     (λ c. search needs)
-    (λ c. pick-no _ _ _ _ (c .before .before .before .before .before .if1 .left) (c .before .before .mark-element .ensures)))
+    (λ c. pick-no _ _ _ _ (c .before .before .before .before .if1 .left) (c .before .before .sum-up .ensures)))

@@ -1,0 +1,5 @@
+pub mod Models
+pub mod Sends
+pub mod Counts
+pub mod Turns
+pub mod Rewritten

@@ -1,0 +1,8 @@
+// Theorems: a model as it is rewritten is within the limits and passes the checks; there is no code but this.
+ghost use mathlib.Core.Path.{_≡_};
+
+pub fn version() -> usize
+    ensures { λ r. ⌜ r ≡ 1 ⌝ }
+{
+    1
+}
