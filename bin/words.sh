@@ -79,6 +79,7 @@ meaning() { # NUMBER
     26) echo "the number of records isn't the number of pools, or they don't agree with the state at entry" ;;
     27) echo "the text breaks off before the trace opens, is no such log at an earlier place than its end, or is longer" ;;
     28) echo "no edge or element number free" ;;
+    29) echo "the pool is not nested" ;;
     *) echo "a number that these words do not have" ;;
     esac
 }
@@ -108,6 +109,7 @@ explain() { # NUMBER BESIDE FILE NAME
         ;;
     4) echo "$4: $(meaning 4) (4): check $2 wants that $(model_check "$2")" ;;
     28) explain_room "$4" "$(tr '\0' '?' <"$3" | LC_ALL=C awk -f "$root/bin/room.awk")" ;;
+    29) echo "$4, pool $2: $(meaning 29) (29)" ;;
     *) echo "$4: $(meaning "$1") ($1)" ;;
     esac
     [ "$1" != 3 ] || echo "the ranges: $ranges"

@@ -102,7 +102,8 @@ enum cv_number {
     CV_OTHER_VERSION = 25, /* another version than 10 or 20, asked for or in a state */
     CV_NOT_COUNTED = 26,   /* the number of records isn't the number of pools, or they don't agree with the state at entry */
     CV_NOT_REPAIRED = 27,  /* repair: the text breaks off before the trace opens, is no such log at an earlier place than its end, or is longer */
-    CV_NONE_FREE = 28      /* reading: no edge or element number free for what an endSnd becomes */
+    CV_NONE_FREE = 28,     /* reading: no edge or element number free for what an endSnd becomes */
+    CV_NOT_NESTED = 29     /* nested: the pool with the number beside it is not nested */
 };
 
 /* A message: its length, 0 to 4, and its values; what stands behind them is ignored, and 0 in an answer. */
@@ -116,7 +117,7 @@ typedef struct { uint32_t made, unfinished, finished; } cv_record;
 
 enum cv_traffic { CV_NOTHING = 0, CV_CONSUMED = 1, CV_SENT = 2 };
 
-/* beside: the lowest check broken, where the number is 4 */
+/* beside: the lowest check broken where the number is 4, the number of the pool where it is 29 */
 typedef struct { uint32_t number, beside; } cv_verdict;
 /* traffic, name and tuple: the message consumed or sent by an accepted step */
 typedef struct { uint32_t number, traffic, name; cv_tuple tuple; } cv_answer;
@@ -186,6 +187,10 @@ cv_judged cv_judge(const uint32_t *table, size_t table_words, uint32_t version, 
    the trace opens, is no such log at an earlier place than its end, or is longer than CV_LOG_MOST; then 5 where the repaired log is longer than the buffer or than CV_LOG_MOST, and
    the buffer stays; else 0, its length, the events kept and the bytes of the log dropped. A complete log comes out as it is. Needs no table. */
 cv_repaired cv_repair(const uint8_t *log, size_t length, uint8_t *buffer, size_t room);
+
+/* Whether every pool of a table is nested: one start or startRcv, one end, and between them elements in sequence, or blocks whose branches all run into the block's own join. 10, then 29 with
+   the number of the first pool, in text order, that is not; else 0. In a nested pool no edge of an instance ever holds more than one token, and 18 is never given. */
+cv_verdict cv_nested(const uint32_t *table, size_t table_words);
 
 #ifdef __cplusplus
 }

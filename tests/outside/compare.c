@@ -4,8 +4,9 @@
    compare drawing CASE                  prints the drawing of a case
    compare logs CASES SEED               the same for logs, four for each model, and a beginning of each
    compare repairs CASES SEED            the same for logs that ended in the middle
+   compare nestings CASES SEED           the same for nested models and models that nearly are, and what is promised of nested ones
    compare cuts FILE                     a log cut off at every byte, judged and repaired
-   compare worst                         drawings and logs that hold as much of one thing as fits: compared, and timed
+   compare worst                         drawings and logs that hold as much of one thing as fits, and models that loop: compared, and timed
    compare sessions FIRST COUNT SEED     prints sessions for the two consoles, one after the other */
 #include "cuttingvale.h"
 #include "generate.h"
@@ -42,7 +43,7 @@ static char text[DRAWING_ROOM];
 static uint8_t *lent_text; /* ends where no page can be read */
 static size_t text_length;
 static uint64_t calls, seed_of_case;
-static unsigned given[32], owned[32], known, readings[32];
+static unsigned given[32], owned[32], known, readings[32], nestings[32];
 
 static void differ(const char *call, const char *what, unsigned engine, unsigned reference) {
     printf("difference in %s, case %llu: %s: engine %u, reference %u\n", call, (unsigned long long)seed_of_case, what, engine, reference);
@@ -232,6 +233,15 @@ static void check_both(void) {
     same_blocks("check");
 }
 
+static ref_verdict nested_both(void) {
+    cv_verdict a = cv_nested(TABLE);
+    ref_verdict b = ref_nested(theirs.table);
+    same("nested", "number", a.number, b.number);
+    same("nested", "pool", a.beside, b.beside);
+    same_blocks("nested");
+    return b;
+}
+
 static void fresh_both(word version) {
     same("fresh", "number", cv_fresh(TABLE, version, STATE), ref_fresh(theirs.table, version, theirs.state));
     same_blocks("fresh");
@@ -313,6 +323,8 @@ static void wrong_lengths(struct random *r) {
     if (n == CV_TABLE_WORDS || n == CV_STATE_WORDS) return;
     same("check", "wrong length", cv_check(ours.table, n).number, 10);
     same("check", "no block", cv_check(NULL, 0).number, 10);
+    same("nested", "wrong length", cv_nested(ours.table, n).number, 10);
+    same("nested", "no block", cv_nested(NULL, 0).number, 10);
     same("fresh", "wrong length", cv_fresh(ours.table, n, CV_VERSION_20, STATE), 10);
     same("fresh", "wrong state", cv_fresh(TABLE, CV_VERSION_10, ours.state, n), 10);
     same("fresh", "no block, and another version", cv_fresh(TABLE, 15, NULL, 0), 10);
@@ -341,7 +353,7 @@ static void wrong_lengths(struct random *r) {
     same("judge", "wrong length", cv_judge(ours.table, n, CV_VERSION_10, (const uint8_t *)text, text_length).number, 10);
     same("judge", "no table, and another version", cv_judge(NULL, 0, 15, NULL, 0).number, 10);
     same("judge", "no log", cv_judge(TABLE, CV_VERSION_20, NULL, 0).number, ref_judge(theirs.table, REF_VERSION_20, NULL, 0).number);
-    calls += 27;
+    calls += 29;
     same_blocks("a call with a wrong length or none");
 }
 
@@ -442,14 +454,26 @@ static void nearly_queued(struct random *r, unsigned name, ref_tuple *g) {
     *v = chance(r, 50) ? *v ^ 1u << (16 + draw(r, 16)) : draw(r, 4);
 }
 
-/* A message that some template of the model may take. */
+/* A message of some receiver of a model; NULL where none was met. */
+static const word *some_template(struct random *r) {
+    for (unsigned tries = 0; tries < 20; tries++) {
+        const word *pool = pool_at(theirs.table, draw(r, theirs.table[0] <= POOLS && theirs.table[0] ? theirs.table[0] : POOLS));
+        if (pool[POOL_COUNT] < 1 || pool[POOL_COUNT] > ELEMENTS) return NULL;
+        const word *el = element_at(pool, draw(r, pool[POOL_COUNT]));
+        if (el[KIND] && el[KIND] < KINDS && kinds[el[KIND]].receives) return message_at(el, el[KIND] == EVENT_BASED ? draw(r, 1 + el[EXITS] % BRANCHES) : 0);
+    }
+    return NULL;
+}
+
+/* A message that some template of the model may take: the numbers that it names stand in it. */
 static unsigned likely_post(struct random *r, ref_tuple *g) {
+    const word *m = some_template(r);
     *g = some_tuple(r);
-    const word *pool = pool_at(theirs.table, draw(r, POOLS));
-    if (pool[POOL_COUNT] < 1 || pool[POOL_COUNT] > ELEMENTS || chance(r, 10)) return chance(r, 95) ? draw(r, chance(r, 90) ? NAMES : 300) : 65536 + draw(r, NAMES);
-    const word *el = element_at(pool, draw(r, pool[POOL_COUNT])), *m = message_at(el, draw(r, 2));
+    if (!m || chance(r, 10)) return chance(r, 95) ? draw(r, chance(r, 90) ? NAMES : 300) : 65536 + draw(r, NAMES);
     if (g->length <= VALUES && m[1] <= VALUES && chance(r, 80)) g->length = m[1];
-    if (m[0] < NAMES && chance(r, 30)) nearly_queued(r, m[0], g);
+    for (unsigned j = 0; j < VALUES && chance(r, 95); j++)
+        if (item_at(m, j)[0] == SINGLE && item_at(m, j)[LEFT] == 0) g->values[j] = item_at(m, j)[LEFT + 1];
+    if (m[0] < NAMES && chance(r, 20)) nearly_queued(r, m[0], g);
     return m[0];
 }
 
@@ -496,8 +520,9 @@ static void one_call(struct random *r) {
     else if (which < 75) name = likely_post(r, &g), post_both(name, g);
     else if (which < 85) list_both(draw(r, chance(r, 80) ? 6 : 200));
     else if (which < 90) run_both(draw(r, chance(r, 80) ? 4 : 40));
-    else if (which < 92) check_both();
-    else if (which < 93) figures_both();
+    else if (which < 91) check_both();
+    else if (which < 92) figures_both();
+    else if (which < 93) nested_both();
     else if (which < 97) write_both(chance(r, 50) ? draw(r, TEXT_ROOM) : text_length + 4 - draw(r, text_length < 4 ? 1 : 8));
     else if (which < 98) fresh_both(some_version(r)), chance(r, 90) ? figures_both() : (void)0;
     else wrong_lengths(r);
@@ -649,6 +674,63 @@ static int compare_repairs(uint64_t cases, uint64_t seed) {
     return 0;
 }
 
+/* Of an instance of a nested pool, in the engine's state: no edge holds two tokens, and each task's two counts together are at most 1. */
+static void holds_one(const word *h) {
+    for (unsigned e = 0; e < EDGES; e++) same("nested", "tokens on an edge", h[e] > 1, 0);
+    for (unsigned n = 0; n < TASKS; n++) same("nested", "counts of a task", h[ACTIVE + n] + h[READY + n] > 1, 0);
+}
+
+/* From a fresh state, over steps, posts, polls and runs: what is promised of each nested pool, whatever the others are. */
+static void nested_session(struct random *r) {
+    bool nested[POOLS];
+    ref_tuple g;
+    for (unsigned p = 0; p < theirs.table[0]; p++) nested[p] = is_nested(pool_at(theirs.table, p));
+    fresh_both(chance(r, 50) ? CV_VERSION_10 : CV_VERSION_20);
+    pools = theirs.table[0];
+    figures_both();
+    for (unsigned k = 20 + draw(r, 60); k; k--) {
+        unsigned which = draw(r, 100), would_pass = given[18], name;
+        ref_name n = some_name(r, theirs.table, theirs.state);
+        if (ref_list(theirs.table, theirs.state, 0).number == 6 && chance(r, 70)) which = 60; /* nothing can move */
+        if (which < 60) step_both(n);
+        else if (which < 85) name = likely_post(r, &g), post_both(name, g);
+        else if (which < 92) poll_both(r);
+        else run_both(draw(r, 30));
+        for (unsigned p = 0; p < pools; p++) {
+            if (!nested[p]) continue;
+            if (pool_at(theirs.table, p)[0] == n.pool) same("nested", "18", given[18], would_pass);
+            for (unsigned i = 0; i < ours.state[p]; i++) holds_one(instance_at(ours.state, p, i));
+        }
+    }
+}
+
+static void nested_case(struct random *r) {
+    int due;
+    unsigned of;
+    text_length = nested_text(r, text, &due, &of);
+    read_rewritten();
+    if (read_both()) return;
+    ref_verdict v = nested_both();
+    nestings[v.number]++;
+    if (due >= 0) same("nested", "what the generator counts on", v.number, due), same("nested", "its pool", v.beside, of);
+    known += due >= 0;
+    nested_session(r);
+}
+
+static int compare_nestings(uint64_t cases, uint64_t seed) {
+    for (uint64_t k = 0; k < cases; k++) {
+        seed_of_case = seed + k;
+        struct random r = {seed_of_case};
+        nested_case(&r);
+    }
+    printf("%llu models, nested or nearly, and %llu calls, no difference; the answer of %u was known; ", (unsigned long long)cases, (unsigned long long)calls, known);
+    print_numbers("numbers of nested:", nestings);
+    print_numbers("; of readings:", readings);
+    print_numbers("; of steps:", given);
+    putchar('\n');
+    return 0;
+}
+
 /* Every beginning of a log: 23 at its length, unless it is a log itself; repaired, once its trace is open; the events kept never fall. */
 static int compare_cuts(const char *name) {
     FILE *file = fopen(name, "rb");
@@ -695,12 +777,28 @@ static void time_log(const char *name) {
     putchar('\n');
 }
 
+static void time_nesting(unsigned branches) {
+    text_length = worst_nesting(branches, text);
+    same("read", "number", ref_read((const uint8_t *)text, text_length, theirs.table).number, 0);
+    memcpy(ours.table, theirs.table, REF_TABLE_WORDS * sizeof *ours.table);
+    clock_t start = clock();
+    ref_verdict b = ref_nested(theirs.table);
+    printf("nested, of a loop of %u branches %9zu bytes, %2u %5u, reference %5u ms", branches, text_length, b.number, b.beside, since(start));
+    fflush(stdout);
+    start = clock();
+    cv_verdict a = cv_nested(TABLE);
+    printf(", engine %5u ms\n", since(start));
+    same("nested", "number", a.number, b.number);
+    same("nested", "pool", a.beside, b.beside);
+}
+
 static int time_worst(void) {
     const char *name;
     for (unsigned k = 0; (name = worst_text(k, text, &text_length)); k++) time_drawing(name), fflush(stdout);
     ref_read((const uint8_t *)worst_model, strlen(worst_model), theirs.table);
     memcpy(ours.table, theirs.table, REF_TABLE_WORDS * sizeof *ours.table);
     for (unsigned k = 0; (name = worst_log(k, text, &text_length)); k++) time_log(name), fflush(stdout);
+    for (unsigned branches = 2; branches < BRANCHES; branches++) time_nesting(branches);
     return 0;
 }
 
@@ -785,6 +883,7 @@ static void session_line(struct random *r) {
         printf("run %u\n", limit);
         ref_run(theirs.table, theirs.state, THEIR_RECORDS, limit);
     } else if (which < 89) puts("figures");
+    else if (which < 90) puts("nested");
     else if (which < 91) puts("write");
     else if (which < 94) print_log(r);
     else if (which < 98) puts("state");
@@ -800,8 +899,9 @@ static void session_line(struct random *r) {
 static bool print_model(struct random *r) {
     bool drawing = chance(r, 15);
     int due;
+    unsigned of;
     if (drawing) text_length = drawing_text(r, text, sizeof text, &due);
-    if (!drawing) text_length = model_text(r, text);
+    if (!drawing) text_length = chance(r, 30) ? nested_text(r, text, &due, &of) : model_text(r, text);
     if (!drawing && chance(r, 25)) text_length = spoiled_text(r, text, text_length);
     for (size_t k = 0; k < text_length; k++)
         if (text[k] == '\n') text[k] = ' ';
@@ -844,7 +944,7 @@ static void print_records(struct random *r) {
 
 /* words set, lines that tell what is there, and the words put right again; or the table empty until the next model */
 static void print_damage(struct random *r) {
-    static const char *const telling[] = {"state", "check", "again", "write", "list 0", "run 3", "write 0", "write 65535", "figures", "figures", "batch"};
+    static const char *const telling[] = {"state", "check", "again", "write", "list 0", "run 3", "write 0", "write 65535", "figures", "figures", "batch", "nested"};
     bool table = chance(r, 50);
     struct harm was[2];
     if (chance(r, 5)) puts("clear"), memset(theirs.table, 0, REF_TABLE_WORDS * sizeof(word));
@@ -853,7 +953,7 @@ static void print_damage(struct random *r) {
         was[k] = (struct harm){h.at, (table ? theirs.table : theirs.state)[h.at]};
         set_word(table, h);
     }
-    for (unsigned k = 1 + draw(r, 4); k; k--) chance(r, 60) ? (void)puts(telling[draw(r, 11)]) : session_line(r);
+    for (unsigned k = 1 + draw(r, 4); k; k--) chance(r, 60) ? (void)puts(telling[draw(r, 12)]) : session_line(r);
     for (unsigned k = 2; k--;) set_word(table, was[k]);
 }
 
@@ -899,11 +999,12 @@ int main(int count, char **words) {
     if (count == 4 && !strcmp(words[1], "drawings")) return compare_drawings(number(words[2]), seeded(words[3]));
     if (count == 4 && !strcmp(words[1], "logs")) return compare_logs(number(words[2]), seeded(words[3]));
     if (count == 4 && !strcmp(words[1], "repairs")) return compare_repairs(number(words[2]), seeded(words[3]));
+    if (count == 4 && !strcmp(words[1], "nestings")) return compare_nestings(number(words[2]), seeded(words[3]));
     if (count == 3 && !strcmp(words[1], "cuts")) return compare_cuts(words[2]);
     if (count == 3 && !strcmp(words[1], "drawing")) return print_drawing(number(words[2]));
     if (count == 2 && !strcmp(words[1], "worst")) return time_worst();
     if (count != 5 || strcmp(words[1], "sessions")) {
-        fprintf(stderr, "usage: compare calls CASES SEED, compare drawings CASES SEED, compare drawing CASE, compare logs CASES SEED, compare repairs CASES SEED, compare cuts FILE, compare worst, or compare sessions FIRST COUNT SEED\n");
+        fprintf(stderr, "usage: compare calls CASES SEED, compare drawings CASES SEED, compare drawing CASE, compare logs CASES SEED, compare repairs CASES SEED, compare nestings CASES SEED, compare cuts FILE, compare worst, or compare sessions FIRST COUNT SEED\n");
         return 2;
     }
     for (uint64_t k = number(words[2]), last = k + number(words[3]); k < last; k++) {

@@ -208,6 +208,13 @@ static void do_check(void) {
     v.number ? printf("refused %u %u\n", v.number, v.beside) : printf("ok\n");
 }
 
+static void do_nested(void) {
+    ref_verdict v = ref_nested(table);
+    if (!v.number) puts("nested");
+    else if (v.number == 29) printf("refused 29 %u\n", v.beside);
+    else print_done(v.number);
+}
+
 static void do_figures(void) {
     word number = recount();
     if (number) {
@@ -339,6 +346,8 @@ static int command(struct text *w, unsigned n) {
     } else if (n == 2 && is(w[0], "fresh")) {
         if (!number_of(w[1], v)) return 0;
         if (loaded) print_done(make_fresh(v[0]));
+    } else if (n == 1 && is(w[0], "nested")) {
+        if (loaded) do_nested();
     } else if (n == 1 && is(w[0], "figures")) {
         if (loaded) do_figures();
     } else if (n == 1 && is(w[0], "state")) {

@@ -34,6 +34,7 @@ struct draft {
     unsigned pool, pools, elements;
     unsigned open[EDGES], opens, wanted[EDGES], wants;
     unsigned free[EDGES], frees, task, stores; /* stores: how many of a hundred fields are */
+    bool easy;                                 /* most conditions are true */
 };
 
 static void print(struct draft *d, const char *s) { d->o += sprintf(d->o, "%s", s); }
@@ -87,7 +88,7 @@ static void expression(struct draft *d) {
 }
 
 static void condition(struct draft *d) {
-    if (chance(d->r, 30)) {
+    if (chance(d->r, d->easy ? 80 : 30)) {
         print(d, "true");
         return;
     }
@@ -129,7 +130,7 @@ static void begin(struct draft *d, const char *keyword) {
     print(d, keyword), print(d, "(");
 }
 
-static void task(struct draft *d, unsigned e) {
+static void task_between(struct draft *d, unsigned e, unsigned f) {
     static const char *const words[] = {"task", "taskRcv", "taskSnd"}, *const modes[] = {",a,", ",na_c,", ",na_nc,"};
     unsigned which = draw(d->r, 3), n = draw(d->r, chance(d->r, 80) ? 3 : 5);
     begin(d, words[which]);
@@ -139,75 +140,81 @@ static void task(struct draft *d, unsigned e) {
     for (unsigned j = 0; j < n; j++) print(d, j ? "," : ""), print_field(d, some_field(d)), print(d, ":="), expression(d);
     print(d, "},");
     if (which) message(d, which == 1), print(d, ",");
-    print_number(d, exit_edge(d));
-    print(d, ")");
+    print_number(d, f), print(d, ")");
 }
 
-/* two tokens to one task: the second meets the first one's counts */
-static void doubled_task(struct draft *d, unsigned e) {
-    unsigned f = new_edge(d), g = new_edge(d), h = new_edge(d);
-    begin(d, "andSplit");
-    print_number(d, e), print(d, ",{"), print_number(d, f), print(d, ","), print_number(d, g), print(d, "})");
-    begin(d, "xorJoin");
-    print(d, "{"), print_number(d, f), print(d, ","), print_number(d, g), print(d, "},"), print_number(d, h), print(d, ")");
-    task(d, h);
+static void event_between(struct draft *d, unsigned e, unsigned f) {
+    bool receives = chance(d->r, 50);
+    begin(d, receives ? "interRcv" : "interSnd");
+    print_number(d, e), print(d, ","), message(d, receives), print(d, ",");
+    print_number(d, f), print(d, ")");
 }
 
-static void split(struct draft *d, unsigned e) {
-    static const char *const words[] = {"eventBased", "andSplit", "xorSplit"};
-    unsigned which = draw(d->r, 3), n = 2 + (chance(d->r, 80) ? draw(d->r, 2) : draw(d->r, 7)), fallback = draw(d->r, n + 1);
-    if (n > d->frees) n = 2;
-    begin(d, words[which]);
-    print_number(d, e), print(d, which ? ",{" : ",");
-    for (unsigned b = 0; b < n; b++) {
-        if (b) print(d, ",");
-        if (which != 1) print(d, "(");
-        if (which == 0) message(d, true), print(d, ",");
-        print_number(d, exit_edge(d));
-        if (which == 2) {
-            print(d, ",");
-            if (b == fallback) print(d, "default");
-            else condition(d);
-        }
-        if (which != 1) print(d, ")");
+static void print_list(struct draft *d, const unsigned *edges, unsigned n) {
+    for (unsigned j = 0; j < n; j++) print(d, j ? "," : "{"), print_number(d, edges[j]);
+    print(d, "}");
+}
+
+static void split_into(struct draft *d, unsigned kind, unsigned e, const unsigned *exits, unsigned n) {
+    unsigned fallback = draw(d->r, n + 1);
+    begin(d, kinds[kind].keyword);
+    print_number(d, e), print(d, ",");
+    if (kind == AND_SPLIT) print_list(d, exits, n);
+    for (unsigned b = 0; b < n && kind != AND_SPLIT; b++) {
+        print(d, b ? ",(" : kind == XOR_SPLIT ? "{(" : "(");
+        if (kind == EVENT_BASED) message(d, true), print(d, ",");
+        print_number(d, exits[b]);
+        if (kind == XOR_SPLIT) print(d, ","), b == fallback ? print(d, "default") : condition(d);
+        print(d, ")");
     }
-    print(d, which ? "})" : ")");
+    print(d, kind == XOR_SPLIT ? "})" : ")");
 }
 
-static void join(struct draft *d) {
-    unsigned n = 2 + draw(d->r, d->opens > 2 ? d->opens - 1 : 1), have = d->opens;
-    bool loop = have < 2 || chance(d->r, 30);
-    if (n > BRANCHES) n = BRANCHES;
-    if (n > have + loop) n = have + loop;
-    if (n < 2) n = 2;
-    begin(d, loop || chance(d->r, 50) ? "xorJoin" : "andJoin");
-    for (unsigned j = 0; j < n; j++) {
-        print(d, j ? "," : "{");
-        print_number(d, loop && j == n - 1 ? (d->wanted[d->wants++] = new_edge(d)) : take_from(d, d->open, &d->opens));
-    }
-    print(d, "},");
-    print_number(d, exit_edge(d));
-    print(d, ")");
+static void join_from(struct draft *d, unsigned kind, const unsigned *entries, unsigned n, unsigned f) {
+    begin(d, kinds[kind].keyword);
+    print_list(d, entries, n), print(d, ","), print_number(d, f), print(d, ")");
 }
 
-static void close_edge(struct draft *d) {
-    unsigned e = take_from(d, d->open, &d->opens), which = draw(d->r, 10);
-    begin(d, which < 6 ? "end" : which < 8 ? "endSnd" : "terminate");
-    if (which == 6 || which == 7) made[d->pool].word[made[d->pool].sends] = d->o - d->text - strlen("endSnd(");
+static void end_at(struct draft *d, unsigned kind, unsigned e) {
+    begin(d, kinds[kind].keyword);
+    if (kind == END_SND) made[d->pool].word[made[d->pool].sends] = d->o - d->text - strlen("endSnd(");
     print_number(d, e);
-    if (which == 6 || which == 7) {
+    if (kind == END_SND) {
         print(d, ","), message(d, false);
         made[d->pool].close[made[d->pool].sends++] = d->o - d->text;
     }
     print(d, ")");
 }
 
-static void pass_on(struct draft *d, unsigned e) {
-    bool receives = chance(d->r, 50);
-    begin(d, receives ? "interRcv" : "interSnd");
-    print_number(d, e), print(d, ","), message(d, receives), print(d, ",");
-    print_number(d, exit_edge(d));
-    print(d, ")");
+/* two tokens to one task: the second meets the first one's counts */
+static void doubled_task(struct draft *d, unsigned e) {
+    unsigned both[] = {new_edge(d), new_edge(d)}, h = new_edge(d);
+    split_into(d, AND_SPLIT, e, both, 2);
+    join_from(d, XOR_JOIN, both, 2, h);
+    task_between(d, h, exit_edge(d));
+}
+
+static void split(struct draft *d, unsigned e) {
+    static const unsigned splits[] = {EVENT_BASED, AND_SPLIT, XOR_SPLIT};
+    unsigned kind = splits[draw(d->r, 3)], n = 2 + (chance(d->r, 80) ? draw(d->r, 2) : draw(d->r, 7)), exits[BRANCHES];
+    if (n > d->frees) n = 2;
+    for (unsigned b = 0; b < n; b++) exits[b] = exit_edge(d);
+    split_into(d, kind, e, exits, n);
+}
+
+static void join(struct draft *d) {
+    unsigned n = 2 + draw(d->r, d->opens > 2 ? d->opens - 1 : 1), have = d->opens, entries[BRANCHES];
+    bool loop = have < 2 || chance(d->r, 30);
+    if (n > BRANCHES) n = BRANCHES;
+    if (n > have + loop) n = have + loop;
+    if (n < 2) n = 2;
+    for (unsigned j = 0; j < n; j++) entries[j] = loop && j == n - 1 ? (d->wanted[d->wants++] = new_edge(d)) : take_from(d, d->open, &d->opens);
+    join_from(d, loop || chance(d->r, 50) ? XOR_JOIN : AND_JOIN, entries, n, exit_edge(d));
+}
+
+static void close_edge(struct draft *d) {
+    unsigned which = draw(d->r, 10);
+    end_at(d, which < 6 ? END : which < 8 ? END_SND : TERMINATE, take_from(d, d->open, &d->opens));
 }
 
 static void grow(struct draft *d) {
@@ -216,31 +223,31 @@ static void grow(struct draft *d) {
     else {
         unsigned e = take_from(d, d->open, &d->opens);
         if (which < 6) split(d, e);
-        else if (which < 8 && d->task < TASKS) chance(d->r, 20) ? doubled_task(d, e) : task(d, e);
-        else pass_on(d, e);
+        else if (which < 8 && d->task < TASKS) chance(d->r, 20) ? doubled_task(d, e) : task_between(d, e, exit_edge(d));
+        else event_between(d, e, exit_edge(d));
     }
 }
 
-/* one edge into n, or n into one */
-static void fan(struct draft *d, const char *keyword, unsigned n, bool out) {
-    unsigned e = out ? take_from(d, d->open, &d->opens) : 0;
-    begin(d, keyword);
-    if (out) print_number(d, e), print(d, ",");
-    for (unsigned k = 0; k < n; k++) print(d, k ? "," : "{"), print_number(d, out ? (d->open[d->opens++] = new_edge(d)) : take_from(d, d->open, &d->opens));
-    print(d, "}");
-    if (!out) print(d, ","), print_number(d, d->open[d->opens++] = new_edge(d));
-    print(d, ")");
+static void fan_out(struct draft *d, unsigned n) {
+    unsigned e = take_from(d, d->open, &d->opens), exits[BRANCHES];
+    for (unsigned k = 0; k < n; k++) exits[k] = d->open[d->opens++] = new_edge(d);
+    split_into(d, AND_SPLIT, e, exits, n);
 }
 
 /* about as many elements or edges as there may be, with some ends left to close */
 static void fill_process(struct draft *d) {
     unsigned elements = 29 + draw(d->r, 4), spare = draw(d->r, 4), ends = 1 + draw(d->r, 5), behind = ends > 1 ? ends : 0;
     while (d->frees > spare + behind + 9 && d->elements + 3 + ends < elements && chance(d->r, 85)) {
-        unsigned n = 2 + draw(d->r, 7);
-        fan(d, "andSplit", n, true), fan(d, chance(d->r, 50) ? "andJoin" : "xorJoin", n, false);
+        unsigned n = 2 + draw(d->r, 7), entries[BRANCHES];
+        fan_out(d, n);
+        for (unsigned k = 0; k < n; k++) entries[k] = take_from(d, d->open, &d->opens);
+        join_from(d, chance(d->r, 50) ? AND_JOIN : XOR_JOIN, entries, n, d->open[d->opens++] = new_edge(d));
     }
-    while (d->frees > spare + behind && d->elements + (ends > 1) + ends < elements) pass_on(d, take_from(d, d->open, &d->opens));
-    if (ends > 1) fan(d, "andSplit", ends, true);
+    while (d->frees > spare + behind && d->elements + (ends > 1) + ends < elements) {
+        unsigned e = take_from(d, d->open, &d->opens);
+        event_between(d, e, d->open[d->opens++] = new_edge(d));
+    }
+    if (ends > 1) fan_out(d, ends);
 }
 
 static void process(struct draft *d, bool many) {
@@ -283,13 +290,211 @@ static void process(struct draft *d, bool many) {
     made[d->pool].behind = d->o - d->text;
 }
 
-size_t model_text(struct random *r, char *text) {
-    struct draft d = {.r = r, .text = text, .o = text};
+/* NESTINGS. A pool's elements before they are written. */
+struct node { unsigned kind, in[BRANCHES], ins, out[BRANCHES], outs; };
+struct nest { struct draft *d; struct node nodes[ELEMENTS + 1]; unsigned count; };
+
+static struct node *new_node(struct nest *g, unsigned kind) {
+    g->nodes[g->count] = (struct node){.kind = kind};
+    return &g->nodes[g->count++];
+}
+
+static unsigned sequence(struct nest *g, unsigned from, unsigned depth);
+
+/* branches from a split to its join, whose entries stand in any order */
+static unsigned block(struct nest *g, unsigned from, unsigned depth) {
+    static const unsigned splits[] = {AND_SPLIT, XOR_SPLIT, EVENT_BASED};
+    unsigned n = 2 + (chance(g->d->r, 80) ? draw(g->d->r, 2) : draw(g->d->r, 7)), kind = splits[draw(g->d->r, 3)];
+    if (n + 1 > g->d->frees) n = 2;
+    unsigned s = g->count, j = s + 1, to = new_edge(g->d);
+    new_node(g, kind), new_node(g, kind == AND_SPLIT ? AND_JOIN : XOR_JOIN);
+    g->nodes[s].in[g->nodes[s].ins++] = from;
+    g->nodes[j].out[g->nodes[j].outs++] = to;
+    for (unsigned b = 0; b < n; b++) g->nodes[s].out[g->nodes[s].outs++] = new_edge(g->d);
+    for (unsigned b = 0; b < n; b++) {
+        unsigned at = draw(g->d->r, b + 1), end = sequence(g, g->nodes[s].out[b], depth);
+        g->nodes[j].in[g->nodes[j].ins++] = g->nodes[j].in[at], g->nodes[j].in[at] = end;
+    }
+    return to;
+}
+
+/* pieces one behind the other, or nothing: the edge at which it ends; room for an end and its send is left */
+static unsigned sequence(struct nest *g, unsigned from, unsigned depth) {
+    struct random *r = g->d->r;
+    for (unsigned n = draw(r, depth ? 4 : 3); n && g->count + 4 < ELEMENTS && g->d->frees > 4; n--) {
+        if (depth && g->count + 5 < ELEMENTS && g->d->frees > 6 && chance(r, 45)) {
+            from = block(g, from, depth - 1);
+            continue;
+        }
+        struct node *x = new_node(g, g->d->task < TASKS - 4 && chance(r, 60) ? TASK : INTER_SND);
+        x->in[x->ins++] = from, x->out[x->outs++] = from = new_edge(g->d);
+        g->d->task += x->kind == TASK;
+    }
+    return from;
+}
+
+static struct node *some_node(struct nest *g, bool (*is)(const struct node *)) {
+    for (unsigned tries = 0, k; tries < 60; tries++)
+        if (is(&g->nodes[k = draw(g->d->r, g->count)])) return &g->nodes[k];
+    return NULL;
+}
+
+static bool is_split(const struct node *x) { return x->outs > 1; }
+static bool is_join(const struct node *x) { return x->ins > 1; }
+static bool is_gateway(const struct node *x) { return is_split(x) || is_join(x); }
+static bool is_pass(const struct node *x) { return x->kind == TASK || x->kind == INTER_SND; }
+static bool is_entered(const struct node *x) { return x->ins && x->kind != START; }
+static bool is_left(const struct node *x) { return x->outs; }
+static bool is_end(const struct node *x) { return x->kind == END; }
+
+/* a gateway of another kind: an event gateway is an exclusive split to the nesting */
+static int other_kind(struct nest *g) {
+    struct node *x = some_node(g, is_gateway);
+    if (!x) return 0;
+    unsigned was = x->kind;
+    static const unsigned splits[] = {AND_SPLIT, XOR_SPLIT, EVENT_BASED};
+    x->kind = is_split(x) ? splits[draw(g->d->r, 3)] : was == AND_JOIN ? XOR_JOIN : AND_JOIN;
+    return (was == AND_SPLIT) == (x->kind == AND_SPLIT) && is_split(x) ? 0 : 29;
+}
+
+/* two entries, or two exits, exchanged */
+static int crossed(struct nest *g, bool entries) {
+    struct node *x = some_node(g, entries ? is_entered : is_left), *y = some_node(g, entries ? is_entered : is_left);
+    if (!x || !y) return 0;
+    unsigned *a = entries ? &x->in[draw(g->d->r, x->ins)] : &x->out[draw(g->d->r, x->outs)], *b = entries ? &y->in[draw(g->d->r, y->ins)] : &y->out[draw(g->d->r, y->outs)], e = *a;
+    *a = *b, *b = e;
+    return a == b ? 0 : -1;
+}
+
+/* a branch of one split goes to another, or an entry of one join */
+static int moved(struct nest *g, bool entries) {
+    struct node *x = some_node(g, entries ? is_join : is_split), *y = some_node(g, entries ? is_join : is_split);
+    if (!x || !y || x == y || (entries ? x->ins : x->outs) <= FEWEST || (entries ? y->ins : y->outs) == BRANCHES) return 0;
+    if (entries) y->in[y->ins++] = x->in[--x->ins];
+    else y->out[y->outs++] = x->out[--x->outs];
+    return 29;
+}
+
+/* something that nothing leads to: a circle of one element, or of two */
+static int left_over(struct nest *g) {
+    if (g->count + 2 > ELEMENTS || g->d->frees < 3) return 0;
+    unsigned e = new_edge(g->d), both[] = {new_edge(g->d), e};
+    struct node *x = new_node(g, INTER_SND);
+    x->in[x->ins++] = x->out[x->outs++] = e;
+    if (chance(g->d->r, 50)) return made[g->d->pool].edges &= ~(UINT64_C(1) << both[0]), 29;
+    bool whole = chance(g->d->r, 50);
+    *x = (struct node){.kind = AND_SPLIT, .in = {new_edge(g->d)}, .ins = 1, .out = {both[0], both[1]}, .outs = 2};
+    *new_node(g, whole ? AND_JOIN : XOR_JOIN) = (struct node){.kind = whole ? AND_JOIN : XOR_JOIN, .in = {both[0], both[1]}, .ins = 2, .out = {x->in[0]}, .outs = 1};
+    return 29;
+}
+
+/* the end is another one, or a branch has one of its own */
+static int other_end(struct nest *g) {
+    struct node *x = some_node(g, chance(g->d->r, 50) ? is_end : is_split);
+    if (!x || x->outs == BRANCHES || g->count == ELEMENTS || !g->d->frees) return 0;
+    if (is_end(x)) return x->kind = TERMINATE, 29;
+    unsigned e = x->out[x->outs++] = new_edge(g->d);
+    x = new_node(g, END), x->in[x->ins++] = e;
+    return 29;
+}
+
+/* a loop round nothing, before some element */
+static int looped(struct nest *g) {
+    struct node *x = some_node(g, is_entered);
+    if (!x || g->count + 2 > ELEMENTS || g->d->frees < 3) return 0;
+    unsigned back = new_edge(g->d), between = new_edge(g->d), on = new_edge(g->d), *entry = &x->in[draw(g->d->r, x->ins)];
+    *new_node(g, XOR_JOIN) = (struct node){.kind = XOR_JOIN, .in = {*entry, back}, .ins = 2, .out = {between}, .outs = 1};
+    *new_node(g, XOR_SPLIT) = (struct node){.kind = XOR_SPLIT, .in = {between}, .ins = 1, .out = {back, on}, .outs = 2};
+    *entry = on;
+    return 29;
+}
+
+static void take_node(struct nest *g, struct node *x) { *x = g->nodes[--g->count]; }
+
+/* one join for two splits, or one split for two joins: a join whose exit enters a join goes, or a split that is entered by a split's exit */
+static int merged(struct nest *g, bool joins) {
+    for (unsigned a = 0; a < g->count; a++)
+        for (unsigned b = 0; b < g->count; b++) {
+            struct node *x = &g->nodes[a], *y = &g->nodes[b];
+            unsigned edge = joins ? x->out[0] : x->in[0], *list = joins ? y->in : y->out, *n = joins ? &y->ins : &y->outs, more = joins ? x->ins : x->outs;
+            if (a == b || x->kind != y->kind || *n < 2 || more < 2 || *n + more - 1 > BRANCHES) continue;
+            for (unsigned j = 0; j < *n; j++) {
+                if (list[j] != edge) continue;
+                list[j] = list[--*n];
+                for (unsigned k = 0; k < more; k++) list[(*n)++] = joins ? x->in[k] : x->out[k];
+                made[g->d->pool].edges &= ~(UINT64_C(1) << edge);
+                return take_node(g, x), 29;
+            }
+        }
+    return 0;
+}
+
+/* one damage: 0 where it is still a nesting, 29 where it is none, -1 where that is not known */
+static int damaged(struct nest *g) {
+    unsigned which = draw(g->d->r, 12);
+    switch (which) {
+    case 0:
+    case 1: return other_kind(g);
+    case 2:
+    case 3: return crossed(g, which == 2);
+    case 4:
+    case 5: return moved(g, which == 4);
+    case 6: return left_over(g);
+    case 7: return other_end(g);
+    case 8: return looped(g);
+    case 9: return some_node(g, is_pass) ? crossed(g, true) : 0;
+    default: return merged(g, which == 10);
+    }
+}
+
+static void print_node(struct draft *d, const struct node *x) {
+    switch (x->kind) {
+    case START: begin(d, "start"), print_number(d, x->in[0]), print(d, ","), print_number(d, x->out[0]), print(d, ")"); break;
+    case START_RCV: begin(d, "startRcv"), message(d, true), print(d, ","), print_number(d, x->out[0]), print(d, ")"); break;
+    case END: end_at(d, chance(d->r, 15) ? END_SND : END, x->in[0]); break;
+    case TERMINATE: end_at(d, TERMINATE, x->in[0]); break;
+    case TASK: task_between(d, x->in[0], x->out[0]); break;
+    case INTER_SND: event_between(d, x->in[0], x->out[0]); break;
+    case AND_JOIN:
+    case XOR_JOIN: join_from(d, x->kind, x->in, x->ins, x->out[0]); break;
+    default: split_into(d, x->kind, x->in[0], x->out, x->outs);
+    }
+}
+
+/* a nesting, damaged or not, its elements in any order */
+static int nested_process(struct draft *d, bool many) {
+    static struct nest g;
+    memset(&made[d->pool], 0, sizeof *made);
+    d->elements = d->opens = d->wants = d->task = 0;
+    d->frees = EDGES;
+    for (unsigned e = 0; e < EDGES; e++) d->free[e] = e + 1;
+    g.d = d, g.count = 0;
+    struct node *x = new_node(&g, many || chance(d->r, 40) ? START_RCV : START);
+    if (x->kind == START) x->in[x->ins++] = new_edge(d);
+    unsigned edge = x->out[x->outs++] = new_edge(d);
+    edge = sequence(&g, edge, draw(d->r, 4));
+    x = new_node(&g, END), x->in[x->ins++] = edge;
+    int due = chance(d->r, 40) ? damaged(&g) : 0;
+    if (due && chance(d->r, 5)) damaged(&g), due = -1;
+    d->task = 0;
+    while (g.count) {
+        unsigned k = draw(d->r, g.count);
+        print_node(d, &g.nodes[k]), take_node(&g, &g.nodes[k]);
+    }
+    made[d->pool].elements = d->elements;
+    made[d->pool].behind = d->o - d->text;
+    return due;
+}
+
+/* the pools of a model, each by its own maker; what is known of the answer, and the number of the first pool that it is about */
+static size_t model_by(struct random *r, char *text, bool nesting, int *due, unsigned *of) {
+    struct draft d = {.r = r, .text = text, .o = text, .easy = nesting && chance(r, 80)};
     unsigned numbers[9], left = 9;
     for (unsigned k = 0; k < 9; k++) numbers[k] = k + 1;
     d.pools = 1 + draw(r, 4);
     d.stores = chance(r, 30) ? 0 : chance(r, 80) ? 30 : 70;
     if (d.pools == 4 || d.pools == 3) d.pools = chance(r, 50) ? d.pools : 2;
+    *due = 0, *of = 0;
     for (d.pool = 0; d.pool < d.pools; d.pool++) {
         bool many = chance(r, 50);
         unsigned k = draw(r, left), number = numbers[k];
@@ -297,13 +502,22 @@ size_t model_text(struct random *r, char *text) {
         if (d.pool) print(&d, "|");
         print(&d, many ? "miPool(" : "pool(");
         print_number(&d, number), print(&d, ",");
-        process(&d, many);
+        int own = nesting ? nested_process(&d, many) : (process(&d, many), -1);
+        if (own && !*due) *due = own, *of = own == 29 ? number : 0;
         if (many) print(&d, ","), print_number(&d, chance(r, 80) ? 1 + draw(r, 3) : 1 + draw(r, INSTANCES));
         print(&d, ")");
     }
     pools_made = d.pools;
     return d.o - text;
 }
+
+size_t model_text(struct random *r, char *text) {
+    int due;
+    unsigned of;
+    return model_by(r, text, false, &due, &of);
+}
+
+size_t nested_text(struct random *r, char *text, int *due, unsigned *of) { return model_by(r, text, true, due, of); }
 
 static unsigned unused_in(uint64_t edges, unsigned k) {
     for (unsigned f = 1; f <= EDGES; f++)

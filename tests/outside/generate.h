@@ -14,6 +14,8 @@ word any_word(struct random *r);
 
 /* a model's text: mostly one that passes every check; returns its length, at most REF_TEXT_MOST */
 size_t model_text(struct random *r, char *text);
+/* a nested model's text, or one that nearly is: due is 0, or 29 with the number of the first pool that is not, or -1 where that is not known */
+size_t nested_text(struct random *r, char *text, int *due, unsigned *of);
 /* the last model's text as it must be read, each endSnd an interSnd and an end, into a buffer of 40,000 bytes or more: returns its length, 0 where no edge or element is free */
 size_t model_without_end_sends(const char *text, size_t n, char *out);
 /* the same text with a few bytes, tokens or numbers changed */
@@ -25,6 +27,8 @@ const char *worst_text(unsigned which, char *text, size_t *length);
 /* the same for logs, under one model */
 const char *worst_log(unsigned which, char *text, size_t *length);
 extern const char worst_model[];
+/* a model that is not nested and loops, 2 to 7 branches of a split each going back to before it or on: who goes along every path takes long */
+size_t worst_nesting(unsigned branches, char *text);
 /* what is known of a log's answer: its number, -1 where that is not known, and what stands beside it */
 typedef struct { int number; size_t beside; unsigned own; } log_due;
 /* a version, mostly 10 or 20 */

@@ -89,6 +89,8 @@ ref_record figures_of(const word *z, unsigned p);
 ref_answer take_step(const word *t, word *z, ref_name n);
 /* document 02's eleventh request, on a table that passed the checks: each endSnd becomes an interSnd and an end; false where a pool has no edge or no place left for one */
 bool rewritten(word *t);
+/* of a pool of a table that passes the checks */
+bool is_nested(const word *pool);
 /* a condition of an xorSplit by itself: 2 where the text is none, 3 with the place of the first number outside its range, else 0 */
 unsigned condition_of(const uint8_t *text, size_t length, word *x, size_t *place);
 

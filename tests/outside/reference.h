@@ -46,5 +46,7 @@ ref_polled ref_poll(const ref_word *table, ref_word *state, ref_record *records,
 ref_judged ref_judge(const ref_word *table, ref_word version, const uint8_t *text, size_t length);
 /* document 02's tenth request: a log that ended in the middle, as far as it goes */
 ref_repaired ref_repair(const uint8_t *text, size_t length, uint8_t *out, size_t room);
+/* document 02's twelfth request: 29 with the number of the first pool that is not nested */
+ref_verdict ref_nested(const ref_word *table);
 
 #endif

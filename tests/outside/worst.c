@@ -87,3 +87,15 @@ const char *worst_text(unsigned which, char *text, size_t *length) {
 const char *worst_log(unsigned which, char *text, size_t *length) {
     return which < sizeof logs / sizeof *logs ? filled(&logs[which], text, length) : NULL;
 }
+
+size_t worst_nesting(unsigned branches, char *text) {
+    char *o = text + sprintf(text, "pool(1,start(1,2)|xorSplit(2,{(3,true),(4,true)})|xorJoin({3");
+    for (unsigned b = 0; b < branches; b++) o += sprintf(o, ",%u", 20 + b);
+    o += sprintf(o, "},5)|xorSplit(5,{");
+    for (unsigned b = 0; b < branches; b++) o += sprintf(o, b ? ",(%u,true)" : "(%u,true)", 10 + b);
+    o += sprintf(o, "})");
+    for (unsigned b = 0; b < branches; b++) o += sprintf(o, "|xorSplit(%u,{(%u,true),(%u,true)})", 10 + b, 20 + b, 30 + b);
+    o += sprintf(o, "|xorJoin({4");
+    for (unsigned b = 0; b < branches; b++) o += sprintf(o, ",%u", 30 + b);
+    return o + sprintf(o, "},6)|end(6))") - text;
+}

@@ -23,7 +23,8 @@ use check_verdict::MODEL_WORDS;
 use check_verdict::lowest_in;
 use check_verdict::mark_pool;
 
-fn number_at(t: &[Word], p: Word) -> Word
+// The number of pool p.
+pub fn number_at(t: &[Word], p: Word) -> Word
     ensures { λ r. ⌜ r ≡ at (now (t .entry)) (poolPlace p) ⌝ }
 {
     word(t, FIRST_POOL + POOL_WORDS * (p as usize))

@@ -13,6 +13,7 @@ use Rattle.base_kinds.specs.Kinds.{start, startRcv, interRcv, interSnd, task, t
 use Rattle.base_table.specs.Table.{kindIn}
 use Rattle.check_tally.specs.Tally.{marked, place}
 use Rattle.check_nesting.specs.Nesting.{starts, passes, closesAll, closesOne, closes, entriesOf}
+use Rattle.check_nested.specs.Splits.{splits}
 use Rattle.check_nesting.specs.Deciding.{taker, edgesIn, sameEdges, isBlock, closing}
 
 -- k is the kind of el
@@ -24,6 +25,10 @@ module _ (el : List ℕ) (k : ℕ) (is : k ≡ kindIn el) where
   pub passes-by : (r : Bool) → r ≡ (eqb k interRcv || (eqb k interSnd || (eqb k task || (eqb k taskRcv || eqb k taskSnd)))) → r ≡ passes el
   unfolding passes
   passes-by r e = e ∙ ap (λ k. eqb k interRcv || (eqb k interSnd || (eqb k task || (eqb k taskRcv || eqb k taskSnd)))) is
+
+  pub splits-by : (r : Bool) → r ≡ (eqb k andSplit || (eqb k xorSplit || eqb k eventBased)) → r ≡ splits el
+  unfolding splits
+  splits-by r e = e ∙ ap (λ k. eqb k andSplit || (eqb k xorSplit || eqb k eventBased)) is
 
   -- and j that of join
   module _ (join : List ℕ) (j : ℕ) (its : j ≡ kindIn join) where

@@ -1,21 +1,23 @@
 -- Laws of a walk, as the code goes it. Assumes nothing.
 use Prim.Native.Nat.{ℕ, zero, suc, _+_, _-_, _≤_, _<_}
 use mathlib.Core.Path.{_≡_, refl, sym, _∙_, ap, ap₂}
-use mathlib.Core.Bool.{Bool, true, false}
+use mathlib.Core.Bool.{Bool, true, false, not, _&&_, _||_, false≢true}
 use mathlib.Core.List.{List, [], _∷_, _++_, append-nil, append-assoc}
 use native.Mathlib.Omega.{arith}
-use lib.Dec.{ltb}
+use lib.Dec.{eqb, ltb}
 use lib.ListN.{replicate}
 use borrow.Author.Tests.{lt-ltb, le-ltb}
 use Rattle.base_words.specs.Counts.{edges}
 use Rattle.base_words.specs.Each.{tab}
 use Rattle.base_words.specs.Pick.{if_then_else_}
 use Rattle.base_words.proofs.EachLaws.{tab-more}
-use Rattle.base_table.specs.Table.{exitAt}
+use Rattle.base_kinds.specs.Kinds.{eventBased, andSplit, andJoin, xorJoin, xorSplit}
+use Rattle.base_table.specs.Table.{exitAt, kindIn}
 use Rattle.check_tally.specs.Tally.{marked, tally}
 use Rattle.check_tally.proofs.TallyLaws.{tally-append}
-use Rattle.check_nesting.specs.Nesting.{passes, exitsOf}
-use Rattle.check_nesting.specs.Deciding.{taker, edgesIn, Walk, halted, over, stops, passed, lastIn, closing, joinOf, ahead, walk}
+use Rattle.check_nesting.specs.Nesting.{passes, exitsOf, closesAll, closesOne, closes}
+use Rattle.check_nested.specs.Splits.{splits}
+use Rattle.check_nesting.specs.Deciding.{taker, edgesIn, Walk, halted, over, stops, passed, lastIn, isBlock, closing, joinOf, ahead, walk}
 
 taken : {A : Type 0} (b : Bool) (x y : A) → b ≡ true → (if b then x else y) ≡ x
 unfolding if_then_else_
@@ -32,7 +34,35 @@ stopped w v e r q = q ∙ sym (ap (λ (w : Walk). w .stop) e)
 met : (s u : List ℕ) (w v : Walk) → w ≡ v → u ≡ tally s (v .on) → u ≡ tally s (w .on)
 met s u w v e q = q ∙ ap (λ (w : Walk). tally s (w .on)) (sym e)
 
+-- what opens no block is closed by nothing
+not-closed : (el join : List ℕ) → splits el ≡ false → closes el join ≡ false
+unfolding splits closes closesAll closesOne
+not-closed el join h =
+    go (eqb (kindIn el) andSplit) (eqb (kindIn el) xorSplit) (eqb (kindIn el) eventBased) (eqb (kindIn join) andJoin) (eqb (kindIn join) xorJoin) h
+  where
+    go : (a x e j o : Bool) → a || (x || e) ≡ false → (a && j) || ((x || e) && o) ≡ false
+    go true x e j o h = absurd (false≢true (sym h))
+    go false true e j o h = absurd (false≢true (sym h))
+    go false false true j o h = absurd (false≢true (sym h))
+    go false false false j o h = refl
+
 module _ (P : ℕ → List ℕ) (c : ℕ) where
+  not-block : (s : List ℕ) (k j : ℕ) → splits (P k) ≡ false → isBlock P c s k j ≡ false
+  unfolding isBlock
+  not-block s k j h = go (ltb j c) (closes (P k) (P j)) _ (not-closed (P k) (P j) h)
+    where
+      go : (a b d : Bool) → b ≡ false → a && (b && d) ≡ false
+      go false b d e = refl
+      go true b d e = rw e
+
+  pub no-join : (go : ℕ → Walk) (k : ℕ) (b : Bool) (r : ℕ) → b ≡ splits (P k) → not b ≡ true → r ≡ c → r ≡ joinOf P c go k
+  unfolding joinOf closing
+  no-join go k b r e h q = q ∙ sym (left (isBlock P c _ k _) _ _ (not-block _ k _ (sym e ∙ off b h)))
+    where
+      off : (b : Bool) → not b ≡ true → b ≡ false
+      off true h = absurd (false≢true h)
+      off false h = refl
+
   -- FROM AN EDGE: m is how many elements there are
   module _ (n a : ℕ) where
     walk-none : n ≡ 0 → walk P c n a ≡ halted a

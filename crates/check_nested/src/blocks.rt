@@ -4,6 +4,7 @@ ghost use lib.Dec.{eqb};
 ghost use Rattle.base_table.specs.Table.{elementCount, elementAt};
 ghost use Rattle.check_tally.specs.Tally.{marked, tally};
 ghost use Rattle.check_nesting.specs.Nesting.{starts, passes, closes, entriesOf};
+ghost use Rattle.check_nested.specs.Splits.{splits};
 ghost use Rattle.check_nesting.specs.Deciding.{entryOf, takes, taker, edgesIn, sameEdges, isBlock, closing};
 use base_kinds::moves::AND_JOIN;
 use base_kinds::moves::AND_SPLIT;
@@ -53,6 +54,16 @@ pub fn passes(el: &[Word]) -> bool
         return true;
     }
     k == TASK_RCV || k == TASK_SND
+}
+
+pub fn splits(el: &[Word]) -> bool
+    ensures { λ r. ⌜ r ≡ splits (now (el .entry)) ⌝ }
+{
+    let k = kind_in(el);
+    if k == AND_SPLIT {
+        return true;
+    }
+    k == XOR_SPLIT || k == EVENT_BASED
 }
 
 fn closes(el: &[Word], join: &[Word]) -> bool

@@ -4,11 +4,13 @@ ghost use mathlib.Core.List.{_∷_, _++_};
 ghost use Rattle.base_table.specs.Table.{elementCount, elementAt, exitCount, exitAt};
 ghost use Rattle.check_tally.specs.Tally.{tally};
 ghost use Rattle.check_nesting.specs.Nesting.{passes, exitsOf};
+ghost use Rattle.check_nested.specs.Splits.{splits};
 ghost use Rattle.check_nesting.specs.Deciding.{stops, passed, lastIn, joinOf, ahead, walk};
 use super::blocks::EDGE_TALLY;
 use super::blocks::closing;
 use super::blocks::mark_one;
 use super::blocks::passes;
+use super::blocks::splits;
 use super::blocks::taker;
 use base_table::edge_at;
 use base_table::element_at;
@@ -35,6 +37,12 @@ fn passes_at(t: &[Word], p: Word, k: Word) -> bool
     passes(element_at(t, p, k))
 }
 
+fn splits_at(t: &[Word], p: Word, k: Word) -> bool
+    ensures { λ r. ⌜ r ≡ splits (elementAt (now (t .entry)) p k) ⌝ }
+{
+    splits(element_at(t, p, k))
+}
+
 // Marks where the branches of the split k stop, and says where the last of them does.
 fn walk_branches(t: &[Word], p: Word, n: Word, k: Word, s: &mut [Word]) -> Word
     ensures { λ r. ⌜ (r ≡ lastIn (stops (walk (elementAt (now (t .entry)) p) (elementCount (now (t .entry)) p) n) (exitsOf (elementAt (now (t .entry)) p k)))) × (now (s .exit) ≡ tally (now (s .entry)) (stops (walk (elementAt (now (t .entry)) p) (elementCount (now (t .entry)) p) n) (exitsOf (elementAt (now (t .entry)) p k)))) ⌝ }
@@ -50,10 +58,13 @@ fn walk_branches(t: &[Word], p: Word, n: Word, k: Word, s: &mut [Word]) -> Word
     a
 }
 
-// The join that closes the split k; the count of elements where none does.
+// The join that closes the split k; the count of elements where none does. What opens no block has none, and its exits are not walked: a walk through a join would go round a loop again and again.
 fn join_of(t: &[Word], p: Word, n: Word, k: Word) -> Word
     ensures { λ r. ⌜ r ≡ joinOf (elementAt (now (t .entry)) p) (elementCount (now (t .entry)) p) (walk (elementAt (now (t .entry)) p) (elementCount (now (t .entry)) p) n) k ⌝ }
 {
+    if !splits_at(t, p, k) {
+        return element_count(t, p);
+    }
     let mut s = [0; EDGE_TALLY];
     let a = walk_branches(t, p, n, k, &mut s);
     closing(t, p, k, a, &s)

@@ -9,6 +9,7 @@ use Rattle.base_words.specs.Counts.{branches}
 use Rattle.base_kinds.specs.Kinds.{start, startRcv, end, terminate, eventBased, andSplit, andJoin, xorJoin, xorSplit, task}
 use Rattle.base_table.specs.Places.{elementWords, poolWords}
 use Rattle.check_nesting.specs.Deciding.{isNested}
+use Rattle.check_nesting.specs.Offending.{offending}
 
 -- an element: kind, no task number and mode, entries, exits
 abbrev listed : List ℕ → List ℕ
@@ -62,3 +63,26 @@ small number kind =
 
 abbrev pub table : List ℕ
 table = 3 ∷ (small 5 end ++ (small 9 terminate ++ small 2 terminate))
+
+-- WHERE POOLS OFFEND, by the place of an element in the text
+pub record Offence : Type 0 where
+  pub says : String
+  pub element : ℕ
+  pub pool : List (List ℕ)
+
+abbrev offence : String → ℕ → List (List ℕ) → Offence
+offence says element pool = record { says = says; element = element; pool = pool }
+
+abbrev pub offences : List Offence
+offences =
+    offence "none in a nested pool" 2 (one start 1 2 ∷ ends 2 ∷ []) ∷
+    offence "no start" 0 (one task 1 2 ∷ ends 2 ∷ []) ∷
+    offence "terminate" 1 (one start 1 2 ∷ element terminate (2 ∷ []) [] ∷ []) ∷
+    offence "an andSplit that an xorJoin would close" 1 (one start 1 2 ∷ element andSplit (2 ∷ []) (3 ∷ 4 ∷ []) ∷ element xorJoin (3 ∷ 4 ∷ []) (5 ∷ []) ∷ ends 5 ∷ []) ∷
+    offence "a split whose branches end" 2 (one start 1 5 ∷ one task 5 2 ∷ element xorSplit (2 ∷ []) (3 ∷ 4 ∷ []) ∷ ends 3 ∷ ends 4 ∷ []) ∷
+    offence "a join that closes no split" 3 (ends 5 ∷ one start 1 2 ∷ one task 3 4 ∷ element xorJoin (2 ∷ 6 ∷ []) (3 ∷ []) ∷ element xorSplit (4 ∷ []) (5 ∷ 6 ∷ []) ∷ []) ∷
+    offence "an element that is not met" 1 (one start 1 2 ∷ one task 3 3 ∷ ends 2 ∷ []) ∷ []
+
+abbrev pub AllOffend : List Offence → Type 0
+AllOffend [] = Unit
+AllOffend (o ∷ os) = (offending (λ k. getD (o .pool) k []) (length (o .pool)) ≡ o .element) × AllOffend os

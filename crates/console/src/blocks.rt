@@ -9,8 +9,10 @@ use base_state::places::STATE_WORDS;
 use base_table::places::TABLE_WORDS;
 use base_words::Word;
 use base_words::counts::TEXT_MOST;
+use base_words::numbers::NOT_NESTED;
 use base_words::put;
 use base_words::word;
+use engine::Verdict;
 use state_figures::RECORD_WORDS;
 use text_lexer::piece;
 use text_numerals::same;
@@ -75,6 +77,33 @@ pub(super) fn do_check(loaded: bool, t: &[Word; TABLE_WORDS]) {
         number: v.number,
         beside: v.beside as usize,
     });
+}
+
+// nested
+
+// 10 has nothing beside it, 29 the number of the pool.
+fn tell_unnested(v: Verdict) {
+    if v.number == NOT_NESTED {
+        tell_unread(Reading {
+            number: v.number,
+            beside: v.beside as usize,
+        });
+        return;
+    }
+    tell_refused(v.number);
+}
+
+pub(super) fn do_nested(loaded: bool, t: &[Word; TABLE_WORDS]) {
+    if !loaded {
+        no_model();
+        return;
+    }
+    let v = engine::nested(t);
+    if v.number == 0 {
+        tell(b"nested\n");
+        return;
+    }
+    tell_unnested(v);
 }
 
 // again

@@ -9,6 +9,7 @@ use super::batch::is_batch;
 use super::blocks::do_again;
 use super::blocks::do_check;
 use super::blocks::do_clear;
+use super::blocks::do_nested;
 use super::blocks::do_set_state;
 use super::blocks::do_set_table;
 use super::blocks::is_setting;
@@ -269,6 +270,10 @@ fn on_table(line: &[u8], loaded: bool, t: &[Word; TABLE_WORDS]) {
     }
     if is_command(line, b"check", b"") {
         do_check(loaded, t);
+        return;
+    }
+    if is_command(line, b"nested", b"") {
+        do_nested(loaded, t);
         return;
     }
     if is_command(line, b"again", b"") {

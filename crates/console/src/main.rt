@@ -23,6 +23,7 @@
 //   table I V          word I of the table is V: ok
 //   state I V          word I of the state is V: ok
 //   check              ok, or refused N X
+//   nested             nested, refused 29 P, P the number of the first pool that is not nested, or refused 10
 //
 // A command other than read, draw, clear, table and repair before one of the first four made a table: no model. Any other line: bad line.
 use base_state::places::STATE_WORDS;

@@ -23,6 +23,7 @@ use Rattle.log_judge.specs.declared.Judged.{Judged}
 use Rattle.state_figures.specs.Figures.{Figured}
 use Rattle.engine.specs.Calls.{judgedTo}
 use Rattle.engine.specs.Desk.{AtDesk, steppedAt, ranAt, polledAt, figuredTo}
+use Rattle.engine.specs.Profile.{nestedOf}
 use Rattle.cuttingvale.specs.declared.Taken.{Taken}
 
 -- n words of a table and m words of a state
@@ -100,3 +101,6 @@ polledBy t n z m rs w k count =
 
 unfoldable pub judgedBy : List ℕ → ℕ → ℕ → List ℕ → Judged
 judgedBy t n v log = if eqb n tableWords then judgedTo t v log else record { number = 10; beside = 0; own = 0 }
+
+unfoldable pub nestedBy : List ℕ → ℕ → Verdict
+nestedBy t n = if eqb n tableWords then nestedOf t else record { number = 10; beside = 0 }

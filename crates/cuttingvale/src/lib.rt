@@ -4,7 +4,7 @@ ghost use Rattle.meaning.specs.Tuples.{empty};
 ghost use Rattle.step_poll.specs.Poll.{Polling};
 ghost use Rattle.step_names.specs.Names.{blank};
 ghost use Rattle.log_repair.specs.Repair.{Repair, repairedTo};
-ghost use Rattle.cuttingvale.specs.Boundary.{areWhole, checkedBy, freshenedBy, trafficNumber, steppedBy, postedBy, listedBy, ranBy, figuredBy, readBy, drawnBy, writtenBy, lentWrong, areLent, polledBy, judgedBy};
+ghost use Rattle.cuttingvale.specs.Boundary.{areWhole, checkedBy, freshenedBy, trafficNumber, steppedBy, postedBy, listedBy, ranBy, figuredBy, readBy, drawnBy, writtenBy, lentWrong, areLent, polledBy, judgedBy, nestedBy};
 use base_state::places::STATE_WORDS;
 use base_table::places::TABLE_WORDS;
 use base_words::Word;
@@ -331,4 +331,17 @@ pub extern "C" fn cv_repair(text: &[u8], buffer: &mut [u8]) -> Repaired
     ensures { λ r. ⌜ record { number = r .number; length = r .length; kept = r .kept; dropped = r .dropped; buffer = now (buffer .exit) } ≡ repairedTo (now (text .entry)) (now (buffer .entry)) ⌝ }
 {
     engine::repair(text, buffer)
+}
+
+#[no_mangle]
+pub extern "C" fn cv_nested(table: &[Word; TABLE_WORDS], tablelength: usize) -> Verdict
+    ensures { λ r. ⌜ r ≡ nestedBy (now (table .entry)) tablelength ⌝ }
+{
+    if tablelength != TABLE_WORDS {
+        return Verdict {
+            number: BAD,
+            beside: 0,
+        };
+    }
+    engine::nested(table)
 }

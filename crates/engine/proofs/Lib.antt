@@ -3,3 +3,4 @@ pub mod KeepsValid
 pub mod PollLaws
 pub mod JudgeLaws
 pub mod DeskLaws
+pub mod ProfileLaws

@@ -1,3 +1,4 @@
 pub mod Engine
 pub mod Calls
 pub mod Desk
+pub mod Profile

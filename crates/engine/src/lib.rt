@@ -9,6 +9,7 @@ ghost use Rattle.state_figures.specs.Figures.{counted, Figured};
 ghost use Rattle.engine.specs.Engine.{valid, verdictOf, Left, versionNumber, askedNumber, freshened, lentNumber, Stepped, postedTo, listedAt, RanTo, WrittenTo, writtenTo};
 ghost use Rattle.engine.specs.Calls.{judgedTo};
 ghost use Rattle.engine.specs.Desk.{AtDesk, recordsNumber, steppedAt, ranAt, polledAt, figuredTo};
+ghost use Rattle.engine.specs.Profile.{nestedOf};
 ghost use Rattle.step_poll.specs.Poll.{Polling};
 ghost use Rattle.step_names.specs.Names.{blank};
 ghost use Rattle.text_read.specs.Notation.{readInto};
@@ -20,13 +21,16 @@ use base_state::places::STATE_WORDS;
 use base_state::versions::is_version;
 use base_state::versions::version_of;
 use base_table::places::TABLE_WORDS;
+use base_table::pool_count;
 use base_words::Word;
 use base_words::counts::TEXT_MOST;
 use base_words::numbers::ACCEPTED;
 use base_words::numbers::BAD;
 use base_words::numbers::CHECK_BROKEN;
+use base_words::numbers::NOT_NESTED;
 use base_words::numbers::OTHER_VERSION;
 use base_words::numbers::TOO_SHORT;
+use check_lowest::number_at;
 use log_judge::Judged;
 use log_repair::Repaired;
 use meaning::Answer;
@@ -48,7 +52,7 @@ use desk::follow_in;
 use desk::number_in;
 use desk::recount_in;
 
-// The answer of a check: a number, and beside 4 the lowest check broken.
+// The answer of a check: a number, and beside 4 the lowest check broken, beside 29 the number of the pool.
 #[repr(C)]
 pub struct Verdict {
     pub number: Word,
@@ -349,4 +353,27 @@ pub fn repair(text: &[u8], out: &mut [u8]) -> Repaired
     ensures { λ r. ⌜ record { number = r .number; length = r .length; kept = r .kept; dropped = r .dropped; buffer = now (out .exit) } ≡ repairedTo (now (text .entry)) (now (out .entry)) ⌝ }
 {
     log_repair::repair_into(text, out)
+}
+
+// Whether every pool of a lent table is nested: 10 for a bad table, then 29 with the number of the first pool, in text order, that is not, else 0.
+pub fn nested(t: &[Word; TABLE_WORDS]) -> Verdict
+    ensures { λ r. ⌜ r ≡ nestedOf (now (t .entry)) ⌝ }
+{
+    if !is_valid(t) {
+        return Verdict {
+            number: BAD,
+            beside: 0,
+        };
+    }
+    let p = check_nested::first_unnested(t);
+    if p < pool_count(t) {
+        return Verdict {
+            number: NOT_NESTED,
+            beside: number_at(t, p),
+        };
+    }
+    Verdict {
+        number: ACCEPTED,
+        beside: 0,
+    }
 }

@@ -35,6 +35,7 @@ use Rattle.engine.proofs.poll.Reads as poll
 use Rattle.engine.proofs.judge.Reads as judge
 use Rattle.engine.proofs.repair.Reads as repair
 use Rattle.engine.proofs.figures.Reads as figures
+use Rattle.engine.proofs.nested.Reads as nested
 use Rattle.proof_demands.specs.Demands.{Agrees, Allowed, AllAllowed}
 use Rattle.proof_demands.proofs.Promises.{Lent, Desk, One, Two, Three, Four}
 use Rattle.proof_demands.proofs.AtDesk.{step-agrees, post-agrees}
@@ -42,6 +43,9 @@ use Rattle.proof_demands.proofs.AtDesk.{step-agrees, post-agrees}
 -- each statement takes the promise of the code twice, for what was lent before
 pub check-firm : (κ : One) (t t₁ t₂ : Lent) (r₁ r₂ : Verdict) → check.Post κ (t, tt) r₁ (t₁, tt) → check.Post κ (t, tt) r₂ (t₂, tt) → r₁ ≡ r₂
 check-firm κ t t₁ t₂ r₁ r₂ p₁ p₂ = p₁ ∙ sym p₂
+
+pub nested-firm : (κ : One) (t t₁ t₂ : Lent) (r₁ r₂ : Verdict) → nested.Post κ (t, tt) r₁ (t₁, tt) → nested.Post κ (t, tt) r₂ (t₂, tt) → r₁ ≡ r₂
+nested-firm κ t t₁ t₂ r₁ r₂ p₁ p₂ = p₁ ∙ sym p₂
 
 module _ (κ : Two) where
   pub fresh-firm : (t z t₁ t₂ z₁ z₂ : Lent) (v v₁ v₂ : ℕ) (r₁ r₂ : ℕ)

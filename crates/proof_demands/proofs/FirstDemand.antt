@@ -27,11 +27,12 @@ use Rattle.state_fits.specs.Fresh.{fresh}
 use Rattle.proof_steps.proofs.Choices.{by-choice, chosen, passed}
 use Rattle.engine.specs.Engine.{Left, valid, versionNumber, askedNumber, lentNumber, verdictOf, freshened, fitting, Stepped, stepped, postedTo}
 use Rattle.engine.specs.Calls.{Act, aStep, aPost, did}
+use Rattle.engine.specs.Profile.{nestedOf}
 use Rattle.proof_demands.specs.Promises.{Freshens, StepsOn, Posts}
-use Rattle.proof_demands.specs.Demands.{among, checkNumbers, freshNumbers, stepNumbers, postNumbers, permitted, given, stateGiven}
+use Rattle.proof_demands.specs.Demands.{among, checkNumbers, nestedNumbers, freshNumbers, stepNumbers, postNumbers, permitted, given, stateGiven}
 use Rattle.engine.proofs.CallLaws.{asked-invalid, asked-valid, asked-known}
 use Rattle.proof_valid.proofs.NumberGiven.{stepped-number, posted-number}
-use Rattle.proof_demands.proofs.Numbers.{Plain, stepped-plain, fresh-number, check-numbers, fresh-numbers, step-numbers, post-numbers}
+use Rattle.proof_demands.proofs.Numbers.{Plain, stepped-plain, fresh-number, check-numbers, nested-numbers, fresh-numbers, step-numbers, post-numbers}
 use Rattle.proof_demands.proofs.Exactly.{accepted-exactly, state-exactly}
 
 -- a step or a post with a number other than 0 leaves the state as it was
@@ -57,6 +58,15 @@ module _ (t : List ℕ) where
 
   pub check-number-is : among checkNumbers (verdictOf t .number) ≡ true
   check-number-is = check-numbers t
+
+-- NESTED changes nothing. 10, then 29; beside 29 the number of the first pool that is not nested, beside the others 0 (`proof_profile` has what nested is)
+module _ (t : List ℕ) where
+  pub nested-bad : valid t ≡ false → nestedOf t ≡ record { number = 10; beside = 0 }
+  unfolding nestedOf
+  nested-bad e = passed (valid t) _ (record { number = 10; beside = 0 }) e
+
+  pub nested-number-is : among nestedNumbers (nestedOf t .number) ≡ true
+  nested-number-is = nested-numbers t
 
 -- FRESH
 module _ (t : List ℕ) (v : ℕ) (z : List ℕ) (r : ℕ) (y : List ℕ) (promise : Freshens t v z r y) where

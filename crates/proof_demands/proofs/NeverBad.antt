@@ -29,7 +29,9 @@ use Rattle.engine.specs.declared.Ran.{Ran}
 use Rattle.engine.specs.Engine.{valid, verdictOf, askedNumber, freshened, fitting, lentNumber, Stepped, postedTo, listedAt, writtenTo}
 use Rattle.engine.specs.Desk.{steppedAt, ranAt, polledAt, figuredTo}
 use Rattle.engine.specs.Calls.{Act, aStep, aPost, did, Valid, polledTo, judgedTo}
+use Rattle.engine.specs.Profile.{nestedOf}
 use Rattle.engine.proofs.CallLaws.{lent-zero, asked-good}
+use Rattle.engine.proofs.ProfileLaws.{by-nested}
 use Rattle.engine.proofs.KeepsValid.{did-valid}
 use Rattle.proof_valid.proofs.KeepsFitting.{freshened-valid, run-valid}
 use Rattle.proof_demands.specs.Demands.{Made, afresh, byAct, byRun, byPoll, Agrees, Right, NeverBad, acceptedSteps}
@@ -136,6 +138,10 @@ write-other t out v =
     (rw (written-number t out ∙ picked (valid t) (if ltb (length out) (length (shownTable t)) then 5 else 0) 10 v)
     (by-choice (λ (j : ℕ). Other j ≡ true) (ltb (length out) (length (shownTable t))) 5 0 (λ b. refl) (λ b. refl)))
 
+nested-other : (t : List ℕ) → valid t ≡ true → Right (nestedOf t .number)
+nested-other t v =
+    other (nestedOf t .number) (by-nested (λ (o : Verdict). Other (o .number) ≡ true) t (λ _ l. refl) (λ _ l. refl) (λ b. absurd (false≢true (sym b ∙ v))))
+
 -- NO CALL ANSWERS 10, 25 OR 26
 pub never-bad : (text t₀ : List ℕ) → readInto text t₀ .number ≡ 0 → (z : List ℕ) → Made (readInto text t₀ .table) z → NeverBad (readInto text t₀ .table) z
 never-bad text t₀ n z m =
@@ -153,4 +159,5 @@ never-bad text t₀ n z m =
       poll = poll-other t z s;
       figures = figures-other t z s;
       judge = judge-other t v;
+      nested = nested-other t v;
     }

@@ -25,10 +25,12 @@ use Rattle.check_limits.specs.Limits.{tableFits}
 use Rattle.state_fits.specs.Fresh.{fresh}
 use Rattle.engine.specs.declared.Verdict.{Verdict}
 use Rattle.engine.specs.Engine.{Left, askedNumber, lentNumber, verdictOf, freshened, fitting, Stepped, leaving, stepped, postedTo}
+use Rattle.engine.specs.Profile.{nestedOf}
 use Rattle.engine.proofs.CallLaws.{by-lent, by-asked}
+use Rattle.engine.proofs.ProfileLaws.{by-nested}
 use Rattle.proof_figures.proofs.EveryStep.{traffic-zero}
 use Rattle.proof_valid.proofs.NumberGiven.{stepped-number, posted-number}
-use Rattle.proof_demands.specs.Demands.{among, checkNumbers, freshNumbers, stepNumbers, postNumbers}
+use Rattle.proof_demands.specs.Demands.{among, checkNumbers, nestedNumbers, freshNumbers, stepNumbers, postNumbers}
 
 -- a refused step says its number and nothing else
 abbrev pub Plain : Answer → Type 0
@@ -99,6 +101,10 @@ check-numbers t =
     by-choice (λ (v : Verdict). among checkNumbers (v .number) ≡ true) (eqb (lowest (modelOf t)) 0) (record { number = 0; beside = 0 })
     (record { number = 4; beside = lowest (modelOf t) }) (λ f. refl) (λ f. refl))
     (λ e. refl)
+
+pub nested-numbers : (t : List ℕ) → among nestedNumbers (nestedOf t .number) ≡ true
+unfolding among if_then_else_
+nested-numbers t = by-nested (λ (v : Verdict). among nestedNumbers (v .number) ≡ true) t (λ v l. refl) (λ v l. refl) (λ v. refl)
 
 pub fresh-numbers : (t : List ℕ) (v : ℕ) (z : List ℕ) → among freshNumbers (freshened t v z .number) ≡ true
 unfolding among if_then_else_

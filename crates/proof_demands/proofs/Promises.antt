@@ -29,7 +29,8 @@ use Rattle.engine.proofs.poll.Reads as poll
 use Rattle.engine.proofs.judge.Reads as judge
 use Rattle.engine.proofs.repair.Reads as repair
 use Rattle.engine.proofs.figures.Reads as figures
-use Rattle.proof_demands.specs.Promises.{Checks, Freshens, Steps, Posts, Lists, Runs, Reads, Draws, Writes, Polls, Figures, Judges, Repairs}
+use Rattle.engine.proofs.nested.Reads as nested
+use Rattle.proof_demands.specs.Promises.{Checks, Freshens, Steps, Posts, Lists, Runs, Reads, Draws, Writes, Polls, Figures, Judges, Repairs, Nests}
 use Rattle.proof_demands.specs.Demands.{Allowed}
 
 -- a slice or an array that is lent, the desk's records, and the lifetimes of one, of two, of three and of four
@@ -110,3 +111,6 @@ module _ (κ : Three) where
 pub poll-promise : (κ : Four) (t z w t₁ z₁ w₁ : Lent) (rs rs₁ : Desk) (count count₁ : ℕ) (r : Polled)
     → poll.Post κ (t, (z, (rs, (w, (count, tt))))) r (t₁, (z₁, (rs₁, (w₁, (count₁, tt))))) ≡ Polls (now t) (now z) (now rs) (now w) count r (now z₁) (now rs₁)
 poll-promise κ t z w t₁ z₁ w₁ rs rs₁ count count₁ r = refl
+
+pub nested-promise : (κ : One) (t t₁ : Lent) (r : Verdict) → nested.Post κ (t, tt) r (t₁, tt) ≡ Nests (now t) r
+nested-promise κ t t₁ r = refl

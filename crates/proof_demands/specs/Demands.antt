@@ -30,6 +30,7 @@ use Rattle.state_figures.specs.Figures.{counted, recordAt}
 use Rattle.engine.specs.Engine.{verdictOf, freshened, lentNumber, fitting, postedTo, listedAt, RanTo, ranTo, WrittenTo, writtenTo}
 use Rattle.engine.specs.Calls.{Act, aStep, aPost, did, after, polledTo, judgedTo}
 use Rattle.engine.specs.Desk.{steppedAt, ranAt, polledAt, figuredTo}
+use Rattle.engine.specs.Profile.{nestedOf}
 use Rattle.proof_demands.specs.Promises.{Steps, Posts}
 
 -- DEMAND 1. "Bad ones are refused with the number document 01 gives": 10 where table or state are bad, 25 for another version, else that of the first
@@ -75,6 +76,9 @@ judgeNumbers = 0 ∷ 10 ∷ 23 ∷ 24 ∷ 25 ∷ []
 
 abbrev pub repairNumbers : List ℕ
 repairNumbers = 0 ∷ 5 ∷ 27 ∷ []
+
+abbrev pub nestedNumbers : List ℕ
+nestedNumbers = 0 ∷ 10 ∷ 29 ∷ []
 
 -- beside 24: the step's or post's own, 0 where only the text is untrue
 abbrev pub ownNumbers : List ℕ
@@ -187,6 +191,7 @@ pub record NeverBad (t z : List ℕ) : Type 0 where
   pub poll : (w : List ℕ) (count : ℕ) → Right (polledAt t z (counted t (instancesOf z)) w count .done .number)
   pub figures : (rs : List (List ℕ)) → length rs ≡ poolCount t → Right (figuredTo t z rs .number)
   pub judge : (v : ℕ) → isVersion v ≡ true → (log : List ℕ) → Right (judgedTo t v log .number)
+  pub nested : Right (nestedOf t .number)
 
 -- how many steps are accepted
 unfoldable pub acceptedSteps : List ℕ → List ℕ → ℕ

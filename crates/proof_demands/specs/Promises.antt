@@ -20,6 +20,7 @@ use Rattle.log_repair.specs.declared.Repaired.{Repaired}
 use Rattle.log_repair.specs.Repair.{Repair, repairedTo}
 use Rattle.state_figures.specs.Figures.{Figured}
 use Rattle.engine.specs.Calls.{polledTo, judgedTo}
+use Rattle.engine.specs.Profile.{nestedOf}
 use Rattle.engine.specs.Engine.{Left, Stepped, RanTo, WrittenTo, verdictOf, freshened, stepped, postedTo, listedAt, ranTo, writtenTo}
 use Rattle.engine.specs.Desk.{AtDesk, steppedAt, ranAt, polledAt, figuredTo}
 
@@ -63,6 +64,9 @@ Judges t v log r = r ≡ judgedTo t v log
 
 abbrev pub Repairs : List ℕ → List ℕ → Repaired → List ℕ → Type 0
 Repairs text out r y = _≡_ {A = Repair} (record { number = r .number; length = r .length; kept = r .kept; dropped = r .dropped; buffer = y }) (repairedTo text out)
+
+abbrev pub Nests : List ℕ → Verdict → Type 0
+Nests t r = r ≡ nestedOf t
 
 -- what a step, a run and a poll are on table and state alone: with records that agree they are that (proofs/AtDesk.antt)
 abbrev pub StepsOn : List ℕ → List ℕ → Name → Answer → List ℕ → Type 0

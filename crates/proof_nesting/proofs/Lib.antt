@@ -10,3 +10,4 @@ pub mod Weighing
 pub mod Kept
 pub mod States
 pub mod Decided
+pub mod Precise

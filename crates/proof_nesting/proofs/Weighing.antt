@@ -49,7 +49,7 @@ or-two false b h f g = g h
 met : (x y : ℕ) → 0 < hit x y → x ≡ y
 met x y l = by-test (eqb x y) (eqb-true x y) (λ e. absurd (let z : hit x y ≡ 0 = ap oneIf e in omega arith))
 
-started-by : (el : List ℕ) (q : ℕ) → kindIn el ≡ q → (eqb q start || eqb q startRcv) ≡ true → starts el ≡ true
+pub started-by : (el : List ℕ) (q : ℕ) → kindIn el ≡ q → (eqb q start || eqb q startRcv) ≡ true → starts el ≡ true
 unfolding starts
 started-by el q e h = ap (λ y. eqb y start || eqb y startRcv) e ∙ h
 
@@ -143,6 +143,12 @@ module _ (P : ℕ → List ℕ) (c : ℕ) (sound : Sound P c) (nest : Nested P c
   unfolding kindOf
   only-end k l e = ⊎-elim (λ g. absurd (g (ap (λ y. kindOf y .exits) e))) (λ q. q) (all-go k l)
 
+  abbrev pub Weighed : ((ℕ → ℕ) → (ℕ → ℕ) → Type 0) → Type 0
+  Weighed Q = (w d : ℕ → ℕ) × Weighing P c w d × Q w d
+
+  abbrev pub Precise : ((ℕ → ℕ) → (ℕ → ℕ) → Type 0) → Type 0
+  Precise Q = (w d : ℕ → ℕ) × Weighing P c w d × Exact P c w d × Q w d
+
   module _ (F : Flow P c (f₀ ∷ []) (x₀ ∷ [])) where
     abbrev w : ℕ → ℕ
     w f = F .outs f + (hit f f₀ + firstly f)
@@ -173,7 +179,7 @@ module _ (P : ℕ → List ℕ) (c : ℕ) (sound : Sound P c) (nest : Nested P c
     unfolding firstly
     firstly-first is = chosen (eqb (kindIn (P p₀)) start) (hit s₀ s₀) 0 (eq-eqb _ _ is) ∙ hit-same s₀ s₀ refl
 
-    w-first : kindIn (P p₀) ≡ start → w s₀ ≡ 1
+    pub w-first : kindIn (P p₀) ≡ start → w s₀ ≡ 1
     w-first is =
         omega (arith, outs-first is, firstly-first is, hit-other s₀ f₀ (λ e. sound .first-entry p₀ p₀ 0 (nest .first-there) (nest .first-there) is (omega (arith, exit-one)) (sym e)))
 
@@ -266,7 +272,7 @@ module _ (P : ℕ → List ℕ) (c : ℕ) (sound : Sound P c) (nest : Nested P c
         by-choice (λ (y : ℕ). y ≡ 0) (eqb (kindIn (P p₀)) start) (hit (entryAt (P k) j) s₀) 0
         (λ e. hit-other (entryAt (P k) j) s₀ (λ q. ne (sound .one-enters k p₀ j 0 l (nest .first-there) r (omega (arith, first-entry-one (eqb-true _ _ e))) q))) (λ e. refl)
 
-    entry-ins : (k j : ℕ) → k < c → j < entryCount (P k) → (k ≡ p₀ → ⊥) → (k ≡ nest .last → ⊥) → w (entryAt (P k) j) ≡ F .ins (entryAt (P k) j)
+    pub entry-ins : (k j : ℕ) → k < c → j < entryCount (P k) → (k ≡ p₀ → ⊥) → (k ≡ nest .last → ⊥) → w (entryAt (P k) j) ≡ F .ins (entryAt (P k) j)
     entry-ins k j l r ne nl =
         omega (arith, kept (entryAt (P k) j), firstly-entry k j l r ne, hit-other (entryAt (P k) j) x₀ (λ q. nl (sound .one-enters k (nest .last) j 0 l (nest .last-there) r (omega (arith, last-entry)) q)))
 
@@ -329,6 +335,9 @@ module _ (P : ℕ → List ℕ) (c : ℕ) (sound : Sound P c) (nest : Nested P c
       ended = λ k l is. ap (λ y. w (entryAt (P y) 0)) (only-end k l is) ∙ w-last;
     }
 
+    pub by-flow : (Q : (ℕ → ℕ) → (ℕ → ℕ) → Type 0) → Q w d → Precise Q
+    by-flow Q h = (w, d, flow-weighs, flow-exact, h)
+
   -- ONE OF THEM
   among : (k : ℕ) → k < c → (k ≡ p₀) ⊎ ((k ≡ nest .last) ⊎ (0 < total (hit k) (nest .between)))
   unfolding total
@@ -348,27 +357,24 @@ module _ (P : ℕ → List ℕ) (c : ℕ) (sound : Sound P c) (nest : Nested P c
   line : (g : Target) → Reaches P c sound g (nest .between) → (F : Flow P c (f₀ ∷ []) (x₀ ∷ [])) × (1 ≤ reading g (F .outs) (F .tasks))
   line g h = ⊎-elim (λ t. t) (λ t. absurd t) (through P c sound g (nest .runs) h)
 
-  any-line : Flow P c (f₀ ∷ []) (x₀ ∷ [])
+  pub any-line : Flow P c (f₀ ∷ []) (x₀ ∷ [])
   any-line = ones P c sound (nest .runs) .0
 
   end-exits : exitCount (P (nest .last)) ≡ 0
   unfolding exitCount used if_then_else_ kindOf
   end-exits = ap (λ y. used (kindOf y .exits) (at (P (nest .last)) exitsPlace)) (nest .last-ends)
 
-  abbrev pub Weighed : ((ℕ → ℕ) → (ℕ → ℕ) → Type 0) → Type 0
-  Weighed Q = (w d : ℕ → ℕ) × Weighing P c w d × Q w d
-
   -- AN EDGE that leaves an element; that leaves none
-  leaving : (e k j : ℕ) → k < c → j < exitCount (P k) → exitAt (P k) j ≡ e → Weighed (λ w d. 1 ≤ w e)
-  leaving e k j l r q =
+  pub exact-edge : (e k j : ℕ) → k < c → j < exitCount (P k) → exitAt (P k) j ≡ e → Precise (λ w d. 1 ≤ w e)
+  exact-edge e k j l r q =
       ⊎-elim
       (λ i.
       let z : j ≡ 0 = (let y : exitCount (P k) ≡ 1 = ap (λ y. exitCount (P y)) i ∙ exit-one in omega (arith, y, r)) in
       let same : e ≡ f₀ = sym q ∙ ap₂ (λ (a b : ℕ). exitAt (P a) b) i z in
-      (w any-line, d any-line, flow-weighs any-line, (let v : w any-line e ≡ w any-line f₀ = ap (w any-line) same in omega (arith, v, w-exit any-line))))
+      by-flow any-line (λ w d. 1 ≤ w e) (let v : w any-line e ≡ w any-line f₀ = ap (w any-line) same in omega (arith, v, w-exit any-line)))
       (λ o.
       ⊎-elim (λ i. absurd (let y : exitCount (P k) ≡ 0 = ap (λ y. exitCount (P y)) i ∙ end-exits in omega (arith, y, r)))
-      (λ i. let t = line (edge e) (reached (edge e) k (nest .between) i (j, r, q)) in (w (t .0), d (t .0), flow-weighs (t .0), omega (arith, t .1)))
+      (λ i. let t = line (edge e) (reached (edge e) k (nest .between) i (j, r, q)) in by-flow (t .0) (λ w d. 1 ≤ w e) (omega (arith, t .1)))
       o)
       (among k l)
 
@@ -390,7 +396,8 @@ module _ (P : ℕ → List ℕ) (c : ℕ) (sound : Sound P c) (nest : Nested P c
       (λ t.
       let s = sum-some (λ k. sum (λ j. hit (exitAt (P k) j) e) (exitCount (P k))) c (ltb-true 0 _ t) in
       let r = sum-some (λ j. hit (exitAt (P (s .0)) j) e) (exitCount (P (s .0))) (s .2) in
-      leaving e (s .0) (r .0) (s .1) (r .1) (met (exitAt (P (s .0)) (r .0)) e (r .2)))
+      let x = exact-edge e (s .0) (r .0) (s .1) (r .1) (met (exitAt (P (s .0)) (r .0)) e (r .2)) in
+      (x .0, x .1, x .2, x .4))
       (λ t. (
         (λ f. hit f e),
         (λ n. 0),
@@ -418,19 +425,23 @@ module _ (P : ℕ → List ℕ) (c : ℕ) (sound : Sound P c) (nest : Nested P c
     λ e. false≢true (sym (ap isTask (nest .last-ends)) ∙ subst (λ y. isTask (kindIn (P y)) ≡ true) e h),
   )
 
+  pub exact-task : (n k : ℕ) → (n ≡ 0 → ⊥) → k < c → taskIn (P k) ≡ n → Precise (λ w d. 1 ≤ d n)
+  exact-task n k ne l q =
+      let o = no-task k l (sound .tasks-only k l (λ z. ne (sym q ∙ z))) in
+      ⊎-elim (λ i. absurd (o .0 i))
+      (λ r.
+      ⊎-elim (λ i. absurd (o .1 i))
+      (λ i. let y = line (work n) (reached (work n) k (nest .between) i (q, ne)) in by-flow (y .0) (λ w d. 1 ≤ d n) (y .1))
+      r)
+      (among k l)
+
   pub weighs-task : (n : ℕ) → (n ≡ 0 → ⊥) → Weighed (λ w d. 1 ≤ d n)
   weighs-task n ne =
       by-test (ltb 0 (sum (λ k. hit (taskIn (P k)) n) c))
       (λ t.
       let s = sum-some (λ k. hit (taskIn (P k)) n) c (ltb-true 0 _ t) in
-      let q : taskIn (P (s .0)) ≡ n = met (taskIn (P (s .0))) n (s .2) in
-      let o = no-task (s .0) (s .1) (sound .tasks-only (s .0) (s .1) (λ z. ne (sym q ∙ z))) in
-      ⊎-elim (λ i. absurd (o .0 i))
-      (λ r.
-      ⊎-elim (λ i. absurd (o .1 i))
-      (λ i. let y = line (work n) (reached (work n) (s .0) (nest .between) i (q, ne)) in (w (y .0), d (y .0), flow-weighs (y .0), y .1))
-      r)
-      (among (s .0) (s .1)))
+      let x = exact-task n (s .0) ne (s .1) (met (taskIn (P (s .0))) n (s .2)) in
+      (x .0, x .1, x .2, x .4))
       (λ t. (
         (λ f. 0),
         (λ k. hit k n),

@@ -15,9 +15,4 @@ meets-all-spec =
     (λ c. search L)
     (λ c κs. search L)
     (λ c κs. search L)
-    (λ c. search L)
-    (λ c κs. search L)
-    (λ c. search L)
-    (λ c κs. search L)
-    (λ c κs. search L)
-    (λ c. meets-is (elementAt (c .before .before .before .before .before .before .before .before .before .before .before .before .before .before .args .t .now) (c .before .before .before .before .before .before .before .before .before .before .before .before .before .before .args .p)) (elementCount (c .before .before .before .before .before .before .before .before .before .before .before .before .before .before .args .t .now) (c .before .before .before .before .before .before .before .before .before .before .before .before .before .before .args .p)) _ _ _ _ _ _ _ _ (c .before .before .before .before .before .before .before .before .before .before .before .mark-one .ensures) (c .before .before .before .before .before .before .before .before .mark-one2 .ensures) (c .before .before .before .before .before .before .exit-at .ensures) (c .before .before .before .before .mark-way .ensures) (c .before .element-count .ensures) (c .all-once .ensures)))  -- returns
+    (λ c. meets-is (elementAt (c .before .before .before .before .before .before .before .args .t .now) (c .before .before .before .before .before .before .before .args .p)) (elementCount (c .before .before .before .before .before .before .before .args .t .now) (c .before .before .before .before .before .before .before .args .p)) _ _ _ _ (c .before .before .before .before .mark-met .ensures) (c .before .element-count .ensures) _ (c .all-once .ensures)))  -- returns

@@ -8,7 +8,7 @@ use Rattle.base_words.specs.Each.{tab}
 use Rattle.base_table.specs.Table.{elementCount, elementAt, exitCount, exitAt}
 use Rattle.check_tally.specs.Tally.{tally}
 use Rattle.check_nesting.specs.Deciding.{stops, lastIn, walk}
-use Rattle.check_nested.proofs.WalkLaws.{stop-none, stop-halted, stop-ahead, stop-passed, stop-block, stop-open, join-is, last-none, last-more, last-done, marked-none, marked-more, marked-done}
+use Rattle.check_nested.proofs.WalkLaws.{stop-none, stop-halted, stop-ahead, stop-passed, stop-block, stop-open, no-join, join-is, last-none, last-more, last-done, marked-none, marked-more, marked-done}
 use Prim.Native.Nat.{ℕ, _<_, _+_, _-_, _*_, _≤_}
 use borrow.Fn.Kinds.{In}
 use borrow.Fn.PlainCycle.{Measures, is, falls, and}
@@ -31,6 +31,7 @@ use Rattle.check_nested.proofs.blocks.taker.Reads as taker-reads
 use Rattle.check_nested.proofs.walks.exit_at.Reads as exit-at-reads
 use Rattle.check_nested.proofs.walks.exits_at.Reads as exits-at-reads
 use Rattle.check_nested.proofs.walks.passes_at.Reads as passes-at-reads
+use Rattle.check_nested.proofs.walks.splits_at.Reads as splits-at-reads
 use Rattle.check_nested.proofs.walks.+join_of+stop_ahead+stop_of+walk_branches.{statement}
 use Rattle.check_nested.proofs.walks.+join_of+stop_ahead+stop_of+walk_branches.Tie.{close}
 
@@ -87,6 +88,10 @@ walk-branches-μ-loop t p n k s₀ m a₀ j₀ s a j = m - j
 pub +join-of+stop-ahead+stop-of+walk-branches-spec : {M : Type 1} → statement M
 +join-of+stop-ahead+stop-of+walk-branches-spec =
     close μ-join-of μ-stop-ahead μ-stop-of μ-walk-branches (λ t. join-of-lts.spec (
+      splits-at-reads.Asked,
+      splits-at-reads.Learnt,
+      element-count-reads.Asked,
+      element-count-reads.Learnt,
       walk-branches-below t,
       walk-branches.Post,
       closing-reads.Asked,
@@ -94,11 +99,14 @@ pub +join-of+stop-ahead+stop-of+walk-branches-spec : {M : Type 1} → statement 
     )
     (join-of-at t)
     join-of.Post
+    (λ c κs. search needs)
+    (λ c κs. search needs)
+    (λ c. no-join (elementAt (c .before .before .before .before .args .t .now) (c .before .before .before .before .args .p)) (elementCount (c .before .before .before .before .args .t .now) (c .before .before .before .before .args .p)) (walk (elementAt (c .before .before .before .before .args .t .now) (c .before .before .before .before .args .p)) (elementCount (c .before .before .before .before .args .t .now) (c .before .before .before .before .args .p)) (c .before .before .before .before .args .n)) _ _ _ (c .before .before .splits-at .ensures) (c .before .if1 .taken) (c .element-count .ensures))
     (λ c. search needs)
     (λ c κs. search needs)
     (λ c. search needs)
     (λ c κs. search needs)
-    (λ c. join-is (elementAt (c .before .before .before .before .before .before .args .t .now) (c .before .before .before .before .before .before .args .p)) (elementCount (c .before .before .before .before .before .before .args .t .now) (c .before .before .before .before .before .before .args .p)) (walk (elementAt (c .before .before .before .before .before .before .args .t .now) (c .before .before .before .before .before .before .args .p)) (elementCount (c .before .before .before .before .before .before .args .t .now) (c .before .before .before .before .before .before .args .p)) (c .before .before .before .before .before .before .args .n)) _ _ _ _ (c .before .before .before .walk-branches .ensures .0) (c .before .before .before .walk-branches .ensures .1) (c .closing .ensures)))
+    (λ c. join-is (elementAt (c .before .before .before .before .before .before .before .before .args .t .now) (c .before .before .before .before .before .before .before .before .args .p)) (elementCount (c .before .before .before .before .before .before .before .before .args .t .now) (c .before .before .before .before .before .before .before .before .args .p)) (walk (elementAt (c .before .before .before .before .before .before .before .before .args .t .now) (c .before .before .before .before .before .before .before .before .args .p)) (elementCount (c .before .before .before .before .before .before .before .before .args .t .now) (c .before .before .before .before .before .before .before .before .args .p)) (c .before .before .before .before .before .before .before .before .args .n)) _ _ _ _ (c .before .before .before .walk-branches .ensures .0) (c .before .before .before .walk-branches .ensures .1) (c .closing .ensures)))
     (λ t. stop-ahead-lts.spec (
       passes-at-reads.Asked,
       passes-at-reads.Learnt,

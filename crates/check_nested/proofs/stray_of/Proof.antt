@@ -1,0 +1,18 @@
+use Rattle.base_table.specs.Table.{elementCount, elementAt}
+use Rattle.check_nested.proofs.PoolLaws.{stray-is}
+use borrow.Author.Needs.{needs}
+use Rattle.check_nested.proofs.stray_of.Statement.{statement}
+use Rattle.check_nested.proofs.stray_of.Tie as tie
+
+ruleset L = (needs)
+
+pub stray-of-spec : {M : Type 1} → statement M
+stray-of-spec =
+    tie.close
+    (tie.spec
+    (λ c. search L)
+    (λ c κs. search L)
+    (λ c. search L)
+    (λ c κs. search L)
+    (λ c κs. search L)
+    (λ c. stray-is (elementAt (c .before .before .before .before .before .before .before .args .t .now) (c .before .before .before .before .before .before .before .args .p)) (elementCount (c .before .before .before .before .before .before .before .args .t .now) (c .before .before .before .before .before .before .before .args .p)) _ _ _ _ (c .before .before .before .before .mark-met .ensures) (c .before .element-count .ensures) _ (c .first-other .ensures)))  -- returns

@@ -1,0 +1,10 @@
+pub mod Sounds
+pub mod Places
+pub mod Steady
+pub mod Never18
+pub mod Rows
+pub mod Whole
+pub mod Going
+pub mod Theorems
+pub mod Named
+pub mod Model
