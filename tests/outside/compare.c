@@ -5,9 +5,11 @@
    compare logs CASES SEED               the same for logs, four for each model, and a beginning of each
    compare repairs CASES SEED            the same for logs that ended in the middle
    compare nestings CASES SEED           the same for nested models and models that nearly are, and what is promised of nested ones
+   compare accounts CASES SEED           the same from fresh states; for each name and tuple what was posted and sent is what is queued and was consumed
    compare cuts FILE                     a log cut off at every byte, judged and repaired
    compare worst                         drawings and logs that hold as much of one thing as fits, and models that loop: compared, and timed
    compare sessions FIRST COUNT SEED     prints sessions for the two consoles, one after the other */
+#include "accounts.h"
 #include "cuttingvale.h"
 #include "generate.h"
 #include <stdio.h>
@@ -44,6 +46,7 @@ static uint8_t *lent_text; /* ends where no page can be read */
 static size_t text_length;
 static uint64_t calls, seed_of_case;
 static unsigned given[32], owned[32], known, readings[32], nestings[32];
+static struct account totals;
 
 static void differ(const char *call, const char *what, unsigned engine, unsigned reference) {
     printf("difference in %s, case %llu: %s: engine %u, reference %u\n", call, (unsigned long long)seed_of_case, what, engine, reference);
@@ -501,7 +504,7 @@ static size_t some_items(struct random *r) {
     return count;
 }
 
-static void poll_both(struct random *r) {
+static size_t poll_both(struct random *r) {
     size_t count = some_items(r);
     cv_polled a = cv_poll(TABLE, STATE, OUR_RECORDS, items, CV_POLL_WORDS, count);
     ref_polled b = ref_poll(theirs.table, theirs.state, THEIR_RECORDS, items, count);
@@ -510,6 +513,7 @@ static void poll_both(struct random *r) {
     same("poll", "accepted", a.accepted, b.accepted);
     same_blocks("poll");
     polled[b.number]++;
+    return count;
 }
 
 static void one_call(struct random *r) {
@@ -680,28 +684,110 @@ static void holds_one(const word *h) {
     for (unsigned n = 0; n < TASKS; n++) same("nested", "counts of a task", h[ACTIVE + n] + h[READY + n] > 1, 0);
 }
 
-/* From a fresh state, over steps, posts, polls and runs: what is promised of each nested pool, whatever the others are. */
-static void nested_session(struct random *r) {
-    bool nested[POOLS];
+/* THE HISTORY, from the engine's answers. A poll and a run stand in it as their items and steps, given one by one to a copy of the state, which comes out the same. */
+static word alone[REF_STATE_WORDS];
+static cv_record alone_records[POOLS];
+#define ALONE ours.table, CV_TABLE_WORDS, alone, CV_STATE_WORDS
+
+/* A consuming step: the pool with its number is one, and of the instances' words only those of the instance it names have changed; of a startRcv, the one it makes. */
+static void belongs_to_one(const word *before, const word *after, ref_name n) {
+    unsigned named = 0;
+    for (unsigned p = 0; p < ours.table[0]; p++) {
+        bool is = pool_at(ours.table, p)[0] == n.pool;
+        named += is;
+        for (unsigned i = 0; i < INSTANCES; i++) {
+            unsigned at = POOLS + POOL_INSTANCES * p + INSTANCE_WORDS * i;
+            if (!is || i != n.instance) same("consuming step", "another instance", memcmp(before + at, after + at, INSTANCE_WORDS * sizeof(word)), 0);
+        }
+        bool makes = is && element_at(pool_at(ours.table, p), n.element)[KIND] == START_RCV;
+        same("consuming step", "instances made", after[p], before[p] + makes);
+        if (makes) same("consuming step", "the instance it makes", n.instance, before[p]);
+    }
+    same("consuming step", "pools of its number", named, 1);
+}
+
+/* one step on the copy, told to the accounts: its number */
+static word step_alone(ref_name n) {
+    static word before[REF_STATE_WORDS];
+    memcpy(before, alone, sizeof before);
+    cv_answer a = cv_step(ALONE, alone_records, ours.table[0], (cv_name){n.pool, n.instance, n.element, n.phase, n.branch, as_ours(n.given)});
+    ref_answer told = {a.number, a.traffic, a.name, {a.tuple.length, {a.tuple.values[0], a.tuple.values[1], a.tuple.values[2], a.tuple.values[3]}}};
+    account_answer(told);
+    if (!told.number && told.traffic == CV_CONSUMED) belongs_to_one(before, alone, n);
+    return a.number;
+}
+
+static word post_alone(word name, ref_tuple g) {
+    word number = cv_post(ALONE, name, as_ours(g));
+    if (!number) account_post(name, g);
+    return number;
+}
+
+static void poll_alone(size_t count) {
+    for (size_t k = 0; k < count && count <= CV_ITEMS; k++) {
+        const word *w = items + CV_ITEM_WORDS * k;
+        ref_tuple g = {w[6], {w[7], w[8], w[9], w[10]}};
+        if (w[0] == 1 ? post_alone(w[1], g) : step_alone((ref_name){w[1], w[2], w[3], w[4], w[5], g})) return;
+    }
+}
+
+static void run_alone(unsigned limit) {
+    for (; limit; limit--) {
+        cv_listed l = cv_list(ALONE, 0);
+        ref_name n;
+        memcpy(&n, &l.name, sizeof n);
+        if (l.number || step_alone(n)) return;
+    }
+}
+
+/* what every history comes to: all accounts balance, and no pool has more instances than its limit */
+static void accounted(void) {
+    same_words("history", "state of the calls one by one", ours.state, alone, REF_STATE_WORDS);
+    const struct account *x = unbalanced(ours.state);
+    if (x) {
+        printf("name %u, tuple of %u: posted %u, sent %u, queued %u, consumed %u\n", x->name, x->tuple.length, x->posted, x->sent, x->queued, x->consumed);
+        differ("history", "accounts", x->posted + x->sent, x->queued + x->consumed);
+    }
+    for (unsigned p = 0; p < ours.table[0]; p++) same("history", "instances above the limit", ours.state[p] > limit_of(pool_at(ours.table, p)), 0);
+}
+
+/* one call of a history: steps, posts, polls and runs, refused ones among them; the pool that a step named, else 0 */
+static unsigned history_call(struct random *r) {
     ref_tuple g;
+    unsigned which = draw(r, 100), name, limit;
+    if (ref_list(theirs.table, theirs.state, 0).number == 6 && chance(r, 70)) which = 60; /* nothing can move */
+    if (which < 60) {
+        ref_name n = some_name(r, theirs.table, theirs.state);
+        step_both(n), step_alone(n);
+        return n.pool;
+    }
+    if (which < 85) name = likely_post(r, &g), post_both(name, g), post_alone(name, g);
+    else if (which < 92) poll_alone(poll_both(r));
+    else limit = draw(r, 30), run_both(limit), run_alone(limit);
+    return 0;
+}
+
+/* From a fresh state: what is promised of each nested pool, whatever the others are, and of every history. */
+static void fresh_session(struct random *r) {
+    bool nested[POOLS];
     for (unsigned p = 0; p < theirs.table[0]; p++) nested[p] = is_nested(pool_at(theirs.table, p));
     fresh_both(chance(r, 50) ? CV_VERSION_10 : CV_VERSION_20);
     pools = theirs.table[0];
     figures_both();
+    memcpy(alone, ours.state, sizeof alone);
+    memcpy(alone_records, ours.records + RECORDS - pools, pools * sizeof *alone_records);
+    open_accounts();
     for (unsigned k = 20 + draw(r, 60); k; k--) {
-        unsigned which = draw(r, 100), would_pass = given[18], name;
-        ref_name n = some_name(r, theirs.table, theirs.state);
-        if (ref_list(theirs.table, theirs.state, 0).number == 6 && chance(r, 70)) which = 60; /* nothing can move */
-        if (which < 60) step_both(n);
-        else if (which < 85) name = likely_post(r, &g), post_both(name, g);
-        else if (which < 92) poll_both(r);
-        else run_both(draw(r, 30));
+        unsigned would_pass = given[18], pool = history_call(r);
         for (unsigned p = 0; p < pools; p++) {
             if (!nested[p]) continue;
-            if (pool_at(theirs.table, p)[0] == n.pool) same("nested", "18", given[18], would_pass);
+            if (pool_at(theirs.table, p)[0] == pool) same("nested", "18", given[18], would_pass);
             for (unsigned i = 0; i < ours.state[p]; i++) holds_one(instance_at(ours.state, p, i));
         }
+        if (k == 1 || chance(r, 20)) accounted();
     }
+    struct account sum = accounts_sum();
+    totals.posted += sum.posted, totals.sent += sum.sent, totals.queued += sum.queued, totals.consumed += sum.consumed;
 }
 
 static void nested_case(struct random *r) {
@@ -714,8 +800,10 @@ static void nested_case(struct random *r) {
     nestings[v.number]++;
     if (due >= 0) same("nested", "what the generator counts on", v.number, due), same("nested", "its pool", v.beside, of);
     known += due >= 0;
-    nested_session(r);
+    fresh_session(r);
 }
+
+static void print_totals(void) { printf("all accounts balance: posted %u, sent %u, queued %u, consumed %u", totals.posted, totals.sent, totals.queued, totals.consumed); }
 
 static int compare_nestings(uint64_t cases, uint64_t seed) {
     for (uint64_t k = 0; k < cases; k++) {
@@ -727,6 +815,21 @@ static int compare_nestings(uint64_t cases, uint64_t seed) {
     print_numbers("numbers of nested:", nestings);
     print_numbers("; of readings:", readings);
     print_numbers("; of steps:", given);
+    printf("; "), print_totals();
+    putchar('\n');
+    return 0;
+}
+
+static int compare_accounts(uint64_t cases, uint64_t seed) {
+    for (uint64_t k = 0; k < cases; k++) {
+        seed_of_case = seed + k;
+        struct random r = {seed_of_case};
+        text_length = model_text(&r, text);
+        if (read_both() == 0) fresh_session(&r);
+    }
+    printf("%llu histories of %llu calls, no difference; ", (unsigned long long)cases, (unsigned long long)calls);
+    print_totals();
+    print_numbers("; numbers of steps:", given);
     putchar('\n');
     return 0;
 }
@@ -1000,11 +1103,12 @@ int main(int count, char **words) {
     if (count == 4 && !strcmp(words[1], "logs")) return compare_logs(number(words[2]), seeded(words[3]));
     if (count == 4 && !strcmp(words[1], "repairs")) return compare_repairs(number(words[2]), seeded(words[3]));
     if (count == 4 && !strcmp(words[1], "nestings")) return compare_nestings(number(words[2]), seeded(words[3]));
+    if (count == 4 && !strcmp(words[1], "accounts")) return compare_accounts(number(words[2]), seeded(words[3]));
     if (count == 3 && !strcmp(words[1], "cuts")) return compare_cuts(words[2]);
     if (count == 3 && !strcmp(words[1], "drawing")) return print_drawing(number(words[2]));
     if (count == 2 && !strcmp(words[1], "worst")) return time_worst();
     if (count != 5 || strcmp(words[1], "sessions")) {
-        fprintf(stderr, "usage: compare calls CASES SEED, compare drawings CASES SEED, compare drawing CASE, compare logs CASES SEED, compare repairs CASES SEED, compare nestings CASES SEED, compare cuts FILE, compare worst, or compare sessions FIRST COUNT SEED\n");
+        fprintf(stderr, "usage: compare calls CASES SEED, compare drawings CASES SEED, compare drawing CASE, compare logs CASES SEED, compare repairs CASES SEED, compare nestings CASES SEED, compare accounts CASES SEED, compare cuts FILE, compare worst, or compare sessions FIRST COUNT SEED\n");
         return 2;
     }
     for (uint64_t k = number(words[2]), last = k + number(words[3]); k < last; k++) {

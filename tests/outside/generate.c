@@ -34,7 +34,7 @@ struct draft {
     unsigned pool, pools, elements;
     unsigned open[EDGES], opens, wanted[EDGES], wants;
     unsigned free[EDGES], frees, task, stores; /* stores: how many of a hundred fields are */
-    bool easy;                                 /* most conditions are true */
+    bool easy;                                 /* most conditions are true, most operands numbers */
 };
 
 static void print(struct draft *d, const char *s) { d->o += sprintf(d->o, "%s", s); }
@@ -66,7 +66,7 @@ static unsigned some_field(struct draft *d) { return (chance(d->r, 5) ? draw(d->
 static void print_field(struct draft *d, unsigned f) { print(d, f < FIELDS ? "d" : "s"), print_number(d, f % FIELDS); }
 
 static void operand(struct draft *d) {
-    if (chance(d->r, 50)) print_number(d, some_value(d));
+    if (chance(d->r, d->easy ? 85 : 50)) print_number(d, some_value(d));
     else print_field(d, some_field(d));
 }
 
@@ -488,7 +488,7 @@ static int nested_process(struct draft *d, bool many) {
 
 /* the pools of a model, each by its own maker; what is known of the answer, and the number of the first pool that it is about */
 static size_t model_by(struct random *r, char *text, bool nesting, int *due, unsigned *of) {
-    struct draft d = {.r = r, .text = text, .o = text, .easy = nesting && chance(r, 80)};
+    struct draft d = {.r = r, .text = text, .o = text, .easy = chance(r, nesting ? 80 : 35)};
     unsigned numbers[9], left = 9;
     for (unsigned k = 0; k < 9; k++) numbers[k] = k + 1;
     d.pools = 1 + draw(r, 4);

@@ -1,5 +1,5 @@
 -- Laws of the judge: a line that was put, what a line comes to, and the events that are left come to the whole. Assumes nothing.
-use Prim.Native.Nat.{ℕ, zero, suc, _+_, _-_, _≤_, _<_}
+use Prim.Native.Nat.{ℕ, _+_, _-_, _≤_, _<_}
 use mathlib.Core.Path.{_≡_, refl, sym, ap, ap₂, _∙_}
 use mathlib.Core.Bool.{Bool, true, false, not}
 use mathlib.Core.List.{List, [], _∷_}
@@ -29,11 +29,12 @@ use Rattle.log_text.specs.declared.Level.{Level}
 use Rattle.log_text.specs.declared.Level.the-variants.{Log, Trace, Event}
 use Rattle.log_text.specs.declared.Scanned.{Scanned}
 use Rattle.log_text.specs.declared.Move.{Move}
-use Rattle.log_text.specs.declared.Move.the-variants.{On, Done as AtEnd, Fault}
+use Rattle.log_text.specs.declared.Move.the-variants.{On}
 use Rattle.log_text.proofs.Level.{the-type as level-type}
 use Rattle.log_text.proofs.Move.{the-type}
-use Rattle.log_text.specs.Logs.{start, scan, advance, byMove, closesEvent, lineOf, linesIn, linesFrom, linesOf}
+use Rattle.log_text.specs.Logs.{start, scan, advance, closesEvent, linesIn, linesFrom, linesOf}
 use Rattle.log_judge.specs.declared.Judged.{Judged}
+use Rattle.log_judge.proofs.LinesLeft.{lines-end, lines-begin, lines-unbegun, lines-stop, lines-pass, lines-next}
 use Rattle.log_judge.specs.Judge.{Taking, takenBy, taken, answered, lawful, judgedBy, judgedEnd, judgedFrom}
 
 -- a text that was put stands in its buffer, where there is room
@@ -79,25 +80,17 @@ module _ (give : List ℕ → List ℕ → Taking) (w : List ℕ) (rest : List (
 
 -- no line is left
 pub none-left : (give : List ℕ → List ℕ → Taking) (t : List ℕ) (j : Judged) (c : Cursor) (left k : ℕ) (z : List ℕ) → judgedBy give (linesIn left t c) k z ≡ j → left ≤ 0 → lawful ≡ j
-unfolding judgedBy linesIn
-none-left give t j c left k z inv h = let e : left ≡ 0 = omega (arith, h) in rw e at inv
-
--- a move that is none to go on from
-not-on : {A : Type 0} (m : Move) (f : Cursor → A) (x : A) → OneOf (1 ∷ 2 ∷ []) (tagOf the-type m) → byMove m f (λ d. x) (λ q. x) ≡ x
-unfolding byMove
-not-on (On d) f x o = absurd (miss (1 ∷ 2 ∷ []) 0 tt o)
-not-on (AtEnd d) f x o = refl
-not-on (Fault q) f x o = refl
+unfolding judgedBy
+none-left give t j c left k z inv h = rw (lines-end t c left h) at inv
 
 -- the lines of a log from its start on
 module _ (give : List ℕ → List ℕ → Taking) (t z : List ℕ) (m : Move) (first : m ≡ start t) where
   pub judged-start : (c : Cursor) → m ≡ On c → judgedBy give (linesFrom t c) 0 z ≡ judgedBy give (linesOf t) 0 z
-  unfolding linesOf byMove
-  judged-start c h = rw (← first, h)
+  judged-start c h = ap (λ (ws : List (List ℕ)). judgedBy give ws 0 z) (lines-begin t m first c h)
 
   pub judged-none : OneOf (1 ∷ 2 ∷ []) (tagOf the-type m) → lawful ≡ judgedBy give (linesOf t) 0 z
-  unfolding linesOf judgedBy
-  judged-none o = rw (← first, not-on m (linesFrom t) [] o)
+  unfolding judgedBy
+  judged-none o = ap (λ (ws : List (List ℕ)). judgedBy give ws 0 z) (lines-unbegun t m first o)
 
 -- the whole text
 module _ (give : List ℕ → List ℕ → Taking) (t z : List ℕ) (s : Scanned) (read : s ≡ scan t) (q : ℕ) where
@@ -132,30 +125,21 @@ event-closes l m e h = rw (e, h)
 -- THE LOOP: the lines that are left come to the whole, j, and m is the reader's next move
 module _ (give : List ℕ → List ℕ → Taking) (t : List ℕ) (j : Judged) (c : Cursor) (left k : ℕ) (z : List ℕ) (inv : judgedBy give (linesIn left t c) k z ≡ j) (some : 0 < left)
     (m : Move) (next : m ≡ advance t c) where
-  lines-by : linesIn left t c ≡ byMove m (λ d. if closesEvent (c .level) (d .level) then lineOf t d ∷ linesIn (left - 1) t d else linesIn (left - 1) t d) (λ d. []) (λ q. [])
-  unfolding linesIn
-  lines-by =
-      let e : left ≡ suc (left - 1) = omega (arith, some) in
-      ap (λ (n : ℕ). linesIn n t c) e ∙ rw (← next)
+  as-left : (ws : List (List ℕ)) → linesIn left t c ≡ ws → judgedBy give ws k z ≡ j
+  as-left ws e = ap (λ (xs : List (List ℕ)). judgedBy give xs k z) (sym e) ∙ inv
 
   pub judged-stop : OneOf (1 ∷ 2 ∷ []) (tagOf the-type m) → lawful ≡ j
   unfolding judgedBy
-  judged-stop o = ap (λ (ws : List (List ℕ)). judgedBy give ws k z) (sym (lines-by ∙ not-on m _ [] o)) ∙ inv
+  judged-stop o = as-left [] (lines-stop t c left some m next o)
 
   module _ (d : Cursor) (on : m ≡ On d) (closed : Bool) (closes : closed ≡ closesEvent (c .level) (d .level)) where
     pub judged-pass : not closed ≡ true → judgedBy give (linesIn (left - 1) t d) k z ≡ j
-    unfolding byMove if_then_else_
-    judged-pass h =
-        let e : linesIn left t c ≡ linesIn (left - 1) t d = lines-by ∙ rw (on, flag-no closed (closesEvent (c .level) (d .level)) closes h) in
-        ap (λ (ws : List (List ℕ)). judgedBy give ws k z) (sym e) ∙ inv
+    judged-pass h = as-left (linesIn (left - 1) t d) (lines-pass t c left some m next d on closed closes h)
 
     module _ (h : not closed ≡ false) (w : List ℕ) (here : w ≡ part t (d .from) (d .to)) (r : ℕ) (b : Bool) (y : List ℕ)
         (taking : _≡_ {A = Taking} (record { number = r; right = b; state = y }) (give w z)) where
       line-first : judgedBy give (w ∷ linesIn (left - 1) t d) k z ≡ j
-      unfolding byMove if_then_else_ lineOf
-      line-first =
-          let e : linesIn left t c ≡ w ∷ linesIn (left - 1) t d = lines-by ∙ rw (on, flag-yes closed (closesEvent (c .level) (d .level)) closes h, here) in
-          ap (λ (ws : List (List ℕ)). judgedBy give ws k z) (sym e) ∙ inv
+      line-first = as-left (w ∷ linesIn (left - 1) t d) (lines-next t c left some m next d on closed closes h w here)
 
       pub judged-refused : (r ≡ 0 → ⊥) → answered 24 k r ≡ j
       judged-refused l = first-refused give w (linesIn (left - 1) t d) k z r b y taking l ∙ line-first

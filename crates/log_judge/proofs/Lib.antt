@@ -1,2 +1,3 @@
+pub mod LinesLeft
 pub mod JudgeLaws
 pub mod Faults

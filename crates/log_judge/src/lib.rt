@@ -71,7 +71,8 @@ fn take_line(t: &[Word; TABLE_WORDS], z: &mut [Word; STATE_WORDS], line: &[u8]) 
     }
 }
 
-fn closes_event(from: Level, to: Level) -> bool
+// Whether a move was out of an event, which is whole then.
+pub fn closes_event(from: Level, to: Level) -> bool
     ensures { λ r. ⌜ r ≡ closesEvent from to ⌝ }
 {
     let Level::Event = from else {

@@ -1,0 +1,4 @@
+pub mod Accounts
+pub mod Calls
+pub mod Logs
+pub mod Session

@@ -1,0 +1,4 @@
+pub mod CountLaws
+pub mod MatchLaws
+pub mod HistoryLaws
+pub mod CodeLaws
