@@ -9,8 +9,8 @@ is_drawing() { # FILE
 # The text of the drawing in FILE, put into TEXT; a refusal is printed and said in words, and the status is 1. NAME is what people call the file.
 read_drawing() { # FILE NAME TEXT
     local word number beside
-    build drawing
-    start drawing <"$1" >"$3" || exit 2
+    build tool
+    start tool drawing <"$1" >"$3" || exit 2
     read -r word number beside <"$3"
     [ "$word" = refused ] || return 0
     cat "$3"

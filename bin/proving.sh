@@ -122,7 +122,7 @@ build() { # NAME
     needs_rt
     stale "$root/target/bin/$1" || return 0
     prove "$1" "check $1" || misused "$1 is not proved, so it is not run"
-    touch "$root/target/bin/$name" "$@"
+    touch "$root/target/bin/$1"
 }
 
 # Starts a program that was built, on standard input.

@@ -149,7 +149,7 @@ explain_log() { # NUMBER BESIDE OWN FILE NAME
 # A log that cannot be repaired, in words: the place is the one that 23 has, under any model.
 explain_lost() { # FILE NAME
     local model='pool(1,start(1,2)|end(2))' place
-    place=$({ echo ${#model} && printf %s "$model" && cat "$1"; } | start judge)
+    place=$({ echo ${#model} && printf %s "$model" && cat "$1"; } | start tool judge)
     place=${place#refused 23 }
     if [ $(($(wc -c <"$1"))) -gt 65536 ]; then
         echo "$2: log above 65,536 bytes (27)"

@@ -5,33 +5,27 @@ use base_words::Word;
 use base_words::counts::TEXT_MOST;
 use base_words::numbers::ACCEPTED;
 use libc::STDIN_FILENO;
-use step_run::Steps;
-use text_read::Reading;
+use tool_print::STEPS;
 use tool_print::asked_version;
+use tool_print::tell_fresh;
 use tool_print::tell_fresh_run;
-use tool_print::tell_unread;
+use tool_print::tell_read;
 
-// The most steps of the run.
-const STEPS: Steps = 100;
+// The argument that names the version.
+const VERSION: usize = 1;
 
 // One byte more than the longest text: what fills it is refused for its length.
 const ROOM: usize = TEXT_MOST + 1;
 
 fn run(text: &[u8], t: &mut [Word; TABLE_WORDS], z: &mut [Word; STATE_WORDS]) {
-    let r = engine::read(text, t);
+    let r = tell_read(text, t);
     if r.number != 0 {
-        tell_unread(r);
         return;
     }
-    let number = engine::fresh(t, asked_version(), z);
-    if number != ACCEPTED {
-        tell_unread(Reading {
-            number: number,
-            beside: 0,
-        });
-        return;
+    let number = tell_fresh(t, asked_version(VERSION), z);
+    if number == ACCEPTED {
+        tell_fresh_run(t, z, STEPS);
     }
-    tell_fresh_run(t, z, STEPS);
 }
 
 fn main() {

@@ -7,7 +7,8 @@ ghost use Rattle.log_repair.specs.Repair.{repairedTo};
 ghost use Rattle.write_buffer.specs.Buffers.{Put, lesser};
 ghost use Rattle.write_decimals.specs.Decimals.{shown};
 ghost use Rattle.write_lines.specs.Lines.{unreadLine};
-ghost use Rattle.engine.specs.Engine.{RanTo};
+ghost use Rattle.text_read.specs.Notation.{readInto};
+ghost use Rattle.engine.specs.Engine.{RanTo, freshened};
 ghost use Rattle.engine.specs.Desk.{AtDesk, ranAt};
 ghost use Prim.Native.Nat.{_+_, _≤_};
 ghost use Rattle.tool_print.specs.Judged.{besideLine, hasBeside, unlawfulLine, judgedLine, judgedMost};
@@ -41,6 +42,9 @@ use write_lines::STEP_LINE;
 use write_lines::UNREAD_LINE;
 use write_lines::put_beside;
 
+// The most steps of a run that is told from its fresh state.
+pub const STEPS: Steps = 100;
+
 fn version_in(n: Number) -> Word {
     match n {
         Number::Value(v) => v,
@@ -49,12 +53,12 @@ fn version_in(n: Number) -> Word {
     }
 }
 
-// The version that the first argument names: 20 where there is none, 0, which is none, where it is no number.
-pub fn asked_version() -> Word
+// The version that the argument at a place names: 20 where there is none, 0, which is none, where it is no number.
+pub fn asked_version(at: usize) -> Word
     ensures { λ r. ⌜ r ≤ greatest ⌝ }
 {
     let mut out = [0u8; DIGITS];
-    let n = os::arg(1, &mut out);
+    let n = os::arg(at, &mut out);
     if n == 0 {
         return PRESENT;
     }
@@ -87,6 +91,31 @@ pub fn tell_unread(r: Reading) -> usize
     let n = write_lines::put_unread(&mut out, 0, r.number, r.beside);
     tell(piece(&out, 0, n));
     n
+}
+
+// Reads a model's text into the table, and says a refusal.
+pub fn tell_read(text: &[u8], t: &mut [Word; TABLE_WORDS]) -> Reading
+    ensures { λ r. ⌜ record { number = r .number; beside = r .beside; table = now (t .exit) } ≡ readInto (now (text .entry)) (now (t .entry)) ⌝ }
+{
+    let r = engine::read(text, t);
+    if r.number != 0 {
+        tell_unread(r);
+    }
+    r
+}
+
+// Makes a fresh state for a version, and says a refusal.
+pub fn tell_fresh(t: &[Word; TABLE_WORDS], v: Word, z: &mut [Word; STATE_WORDS]) -> Word
+    ensures { λ r. ⌜ record { number = r; state = now (z .exit) } ≡ freshened (now (t .entry)) v (now (z .entry)) ⌝ }
+{
+    let number = engine::fresh(t, v, z);
+    if number != 0 {
+        tell_unread(Reading {
+            number: number,
+            beside: 0,
+        });
+    }
+    number
 }
 
 const JUDGED_LINE: usize = 8 + DIGITS + (1 + DIGITS) + (1 + DIGITS) + 1;

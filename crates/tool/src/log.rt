@@ -1,4 +1,5 @@
-// Reads a model's text from standard input, runs it and writes the run as an XES log. The version is its first argument, 20 where it has none.
+// log: a model's run as an XES log.
+use super::VERSION;
 use base_state::places::STATE_WORDS;
 use base_table::places::TABLE_WORDS;
 use base_words::Word;
@@ -13,17 +14,15 @@ use meaning::Name;
 use state_figures::RECORD_WORDS;
 use step_run::Steps;
 use text_lexer::piece;
-use text_read::Reading;
 use tool_print::RECORDS;
+use tool_print::STEPS;
 use tool_print::asked_version;
 use tool_print::run_all;
 use tool_print::set_records;
 use tool_print::take;
 use tool_print::tell;
-use tool_print::tell_unread;
-
-// The most steps of the run, as the program `run` has it.
-const STEPS: Steps = 100;
+use tool_print::tell_fresh;
+use tool_print::tell_read;
 
 // One byte more than the longest text: what fills it is refused for its length.
 const ROOM: usize = TEXT_MOST + 1;
@@ -83,23 +82,17 @@ fn log_run(t: &[Word; TABLE_WORDS], z: &mut [Word; STATE_WORDS]) {
 }
 
 fn log(text: &[u8], t: &mut [Word; TABLE_WORDS], z: &mut [Word; STATE_WORDS]) {
-    let r = engine::read(text, t);
+    let r = tell_read(text, t);
     if r.number != 0 {
-        tell_unread(r);
         return;
     }
-    let number = engine::fresh(t, asked_version(), z);
-    if number != ACCEPTED {
-        tell_unread(Reading {
-            number: number,
-            beside: 0,
-        });
-        return;
+    let number = tell_fresh(t, asked_version(VERSION), z);
+    if number == ACCEPTED {
+        log_run(t, z);
     }
-    log_run(t, z);
 }
 
-fn main() {
+pub(super) fn do_log() {
     let mut t: [Word; TABLE_WORDS] = [0; TABLE_WORDS];
     let mut z: [Word; STATE_WORDS] = [0; STATE_WORDS];
     let mut text: [u8; ROOM] = [0; ROOM];

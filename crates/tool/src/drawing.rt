@@ -1,4 +1,4 @@
-// Reads a drawing from standard input and writes its text in the notation.
+// drawing: a drawing's text in the notation.
 use base_table::places::TABLE_WORDS;
 use base_words::Word;
 use base_words::counts::TEXT_MOST;
@@ -17,7 +17,7 @@ fn tell_text(t: &[Word; TABLE_WORDS]) {
     tell(piece(&out, 0, r.length));
 }
 
-fn main() {
+pub(super) fn do_drawing() {
     let mut t: [Word; TABLE_WORDS] = [0; TABLE_WORDS];
     let mut text: [u8; ROOM] = [0; ROOM];
     let n = io::read_full(STDIN_FILENO, &mut text);

@@ -3,8 +3,8 @@ use Prim.Native.Nat.{_-_}
 use mathlib.Core.Path.{_≡_}
 use lib.ListN.{length}
 use borrow.Author.Needs.{needs}
-use Rattle.logging.proofs.log_steps.Statement.{statement}
-use Rattle.logging.proofs.log_steps.Tie as tie
+use Rattle.tool.proofs.log.log_steps.Statement.{statement}
+use Rattle.tool.proofs.log.log_steps.Tie as tie
 
 abbrev Inv-loop : tie.InvT-loop
 Inv-loop t y₀ ys₀ steps n₀ y ys n = length ys ≡ length ys₀

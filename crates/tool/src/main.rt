@@ -1,0 +1,65 @@
+// What people do with drawings and logs, a command each: the first argument names it, standard input has what it works on.
+//
+//   drawing    a drawing: its text in the notation
+//   judge V    a model's text and a log: lawful, or what the log is refused with, under version V
+//   repair     a log that ended in the middle: what is kept, and the repaired log
+//   log V      a model's text: its run under version V, as an XES log
+//
+// The version is 20 where none is given. A text or a drawing that is refused is told as the program `run` tells it. A command that there is not is said on standard error.
+use libc::STDERR_FILENO;
+use text_lexer::piece;
+use text_numerals::same;
+
+mod drawing;
+mod judge;
+mod log;
+mod repair;
+
+use drawing::do_drawing;
+use judge::do_judge;
+use log::do_log;
+use repair::do_repair;
+
+// The argument that names the command.
+const COMMAND: usize = 1;
+
+// The one that names the version.
+const VERSION: usize = 2;
+
+// The longest log.
+const LOG_MOST: usize = 65536;
+
+// The bytes of the longest name that is looked at: no command has one as long.
+const NAME: usize = 64;
+
+fn tell_unknown(name: &[u8]) {
+    io::write_all(STDERR_FILENO, b"tool: there is no command '");
+    io::write_all(STDERR_FILENO, name);
+    io::write_all(STDERR_FILENO, b"'\n");
+}
+
+fn do_command(name: &[u8]) {
+    if same(name, b"drawing") {
+        do_drawing();
+        return;
+    }
+    if same(name, b"judge") {
+        do_judge();
+        return;
+    }
+    if same(name, b"repair") {
+        do_repair();
+        return;
+    }
+    if same(name, b"log") {
+        do_log();
+        return;
+    }
+    tell_unknown(name);
+}
+
+fn main() {
+    let mut name = [0u8; NAME];
+    let n = os::arg(COMMAND, &mut name);
+    do_command(piece(&name, 0, n));
+}
