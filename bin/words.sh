@@ -231,3 +231,36 @@ unseen() { # PLACE FILE
     [0-9] | [12][0-9] | 3[01] | 12[7-9] | 1[3-9][0-9] | 2[0-9][0-9]) echo "here stands byte $byte: the text is plain ASCII, with blanks, tabs and newlines" ;;
     esac
 }
+
+# Where a pool that is not nested offends: the element at a place of the pool with that number, as the model behind the answer's first line has it, and what would do.
+explain_nesting() { # POOL PLACE ANSWER NAME
+    tail -n +2 "$3" | LC_ALL=C awk -v pool="$1" -v place="$2" -v name="$4" '
+        function hint(kind) {
+            if (kind == "terminate") return "a nested pool ends by its one end: there is no terminate in it"
+            if (kind == "end") return "a nested pool has one end: let the branches meet in a join before it"
+            if (kind == "andSplit") return "its branches do not all run into one andJoin that has just them as entries"
+            if (kind == "xorSplit" || kind == "eventBased") return "its branches do not all run into one xorJoin that has just them as entries"
+            if (kind == "andJoin" || kind == "xorJoin") return "it closes no split: its entries are not just the branches of one split of its kind, or they come round a loop"
+            return "it does not stand on the way from the start to the end"
+        }
+        {
+            depth = 0; from = 1; element = -1; number = ""
+            for (i = 1; i <= length($0); i++) {
+                c = substr($0, i, 1)
+                if (c == "(") { depth++; if (depth == 1) { rest = substr($0, i + 1); number = rest + 0; element = -1; from = 0 } }
+                if (depth == 1 && c == "," && !from && element < 0) { element = 0; from = i + 1 }
+                else if (depth == 1 && (c == "|" || c == "," || c == ")") && element >= 0) {
+                    if (number == pool && element == place) { what = substr($0, from, i - from); exit }
+                    element++; from = i + 1
+                }
+                if (c == ")") depth--
+            }
+        }
+        END {
+            kind = what
+            sub(/\(.*/, "", kind)
+            printf "%s, pool %s: not nested (29)", name, pool
+            if (what != "") printf ", at element %s, %s: %s", place, what, hint(kind)
+            print ""
+        }'
+}

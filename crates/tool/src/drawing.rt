@@ -11,7 +11,7 @@ use tool_print::tell_unread;
 // One byte more than the longest drawing: what fills it is refused for its length.
 const ROOM: usize = DRAWING_MOST + 1;
 
-fn tell_text(t: &[Word; TABLE_WORDS]) {
+pub(super) fn tell_text(t: &[Word; TABLE_WORDS]) {
     let mut out = [0u8; TEXT_MOST];
     let r = engine::write(t, &mut out);
     tell(piece(&out, 0, r.length));

@@ -4,6 +4,7 @@
 //   judge V    a model's text and a log: lawful, or what the log is refused with, under version V
 //   repair     a log that ended in the middle: what is kept, and the repaired log
 //   log V      a model's text: its run under version V, as an XES log
+//   nested     a model's text: nested, or the pool that is not, and the element at which it offends
 //
 // The version is 20 where none is given. A text or a drawing that is refused is told as the program `run` tells it. A command that there is not is said on standard error.
 use libc::STDERR_FILENO;
@@ -13,11 +14,13 @@ use text_numerals::same;
 mod drawing;
 mod judge;
 mod log;
+mod nested;
 mod repair;
 
 use drawing::do_drawing;
 use judge::do_judge;
 use log::do_log;
+use nested::do_nested;
 use repair::do_repair;
 
 // The argument that names the command.
@@ -53,6 +56,10 @@ fn do_command(name: &[u8]) {
     }
     if same(name, b"log") {
         do_log();
+        return;
+    }
+    if same(name, b"nested") {
+        do_nested();
         return;
     }
     tell_unknown(name);
