@@ -12,7 +12,7 @@ use Rattle.meaning.specs.declared.Truth.{Truth}
 use Rattle.meaning.specs.declared.Truth.the-variants.{True, False, Neither}
 use Rattle.meaning.specs.declared.Value.the-variants.{Undefined, Number}
 use Rattle.meaning.specs.Values.{sumOf, equalOf, lessOf, isTrue, isFalse}
-use Rattle.paper.specs.Syntax.{number, field, sum, equal, less, always, default, ε, _:=_, Mode, a, na-c, na-nc, Choice, Element, start, xorSplit, task, Pool, Stands, here, there}
+use Rattle.paper.specs.Syntax.{number, field, sum, equal, less, always, default, ε, _:=_, Mode, a, na-c, na-nc, Choice, Element, start, xorSplit, task, Mark, Pool, Stands, here, there}
 use Rattle.paper.specs.States.{Local, unset, unmarked, blank, _edges:_, _fields:_, _active:_, put, inc, dec, same, _without_, Configuration, seen, updInst}
 use Rattle.paper.specs.Evaluation.{operand, worth, truth, Updates}
 use Rattle.paper.specs.Processes.{Internal, Label, waits, Moves, P-Start, P-XorSplit1, P-XorSplit2, P-Task-A, P-Task-N1}
@@ -106,7 +106,7 @@ abbrev raising : Element
 raising = task 1 1 a always (16 := sum (field 16) (number 1)) 2
 
 abbrev junction : List Pool
-junction = record { name = 1; process = raising ∷ []; limit = 2 } ∷ []
+junction = record { mark = Mark.miPool; name = 1; process = raising ∷ []; limit = 2 } ∷ []
 
 abbrev held : Configuration
 held = record {

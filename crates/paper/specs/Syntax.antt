@@ -71,8 +71,13 @@ pub data Element : Type 0 where
   taskRcv : (e n : ℕ) (N : Mode) (c : Cond) (A : Assignments) (m : ℕ) (ts : List Item) (e′ : ℕ) → Element
   taskSnd : (e n : ℕ) (N : Mode) (c : Cond) (A : Assignments) (m : ℕ) (xs : List Exp) (e′ : ℕ) → Element
 
--- pool(p, P), which is here one of limit 1, or miPool(p, P, n), of limit n; a collaboration is its pools
+-- pool(p, P), which is here one of limit 1, or miPool(p, P, n), of limit n; a collaboration is its pools. No rule looks at the mark
+pub data Mark : Type 0 where
+  pool : Mark
+  miPool : Mark
+
 pub record Pool : Type 0 where
+  pub mark : Mark
   pub name : ℕ
   pub process : List Element
   pub limit : ℕ

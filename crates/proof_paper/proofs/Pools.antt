@@ -36,7 +36,7 @@ use Rattle.proof_paper.specs.Decoders.{guarded, localOf, isPool, storeOf
 use Rattle.proof_paper.proofs.Stores.{same-if, put-is, inside}
 
 -- the same words, the same instance
-own-alike : (g h : List ℕ) → ((k : ℕ) → k < instanceWords → at g k ≡ at h k) → ownOf (localOf g) ≡ ownOf (localOf h)
+pub own-alike : (g h : List ℕ) → ((k : ℕ) → k < instanceWords → at g k ≡ at h k) → ownOf (localOf g) ≡ ownOf (localOf h)
 unfolding fieldOf
 own-alike g h e = λ i. record {
   σe = λ j. same-if (within 1 edges j) 0 (at g (tokenPlace j)) (at h (tokenPlace j)) (λ w. let b = inside 1 edges j w in e (tokenPlace j) (omega (arith, b .0, b .1))) i;

@@ -8,7 +8,7 @@ use lib.ListN.{length, getD, drop}
 use Rattle.base_words.specs.Pick.{if_then_else_}
 use Rattle.base_words.specs.Words.{at}
 use Rattle.base_words.specs.Counts.{edges, tasks, fields, names, named}
-use Rattle.base_table.specs.Places.{operandNumber, formPlace, leftPlace, rightPlace, plus, minus, binding, always, equals, below, assignedIn, poolPlace}
+use Rattle.base_table.specs.Places.{operandNumber, formPlace, leftPlace, rightPlace, plus, minus, binding, always, equals, below, assignedIn, poolPlace, limitPlace}
 use Rattle.base_table.specs.Table.{poolCount, elementCount, elementAt, poolOf, limitOf, kindIn, taskIn, modeIn, entryCount, exitCount, entryAt, exitAt, conditionAt, messageName, messageLength, itemAt, assignmentCount, assignmentAt}
 use Rattle.base_state.specs.Places.{sharedPlace}
 use Rattle.base_state.specs.Instances.{madeCount, tokens, activeCount, readyCount}
@@ -24,7 +24,7 @@ use Rattle.meaning.specs.Expressions.{fieldOf}
 use Rattle.meaning.specs.Messages.{times}
 use Rattle.meaning.specs.Queues.{messagesOf}
 use Rattle.meaning.specs.Step.{instanceOf}
-use Rattle.paper.specs.Syntax.{Operand, number, field, Exp, alone, sum, difference, Cond, default, equal, less, Item, exp, Assignments, ε, _:=_, _&_, Mode, a, na-c, na-nc, Choice, Receipt, Element, start, startRcv, end, terminate, endSnd, interRcv, interSnd, eventBased, andSplit, andJoin, xorJoin, xorSplit, task, taskRcv, taskSnd, Pool}
+use Rattle.paper.specs.Syntax.{Operand, number, field, Exp, alone, sum, difference, Cond, default, equal, less, Item, exp, Assignments, ε, _:=_, _&_, Mode, a, na-c, na-nc, Choice, Receipt, Element, start, startRcv, end, terminate, endSnd, interRcv, interSnd, eventBased, andSplit, andJoin, xorJoin, xorSplit, task, taskRcv, taskSnd, Mark, Pool}
 use Rattle.paper.specs.States.{Local, blank, Multiset, Configuration, ownOf}
 use Rattle.paper.specs.Collaborations.{Named, Seen}
 
@@ -115,7 +115,7 @@ unfoldable pub processOf : List ℕ → ℕ → List Element
 processOf t p = span (λ e. elementOf (elementAt t p e)) 0 (elementCount t p)
 
 unfoldable pub poolAt : List ℕ → ℕ → Pool
-poolAt t p = record { name = at t (poolPlace p); process = processOf t p; limit = limitOf t p }
+poolAt t p = record { mark = if eqb (at t (limitPlace p)) 0 then Mark.pool else Mark.miPool; name = at t (poolPlace p); process = processOf t p; limit = limitOf t p }
 
 unfoldable pub collaborationOf : List ℕ → List Pool
 collaborationOf t = span (poolAt t) 0 (poolCount t)

@@ -1,0 +1,11 @@
+pub mod Starts
+pub mod Traces
+pub mod StuckExactly
+pub mod Reached
+pub mod Lists
+pub mod Pieces
+pub mod Elements
+pub mod Tables
+pub mod Readings
+pub mod TextRuns
+pub mod Faithful
