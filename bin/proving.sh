@@ -6,7 +6,7 @@ needs_rt() {
     command -v rt >/dev/null || misused "rt, the command of the Rattle kit, is not on the path"
 }
 
-# The named crates and all that they stand on, or every crate where none is named: a line each, with its CPU seconds as docs/CHECKS.md has them.
+# The named crates and all that they stand on, or every crate where none is named: a line each, with its CPU seconds as docs/cost.tsv has them.
 crates_below() { # NAME...
     WANTED="$*" awk '
         function visit(n,    k, m, below) {
@@ -16,12 +16,12 @@ crates_below() { # NAME...
             for (k = 1; k <= m; k++) visit(below[k])
         }
         FNR == NR { sub(/#.*/, ""); i = index($0, ":"); if (i) { n = substr($0, 1, i - 1); needs[n] = substr($0, i + 1); listed[++count] = n } next }
-        $4 ~ /^[0-9]+[.][0-9]+$/ { n = substr($2, 2, length($2) - 2); if (!(n in cost)) cost[n] = $4 }
+        { cost[$1] = $2 }
         END {
             m = split(ENVIRON["WANTED"], wanted, " ")
             for (k = 1; k <= m; k++) visit(wanted[k])
             for (k = 1; k <= count; k++) if (!m || listed[k] in seen) printf "%s %d\n", listed[k], listed[k] in cost ? cost[listed[k]] : 15
-        }' "$root/crates.txt" "$root/docs/CHECKS.md"
+        }' "$root/crates.txt" "$root/docs/cost.tsv"
 }
 
 clock() { # SECONDS

@@ -1,25 +1,6 @@
 /* The limits of a table, the eight model checks, and whether a state fits. */
 #include "layout.h"
 
-const struct kind kinds[KINDS] = {
-    {"", "", 0, 0, 0, 0, 0, 0, 0},
-    {"start", "EX", 5, ONE, ONE, 0, 0, 0, 0},
-    {"startRcv", "TX", 8, NONE, ONE, 0, 0, ONE, 0},
-    {"end", "E", 3, ONE, NONE, 0, 0, 0, 0},
-    {"terminate", "E", 9, ONE, NONE, 0, 0, 0, 0},
-    {"endSnd", "ES", 6, ONE, NONE, 0, 0, 0, ONE},
-    {"interRcv", "ETX", 8, ONE, ONE, 0, 0, ONE, 0},
-    {"interSnd", "ESX", 8, ONE, ONE, 0, 0, 0, ONE},
-    {"eventBased", "EB", 10, ONE, MANY, 0, 0, MANY, 0},
-    {"andSplit", "EY", 8, ONE, MANY, 0, 0, 0, 0},
-    {"andJoin", "FX", 7, MANY, ONE, 0, 0, 0, 0},
-    {"xorJoin", "FX", 7, MANY, ONE, 0, 0, 0, 0},
-    {"xorSplit", "EG", 8, ONE, MANY, 0, MANY, 0, 0},
-    {"task", "ENX", 4, ONE, ONE, 1, ONE, 0, 0},
-    {"taskRcv", "ENTX", 7, ONE, ONE, 1, ONE, ONE, 0},
-    {"taskSnd", "ENSX", 7, ONE, ONE, 1, ONE, 0, ONE},
-};
-
 static bool operand_fits(const word *x) { return x[0] == 0 || (x[0] == 1 && x[1] < ALL_FIELDS); }
 
 static bool expression_fits(const word *x) {

@@ -38,11 +38,18 @@ enum { START = 1, START_RCV, END, TERMINATE, END_SND, INTER_RCV, INTER_SND, EVEN
 
 enum { ATOMIC = 1, NA_C = 2, NA_NC = 3 };
 
+/* how often something stands in an element of a kind */
 enum { NONE = 0, ONE = 1, MANY = 2 };
 
-/* parts: E entry, X exit, F list of entries, Y list of exits, N task, T template, S message, B branches that receive, G branches with conditions */
-struct kind { const char *keyword, *parts; uint8_t length, entries, exits, task, conditions, receives, sends; };
-extern const struct kind kinds[KINDS];
+/* body: its form between the outer brackets, up to end */
+struct kind { char keyword[16], body[32]; const char *end; uint8_t length, entries, exits, task, conditions, receives, sends; };
+extern struct kind kinds[KINDS];
+
+/* What a step asks for and does. */
+enum { EVERY = 1, BRANCH = 2, UP = 1, DOWN = 2, PHASES = 4 };
+struct move { uint8_t there, takes, puts, asks, receives, assigns, sends, active, ready, alone, makes, clears; };
+/* of an element that fits, in a phase */
+const struct move *move_of(const word *el, unsigned phase);
 
 static inline const word *pool_at(const word *t, unsigned p) { return t + 1 + POOL_WORDS * p; }
 static inline const word *element_at(const word *pool, unsigned e) { return pool + POOL_ELEMENTS + ELEMENT_WORDS * e; }

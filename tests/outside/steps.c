@@ -1,46 +1,6 @@
 /* One named step, a post, the listing, the run, a whole poll, and the figures of the pools. */
 #include "layout.h"
 
-enum { EVERY = 1, BRANCH = 2, UP = 1, DOWN = 2 };
-
-/* What a step of a kind, in a mode and phase, asks for and does. */
-struct move { uint8_t there, takes, puts, asks, receives, assigns, sends, active, ready, alone, makes, clears; };
-
-static const struct move plain[KINDS] = {
-    [START] = {.there = 1, .takes = EVERY, .puts = EVERY},
-    [START_RCV] = {.there = 1, .puts = EVERY, .receives = 1, .makes = 1},
-    [END] = {.there = 1, .takes = EVERY},
-    [TERMINATE] = {.there = 1, .takes = EVERY, .clears = 1},
-    [INTER_RCV] = {.there = 1, .takes = EVERY, .puts = EVERY, .receives = 1},
-    [INTER_SND] = {.there = 1, .takes = EVERY, .puts = EVERY, .sends = 1},
-    [EVENT_BASED] = {.there = 1, .takes = EVERY, .puts = BRANCH, .receives = 1},
-    [AND_SPLIT] = {.there = 1, .takes = EVERY, .puts = EVERY},
-    [AND_JOIN] = {.there = 1, .takes = EVERY, .puts = EVERY},
-    [XOR_JOIN] = {.there = 1, .takes = BRANCH, .puts = EVERY},
-    [XOR_SPLIT] = {.there = 1, .takes = EVERY, .puts = BRANCH, .asks = 1},
-    [TASK] = {.there = 1, .takes = EVERY, .puts = EVERY, .asks = 1, .assigns = 1},
-    [TASK_RCV] = {.there = 1, .takes = EVERY, .puts = EVERY, .asks = 1, .receives = 1, .assigns = 1},
-    [TASK_SND] = {.there = 1, .takes = EVERY, .puts = EVERY, .asks = 1, .assigns = 1, .sends = 1},
-};
-
-/* na tasks: by kind from `task`, phases 1 to 3 */
-static const struct move phased[3][3] = {
-    {{.there = 1, .takes = EVERY, .asks = 1, .active = UP, .alone = 1}, {.there = 0}, {.there = 1, .puts = EVERY, .assigns = 1, .active = DOWN}},
-    {{.there = 1, .takes = EVERY, .asks = 1, .active = UP, .alone = 1},
-     {.there = 1, .receives = 1, .active = DOWN, .ready = UP},
-     {.there = 1, .puts = EVERY, .assigns = 1, .ready = DOWN}},
-    {{.there = 1, .takes = EVERY, .asks = 1, .active = UP, .alone = 1},
-     {.there = 1, .assigns = 1, .active = DOWN, .ready = UP},
-     {.there = 1, .puts = EVERY, .sends = 1, .ready = DOWN}},
-};
-
-static const struct move no_move;
-
-static const struct move *move_of(const word *el, unsigned phase) {
-    if (el[MODE] < NA_C) return phase == 0 ? &plain[el[KIND]] : &no_move;
-    return phase >= 1 && phase <= 3 ? &phased[el[KIND] - TASK][phase - 1] : &no_move;
-}
-
 static unsigned branch_count(const word *el, const struct move *m) {
     return m->takes == BRANCH ? el[ENTRIES] : m->puts == BRANCH ? el[EXITS] : 1;
 }

@@ -126,10 +126,10 @@ unsigned condition_of(const uint8_t *text, size_t length, word *x, size_t *place
     return r.number;
 }
 
-/* The items of lists, each read into the words of its element el, as item k of branch b or list. */
-enum item { AN_ENTRY, AN_EXIT, A_TEMPLATE_ITEM, A_MESSAGE_ITEM, AN_ASSIGNMENT, A_GUARDED, A_RECEIVING };
+/* The items of lists, each read into the words of its element el, as item k of a list or of branch b's message; a branch is an item of its form. */
+enum item { AN_ENTRY, AN_EXIT, A_TEMPLATE_ITEM, A_MESSAGE_ITEM, AN_ASSIGNMENT, A_BRANCH };
 
-static bool message(struct reader *r, word *el, unsigned b, bool receives);
+static bool branch(struct reader *r, word *el, unsigned b);
 
 static bool item(struct reader *r, word *el, enum item which, unsigned b, unsigned k) {
     word *x;
@@ -142,9 +142,7 @@ static bool item(struct reader *r, word *el, enum item which, unsigned b, unsign
         x = (word *)assignment_at(el, k);
         if (!field(r, x)) return false;
         return (r->form == ASSIGN_SIGN ? pass(r) : refuse(r, 2)) && expression(r, x + 1);
-    case A_GUARDED:
-        return sign(r, '(') && number(r, 1, EDGES, el + EXITS + 1 + k) && sign(r, ',') && condition(r, (word *)condition_at(el, k), true) && sign(r, ')');
-    case A_RECEIVING: return sign(r, '(') && message(r, el, k, true) && sign(r, ',') && number(r, 1, EDGES, el + EXITS + 1 + k) && sign(r, ')');
+    case A_BRANCH: return branch(r, el, k);
     }
     return false;
 }
@@ -185,30 +183,44 @@ static bool list(struct reader *r, word *el, enum item which, unsigned b, char o
     return items(r, el, which, b, least, most, count) && sign(r, close);
 }
 
-static bool message(struct reader *r, word *el, unsigned b, bool receives) {
-    word *m = (word *)message_at(el, b);
-    return number(r, 0, NAMES - 1, m) && sign(r, ':') && list(r, el, receives ? A_TEMPLATE_ITEM : A_MESSAGE_ITEM, b, '<', '>', 0, VALUES, m + 1);
-}
-
 static bool mode(struct reader *r, word *out) {
     *out = at_word(r, "a") ? ATOMIC : at_word(r, "na_c") ? NA_C : at_word(r, "na_nc") ? NA_NC : 0;
     return *out ? pass(r) : refuse(r, 2);
 }
 
-static bool part(struct reader *r, word *el, char c) {
-    switch (c) {
-    case 'E': return el[ENTRIES] = 1, number(r, 1, EDGES, el + ENTRIES + 1);
-    case 'X': return el[EXITS] = 1, number(r, 1, EDGES, el + EXITS + 1);
-    case 'F': return list(r, el, AN_ENTRY, 0, '{', '}', FEWEST, BRANCHES, el + ENTRIES);
-    case 'Y': return list(r, el, AN_EXIT, 0, '{', '}', FEWEST, BRANCHES, el + EXITS);
-    case 'G': return list(r, el, A_GUARDED, 0, '{', '}', FEWEST, BRANCHES, el + EXITS);
-    case 'B': return items(r, el, A_RECEIVING, 0, FEWEST, BRANCHES, el + EXITS);
-    case 'T': return message(r, el, 0, true);
-    case 'S': return message(r, el, 0, false);
-    default:
-        return number(r, 1, TASKS, el + TASK_NUMBER) && sign(r, ',') && mode(r, el + MODE) && sign(r, ',') && condition(r, (word *)condition_at(el, 0), false)
-            && sign(r, ',') && list(r, el, AN_ASSIGNMENT, 0, '{', '}', 0, ASSIGNMENTS, el + ASSIGNED);
+/* The part of a form that a letter stands for, of branch b where it stands in one. */
+static bool part(struct reader *r, word *el, const char *letter, bool in_branch, unsigned b) {
+    word *m = (word *)message_at(el, b);
+    bool first = letter == kinds[el[KIND]].body;
+    switch (*letter) {
+    case 'e': return el[ENTRIES] = 1, number(r, 1, EDGES, el + ENTRIES + 1);
+    case 'f': return el[EXITS] = b + 1, number(r, 1, EDGES, el + EXITS + 1 + b);
+    case 'E': return list(r, el, first ? AN_ENTRY : AN_EXIT, 0, '{', '}', FEWEST, BRANCHES, el + (first ? ENTRIES : EXITS));
+    case 'm': return number(r, 0, NAMES - 1, m);
+    case 'T': return list(r, el, A_TEMPLATE_ITEM, b, '<', '>', 0, VALUES, m + 1);
+    case 'X': return list(r, el, A_MESSAGE_ITEM, b, '<', '>', 0, VALUES, m + 1);
+    case 'n': return number(r, 1, TASKS, el + TASK_NUMBER);
+    case 'k': return mode(r, el + MODE);
+    case 'C': return condition(r, (word *)condition_at(el, b), in_branch);
+    default: return list(r, el, AN_ASSIGNMENT, 0, '{', '}', 0, ASSIGNMENTS, el + ASSIGNED);
     }
+}
+
+/* The text of a form up to its end: letters, branches, and signs as they stand. */
+static bool parts(struct reader *r, word *el, const char *form, const char *end, bool in_branch, unsigned b) {
+    word branches;
+    for (; form < end; form++) {
+        if (*form == '(') {
+            if (!items(r, el, A_BRANCH, 0, FEWEST, BRANCHES, &branches)) return false;
+            form = strchr(form, ')') + strlen(",..");
+        } else if (bytes[(uint8_t)*form] == LETTER ? !part(r, el, form, in_branch, b) : !sign(r, *form)) return false;
+    }
+    return true;
+}
+
+static bool branch(struct reader *r, word *el, unsigned b) {
+    const char *open = strchr(kinds[el[KIND]].body, '(');
+    return sign(r, '(') && parts(r, el, open + 1, strchr(open, ')'), true, b) && sign(r, ')');
 }
 
 static unsigned kind_here(const struct reader *r) {
@@ -222,9 +234,7 @@ static bool element(struct reader *r, word *el) {
     if (!k) return refuse(r, 2);
     el[KIND] = k;
     pass(r);
-    for (const char *c = kinds[k].parts; *c; c++)
-        if (!sign(r, c == kinds[k].parts ? '(' : ',') || !part(r, el, *c)) return false;
-    return sign(r, ')');
+    return sign(r, '(') && parts(r, el, kinds[k].body, kinds[k].end, false, 0) && sign(r, ')');
 }
 
 static bool pool(struct reader *r, word *pool) {
@@ -348,9 +358,8 @@ static uint8_t *put_condition(uint8_t *o, const word *x) {
     return put_pair(o, x, x[0] == EQUALS ? '=' : '<');
 }
 
-static uint8_t *put_message(uint8_t *o, const word *m) {
-    o = put_number(o, m[0]);
-    o = put_text(o, ":<");
+static uint8_t *put_items(uint8_t *o, const word *m) {
+    *o++ = '<';
     for (unsigned j = 0; j < m[1]; j++) {
         if (j) *o++ = ',';
         o = put_item(o, item_at(m, j));
@@ -368,26 +377,8 @@ static uint8_t *put_list(uint8_t *o, const word *list) {
     return o;
 }
 
-static uint8_t *put_branches(uint8_t *o, const word *el, bool guarded) {
-    if (guarded) *o++ = '{';
-    for (unsigned b = 0; b < el[EXITS]; b++) {
-        if (b) *o++ = ',';
-        *o++ = '(';
-        o = guarded ? put_number(o, el[EXITS + 1 + b]) : put_message(o, message_at(el, b));
-        *o++ = ',';
-        o = guarded ? put_condition(o, condition_at(el, b)) : put_number(o, el[EXITS + 1 + b]);
-        *o++ = ')';
-    }
-    if (guarded) *o++ = '}';
-    return o;
-}
-
-static uint8_t *put_task(uint8_t *o, const word *el) {
-    static const char *const modes[] = {"", ",a,", ",na_c,", ",na_nc,"};
-    o = put_number(o, el[TASK_NUMBER]);
-    o = put_text(o, modes[el[MODE]]);
-    o = put_condition(o, condition_at(el, 0));
-    o = put_text(o, ",{");
+static uint8_t *put_assignments(uint8_t *o, const word *el) {
+    *o++ = '{';
     for (unsigned j = 0; j < el[ASSIGNED]; j++) {
         const word *x = assignment_at(el, j);
         if (j) *o++ = ',';
@@ -399,26 +390,45 @@ static uint8_t *put_task(uint8_t *o, const word *el) {
     return o;
 }
 
-static uint8_t *put_part(uint8_t *o, const word *el, char c) {
-    switch (c) {
-    case 'E': return put_number(o, el[ENTRIES + 1]);
-    case 'X': return put_number(o, el[EXITS + 1]);
-    case 'F': return put_list(o, el + ENTRIES);
-    case 'Y': return put_list(o, el + EXITS);
-    case 'G': return put_branches(o, el, true);
-    case 'B': return put_branches(o, el, false);
-    case 'N': return put_task(o, el);
-    default: return put_message(o, message_at(el, 0));
+static uint8_t *put_part(uint8_t *o, const word *el, const char *letter, unsigned b) {
+    static const char *const modes[] = {"", "a", "na_c", "na_nc"};
+    switch (*letter) {
+    case 'e': return put_number(o, el[ENTRIES + 1]);
+    case 'f': return put_number(o, el[EXITS + 1 + b]);
+    case 'E': return put_list(o, el + (letter == kinds[el[KIND]].body ? ENTRIES : EXITS));
+    case 'm': return put_number(o, message_at(el, b)[0]);
+    case 'T':
+    case 'X': return put_items(o, message_at(el, b));
+    case 'n': return put_number(o, el[TASK_NUMBER]);
+    case 'k': return put_text(o, modes[el[MODE]]);
+    case 'C': return put_condition(o, condition_at(el, b));
+    default: return put_assignments(o, el);
     }
+}
+
+static uint8_t *put_parts(uint8_t *o, const word *el, const char *form, const char *end, unsigned b) {
+    for (; form < end; form++) {
+        if (*form == ',') *o++ = ',';
+        else if (bytes[(uint8_t)*form] == LETTER) o = put_part(o, el, form, b);
+        else if (*form != '(') *o++ = *form;
+        else {
+            const char *close = strchr(form, ')');
+            for (unsigned k = 0; k < el[EXITS]; k++) {
+                o = put_text(o, k ? ",(" : "(");
+                o = put_parts(o, el, form + 1, close, k);
+                *o++ = ')';
+            }
+            form = close + strlen(",..");
+        }
+    }
+    return o;
 }
 
 static uint8_t *put_element(uint8_t *o, const word *el) {
     const struct kind *k = &kinds[el[KIND]];
     o = put_text(o, k->keyword);
-    for (const char *c = k->parts; *c; c++) {
-        *o++ = c == k->parts ? '(' : ',';
-        o = put_part(o, el, *c);
-    }
+    *o++ = '(';
+    o = put_parts(o, el, k->body, k->end, 0);
     *o++ = ')';
     return o;
 }

@@ -1,5 +1,5 @@
 -- "A constant table gives each of the fifteen kinds its keyword and its entries and exits." What else an element's text has stands beside them:
--- reading, writing, limits, checks and stepping are read off this table.
+-- reading, writing, limits, checks and stepping are read off this table. (RULES: elements)
 use mathlib.Core.List.{List, [], _∷_, _++_}
 use mathlib.Core.Path.{_≡_}
 use Prim.Native.Nat.{ℕ, _-_, _<_}
@@ -72,7 +72,7 @@ noKind = kind "" "" none none []
 -- assignments, T template, S message, B branches with a template each, G branches with a condition each.
 abbrev pub kinds : List Kind
 kinds =
-    -- keyword, parts, entries, exits, what else; the form that document 01 gives it
+    -- keyword, parts, entries, exits, what else; the form that document 01 gives it (RULES: elements)
     noKind ∷
     kind "start" "EX" one one [] ∷  -- start(e,f)
     kind "startRcv" "TX" none one (receives one ∷ []) ∷  -- startRcv(m:T,f)

@@ -1,5 +1,5 @@
 -- What the instances s of a state say, and the words h of one instance: "tokens on each edge, an active and a ready count for each task, and
--- 16 fields. A field is 0 to 4,294,967,295 or undefined."
+-- 16 fields. A field is 0 to 4,294,967,295 or undefined." (RULES: state)
 use Prim.Native.Nat.{ℕ, _+_}
 use mathlib.Core.List.{List}
 use lib.ListN.{set, take, drop}

@@ -1,4 +1,4 @@
--- "A fresh state is made for version 10 or 20 and keeps it."
+-- "A fresh state is made for version 10 or 20 and keeps it." (RULES: versions)
 use Prim.Native.Nat.{ℕ}
 use mathlib.Core.Bool.{Bool, _||_}
 use lib.Dec.{eqb}

@@ -27,7 +27,7 @@ numbered t number p = eqb (at t (poolPlace p)) number
 unfoldable pub poolOf : List ℕ → ℕ → ℕ
 poolOf t number = seek (numbered t number) (poolCount t)
 
--- "A `pool` makes at most 1 instance, a `miPool` at most n."
+-- "A `pool` makes at most 1 instance, a `miPool` at most n." (RULES: model)
 unfoldable pub limitOf : List ℕ → ℕ → ℕ
 limitOf t p = if eqb (at t (limitPlace p)) 0 then 1 else at t (limitPlace p)
 

@@ -1,4 +1,4 @@
--- "Greatest counts" of document 01, each once. Whatever is counted from 0 has its count here: names 0 to 15 are 16.
+-- "Greatest counts" of document 01, each once. Whatever is counted from 0 has its count here: names 0 to 15 are 16. (RULES: limits)
 use Prim.Native.Nat.{ℕ, _+_}
 
 -- bytes of a text

@@ -99,7 +99,7 @@ partsFit k el =
 unfoldable pub elementFits : List ℕ → Bool
 elementFits el = not (eqb (kindOf (kindIn el) .letters) 0) && partsFit (kindOf (kindIn el)) el
 
--- an element that a table holds: of `endSnd`, "in a lent table it breaks a limit"
+-- an element that a table holds: of `endSnd`, "in a lent table it breaks a limit" (RULES: limits)
 unfoldable pub heldFits : List ℕ → Bool
 heldFits el = elementFits el && not (eqb (kindIn el) endSnd)
 

@@ -1,5 +1,5 @@
 -- "Model checks, in this order" of document 01. A model is the list of its pools, in the text's order; a pool is its number, its limit (n of a
--- miPool, 0 of a `pool`) and its elements.
+-- miPool, 0 of a `pool`) and its elements. (RULES: checks)
 use mathlib.Core.Bool.{Bool, true, not, _&&_}
 use mathlib.Core.List.{List}
 use Prim.Native.Nat.{ℕ, _+_}

@@ -1,5 +1,5 @@
 -- WHETHER A POOL IS NESTED, decided: "go along from the start; at a split walk all branches to the join they run into". Each edge has one taker, so one walk
--- decides. P k is the words of element k of a pool, c how many it has.
+-- decides. P k is the words of element k of a pool, c how many it has. (RULES: nested)
 use Prim.Native.Nat.{ℕ, zero, suc, _+_}
 use mathlib.Core.Bool.{Bool, not, _&&_}
 use mathlib.Core.List.{List, [], _∷_, _++_}

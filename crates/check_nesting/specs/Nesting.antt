@@ -1,6 +1,6 @@
 -- THE NESTED PROFILE: "one start or startRcv, one end, no terminate, no cycle, and between them elements in sequence or blocks. A block is andSplit closed by
 -- andJoin, or xorSplit or eventBased closed by xorJoin, each branch, empty or not, entering exactly its own block's join." P k is the words of element k of a
--- pool, c how many it has.
+-- pool, c how many it has. (RULES: nested)
 use Prim.Native.Nat.{ℕ, _<_}
 use mathlib.Core.Path.{_≡_}
 use mathlib.Core.Bool.{Bool, true, _&&_, _||_}
@@ -11,7 +11,7 @@ use Rattle.base_words.specs.Sum.{hit}
 use Rattle.base_kinds.specs.Kinds.{start, startRcv, end, interRcv, interSnd, eventBased, andSplit, andJoin, xorJoin, xorSplit, task, taskRcv, taskSnd}
 use Rattle.base_table.specs.Table.{kindIn, entryCount, exitCount, entryAt, exitAt}
 
--- "one start or startRcv"; an element of a sequence; "andSplit closed by andJoin, or xorSplit or eventBased closed by xorJoin"
+-- "one start or startRcv"; an element of a sequence; "andSplit closed by andJoin, or xorSplit or eventBased closed by xorJoin" (RULES: nested)
 unfoldable pub starts : List ℕ → Bool
 starts el = eqb (kindIn el) start || eqb (kindIn el) startRcv
 

@@ -1,4 +1,4 @@
--- "In our notation": document 01's C of an xorSplit without ranges (R21): "`true`, or two operands joined by `=` or `<`; in xorSplit also `default`". "Blank text is no condition."
+-- "In our notation": document 01's C of an xorSplit without ranges (R21): "`true`, or two operands joined by `=` or `<`; in xorSplit also `default`". "Blank text is no condition." (RULES: flows)
 use Prim.Native.Char.{code}
 use Prim.Native.Nat.{ℕ}
 use mathlib.Core.Bool.{Bool, not}
@@ -30,7 +30,7 @@ bare form = record { form = form; left = nothing; right = nothing; beyond = 0 }
 unfoldable pub alone : ℕ → List Said → Condition
 alone form s = if isOver (behind Blanks (behind Word s)) then bare form else bare foreign
 
--- "the leftmost of all decides" (R28)
+-- "the leftmost of all decides" (R28) (RULES: beyond)
 unfoldable pub leftmost : ℕ → ℕ → ℕ
 leftmost a b = if eqb a 0 then b else a
 

@@ -1,4 +1,4 @@
--- What R21 and R28 say, tried at the boundary of each sentence: one table. A row says what is tried, and names a text, the place of a tag in it and the condition there.
+-- What R21 and R28 say, tried at the boundary of each sentence: one table. A row says what is tried, and names a text, the place of a tag in it and the condition there. (RULES: flows)
 use Prim.Native.Nat.{ℕ}
 use Prim.Native.String.{String}
 use mathlib.Core.List.{List, [], _∷_, _++_}

@@ -1,5 +1,5 @@
 -- What an element says: "character data, CDATA and references together, comments and instructions left out; a CR standing in the text is a line end, `&#13;` is not blank" (R21). Each byte has the
--- place where it stands, a reference's byte that of the `&`. An element in it is said as a byte 0, which no token of document 01 holds; the first end tag ends it, or a fault, or the text.
+-- place where it stands, a reference's byte that of the `&`. An element in it is said as a byte 0, which no token of document 01 holds; the first end tag ends it, or a fault, or the text. (RULES: flows)
 use Prim.Native.Char.{code}
 use Prim.Native.Nat.{ℕ, zero, suc, _+_, min}
 use mathlib.Core.Bool.{Bool, true, false}

@@ -1,4 +1,4 @@
--- Tokens of document 01 in what is said: "blank, tab and newline may stand between tokens. A word is the longest run of letters, digits and `_`."
+-- Tokens of document 01 in what is said: "blank, tab and newline may stand between tokens. A word is the longest run of letters, digits and `_`." (RULES: flows)
 use Prim.Native.Char.{code}
 use Prim.Native.Nat.{ℕ, _+_, _-_, _*_}
 use mathlib.Core.Bool.{Bool, true, false}

@@ -1,5 +1,5 @@
 -- 21: WHAT IS AMISS IN A DRAWING, one list of named conditions. "21 is yes or no: any fault of the drawing, no place, so nothing has to be ordered", and "all of this is asked of every process, within
--- the limits or not" (R25). t is the text, w the things drawn, with their flows joined and their kinds; n their count; k a thing.
+-- the limits or not" (R25). t is the text, w the things drawn, with their flows joined and their kinds; n their count; k a thing. (RULES: drawings)
 use Prim.Native.Nat.{ℕ}
 use mathlib.Core.Bool.{Bool, true, false, not, _&&_, _||_}
 use mathlib.Core.List.{List}
@@ -24,11 +24,11 @@ has t name w k = ifIs (attribute t (place w k) name) (λ from to. true) false
 unfoldable pub isSecond : ℕ → List ℕ → ℕ → Bool
 isSecond s w k = ofSort s w k && ltb 0 (countWith s withinIn (within w k) w k)
 
--- ANYWHERE: "a child that is none of these here is 'an element we don't run'" (R12, R14)
+-- ANYWHERE: "a child that is none of these here is 'an element we don't run'" (R12, R14) (RULES: drawn)
 unfoldable pub isStrange : List ℕ → ℕ → Bool
 isStrange w k = ofSort stranger w k
 
--- "Two of the elements read (participants, message flows, processes, nodes, sequence flows) with the same id: 21" (R17): one before thing k has its id
+-- "Two of the elements read (participants, message flows, processes, nodes, sequence flows) with the same id: 21" (R17): one before thing k has its id (RULES: drawn)
 unfoldable pub isReadSort : ℕ → Bool
 isReadSort s = isNode s || (eqb s participant || (eqb s messageFlow || (eqb s process || eqb s sequenceFlow)))
 
@@ -41,44 +41,44 @@ isTaken t v w k = ltb (seek (λ j. isRead w j && hasId t v w j) k) k
 unfoldable pub isRepeated : List ℕ → List ℕ → ℕ → Bool
 isRepeated t w k = isRead w k && ifIs (attribute t (place w k) (bytes "id")) (λ from to. isTaken t (part t from to) w k) false
 
--- POOLS: "the participants with a processRef, in their order" (R18) or, with no participant, each process (R19)
+-- POOLS: "the participants with a processRef, in their order" (R18) or, with no participant, each process (R19) (RULES: drawn)
 unfoldable pub hasParticipants : List ℕ → ℕ → Bool
 hasParticipants w n = ltb (seek (ofSort participant w) n) n
 
 unfoldable pub isPool : Bool → List ℕ → ℕ → Bool
 isPool owned w k = if owned then ofSort participant w k && not (eqb (source w k) 0) else ofSort process w k
 
--- "At most one collaboration" (R18)
+-- "At most one collaboration" (R18) (RULES: drawn)
 unfoldable pub isSecondCollaboration : List ℕ → ℕ → Bool
 isSecondCollaboration w k = ofSort collaboration w k && ltb 0 (countSort collaboration w k)
 
--- a processRef that names no process (R17)
+-- a processRef that names no process (R17) (RULES: drawn)
 unfoldable pub isLost : List ℕ → List ℕ → ℕ → Bool
 isLost t w k = ofSort participant w k && (has t (bytes "processRef") w k && eqb (source w k) 0)
 
--- "Each process belongs to exactly one of them, else 21 (an unused process too)" (R18)
+-- "Each process belongs to exactly one of them, else 21 (an unused process too)" (R18) (RULES: drawn)
 unfoldable pub isUnowned : List ℕ → ℕ → ℕ → Bool
 isUnowned w n k = ofSort process w k && (hasParticipants w n && not (eqb (countWith participant sourceIn k w n) 1))
 
--- "participantMultiplicity makes a miPool .. two of them: 21" (R20)
+-- "participantMultiplicity makes a miPool .. two of them: 21" (R20) (RULES: drawn)
 unfoldable pub isSecondMultiplicity : List ℕ → ℕ → Bool
 isSecondMultiplicity w k = isSecond participantMultiplicity w k
 
--- NODES: one that is of no kind, by its definitions, its entries and exits (R15, R16)
+-- NODES: one that is of no kind, by its definitions, its entries and exits (R15, R16) (RULES: nodes)
 unfoldable pub isOfKind : ℕ → List ℕ → ℕ → Bool
 isOfKind c w j = isNode (sort w j) && eqb (kind w j) c
 
 unfoldable pub isOfNoKind : List ℕ → ℕ → Bool
 isOfNoKind w k = isOfKind 0 w k
 
--- "`default` of an exclusive split names one of its own outgoing flows, else 21; on any other element it is ignored" (R22)
+-- "`default` of an exclusive split names one of its own outgoing flows, else 21; on any other element it is ignored" (R22) (RULES: flows)
 unfoldable pub isSplit : List ℕ → ℕ → Bool
 isSplit w k = isOfKind kinds.xorSplit w k
 
 unfoldable pub hasWrongDefault : List ℕ → List ℕ → ℕ → ℕ → Bool
 hasWrongDefault t w n k = isSplit w k && (has t (bytes "default") w k && eqb (named t w n k (bytes "default")) 0)
 
--- "a sender (sendTask, message throw or end)", "a receiver (receiveTask, message start or catch)" (R24)
+-- "a sender (sendTask, message throw or end)", "a receiver (receiveTask, message start or catch)" (R24) (RULES: flows)
 unfoldable pub sends : ℕ → Bool
 sends c = eqb c kinds.taskSnd || (eqb c kinds.interSnd || eqb c kinds.endSnd)
 
@@ -91,33 +91,33 @@ isSender w j = isNode (sort w j) && sends (kind w j)
 unfoldable pub isReceiver : List ℕ → ℕ → Bool
 isReceiver w j = isNode (sort w j) && receives (kind w j)
 
--- "Each sender is the source and each receiver the target of exactly one" message flow (R24)
+-- "Each sender is the source and each receiver the target of exactly one" message flow (R24) (RULES: flows)
 unfoldable pub isUnheard : List ℕ → ℕ → ℕ → Bool
 isUnheard w n k = isSender w k && not (eqb (countWith messageFlow sourceIn k w n) 1)
 
 unfoldable pub isUntold : List ℕ → ℕ → ℕ → Bool
 isUntold w n k = isReceiver w k && not (eqb (countWith messageFlow targetIn k w n) 1)
 
--- FLOWS: "A sequence flow joins two nodes of its own process" (R17)
+-- FLOWS: "A sequence flow joins two nodes of its own process" (R17) (RULES: drawn)
 unfoldable pub isLoose : List ℕ → ℕ → Bool
 isLoose w k = ofSort sequenceFlow w k && (eqb (source w k) 0 || eqb (target w k) 0)
 
--- "Behind an event gateway only a message intermediateCatchEvent, with its one entry from the gateway and one exit" (R23)
+-- "Behind an event gateway only a message intermediateCatchEvent, with its one entry from the gateway and one exit" (R23) (RULES: flows)
 unfoldable pub isWrongBranch : List ℕ → ℕ → Bool
 isWrongBranch w k = ofSort sequenceFlow w k && (isOfKind kinds.eventBased w (source w k) && not (isOfKind branch w (target w k)))
 
--- "A condition is the text of the conditionExpression" (R21): a flow has one
+-- "A condition is the text of the conditionExpression" (R21): a flow has one (RULES: flows)
 unfoldable pub isSecondCondition : List ℕ → ℕ → Bool
 isSecondCondition w k = isSecond conditionExpression w k
 
--- "Blank text is no condition"; "'in our notation': 01's C of an xorSplit"; "a condition on a flow that doesn't leave an exclusive split: 21, also `true`" (R21)
+-- "Blank text is no condition"; "'in our notation': 01's C of an xorSplit"; "a condition on a flow that doesn't leave an exclusive split: 21, also `true`" (R21) (RULES: flows)
 unfoldable pub isWrongForm : ℕ → List ℕ → ℕ → Bool
 isWrongForm form w k = not (eqb form absent) && (eqb form foreign || not (isSplit w (source w (within w k))))
 
 unfoldable pub isWrongCondition : List ℕ → List ℕ → ℕ → Bool
 isWrongCondition t w k = ofSort conditionExpression w k && isWrongForm (conditionAt t (place w k) .form) w k
 
--- "Message flow: source a sender or an outside participant, target a receiver or an outside participant; else 21" (R24); "a participant without processRef is outside" (R18)
+-- "Message flow: source a sender or an outside participant, target a receiver or an outside participant; else 21" (R24); "a participant without processRef is outside" (R18) (RULES: flows)
 unfoldable pub isOutside : List ℕ → List ℕ → ℕ → Bool
 isOutside t w j = ofSort participant w j && not (has t (bytes "processRef") w j)
 
@@ -146,7 +146,7 @@ isAmiss t w n k = isStrange w k || (amissAsFlow t w k || (amissAsNode t w n k ||
 unfoldable pub isRight : List ℕ → List ℕ → ℕ → ℕ → Bool
 isRight t w n k = not (isAmiss t w n k)
 
--- "Neither: 21" (R19): no pool at all. More things than there is room for are always amiss: the shortest that is right is `<process/>`.
+-- "Neither: 21" (R19): no pool at all. More things than there is room for are always amiss: the shortest that is right is `<process/>`. (RULES: drawn)
 unfoldable pub hasPool : Bool → List ℕ → ℕ → Bool
 hasPool owned w n = ltb (seek (isPool owned w) n) n
 

@@ -1,4 +1,4 @@
--- What R17 to R24 say, tried at the boundary of each sentence: one table. A row says what is tried, and names a condition at given things, and what it is.
+-- What R17 to R24 say, tried at the boundary of each sentence: one table. A row says what is tried, and names a condition at given things, and what it is. (RULES: drawn)
 use Prim.Native.Nat.{ℕ, _+_}
 use Prim.Native.String.{String}
 use mathlib.Core.Bool.{Bool, true, false}

@@ -1,4 +1,4 @@
--- What R15, R16 and R23 say, tried at the boundary of each sentence: one table. A row says what is tried, and names the things drawn, of which thing 2 is the node, and its kind; 0 is no kind of ours.
+-- What R15, R16 and R23 say, tried at the boundary of each sentence: one table. A row says what is tried, and names the things drawn, of which thing 2 is the node, and its kind; 0 is no kind of ours. (RULES: nodes)
 use Prim.Native.Nat.{ℕ, zero, suc, _+_}
 use Prim.Native.String.{String}
 use mathlib.Core.List.{List, [], _∷_, _++_}

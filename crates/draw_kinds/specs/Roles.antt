@@ -1,4 +1,4 @@
--- WHICH OF THE FIFTEEN KINDS A NODE IS (R15, R16, R23). w is the things drawn, their flows joined; n their count. 0: no kind of ours.
+-- WHICH OF THE FIFTEEN KINDS A NODE IS (R15, R16, R23). w is the things drawn, their flows joined; n their count. 0: no kind of ours. (RULES: nodes)
 use Prim.Native.Nat.{ℕ}
 use mathlib.Core.Bool.{Bool, _&&_}
 use mathlib.Core.List.{List}
@@ -10,7 +10,7 @@ use Rattle.draw_things.specs.Things.{sort, source, isNode, withSource, sequence
 use Rattle.draw_kinds.specs.declared.Shape.{Shape}
 use Rattle.draw_kinds.specs.Counting.{sourceIn, targetIn, withinIn, countWith, firstWith}
 
--- "A flow counts once for each end, also from a node to itself."
+-- "A flow counts once for each end, also from a node to itself." (RULES: nodes)
 unfoldable pub flowsIn : List ℕ → ℕ → ℕ → ℕ
 flowsIn w n k = countWith sequenceFlow targetIn k w n
 
@@ -28,34 +28,34 @@ terminatesOf w n k = countWith terminateEventDefinition withinIn k w n
 unfoldable pub shapeOf : List ℕ → ℕ → ℕ → Shape
 shapeOf w n k = record { ins = flowsIn w n k; outs = flowsOut w n k; messages = messagesOf w n k; terminates = terminatesOf w n k }
 
--- "A start has 0 flows in and 1 out, an end 1 and 0, the others 1 and 1."
+-- "A start has 0 flows in and 1 out, an end 1 and 0, the others 1 and 1." (RULES: nodes)
 unfoldable pub flows : ℕ → ℕ → Shape → Bool
 flows i o d = eqb (d .ins) i && eqb (d .outs) o
 
--- "Exactly one definition": none, a message, a terminate
+-- "Exactly one definition": none, a message, a terminate (RULES: nodes)
 unfoldable pub defines : ℕ → ℕ → Shape → Bool
 defines m e d = eqb (d .messages) m && eqb (d .terminates) e
 
 unfoldable pub when : Bool → ℕ → ℕ
 when right kind = if right then kind else 0
 
--- "startEvent none = start, message = startRcv"
+-- "startEvent none = start, message = startRcv" (RULES: nodes)
 unfoldable pub startDrawn : Shape → ℕ
 startDrawn d = when (flows 0 1 d) (if defines 0 0 d then kinds.start else when (defines 1 0 d) kinds.startRcv)
 
--- "endEvent none = end, message = endSnd, terminate = terminate"
+-- "endEvent none = end, message = endSnd, terminate = terminate" (RULES: nodes)
 unfoldable pub endDrawn : Shape → ℕ
 endDrawn d =
     when (flows 1 0 d) (if defines 0 0 d then kinds.end else if defines 1 0 d then kinds.endSnd else when (defines 0 1 d) kinds.terminate)
 
--- "intermediateCatchEvent message = interRcv; intermediateThrowEvent message = interSnd", and "task, sendTask, receiveTask"
+-- "intermediateCatchEvent message = interRcv; intermediateThrowEvent message = interSnd", and "task, sendTask, receiveTask" (RULES: nodes)
 unfoldable pub intermediate : ℕ → Shape → ℕ
 intermediate kind d = when (flows 1 1 d) (when (defines 1 0 d) kind)
 
 unfoldable pub activity : ℕ → Shape → ℕ
 activity kind d = when (flows 1 1 d) kind
 
--- "Exactly 1 in and 2 or more out splits, 2 or more in and exactly 1 out joins"
+-- "Exactly 1 in and 2 or more out splits, 2 or more in and exactly 1 out joins" (RULES: nodes)
 unfoldable pub splits : Shape → Bool
 splits d = eqb (d .ins) 1 && leb 2 (d .outs)
 
@@ -76,10 +76,10 @@ kindBy s caught d =
     else if eqb s receiveTask then activity kinds.taskRcv d
     else if eqb s parallelGateway then gateway kinds.andSplit kinds.andJoin d
     else if eqb s exclusiveGateway then gateway kinds.xorSplit kinds.xorJoin d
-    -- "an event gateway only splits"
+    -- "an event gateway only splits" (RULES: nodes)
     else gateway kinds.eventBased 0 d
 
--- "A catch event behind an event gateway becomes its branch": the first flow into it comes from one
+-- "A catch event behind an event gateway becomes its branch": the first flow into it comes from one (RULES: nodes)
 unfoldable pub caughtAs : List ℕ → ℕ → ℕ → ℕ
 caughtAs w n k = if eqb (sort w (source w (firstWith sequenceFlow targetIn k w n))) eventBasedGateway then branch else kinds.interRcv
 

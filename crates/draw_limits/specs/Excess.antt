@@ -1,5 +1,5 @@
 -- 3: WHAT IS BEYOND THE LIMITS (R28). "The leftmost of all decides": things stand in the order of the text, and the place of each is its own `<` or stands in its own tag or text, so it is that of the
--- first thing that is beyond. t is the text, w the things of a drawing in which nothing is amiss, n their count, k a thing.
+-- first thing that is beyond. t is the text, w the things of a drawing in which nothing is amiss, n their count, k a thing. (RULES: beyond)
 use Prim.Native.Nat.{ℕ, _+_}
 use mathlib.Core.Bool.{Bool, true, false, not, _&&_, _||_}
 use mathlib.Core.List.{List}
@@ -18,43 +18,43 @@ use Rattle.draw_conditions.specs.Conditions.{conditionAt}
 use Rattle.draw_faults.specs.Amiss.{hasParticipants, isPool, isSplit}
 use Rattle.draw_limits.specs.Numbers.{anElement, aTask, anEdge, isOf, isStart, countBefore, firstEdgeOf, messageOf, maximumOf, defaultOf}
 
--- "fifth pool: the `<` of its participant (of its process where there are no participants)"
+-- "fifth pool: the `<` of its participant (of its process where there are no participants)" (RULES: beyond)
 unfoldable pub isFifthPool : Bool → List ℕ → ℕ → Bool
 isFifthPool owned w k = isPool owned w k && leb pools (countBefore (isPool owned w) k)
 
--- "33rd element, 17th task: its `<`; 49th edge: the flow's `<`"
+-- "33rd element, 17th task: its `<`; 49th edge: the flow's `<`" (RULES: beyond)
 unfoldable pub isOneTooMany : ℕ → ℕ → List ℕ → ℕ → Bool
 isOneTooMany class most w k = isOf class (within w k) w k && leb most (countBefore (isOf class (within w k) w) k)
 
--- ".. or the startEvent's `<` for a first edge"
+-- ".. or the startEvent's `<` for a first edge" (RULES: beyond)
 unfoldable pub isStartBeyond : List ℕ → ℕ → ℕ → Bool
 isStartBeyond w n k = isStart (within w k) w k && ltb edges (firstEdgeOf w n k)
 
 unfoldable pub isNodeBeyond : List ℕ → ℕ → ℕ → Bool
 isNodeBeyond w n k = isOneTooMany anElement elements w k || (isOneTooMany aTask tasks w k || isStartBeyond w n k)
 
--- "ninth entry or exit of a gateway: the `<` of the ninth flow as they stand"
+-- "ninth entry or exit of a gateway: the `<` of the ninth flow as they stand" (RULES: beyond)
 unfoldable pub isNinth : List ℕ → ℕ → Bool
 isNinth w k = leb branches (countWith sequenceFlow sourceIn (source w k) w k) || leb branches (countWith sequenceFlow targetIn (target w k) w k)
 
 unfoldable pub isFlowBeyond : List ℕ → ℕ → Bool
 isFlowBeyond w k = ofSort sequenceFlow w k && (isOneTooMany anEdge edges w k || isNinth w k)
 
--- "message number above 15 used by a node: the messageFlow's `<`"
+-- "message number above 15 used by a node: the messageFlow's `<`" (RULES: beyond)
 unfoldable pub isUsed : List ℕ → ℕ → Bool
 isUsed w k = isNode (sort w (source w k)) || isNode (sort w (target w k))
 
 unfoldable pub isMessageBeyond : List ℕ → ℕ → Bool
 isMessageBeyond w k = ofSort messageFlow w k && (isUsed w k && leb names (messageOf w k))
 
--- "maximum outside 1..16: the value's first byte"; "an outsider's maximum is no 3" (R29)
+-- "maximum outside 1..16: the value's first byte"; "an outsider's maximum is no 3" (R29) (RULES: beyond)
 unfoldable pub isLimit : ℕ → Bool
 isLimit v = leb 1 v && leb v instances
 
 unfoldable pub isMaximumBeyond : List ℕ → List ℕ → ℕ → Bool
 isMaximumBeyond t w k = ofSort participantMultiplicity w k && (not (eqb (source w (within w k)) 0) && not (isLimit (maximumOf t w k)))
 
--- "`d16`, 4,294,967,296 in a condition that stands in the table: the token's first byte"; "the default flow's condition is no 3" (R29)
+-- "`d16`, 4,294,967,296 in a condition that stands in the table: the token's first byte"; "the default flow's condition is no 3" (R29) (RULES: beyond)
 unfoldable pub isGuarded : List ℕ → List ℕ → ℕ → ℕ → Bool
 isGuarded t w n j = isSplit w (source w j) && not (eqb (defaultOf t w n (source w j)) j)
 

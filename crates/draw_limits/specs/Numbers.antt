@@ -1,4 +1,4 @@
--- NUMBERS, "from the lowest allowed, as they stand" (R26): by how many stand before. w is the things of a drawing, n their count, p a process, k a thing.
+-- NUMBERS, "from the lowest allowed, as they stand" (R26): by how many stand before. w is the things of a drawing, n their count, p a process, k a thing. (RULES: numbering)
 use Prim.Native.Nat.{ℕ}
 use mathlib.Core.Bool.{Bool, not, _&&_, _||_}
 use mathlib.Core.List.{List}
@@ -18,19 +18,19 @@ use Rattle.draw_faults.specs.Amiss.{isOfKind}
 unfoldable pub countBefore : (ℕ → Bool) → ℕ → ℕ
 countBefore f k = sum (λ j. oneIf (f j)) k
 
--- "elements as nodes stand": a catch event behind an event gateway is none
+-- "elements as nodes stand": a catch event behind an event gateway is none (RULES: numbering)
 unfoldable pub isElement : ℕ → List ℕ → ℕ → Bool
 isElement p w j = isNode (sort w j) && (eqb (within w j) p && not (eqb (kind w j) branch))
 
--- "task 1.. as tasks of the three kinds stand"
+-- "task 1.. as tasks of the three kinds stand" (RULES: numbering)
 unfoldable pub isTask : ℕ → List ℕ → ℕ → Bool
 isTask p w j = leb task (sort w j) && (leb (sort w j) receiveTask && eqb (within w j) p)
 
--- "edge 1.. as the process's sequence flows stand, those into a catch event behind an event gateway left out"
+-- "edge 1.. as the process's sequence flows stand, those into a catch event behind an event gateway left out" (RULES: numbering)
 unfoldable pub isEdge : ℕ → List ℕ → ℕ → Bool
 isEdge p w j = ofSort sequenceFlow w j && (eqb (within w j) p && not (isOfKind kinds.eventBased w (source w j)))
 
--- "then each start's first edge, in node order"
+-- "then each start's first edge, in node order" (RULES: numbering)
 unfoldable pub isStart : ℕ → List ℕ → ℕ → Bool
 isStart p w j = isOfKind kinds.start w j && eqb (within w j) p
 
@@ -59,11 +59,11 @@ edgeOf w k = oneMore (countBefore (isOf anEdge (within w k) w) k)
 unfoldable pub firstEdgeOf : List ℕ → ℕ → ℕ → ℕ
 firstEdgeOf w n k = oneMore (countBefore (isBeforeFirst (within w k) k w) n)
 
--- "message 0.. as message flows stand"
+-- "message 0.. as message flows stand" (RULES: numbering)
 unfoldable pub messageOf : List ℕ → ℕ → ℕ
 messageOf w k = countSort messageFlow w k
 
--- the maximum of a participantMultiplicity, "1 where that is absent" (R20)
+-- the maximum of a participantMultiplicity, "1 where that is absent" (R20) (RULES: drawn)
 unfoldable pub maximumOf : List ℕ → List ℕ → ℕ → ℕ
 maximumOf t w k = ifIs (attribute t (place w k) (bytes "maximum")) (λ from to. ifValue (numberOf (part t from to)) (λ v. v) 0) 1
 

@@ -1,4 +1,4 @@
--- What R26, R28 and R29 say, tried at the boundary of each sentence: one table. A row says what is tried, and names a test at given things, and what it is.
+-- What R26, R28 and R29 say, tried at the boundary of each sentence: one table. A row says what is tried, and names a test at given things, and what it is. (RULES: numbering)
 use Prim.Native.Nat.{ℕ, zero, suc}
 use Prim.Native.String.{String}
 use mathlib.Core.Bool.{Bool, true, false}

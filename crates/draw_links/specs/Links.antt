@@ -1,5 +1,5 @@
 -- WHAT A REFERENCE NAMES. "References (sourceRef, targetRef, processRef, default) name what has that id: the bytes as they stand in the tag, without the reference's part up to its last
--- colon, no entity resolved. Missing, or naming nothing of the right sort: 21" (R17): then it names thing 0. t is the text, w the things drawn, n their count.
+-- colon, no entity resolved. Missing, or naming nothing of the right sort: 21" (R17): then it names thing 0. t is the text, w the things drawn, n their count. (RULES: drawn)
 use Prim.Native.Nat.{ℕ}
 use mathlib.Core.Bool.{Bool, false, _&&_, _||_}
 use mathlib.Core.List.{List}
@@ -23,7 +23,7 @@ ifIs Absent f a = a
 unfoldable pub hasId : List ℕ → List ℕ → List ℕ → ℕ → Bool
 hasId t v w j = ifIs (attribute t (place w j) (bytes "id")) (λ from to. sameBytes (part t from to) v) false
 
--- "A sequence flow joins two nodes of its own process" (R17); a message flow's ends are nodes or participants (R24); a participant's process (R18); "`default` names one of its own outgoing flows" (R22)
+-- "A sequence flow joins two nodes of its own process" (R17); a message flow's ends are nodes or participants (R24); a participant's process (R18); "`default` names one of its own outgoing flows" (R22) (RULES: drawn)
 unfoldable pub mayName : List ℕ → ℕ → ℕ → Bool
 mayName w k j =
     if eqb (sort w k) sequenceFlow then isNode (sort w j) && eqb (within w j) (within w k)

@@ -1,4 +1,4 @@
--- What R17 says of references, tried at the boundary of each sentence: one table. A row says what is tried, and names a text, the things drawn, one of them, its attribute, and the thing that this names.
+-- What R17 says of references, tried at the boundary of each sentence: one table. A row says what is tried, and names a text, the things drawn, one of them, its attribute, and the thing that this names. (RULES: drawn)
 use Prim.Native.Nat.{ℕ, _+_}
 use Prim.Native.String.{String}
 use mathlib.Core.List.{List, [], _∷_, _++_}

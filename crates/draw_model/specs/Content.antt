@@ -21,7 +21,7 @@ elementIf t w n p k = if isElement p w k then elementDrawn t w n k ∷ [] else [
 unfoldable pub elementsOf : List ℕ → List ℕ → ℕ → ℕ → List (List ℕ)
 elementsOf t w n p = joined (elementIf t w n p) n
 
--- "participantMultiplicity makes a miPool, n its maximum; none makes a `pool`" (R20)
+-- "participantMultiplicity makes a miPool, n its maximum; none makes a `pool`" (R20) (RULES: drawn)
 unfoldable pub limitOf : List ℕ → List ℕ → ℕ → ℕ → ℕ
 limitOf t w n k =
     if ltb (firstWith participantMultiplicity withinIn k w n) n then maximumOf t w (firstWith participantMultiplicity withinIn k w n) else 0

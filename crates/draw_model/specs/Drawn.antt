@@ -1,5 +1,5 @@
 -- THE ELEMENT THAT A NODE MEANS. "Pools, elements, tasks, edges and messages are numbered from the lowest allowed, and lists ordered, as participants, nodes, sequence and message flows stand."
--- t is the text, w the things of a drawing in which nothing is amiss or beyond, n their count, k a node, j a sequence flow, x the words of an element.
+-- t is the text, w the things of a drawing in which nothing is amiss or beyond, n their count, k a node, j a sequence flow, x the words of an element. (RULES: numbering)
 use Prim.Native.Nat.{ℕ, _+_}
 use mathlib.Core.Bool.{Bool}
 use mathlib.Core.List.{List}
@@ -23,7 +23,7 @@ use Rattle.draw_limits.specs.Numbers.{isTask, isStart, taskOf, edgeOf, firstEdg
 unfoldable pub withEdge : ℕ → ℕ → List ℕ → List ℕ
 withEdge list e x = set (set x (edgePlace list (at x list)) e) list (oneMore (at x list))
 
--- MESSAGES: "messages are the empty tuple", so that only the name is stored
+-- MESSAGES: "messages are the empty tuple", so that only the name is stored (RULES: numbering)
 unfoldable pub receivedBy : List ℕ → ℕ → ℕ → ℕ
 receivedBy w n k = messageOf w (firstWith messageFlow targetIn k w n)
 
@@ -36,7 +36,7 @@ withMessage w n k x =
     else if isSender w k then set x (messagePlace 0) (sentBy w n k)
     else x
 
--- THE HEAD of an element: its kind; "tasks are atomic, guard true, A `{}`"; start's first edge; its message
+-- THE HEAD of an element: its kind; "tasks are atomic, guard true, A `{}`"; start's first edge; its message (RULES: numbering)
 unfoldable pub withForm : ℕ → ℕ → List ℕ → List ℕ
 withForm b form x = set x (conditionPlace b + formPlace) form
 
@@ -52,7 +52,7 @@ withFirst w n k x =
 unfoldable pub headOf : List ℕ → ℕ → ℕ → List ℕ
 headOf w n k = withMessage w n k (withFirst w n k (set (replicate elementWords 0) kindPlace (kind w k)))
 
--- THE CONDITION of branch b, by flow j out of the exclusive split k: "conditionExpression text is our condition, `true` if an exclusive split's flow has none, and its default flow is `default`"
+-- THE CONDITION of branch b, by flow j out of the exclusive split k: "conditionExpression text is our condition, `true` if an exclusive split's flow has none, and its default flow is `default`" (RULES: numbering)
 unfoldable pub withTerm : Term → ℕ → ℕ → List ℕ → List ℕ
 withTerm o b side x = set (set x (conditionPlace b + side) (o .flag)) (conditionPlace b + side + operandNumber) (o .number)
 
@@ -70,7 +70,7 @@ guardedBy t w n j b x =
 unfoldable pub withGuard : List ℕ → List ℕ → ℕ → ℕ → ℕ → ℕ → List ℕ → List ℕ
 withGuard t w n k j b x = if eqb (defaultOf t w n k) j then withForm b default x else guardedBy t w n j b x
 
--- A BRANCH by flow j out of an event gateway: "a catch event behind an event gateway becomes its branch"; "each branch has its catch event's message and exit" (R27)
+-- A BRANCH by flow j out of an event gateway: "a catch event behind an event gateway becomes its branch"; "each branch has its catch event's message and exit" (R27) (RULES: numbering)
 unfoldable pub exitBehind : List ℕ → ℕ → ℕ → ℕ
 exitBehind w n j = edgeOf w (firstWith sequenceFlow sourceIn (target w j) w n)
 
@@ -84,7 +84,7 @@ exitBy t w n k j x =
     else if eqb (kind w k) kinds.xorSplit then withEdge exitsPlace (edgeOf w j) (withGuard t w n k j (at x exitsPlace) x)
     else withEdge exitsPlace (edgeOf w j) x
 
--- "Entries, exits and branches as the sequence flows stand" (R27): what flow j is to node k
+-- "Entries, exits and branches as the sequence flows stand" (R27): what flow j is to node k (RULES: numbering)
 unfoldable pub entryBy : List ℕ → ℕ → ℕ → List ℕ → List ℕ
 entryBy w k j x = if eqb (target w j) k then withEdge entriesPlace (edgeOf w j) x else x
 

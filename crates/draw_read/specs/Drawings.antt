@@ -1,5 +1,5 @@
 -- A DRAWING READ into a lent table t. "Refusals: 1 above 65,536 bytes; 20 not the XML named here or nested deeper, with its place; 21 ..; then 3 and 4 as they are", and 28 after 4: a message end event is an endSnd of the same content (wish 11). "By class, not by position: a 20 at the
--- end of the text goes before a 21 at its start; 21 before 3; 3 before 4" (R1).
+-- end of the text goes before a 21 at its start; 21 before 3; 3 before 4" (R1). (RULES: drawings)
 use Prim.Native.Nat.{ℕ}
 use mathlib.Core.Bool.{not}
 use mathlib.Core.List.{List, map}
@@ -28,11 +28,11 @@ drawingMost = 65536
 abbrev pub tooLong : ℕ
 tooLong = 1
 
--- "not the XML named here or nested deeper"
+-- "not the XML named here or nested deeper" (RULES: drawings)
 abbrev pub notXml : ℕ
 notXml = 20
 
--- "an element we don't run", or another fault of what is drawn
+-- "an element we don't run", or another fault of what is drawn (RULES: drawings)
 abbrev pub notRun : ℕ
 notRun = 21
 

@@ -1,4 +1,4 @@
--- WHICH ELEMENT IS WHICH THING. "A child that is none of these here and is not in R13 is 'an element we don't run'. So an unknown name is refused, never passed over" (R12).
+-- WHICH ELEMENT IS WHICH THING. "A child that is none of these here and is not in R13 is 'an element we don't run'. So an unknown name is refused, never passed over" (R12). (RULES: drawn)
 use Prim.Native.Nat.{ℕ, _+_, _-_}
 use Prim.Native.String.{String}
 use mathlib.Core.Bool.{Bool, true, false, not, _&&_}
@@ -31,7 +31,7 @@ abbrev event : ℕ
 event = startEvent
 
 -- "Read into: `definitions` (collaboration, process), `collaboration` (participant, messageFlow), `participant` (participantMultiplicity), `process` (the ten nodes, sequenceFlow), events
--- (messageEventDefinition, terminateEventDefinition), `sequenceFlow` (conditionExpression), other nodes and `messageFlow` (nothing)" (R12)
+-- (messageEventDefinition, terminateEventDefinition), `sequenceFlow` (conditionExpression), other nodes and `messageFlow` (nothing)" (R12) (RULES: drawn)
 abbrev readInto : List Row
 readInto =
     "collaboration" draws collaboration in-a definitions ∷
@@ -54,7 +54,7 @@ readInto =
     "terminateEventDefinition" draws terminateEventDefinition in-a event ∷
     "conditionExpression" draws conditionExpression in-a sequenceFlow ∷ []
 
--- "Skipped whole wherever they stand, since they say nothing about the run" (R13)
+-- "Skipped whole wherever they stand, since they say nothing about the run" (R13) (RULES: drawn)
 abbrev skippedWhole : List String
 skippedWhole =
     "documentation" ∷ "extensionElements" ∷
@@ -91,7 +91,7 @@ abbrev pub padded : List ℕ → List ℕ
 padded name = name ++ replicate (24 - length name) 32
 
 -- "On a process's children the attributes instantiate, isForCompensation, isCollection (`false`), eventGatewayType (`Exclusive`), startQuantity, completionQuantity (`1`) may only have that value:
--- another one draws another element. All other attributes are ignored" (R14)
+-- another one draws another element. All other attributes are ignored" (R14) (RULES: drawn)
 unfoldable pub isFalse : List ℕ → Bool
 isFalse name =
     if sameBytes name (bytes "instantiate") then true

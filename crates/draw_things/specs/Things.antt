@@ -41,7 +41,7 @@ messageEventDefinition = 9
 abbrev pub terminateEventDefinition : ℕ
 terminateEventDefinition = 10
 
--- "an element we don't run"
+-- "an element we don't run" (RULES: drawn)
 abbrev pub stranger : ℕ
 stranger = 11
 

@@ -1,4 +1,4 @@
--- ONE WALK THROUGH A DRAWING, from left to right, that stops at the first fault of the XML text (20) and notes what is drawn on the way. "An element that is not read into is skipped whole" (R11a).
+-- ONE WALK THROUGH A DRAWING, from left to right, that stops at the first fault of the XML text (20) and notes what is drawn on the way. "An element that is not read into is skipped whole" (R11a). (RULES: skipping)
 use Prim.Native.Nat.{ℕ, zero, suc}
 use mathlib.Core.Bool.{Bool, true, false, _&&_}
 use mathlib.Core.List.{List}
@@ -40,7 +40,7 @@ abbrev pub walked : Skipped → ℕ → Walked
 walked e n = record { end = e; count = n }
 
 -- "`maximum` of a participant's participantMultiplicity is a number of 01's notation (no sign, blank, leading zero, reference), else 20 at the value's first byte, judged when the value is whole" (R11):
--- when the markup is not at fault up to the value's end
+-- when the markup is not at fault up to the value's end (RULES: xml)
 unfoldable pub isNumber : Number → Bool
 isNumber (Value v) = true
 isNumber TooLarge = true
@@ -59,7 +59,7 @@ multiplicityBy Absent t p = skipped t p
 unfoldable pub multiplicity : List ℕ → ℕ → Skipped
 multiplicity t p = multiplicityBy (attribute t p (bytes "maximum")) t p
 
--- "The same holds for elements of 21 and for the four read from their tag or text alone (participantMultiplicity, the two event definitions, conditionExpression)" (R11a)
+-- "The same holds for elements of 21 and for the four read from their tag or text alone (participantMultiplicity, the two event definitions, conditionExpression)" (R11a) (RULES: skipping)
 unfoldable pub isPassed : ℕ → Bool
 isPassed s = if eqb s participantMultiplicity then true else leb conditionExpression s && leb s stranger
 

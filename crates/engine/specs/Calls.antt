@@ -40,12 +40,12 @@ pub record Valid (t z : List ℕ) : Type 0 where
   pub fits : fitting t z ≡ true
 
 -- A WHOLE POLL out of the lent words w: "22 more than 64 items, checked first, nothing done; then 10, with no items too", and 25, else one by one until the
--- first refusal
+-- first refusal (RULES: poll)
 unfoldable pub polledTo : List ℕ → List ℕ → List ℕ → ℕ → Polling
 polledTo t z w count = polledFrom (did t) (lentNumber t z) w count z
 
 -- WHETHER A LOG'S RUN WAS LAWFUL: "every step and post is accepted in turn from the fresh state, and what each line says was sent or consumed is true"; "a log is judged under the version its caller names";
--- 10 and 25 go before 23 and 24
+-- 10 and 25 go before 23 and 24 (RULES: lawful)
 unfoldable pub judgedTo : List ℕ → ℕ → List ℕ → Judged
 judgedTo t v log =
     if eqb (askedNumber t v) 0 then judgedFrom (taken (stepped t) (postedTo t)) log (fresh t v) else answered (askedNumber t v) 0 0

@@ -13,7 +13,7 @@ use Rattle.step_poll.specs.Poll.{Polling}
 use Rattle.engine.specs.Engine.{lentNumber, Stepped, stepped, RanTo, ranTo}
 use Rattle.engine.specs.Calls.{polledTo}
 
--- "26 the number of records isn't the number of pools, or they don't agree with the state at entry, after 10", and after 25
+-- "26 the number of records isn't the number of pools, or they don't agree with the state at entry, after 10", and after 25 (RULES: figures)
 unfoldable pub recordsNumber : List ℕ → List ℕ → List (List ℕ) → ℕ
 recordsNumber t z rs = deskNumber (lentNumber t z) rs t (instancesOf z)
 
@@ -22,7 +22,7 @@ pub record AtDesk (A : Type 0) : Type 0 where
   pub done : A
   pub records : List (List ℕ)
 
--- k is the number that refuses what is lent: where it is 0 the call, x what it does and y the state that it leaves, and "they always equal what a count over the state gives"; else r, and the records stay
+-- k is the number that refuses what is lent: where it is 0 the call, x what it does and y the state that it leaves, and "they always equal what a count over the state gives"; else r, and the records stay (RULES: figures)
 unfoldable pub atDesk : {A : Type 0} → ℕ → List ℕ → A → List ℕ → A → List (List ℕ) → AtDesk A
 atDesk k t x y r rs = if eqb k 0 then record { done = x; records = counted t (instancesOf y) } else record { done = r; records = rs }
 

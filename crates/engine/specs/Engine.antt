@@ -30,25 +30,25 @@ use Rattle.engine.specs.declared.Verdict.{Verdict}
 unfoldable pub valid : List ℕ → Bool
 valid t = tableFits t && eqb (lowest (modelOf t)) 0
 
--- "The check of a lent table gives 10 for a broken limit or an unused place not 0, then 4", with the lowest check broken beside it
+-- "The check of a lent table gives 10 for a broken limit or an unused place not 0, then 4", with the lowest check broken beside it (RULES: calls)
 unfoldable pub verdictOf : List ℕ → Verdict
 verdictOf t =
     if tableFits t then
     if eqb (lowest (modelOf t)) 0 then record { number = 0; beside = 0 } else record { number = 4; beside = lowest (modelOf t) }
     else record { number = 10; beside = 0 }
 
--- "25 another version, asked for or in a state"
+-- "25 another version, asked for or in a state" (RULES: versions)
 unfoldable pub versionNumber : ℕ → ℕ
 versionNumber v = if isVersion v then 0 else 25
 
--- "every other call gives 10 for all of these", 25 "after 10": of a lent table, for the version v that is asked for
+-- "every other call gives 10 for all of these", 25 "after 10": of a lent table, for the version v that is asked for (RULES: versions)
 unfoldable pub askedNumber : List ℕ → ℕ → ℕ
 askedNumber t v = if valid t then versionNumber v else 10
 
 unfoldable pub freshened : List ℕ → ℕ → List ℕ → Left
 freshened t v z = if eqb (askedNumber t v) 0 then record { number = 0; state = fresh t v } else record { number = askedNumber t v; state = z }
 
--- of a lent table and state: "10: the table breaks a limit or check, or the state doesn't fit the table and the limits"
+-- of a lent table and state: "10: the table breaks a limit or check, or the state doesn't fit the table and the limits" (RULES: fits)
 unfoldable pub lentNumber : List ℕ → List ℕ → ℕ
 lentNumber t z = if valid t && stateFits t (instancesOf z) (queuesOf z) then versionNumber (versionOf (instancesOf z)) else 10
 
@@ -68,7 +68,7 @@ postedTo t z name g =
     if fitting t z then record { number = post (queuesOf z) name g .number; state = instancesOf z ++ post (queuesOf z) name g .queues }
     else record { number = lentNumber t z; state = z }
 
--- "6: listing: no accepted step with that ordinal"; 10 and 25 go before it
+-- "6: listing: no accepted step with that ordinal"; 10 and 25 go before it (RULES: list)
 unfoldable pub listedAt : List ℕ → List ℕ → ℕ → Listed
 listedAt t z k = if fitting t z then chosen (listed t (instancesOf z) (queuesOf z)) k else record { number = lentNumber t z; name = blank }
 
@@ -85,7 +85,7 @@ ended r = record { number = 0; steps = r .steps; left = r .left; state = r .inst
 unfoldable pub ranTo : List ℕ → List ℕ → ℕ → RanTo
 ranTo t z limit = if fitting t z then ended (ran t limit (instancesOf z) (queuesOf z)) else record { number = lentNumber t z; steps = 0; left = 0; state = z }
 
--- "5: the writer's buffer is shorter than the text", and 10 goes before it; else the text, "and returns the length; the buffer's later bytes stay"
+-- "5: the writer's buffer is shorter than the text", and 10 goes before it; else the text, "and returns the length; the buffer's later bytes stay" (RULES: writing)
 pub record WrittenTo : Type 0 where
   pub number : ℕ
   pub length : ℕ

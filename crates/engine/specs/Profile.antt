@@ -1,4 +1,4 @@
--- THE NESTED PROFILE of a lent table: "Say whether a checked model is of this kind, .. and show the first offending pool otherwise. Refusals: 29 not nested, with the pool's number, after 10."
+-- THE NESTED PROFILE of a lent table: "Say whether a checked model is of this kind, .. and show the first offending pool otherwise. Refusals: 29 not nested, with the pool's number, after 10." (RULES: calls)
 use Prim.Native.Nat.{ℕ}
 use mathlib.Core.List.{List}
 use lib.Dec.{ltb}

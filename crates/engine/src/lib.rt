@@ -10,6 +10,8 @@ ghost use Rattle.engine.specs.Engine.{valid, verdictOf, Left, versionNum
 ghost use Rattle.engine.specs.Calls.{judgedTo};
 ghost use Rattle.engine.specs.Desk.{AtDesk, recordsNumber, steppedAt, ranAt, polledAt, figuredTo};
 ghost use Rattle.engine.specs.Profile.{nestedOf};
+ghost use Rattle.engine.specs.Replay.{leftTo, Replayed, replayedTo, resumedTo};
+ghost use Rattle.state_fits.specs.Fresh.{fresh};
 ghost use Rattle.step_poll.specs.Poll.{Polling};
 ghost use Rattle.step_names.specs.Names.{blank};
 ghost use Rattle.text_read.specs.Notation.{readInto};
@@ -329,22 +331,63 @@ pub fn figures(
     figure_in(rs, t, z, lent_number(t, z))
 }
 
+// Judges the run that a log tells from the fresh state of a version, in the lent state z: where it was lawful, z is the one that its last event left.
+fn judge_in(t: &[Word; TABLE_WORDS], v: Word, log: &[u8], z: &mut [Word; STATE_WORDS]) -> Judged
+    ensures { λ r. ⌜ (r ≡ judgedTo (now (t .entry)) v (now (log .entry))) × (r .number ≡ 0 → now (z .exit) ≡ leftTo (now (t .entry)) (now (log .entry)) (fresh (now (t .entry)) v)) ⌝ }
+{
+    let number = asked_number(t, v);
+    if number != ACCEPTED {
+        return unjudged(number);
+    }
+    state_fresh::begin(t, v, z);
+    log_judge::judge_on(t, z, log)
+}
+
+fn unjudged(number: Word) -> Judged
+    ensures { λ r. ⌜ r ≡ record { number = number; beside = 0; own = 0 } ⌝ }
+{
+    Judged {
+        number: number,
+        beside: 0,
+        own: 0,
+    }
+}
+
 // Judges the run that a log tells, under version 10 or 20: 10 where the table is bad; 25 for another version; 23 with its place where it is no such log; 24 with the first event at fault and its number; else 0. The state
 // that it works on is its own.
 pub fn judge(t: &[Word; TABLE_WORDS], v: Word, log: &[u8]) -> Judged
     ensures { λ r. ⌜ r ≡ judgedTo (now (t .entry)) v (now (log .entry)) ⌝ }
 {
-    let number = asked_number(t, v);
-    if number != ACCEPTED {
-        return Judged {
-            number: number,
-            beside: 0,
-            own: 0,
-        };
-    }
     let mut z: [Word; STATE_WORDS] = [0; STATE_WORDS];
-    state_fresh::begin(t, v, &mut z);
-    log_judge::judge_on(t, &mut z, log)
+    judge_in(t, v, log, &mut z)
+}
+
+// The state that a log's run leaves, from the fresh state of version 10 or 20: 10, 25, 23 and 24 as `judge` gives them, and the state stays; else 0, and the state is the one after the log's last event.
+pub fn replay(t: &[Word; TABLE_WORDS], v: Word, log: &[u8], z: &mut [Word; STATE_WORDS]) -> Judged
+    ensures { λ r. ⌜ record { answer = r; state = now (z .exit) } ≡ replayedTo (now (t .entry)) v (now (log .entry)) (now (z .entry)) ⌝ }
+{
+    let mut y: [Word; STATE_WORDS] = [0; STATE_WORDS];
+    let r = judge_in(t, v, log, &mut y);
+    if r.number == ACCEPTED {
+        *z = y;
+    }
+    r
+}
+
+// The same from the lent state on: 10 where the table or the state is bad, 25 for another version, then 23 and 24, and the state stays; else 0.
+pub fn resume(t: &[Word; TABLE_WORDS], z: &mut [Word; STATE_WORDS], log: &[u8]) -> Judged
+    ensures { λ r. ⌜ record { answer = r; state = now (z .exit) } ≡ resumedTo (now (t .entry)) (now (z .entry)) (now (log .entry)) ⌝ }
+{
+    let number = lent_number(t, z);
+    if number != ACCEPTED {
+        return unjudged(number);
+    }
+    let mut y = *z;
+    let r = log_judge::judge_on(t, &mut y, log);
+    if r.number == ACCEPTED {
+        *z = y;
+    }
+    r
 }
 
 // Repairs a log that ended in the middle, into the lent buffer: 27 where it cannot be, then 5 where there is no room or the log would be longer than 65,536 bytes, and the buffer stays; else 0, its length, how many

@@ -10,7 +10,7 @@ use Rattle.base_words.specs.Pick.{if_then_else_}
 use Rattle.xml_skip.specs.declared.Skipped.{Skipped}
 use Rattle.log_text.specs.Logs.{scan, linesOf}
 use Rattle.log_judge.specs.declared.Judged.{Judged}
-use Rattle.log_judge.specs.Judge.{Taking, answered, lawful, judgedBy, judgedEnd, judgedFrom}
+use Rattle.log_judge.specs.Judge.{Taking, answered, lawful, judgedBy, leftBy, judgedEnd, judgedFrom}
 
 module _ (give : List ℕ → List ℕ → Taking) where
   -- a line that is accepted and true
@@ -73,3 +73,10 @@ module _ (give also : List ℕ → List ℕ → Taking) (Fits : List ℕ → Typ
   pub same-log : (t z : List ℕ) → Fits z → judgedFrom give t z ≡ judgedFrom also t z
   unfolding judgedFrom
   same-log t z f = ap (judgedEnd (scan t .end)) (same-judged (linesOf t) 0 z f)
+
+  pub same-left : (ws : List (List ℕ)) (z : List ℕ) → Fits z → leftBy give ws z ≡ leftBy also ws z
+  unfolding leftBy
+  same-left [] z f = refl
+  same-left (w ∷ ws) z f =
+      let later : leftBy give ws (also w z .state) ≡ leftBy also ws (also w z .state) = same-left ws (also w z .state) (keeps w z f) in
+      rw (same w z f, later)

@@ -35,7 +35,7 @@ use Rattle.log_text.proofs.Move.{the-type}
 use Rattle.log_text.specs.Logs.{start, scan, advance, closesEvent, linesIn, linesFrom, linesOf}
 use Rattle.log_judge.specs.declared.Judged.{Judged}
 use Rattle.log_judge.proofs.LinesLeft.{lines-end, lines-begin, lines-unbegun, lines-stop, lines-pass, lines-next}
-use Rattle.log_judge.specs.Judge.{Taking, takenBy, taken, answered, lawful, judgedBy, judgedEnd, judgedFrom}
+use Rattle.log_judge.specs.Judge.{Taking, takenBy, taken, answered, lawful, judgedBy, leftBy, judgedEnd, judgedFrom}
 
 -- a text that was put stands in its buffer, where there is room
 pub put-read : {w out now : List ℕ} {most r : ℕ} → Put w most 0 out r now → most ≤ length out → length out ≤ lastPlace → part now 0 r ≡ w
@@ -83,6 +83,14 @@ pub none-left : (give : List ℕ → List ℕ → Taking) (t : List ℕ) (j : Ju
 unfolding judgedBy
 none-left give t j c left k z inv h = rw (lines-end t c left h) at inv
 
+pub none-behind : (give : List ℕ → List ℕ → Taking) (t : List ℕ) (y : List ℕ) (c : Cursor) (left : ℕ) (z : List ℕ) → leftBy give (linesIn left t c) z ≡ y → left ≤ 0 → z ≡ y
+unfolding leftBy
+none-behind give t y c left z inv h = rw (lines-end t c left h) at inv
+
+-- an event at fault is no lawful log
+pub not-lawful : {A : Type 0} (r : Judged) (k own : ℕ) → r ≡ answered 24 k own → r .number ≡ 0 → A
+not-lawful r k own e h = let n : _≡_ {A = ℕ} 24 0 = sym (ap (λ (j : Judged). j .number) e) ∙ h in absurd (omega (arith, n))
+
 -- the lines of a log from its start on
 module _ (give : List ℕ → List ℕ → Taking) (t z : List ℕ) (m : Move) (first : m ≡ start t) where
   pub judged-start : (c : Cursor) → m ≡ On c → judgedBy give (linesFrom t c) 0 z ≡ judgedBy give (linesOf t) 0 z
@@ -91,6 +99,13 @@ module _ (give : List ℕ → List ℕ → Taking) (t z : List ℕ) (m : Move) (
   pub judged-none : OneOf (1 ∷ 2 ∷ []) (tagOf the-type m) → lawful ≡ judgedBy give (linesOf t) 0 z
   unfolding judgedBy
   judged-none o = ap (λ (ws : List (List ℕ)). judgedBy give ws 0 z) (lines-unbegun t m first o)
+
+  pub left-start : (c : Cursor) → m ≡ On c → leftBy give (linesFrom t c) z ≡ leftBy give (linesOf t) z
+  left-start c h = ap (λ (ws : List (List ℕ)). leftBy give ws z) (lines-begin t m first c h)
+
+  pub left-none : OneOf (1 ∷ 2 ∷ []) (tagOf the-type m) → z ≡ leftBy give (linesOf t) z
+  unfolding leftBy
+  left-none o = ap (λ (ws : List (List ℕ)). leftBy give ws z) (lines-unbegun t m first o)
 
 -- the whole text
 module _ (give : List ℕ → List ℕ → Taking) (t z : List ℕ) (s : Scanned) (read : s ≡ scan t) (q : ℕ) where
@@ -132,14 +147,28 @@ module _ (give : List ℕ → List ℕ → Taking) (t : List ℕ) (j : Judged) (
   unfolding judgedBy
   judged-stop o = as-left [] (lines-stop t c left some m next o)
 
+  pub left-stop : (y : List ℕ) → leftBy give (linesIn left t c) z ≡ y → OneOf (1 ∷ 2 ∷ []) (tagOf the-type m) → z ≡ y
+  unfolding leftBy
+  left-stop y left-inv o = ap (λ (ws : List (List ℕ)). leftBy give ws z) (sym (lines-stop t c left some m next o)) ∙ left-inv
+
   module _ (d : Cursor) (on : m ≡ On d) (closed : Bool) (closes : closed ≡ closesEvent (c .level) (d .level)) where
     pub judged-pass : not closed ≡ true → judgedBy give (linesIn (left - 1) t d) k z ≡ j
     judged-pass h = as-left (linesIn (left - 1) t d) (lines-pass t c left some m next d on closed closes h)
+
+    pub left-pass : (y : List ℕ) → leftBy give (linesIn left t c) z ≡ y → not closed ≡ true → leftBy give (linesIn (left - 1) t d) z ≡ y
+    left-pass y left-inv h = ap (λ (ws : List (List ℕ)). leftBy give ws z) (sym (lines-pass t c left some m next d on closed closes h)) ∙ left-inv
 
     module _ (h : not closed ≡ false) (w : List ℕ) (here : w ≡ part t (d .from) (d .to)) (r : ℕ) (b : Bool) (y : List ℕ)
         (taking : _≡_ {A = Taking} (record { number = r; right = b; state = y }) (give w z)) where
       line-first : judgedBy give (w ∷ linesIn (left - 1) t d) k z ≡ j
       line-first = as-left (w ∷ linesIn (left - 1) t d) (lines-next t c left some m next d on closed closes h w here)
+
+      pub left-more : (x : List ℕ) → leftBy give (linesIn left t c) z ≡ x → leftBy give (linesIn (left - 1) t d) y ≡ x
+      unfolding leftBy
+      left-more x left-inv =
+          ap (λ (v : Taking). leftBy give (linesIn (left - 1) t d) (v .state)) taking
+          ∙ ap (λ (ws : List (List ℕ)). leftBy give ws z) (sym (lines-next t c left some m next d on closed closes h w here))
+          ∙ left-inv
 
       pub judged-refused : (r ≡ 0 → ⊥) → answered 24 k r ≡ j
       judged-refused l = first-refused give w (linesIn (left - 1) t d) k z r b y taking l ∙ line-first

@@ -1,5 +1,5 @@
 -- WHETHER A RUN WAS LAWFUL, by a way to do one step and one post: "accept the log exactly when every step and post is accepted in turn from the fresh state, and what each line says was sent or consumed is
--- true. Otherwise name the first event at fault." z is a state, w an event's line.
+-- true. Otherwise name the first event at fault." z is a state, w an event's line. (RULES: lawful)
 use Prim.Native.Nat.{ℕ, _+_}
 use mathlib.Core.Bool.{Bool, true}
 use mathlib.Core.List.{List, [], _∷_}
@@ -23,7 +23,7 @@ pub record Taking : Type 0 where
   pub right : Bool
   pub state : List ℕ
 
--- "a post is posted", and its line says no more; a step's line says "what was sent or consumed (sign, name, values)"
+-- "a post is posted", and its line says no more; a step's line says "what was sent or consumed (sign, name, values)" (RULES: lawful)
 unfoldable pub takenBy : (List ℕ → Name → Stepped) → (List ℕ → ℕ → Tuple → Left) → Entry → List ℕ → List ℕ → Taking
 takenBy step post e w z =
     if e .posts then
@@ -40,7 +40,7 @@ answered number beside own = record { number = number; beside = beside; own = ow
 abbrev pub lawful : Judged
 lawful = answered 0 0 0
 
--- "24 event at fault, with its ordinal from 0 and the step's own number, or 0 where only the text is untrue"; k events are before these
+-- "24 event at fault, with its ordinal from 0 and the step's own number, or 0 where only the text is untrue"; k events are before these (RULES: lawful)
 unfoldable pub judgedBy : (List ℕ → List ℕ → Taking) → List (List ℕ) → ℕ → List ℕ → Judged
 judgedBy take [] k z = lawful
 judgedBy take (w ∷ rest) k z =
@@ -48,7 +48,12 @@ judgedBy take (w ∷ rest) k z =
     if take w z .right then judgedBy take rest (k + 1) (take w z .state) else answered 24 k 0
     else answered 24 k (take w z .number)
 
--- "23 is over the whole text and goes before 24, whatever its events say"
+-- the state that the lines leave, one after the other
+unfoldable pub leftBy : (List ℕ → List ℕ → Taking) → List (List ℕ) → List ℕ → List ℕ
+leftBy take [] z = z
+leftBy take (w ∷ rest) z = leftBy take rest (take w z .state)
+
+-- "23 is over the whole text and goes before 24, whatever its events say" (RULES: lawful)
 unfoldable pub judgedEnd : Skipped → Judged → Judged
 judgedEnd (Past q) j = j
 judgedEnd (Fault q) j = answered 23 q 0

@@ -4,7 +4,7 @@ ghost use Rattle.text_numerals.specs.Numerals.{sameBytes};
 ghost use Rattle.write_lines.specs.Lines.{stepLine};
 ghost use Rattle.log_text.specs.Logs.{closesEvent, linesFrom, linesOf};
 ghost use Rattle.step_poll.specs.Poll.{settledStep, settledPost};
-ghost use Rattle.log_judge.specs.Judge.{Taking, taken, judgedBy, judgedFrom};
+ghost use Rattle.log_judge.specs.Judge.{leftBy, Taking, taken, judgedBy, judgedFrom};
 use base_state::places::STATE_WORDS;
 use base_table::places::TABLE_WORDS;
 use base_words::Word;
@@ -91,7 +91,7 @@ fn judge_from(
     text: &[u8],
     first: Cursor,
 ) -> Judged
-    ensures { λ r. ⌜ r ≡ judgedBy (taken (settledStep (now (t .entry))) settledPost) (linesFrom (now (text .entry)) first) 0 (now (z .entry)) ⌝ }
+    ensures { λ r. ⌜ (r ≡ judgedBy (taken (settledStep (now (t .entry))) settledPost) (linesFrom (now (text .entry)) first) 0 (now (z .entry))) × (r .number ≡ 0 → now (z .exit) ≡ leftBy (taken (settledStep (now (t .entry))) settledPost) (linesFrom (now (text .entry)) first) (now (z .entry))) ⌝ }
 {
     let mut c = first;
     let mut ordinal: usize = 0;
@@ -142,7 +142,7 @@ fn at_fault(ordinal: usize, own: Word) -> Judged
 
 // The events of a log.
 fn judge_lines(t: &[Word; TABLE_WORDS], z: &mut [Word; STATE_WORDS], text: &[u8]) -> Judged
-    ensures { λ r. ⌜ r ≡ judgedBy (taken (settledStep (now (t .entry))) settledPost) (linesOf (now (text .entry))) 0 (now (z .entry)) ⌝ }
+    ensures { λ r. ⌜ (r ≡ judgedBy (taken (settledStep (now (t .entry))) settledPost) (linesOf (now (text .entry))) 0 (now (z .entry))) × (r .number ≡ 0 → now (z .exit) ≡ leftBy (taken (settledStep (now (t .entry))) settledPost) (linesOf (now (text .entry))) (now (z .entry))) ⌝ }
 {
     let m = start(text);
     let Move::On(c) = m else {
@@ -151,9 +151,9 @@ fn judge_lines(t: &[Word; TABLE_WORDS], z: &mut [Word; STATE_WORDS], text: &[u8]
     judge_from(t, z, text, c)
 }
 
-// Judges a log from a state on, which is the caller's to lend and is not kept: 23 with its place, 24 with the event at fault, else 0.
+// Judges a log from a state on, which is the caller's to lend: 23 with its place, 24 with the event at fault, and the state is as far as that; else 0, and the state is the one that its lines leave.
 pub fn judge_on(t: &[Word; TABLE_WORDS], z: &mut [Word; STATE_WORDS], text: &[u8]) -> Judged
-    ensures { λ r. ⌜ r ≡ judgedFrom (taken (settledStep (now (t .entry))) settledPost) (now (text .entry)) (now (z .entry)) ⌝ }
+    ensures { λ r. ⌜ (r ≡ judgedFrom (taken (settledStep (now (t .entry))) settledPost) (now (text .entry)) (now (z .entry))) × (r .number ≡ 0 → now (z .exit) ≡ leftBy (taken (settledStep (now (t .entry))) settledPost) (linesOf (now (text .entry))) (now (z .entry))) ⌝ }
 {
     let s = scan(text);
     let end = s.end;

@@ -1,4 +1,4 @@
--- AN ENTRY OF A LOG: "`P I E F B T`, one blank between: five numbers, and T is `-`, `!M:V` or `?M:V`; or `post M:V`. V is values joined by commas, possibly none." w is its bytes.
+-- AN ENTRY OF A LOG: "`P I E F B T`, one blank between: five numbers, and T is `-`, `!M:V` or `?M:V`; or `post M:V`. V is values joined by commas, possibly none." w is its bytes. (RULES: entries)
 use Prim.Native.Char.{code}
 use Prim.Native.Nat.{ℕ, zero, suc, _+_}
 use mathlib.Core.Bool.{Bool, true, false, _&&_}
@@ -23,7 +23,7 @@ use Rattle.log_lines.specs.declared.Message.{Message}
 use Rattle.log_lines.specs.declared.Placed.{Placed}
 use Rattle.log_lines.specs.declared.Entry.{Entry}
 
--- "P I E F B M 0 to 65,535"
+-- "P I E F B M 0 to 65,535" (RULES: entries)
 abbrev pub numberMost : ℕ
 numberMost = 65535
 
@@ -53,14 +53,14 @@ numbered c w p =
 abbrev pub given : Bool → Tuple → Given
 given b g = record { right = b; tuple = g }
 
--- one value more: "any count of values"; those behind the fourth are counted only
+-- one value more: "any count of values"; those behind the fourth are counted only (RULES: entries)
 unfoldable pub oneMore : ℕ → ℕ
 oneMore n = if ltb n greatest then n + 1 else n
 
 unfoldable pub added : Tuple → ℕ → Tuple
 added g v = record { length = oneMore (g .length); values = set (g .values) (g .length) v }
 
--- "values joined by commas", from p on, behind those of g, in n steps at most
+-- "values joined by commas", from p on, behind those of g, in n steps at most (RULES: entries)
 unfoldable pub valuesIn : ℕ → List ℕ → ℕ → Tuple → Given
 valuesIn zero w p g = given false empty
 valuesIn (suc n) w p g =
@@ -81,7 +81,7 @@ messageFrom w p =
       tuple = valuesFrom w (numbered (code ":") w p .next) .tuple;
     }
 
--- T from p on, and the values that the step is named with: "a line with `?M:V` is the step with the values V; any other is the step without values"
+-- T from p on, and the values that the step is named with: "a line with `?M:V` is the step with the values V; any other is the step without values" (RULES: entries)
 unfoldable pub trafficFrom : List ℕ → ℕ → Given
 trafficFrom w p =
     if sameBytes (part w p (length w)) (bytes "-") then given true empty

@@ -108,7 +108,7 @@ tagBy Log c = c .log
 tagBy Trace c = c .trace
 tagBy Event c = c .event
 
--- "exactly one `trace`", "exactly one `string` whose attribute `key` is `concept:name`"
+-- "exactly one `trace`", "exactly one `string` whose attribute `key` is `concept:name`" (RULES: logs)
 unfoldable pub lacksBy : Level → Cursor → Bool
 lacksBy Log c = eqb (c .opened) 0
 lacksBy Trace c = false

@@ -1,4 +1,4 @@
--- "Directly in log, trace and event only blanks, comments and instructions may stand between elements (no text, references or CDATA), as outside the root."
+-- "Directly in log, trace and event only blanks, comments and instructions may stand between elements (no text, references or CDATA), as outside the root." (RULES: logs)
 use Prim.Native.Nat.{ℕ}
 use mathlib.Core.Bool.{Bool, true, false}
 use mathlib.Core.List.{List}
@@ -34,7 +34,7 @@ between (Onward q) e = On q
 between Nothing e = Fault e
 between (OutsideFault q) e = Fault q
 
--- at p, no blank first, in the element whose tag is at `outer`; "an event or a log that ends without what it needs: the `<` of its end tag"
+-- at p, no blank first, in the element whose tag is at `outer`; "an event or a log that ends without what it needs: the `<` of its end tag" (RULES: logs)
 unfoldable pub insideAt : Bool → List ℕ → ℕ → ℕ → Inside
 insideAt lacking t outer p =
     if endsAt (opener t p) then (if lacking then Fault p else closing (partAt t outer p) p)

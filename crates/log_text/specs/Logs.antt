@@ -32,7 +32,7 @@ use Rattle.log_text.specs.declared.Scanned.{Scanned}
 use Rattle.log_text.specs.Inside.{insideAt}
 use Rattle.log_text.specs.Cursors.{nowhere, inLog, reached, traced, inEvent, named, behindEvent, behindTrace, tagBy, lacksBy}
 
--- "a log of up to 65,536 bytes"
+-- "a log of up to 65,536 bytes" (RULES: logs)
 abbrev pub logMost : ℕ
 logMost = 65536
 
@@ -41,7 +41,7 @@ unfoldable pub over : Skipped → Cursor → Move
 over (Past q) c = On (reached c q)
 over (SkipFault q) c = Fault q
 
--- "A second one in an event is 23"; "the opening quote of its key", "one without a value: the `>` or `/` of its tag; a value that is no line: its opening quote", "in the order second, no value, no line"
+-- "A second one in an event is 23"; "the opening quote of its key", "one without a value: the `>` or `/` of its tag; a value that is no line: its opening quote", "in the order second, no value, no line" (RULES: entries)
 unfoldable pub overNamed : Skipped → Cursor → ℕ → ℕ → Move
 overNamed (Past q) c from to = On (named c from to q)
 overNamed (SkipFault q) c from to = Fault q
@@ -57,7 +57,7 @@ nameBy (Is from to) t c p end =
     else over (skipped t p) c
 nameBy Absent t c p end = over (skipped t p) c
 
--- "A tag's attributes are looked at when the tag is whole"
+-- "A tag's attributes are looked at when the tag is whole" (RULES: logs)
 unfoldable pub stringBy : Tag → List ℕ → Cursor → ℕ → Move
 stringBy (Open q) t c p = nameBy (attribute t p (bytes "key")) t c p (q - 1)
 stringBy (Empty q) t c p = nameBy (attribute t p (bytes "key")) t c p (q - 2)
@@ -77,7 +77,7 @@ eventBy (Open q) c p = On (inEvent c p q)
 eventBy (Empty q) c p = Fault (q - 2)
 eventBy (TagFault q) c p = Fault q
 
--- "A `log`, `trace` or `event` that stands directly in the log, the trace or an event where none is due is 23, not skipped"
+-- "A `log`, `trace` or `event` that stands directly in the log, the trace or an event where none is due is 23, not skipped" (RULES: logs)
 unfoldable pub isOfLog : List ℕ → ℕ → Bool
 isOfLog t p = isCalled t p (bytes "log") || (isCalled t p (bytes "trace") || isCalled t p (bytes "event"))
 
@@ -134,7 +134,7 @@ unfoldable pub begin : Skipped → List ℕ → Move
 begin (Past p) t = beginBy (tagOf (markup t p) p) p
 begin (SkipFault q) t = Fault q
 
--- "Above 65,536 bytes: 23 with 0, nothing else looked at"
+-- "Above 65,536 bytes: 23 with 0, nothing else looked at" (RULES: logs)
 unfoldable pub start : List ℕ → Move
 start t = if ltb logMost (length t) then Fault 0 else begin (rootAt (bytes "log") t) t
 

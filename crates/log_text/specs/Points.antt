@@ -79,7 +79,7 @@ refusals =
     at "a seventeenth: its `<`" (bytes "<log>" ++ times 17 (bytes "<a>")) 53 ∷
     at "in a `concept:name` that string is the first" (inEvent "<string key='concept:name' value='post 3:'>" ++ times 16 (bytes "<a>")) 107 ∷ []
 
--- "What the end of the text cuts off counts as the end"
+-- "What the end of the text cuts off counts as the end" (RULES: logs)
 abbrev pub beginnings : List (List ℕ)
 beginnings =
     bytes "" ∷ bytes "<lo" ∷ bytes "<log" ∷ bytes "<log>" ∷ bytes "<log><!-" ∷ bytes "<log>&l" ∷ bytes "<log><trace" ∷ bytes "<log><trace></trac" ∷ bytes "<log><trace><event" ∷ bytes "<log><trace><event></even" ∷ bytes "<log><trace><event></eventx" ∷ bytes "<log><trace/></lo" ∷ bytes "<log><trace/> <x" ∷

@@ -6,7 +6,7 @@ use Rattle.base_words.specs.Text.{bytes}
 use Rattle.write_lines.specs.Lines.{stepMost}
 
 unfoldable pub opening : List ℕ
-opening = bytes "<?xml version=\"1.0\" encoding=\"UTF-8\"?>\n<log xes.version=\"1.0\" xes.features=\"\" xmlns=\"http://www.xes-standard.org/\">\n"
+opening = bytes "<?xml version=\"1.0\" encoding=\"UTF-8\"?>\n<log xes.version=\"1849.2016\" xes.features=\"\" xmlns=\"http://www.xes-standard.org/\">\n"
 
 unfoldable pub extension : List ℕ
 extension = bytes "<extension name=\"Concept\" prefix=\"concept\" uri=\"http://www.xes-standard.org/concept.xesext\"/>\n"
@@ -15,7 +15,7 @@ unfoldable pub global : List ℕ
 global = bytes "<global scope=\"event\"><string key=\"concept:name\" value=\"UNKNOWN\"/></global>\n"
 
 unfoldable pub classifier : List ℕ
-classifier = bytes "<classifier name=\"Event Name\" keys=\"concept:name\"/>\n"
+classifier = bytes "<classifier name=\"Event-Name\" keys=\"concept:name\"/>\n"
 
 unfoldable pub traceOpening : List ℕ
 traceOpening = bytes "<trace><string key=\"concept:name\" value=\"run\"/>\n"
@@ -36,6 +36,10 @@ unfoldable pub eventsText : List (List ℕ) → List ℕ
 eventsText [] = []
 eventsText (line ∷ rest) = eventText line ++ eventsText rest
 
+-- what was written so far, event by event
+unfoldable pub written : List (List ℕ) → List ℕ
+written lines = header ++ eventsText lines
+
 unfoldable pub footer : List ℕ
 footer = bytes "</trace>\n</log>\n"
 
@@ -44,7 +48,7 @@ logText lines = header ++ eventsText lines ++ footer
 
 -- the greatest length of each
 abbrev pub headerMost : ℕ
-headerMost = 116 + 94 + 76 + 52 + 48
+headerMost = 122 + 94 + 76 + 52 + 48
 
 abbrev pub eventMost : ℕ
 eventMost = 41 + stepMost + 12

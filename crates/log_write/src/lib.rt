@@ -9,7 +9,7 @@ use write_lines::STEP_LINE;
 use write_lines::put_step;
 
 // The greatest length of each.
-pub const HEADER: usize = 116 + 94 + 76 + 52 + 48;
+pub const HEADER: usize = 122 + 94 + 76 + 52 + 48;
 
 pub const EVENT: usize = 41 + STEP_LINE + 12;
 
@@ -22,7 +22,7 @@ pub fn put_header(out: &mut [u8], from: usize) -> usize
     let opening = put_bytes(
         out,
         from,
-        b"<?xml version=\"1.0\" encoding=\"UTF-8\"?>\n<log xes.version=\"1.0\" xes.features=\"\" xmlns=\"http://www.xes-standard.org/\">\n",
+        b"<?xml version=\"1.0\" encoding=\"UTF-8\"?>\n<log xes.version=\"1849.2016\" xes.features=\"\" xmlns=\"http://www.xes-standard.org/\">\n",
     );
     let extension = put_bytes(
         out,
@@ -37,7 +37,7 @@ pub fn put_header(out: &mut [u8], from: usize) -> usize
     let classifier = put_bytes(
         out,
         global,
-        b"<classifier name=\"Event Name\" keys=\"concept:name\"/>\n",
+        b"<classifier name=\"Event-Name\" keys=\"concept:name\"/>\n",
     );
     put_bytes(
         out,

@@ -38,4 +38,4 @@ versions-hold = (refl, (refl, (refl, (refl, (refl, (refl, (refl, tt)))))))
 
 pub stores-hold : Hold stores
 unfolding all tab iter if_then_else_ seek writes kindOf used modeOf isRule ruleOf moveOf numbered poolOf limitOf entryCount exitCount sumOf differenceOf equalOf lessOf isTrue isFalse isDefined numberIn valueOf sameTuple has without times messagesOf messageWord messagesWord queueWord withMessages fieldOf operandOf expressionOf conditionOf defaultAt leftOut otherFalse holds binds itemValue gathered evaluated bindOne bound assignedValue assignOne assigned touched first branchCount instanceNamed hasToken hasTokens canLower waits isAlone countsPermit granted belowLimit hasRoom hasRooms canRaise roomy expected received worked messageSent takeOne taken more countChanged activeChanged readyChanged putOne puts cleared moved firstRefusal elementNamed moveNamed instanceOf sharedOf before siteOf exists template work sent defined matches afterTaking queued space refusalsAt refusals instanceAfter madeAfter instancesAfter queuesAfter traffic step postRefusals post
-stores-hold = (refl, (refl, (refl, (refl, (refl, (refl, (refl, (refl, (refl, (refl, (refl, (refl, (refl, (refl, (refl, (refl, tt))))))))))))))))
+stores-hold = (refl, (refl, (refl, (refl, (refl, (refl, (refl, (refl, (refl, (refl, (refl, (refl, (refl, (refl, (refl, (refl, (refl, (refl, tt))))))))))))))))))

@@ -1,4 +1,4 @@
--- "Assignments go in order, each seeing those before it."
+-- "Assignments go in order, each seeing those before it." (RULES: assignments)
 use Prim.Native.Nat.{ℕ}
 use mathlib.Core.Bool.{Bool, true, false}
 use mathlib.Core.List.{List}

@@ -24,7 +24,7 @@ use Rattle.meaning.specs.Requirements.{touched, first}
 unfoldable pub expected : List ℕ → List ℕ → Move → ℕ → Tuple → Evaluated
 expected el h m b g = if eqb (m .receives) on then evaluated el b h g else record { defined = true; tuple = empty }
 
--- "taskRcv binds, then assigns; taskSnd assigns, then works out its message."
+-- "taskRcv binds, then assigns; taskSnd assigns, then works out its message." (RULES: steps)
 unfoldable pub received : List ℕ → List ℕ → Move → ℕ → Tuple → List ℕ
 received el h m b g = if eqb (m .receives) on then bound el b g h else h
 
@@ -34,7 +34,7 @@ worked el h m = if eqb (m .assigns) on then assigned el h else record { defined 
 unfoldable pub messageSent : List ℕ → List ℕ → Move → ℕ → Evaluated
 messageSent el h m b = if eqb (m .sends) on then evaluated el b h empty else record { defined = true; tuple = empty }
 
--- TOKENS AND COUNTS. "Entry tokens are taken and exit tokens put, one each."
+-- TOKENS AND COUNTS. "Entry tokens are taken and exit tokens put, one each." (RULES: steps)
 unfoldable pub takeOne : List ℕ → ℕ → ℕ → List ℕ → List ℕ
 takeOne el from j h = withTokens h (entryAt el (from + j)) (tokens h (entryAt el (from + j)) - 1)
 
@@ -60,7 +60,7 @@ putOne el from j h = withTokens h (exitAt el (from + j)) (more (tokens h (exitAt
 unfoldable pub puts : List ℕ → Move → ℕ → List ℕ → List ℕ
 puts el m b h = iter (putOne el (first (m .puts) b)) h (touched (m .puts) (exitCount el))
 
--- "terminate clears all tokens and task counts of its instance."
+-- "terminate clears all tokens and task counts of its instance." (RULES: steps)
 unfoldable pub cleared : List ℕ → List ℕ
 cleared h = writes (λ k. 0) h 0 (definedPlace 0)
 

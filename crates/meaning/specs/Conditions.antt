@@ -1,4 +1,4 @@
--- "C is `true`, or two operands joined by `=` or `<`; in xorSplit also `default`." w is the words of a condition, el an element's, h an instance's.
+-- "C is `true`, or two operands joined by `=` or `<`; in xorSplit also `default`." w is the words of a condition, el an element's, h an instance's. (RULES: conditions)
 use Prim.Native.Nat.{ℕ}
 use mathlib.Core.Bool.{Bool, true, _&&_}
 use mathlib.Core.List.{List}
@@ -22,7 +22,7 @@ conditionOf w h =
     else Neither
 
 -- "A branch is permitted when its condition is true and all earlier ones other than default are false. An undefined earlier one blocks it. Default is as before":
--- "default when all others are false." A guard is the condition of branch 0, which has no earlier ones.
+-- "default when all others are false." A guard is the condition of branch 0, which has no earlier ones. (RULES: branches)
 unfoldable pub defaultAt : List ℕ → ℕ → Bool
 defaultAt el b = eqb (at (conditionAt el b) formPlace) default
 

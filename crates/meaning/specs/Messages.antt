@@ -1,5 +1,5 @@
 -- "Each name has a queue, oldest first; equal messages stand in it as often as they were put there. Sending and posting append. Consuming removes
--- the oldest equal message and keeps the order of the others." A queue is a list of tuples.
+-- the oldest equal message and keeps the order of the others." A queue is a list of tuples. (RULES: messages)
 use Prim.Native.Nat.{ℕ, _+_}
 use mathlib.Core.Bool.{Bool, true, false}
 use mathlib.Core.List.{List, [], _∷_, _++_}

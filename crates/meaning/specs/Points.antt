@@ -1,6 +1,6 @@
 -- The starred points of document 01 ('Points to try'): one table. Each row says in the document's words what is tried, and tries it by a step on a
 -- small table and state: pool 1 with one element, its instance 0, messages under name 0. Rows behind them try what else is easily got wrong.
--- A second table has the branches of document 02's wish 6, a third the versions of its wish 7, a fourth the stores of its wish 8.
+-- A second table has the branches of document 02's wish 6, a third the versions of its wish 7, a fourth the stores of its wish 8. (RULES: steps)
 use Prim.Native.Nat.{ℕ, _+_, _-_, _*_}
 use Prim.Native.String.{String}
 use mathlib.Core.Path.{_≡_}
@@ -9,8 +9,8 @@ use mathlib.Core.List.{List, [], _∷_, _++_}
 use lib.ListN.{length, replicate, getD, drop}
 use Rattle.base_words.specs.Each.{tab}
 use Rattle.base_words.specs.Words.{at, greatest}
-use Rattle.base_words.specs.Counts.{branches, fields, values, pools}
-use Rattle.base_kinds.specs.Kinds.{startRcv, terminate, interRcv, xorSplit, task, taskRcv}
+use Rattle.base_words.specs.Counts.{branches, fields, values, pools, messages}
+use Rattle.base_kinds.specs.Kinds.{startRcv, terminate, interRcv, xorSplit, task, taskRcv, taskSnd}
 use Rattle.base_kinds.specs.declared.moves.Move.{Move}
 use Rattle.base_kinds.specs.Moves.{o, a, na-c, na-nc, moves, noMove, moveOf}
 use Rattle.base_table.specs.Places.{aField, single, plus, minus, binding, always, default, equals, below, expressionWords, messageWords}
@@ -219,7 +219,7 @@ abbrev pub Hold : List Point → Type 0
 Hold [] = Unit {0}
 Hold (p ∷ ps) = (p .comes ≡ p .due) × Hold ps
 
--- THE BRANCHES PERMITTED of xorSplit(1,{(2,C),(3,C),..}) with d0 = 1 and d9 undefined: document 02, wish 6
+-- THE BRANCHES PERMITTED of xorSplit(1,{(2,C),(3,C),..}) with d0 = 1 and d9 undefined: document 02, wish 6 (RULES: branches)
 abbrev conditions : List (List ℕ) → List ℕ
 conditions [] = []
 conditions (c ∷ cs) = c ++ conditions cs
@@ -259,7 +259,7 @@ abbrev pub Chosen : List Choice → Type 0
 Chosen [] = Unit {0}
 Chosen (x ∷ xs) = (x .permits ≡ x .due) × Chosen xs
 
--- PHASE 1 UNDER A VERSION of taskRcv(1,1,k,true,{},0:<>,2) in an instance h: document 02, wish 7. Behind the words of the instance a step sees the stores and the version.
+-- PHASE 1 UNDER A VERSION of taskRcv(1,1,k,true,{},0:<>,2) in an instance h: document 02, wish 7. Behind the words of the instance a step sees the stores and the version. (RULES: versions)
 abbrev seenUnder : ℕ → List ℕ → List ℕ
 seenUnder version h = h ++ (replicate storeWords 0 ++ (version ∷ []))
 
@@ -290,7 +290,7 @@ abbrev pub Waited : List Wait → Type 0
 Waited [] = Unit {0}
 Waited (x ∷ xs) = (x .permits ≡ x .due) × Waited xs
 
--- THE STORES: document 02, wish 8. A step at the words that it sees, of its instance, own, and of what all share behind them; store k is field 16 + k.
+-- THE STORES: document 02, wish 8. A step at the words that it sees, of its instance, own, and of what all share behind them; store k is field 16 + k. (RULES: stores)
 abbrev s : ℕ → List ℕ
 s k = d (fields + k)
 
@@ -359,6 +359,11 @@ abbrev raised-on : List ℕ → Outcome
 raised-on shared =
     step (table 0 (element task 1 a (1 ∷ []) (2 ∷ []) true-condition [] 1 (0 set-to form plus (s 0) (number 1)))) (filled sharedPlace (1 ∷ 0 ∷ 0 ∷ 0 ∷ fresh) ++ shared) (queue []) (name 0 0 0 empty)
 
+-- taskSnd(1,1,a,true,{s0:=1},0:<>,2) where the queue is full
+abbrev sent-when-full : List ℕ → Outcome
+sent-when-full shared =
+    step (table 0 (element taskSnd 1 a (1 ∷ []) (2 ∷ []) true-condition (tuple 0 []) 1 (0 set-to alone (number 1)))) (filled sharedPlace (1 ∷ 0 ∷ 0 ∷ 0 ∷ fresh) ++ shared) (queue (replicate messages empty)) (name 0 0 0 empty)
+
 abbrev pub stores : List Point
 stores =
     "startRcv(3:<s0,?d0>,1): 13 while s0 is undefined" shown-by number-of (begun-by store-bind bare seven-nine) being 13 ∷
@@ -376,4 +381,6 @@ stores =
     "terminate leaves them" shown-by left ending (fields + 0) being 7 ∷
     "the guard s0<d0 of instance 1 holds" shown-by number-of (watching (board 0 0)) being 0 ∷
     "instance 0 raises s0; it turns false: 13" shown-by number-of (watching (shared-after raising)) being 13 ∷
-    "the state has it" shown-by at (raised-on (board 0 4) .instances) (sharedPlace + 1) being 5 ∷ []
+    "the state has it" shown-by at (raised-on (board 0 4) .instances) (sharedPlace + 1) being 5 ∷
+    "a taskSnd that sets s0 and finds its queue full: 17" shown-by answered (sent-when-full (board 0 4)) being 17 ∷
+    "s0 as before" shown-by at (sent-when-full (board 0 4) .instances) (sharedPlace + 1) being 4 ∷ []

@@ -1,4 +1,4 @@
--- A POST of a tuple g under a name to the queues q. "For a post only 10, 19 and 17 apply, in the order 10, 19, 17."
+-- A POST of a tuple g under a name to the queues q. "For a post only 10, 19 and 17 apply, in the order 10, 19, 17." (RULES: post)
 use Prim.Native.Nat.{ℕ}
 use mathlib.Core.Bool.{Bool, _&&_}
 use mathlib.Core.List.{List, [], _∷_}

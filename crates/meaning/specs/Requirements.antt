@@ -20,11 +20,11 @@ touched cell count = if eqb cell every then count else if eqb cell branch then 1
 unfoldable pub first : ℕ → ℕ → ℕ
 first cell b = if eqb cell branch then b else 0
 
--- "Branch is 0 but for xorSplit, xorJoin and eventBased": those whose moves touch the branch's edge alone have as many branches as edges.
+-- "Branch is 0 but for xorSplit, xorJoin and eventBased": those whose moves touch the branch's edge alone have as many branches as edges. (RULES: names)
 unfoldable pub branchCount : List ℕ → Move → ℕ
 branchCount el m = if eqb (m .takes) branch then entryCount el else if eqb (m .puts) branch then exitCount el else 1
 
--- "startRcv: the instance named is the next unmade one, any other gives 11." The others name one that is made.
+-- "startRcv: the instance named is the next unmade one, any other gives 11." The others name one that is made. (RULES: names)
 unfoldable pub instanceNamed : Move → ℕ → ℕ → Bool
 instanceNamed m i made = if eqb (m .also) making then eqb i made else ltb i made
 
@@ -39,7 +39,7 @@ hasTokens el h m b = all (hasToken el h (first (m .takes) b)) (touched (m .takes
 unfoldable pub canLower : ℕ → ℕ → Bool
 canLower cell count = if eqb cell down then ltb 0 count else true
 
--- "na_nc needs both counts 0"; "under 10 an `na_c` task waits for both counts to be 0, as `na_nc` does".
+-- "na_nc needs both counts 0"; "under 10 an `na_c` task waits for both counts to be 0, as `na_nc` does". (RULES: versions)
 unfoldable pub waits : List ℕ → List ℕ → Bool
 waits el h = eqb (modeIn el) na-nc || eqb (versionSeen h) former
 
@@ -60,7 +60,7 @@ countsPermit el h m b =
 unfoldable pub granted : List ℕ → List ℕ → Move → ℕ → Bool
 granted el h m b = if eqb (m .asks) on then holds el h b else true
 
--- 16. "A `pool` makes at most 1 instance, a `miPool` at most n."
+-- 16. "A `pool` makes at most 1 instance, a `miPool` at most n." (RULES: model)
 unfoldable pub belowLimit : Move → ℕ → ℕ → Bool
 belowLimit m made limit = if eqb (m .also) making then ltb made limit else true
 

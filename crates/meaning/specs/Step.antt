@@ -118,7 +118,7 @@ unfoldable pub space : Site → List ℕ → Bool
 space x q = if sends x then ltb (length (messagesOf q (messageNamed x))) messages else true
 
 -- THE REFUSALS, in the order they are looked at. "Checked in the order of the numbers", but "taskRcv looks for undefined assignments only when
--- the values match: 14 goes before that 13, and that 13 before 15."
+-- the values match: 14 goes before that 13, and that 13 before 15." (RULES: refusals)
 unfoldable pub refusalsAt : Site → List ℕ → List Refusal
 refusalsAt x q =
     12 unless countsPermit (x .element) (x .instance) (x .move) (x .branch) ∷  -- tokens or task counts don't permit the step

@@ -1,5 +1,5 @@
 -- "A template matches a tuple of equal length whose values equal its expressions, worked out before any binding; the rest is bound." So the template
--- of branch b is worked out with the given values g where it binds, and matches when that is g. A message is the same without binds.
+-- of branch b is worked out with the given values g where it binds, and matches when that is g. A message is the same without binds. (RULES: templates)
 use Prim.Native.Nat.{ℕ, _+_}
 use mathlib.Core.Bool.{Bool, _&&_}
 use mathlib.Core.List.{List, [], _∷_}

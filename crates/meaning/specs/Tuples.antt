@@ -1,4 +1,4 @@
--- "A message is a tuple of 0 to 4 defined values. What a call gives behind its values is ignored."
+-- "A message is a tuple of 0 to 4 defined values. What a call gives behind its values is ignored." (RULES: messages)
 use Prim.Native.Nat.{ℕ}
 use mathlib.Core.Bool.{Bool, _&&_}
 use mathlib.Core.List.{List}

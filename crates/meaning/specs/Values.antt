@@ -1,5 +1,5 @@
 -- "A field is 0 to 4,294,967,295 or undefined." "A sum above 4,294,967,295 or a difference below 0 is undefined, and so is all that uses an undefined
--- operand; such a condition holds neither true nor false."
+-- operand; such a condition holds neither true nor false." (RULES: values)
 use Prim.Native.Nat.{ℕ, _+_, _-_}
 use mathlib.Core.Bool.{Bool, true, false}
 use lib.Dec.{ltb, leb, eqb}

@@ -17,7 +17,7 @@ pub data Seen : Type 0 where
   receives : (m : ℕ) (vs : List ℕ) → Seen
   new : (m : ℕ) (vs : List ℕ) → Seen
 
--- document 01's name of a step: "pool number, instance, element place (from 0), phase, branch (from 0) and message values"
+-- document 01's name of a step: "pool number, instance, element place (from 0), phase, branch (from 0) and message values" (RULES: names)
 pub record Named : Type 0 where
   pub pool : ℕ
   pub instance : ℕ
@@ -37,14 +37,14 @@ pub record Runs (C : List Pool) (n : Named) (P : Pool) (el : Element) : Type 0 w
 pub data Steps (v : ℕ) (C : List Pool) (n : Named) (κ : Configuration) : Seen → Configuration → Type 0 where
   -- C-Create: σi(p) = ∅; C-CreateMi: |σi(p)| < n; P from ⟨σe⁰,σd⁰,σt⁰⟩ —new m:ẽt→ ⟨σe,σd,σt⟩, ṽ ∈ σm(m), match(ẽt,ṽ) = A, upd(σd,A,σd′)
   -- new m:ṽ: ⟨addInst(σi,p,⟨σe,σd′,σt⟩), rm(σm,m,ṽ)⟩. (Document 01: the instance named is the next unmade one. Document 02, wish 8: the stores are "seen
-  -- by a startRcv's template", so that only its own fields are those of σd⁰.)
+  -- by a startRcv's template", so that only its own fields are those of σd⁰.) (RULES: stores)
   C-Create : {P : Pool} {el : Element} {m : ℕ} {us : List Evaluated} {A : Assignments} {σ : Local} {σd′ : ℕ → Value}
       → Runs C n P el → n .instance ≡ κ .made (n .pool) → κ .made (n .pool) < P .limit
       → Moves v el (n .phase) (n .branch) (blank beside κ .σds) (Label.new m us) σ
       → 0 < κ .σm m .times (n .values) → Matches us (n .values) A → Updates (σ .σd) A σd′
       → Steps v C n κ (new m (n .values)) (rm (addInst κ (n .pool) (σ fields: σd′)) m (n .values))
   -- C-Internal, C-InternalMi: an instance of σi(p) —τ→ ⟨σe,σd,σt⟩
-  -- τ: ⟨updInst(σi,p,⟨σe,σd,σt⟩)⟩. (Document 01: no values are given.)
+  -- τ: ⟨updInst(σi,p,⟨σe,σd,σt⟩)⟩. (Document 01: no values are given.) (RULES: steps)
   C-Internal : {P : Pool} {el : Element} {l : Internal} {σ : Local}
       → Runs C n P el → n .instance < κ .made (n .pool) → n .values ≡ []
       → Moves v el (n .phase) (n .branch) (seen κ (n .pool) (n .instance)) (Label.τ l) σ
@@ -57,13 +57,13 @@ pub data Steps (v : ℕ) (C : List Pool) (n : Named) (κ : Configuration) : Seen
       → 0 < κ .σm m .times (n .values) → Matches us (n .values) A′ → Updates (σ .σd) (A′ & A) σd′
       → Steps v C n κ (receives m (n .values)) (rm (updInst κ (n .pool) (n .instance) (σ fields: σd′)) m (n .values))
   -- C-Deliver, C-DeliverMi: an instance of σi(p) —!m:ṽ→ ⟨σe,σd,σt⟩
-  -- !m:ṽ: ⟨updInst(σi,p,⟨σe,σd,σt⟩), add(σm,m,ṽ)⟩. (Document 01: no values are given, and a queue holds at most 64.)
+  -- !m:ṽ: ⟨updInst(σi,p,⟨σe,σd,σt⟩), add(σm,m,ṽ)⟩. (Document 01: no values are given, and a queue holds at most 64.) (RULES: steps)
   C-Deliver : {P : Pool} {el : Element} {m : ℕ} {vs : List ℕ} {σ : Local}
       → Runs C n P el → n .instance < κ .made (n .pool) → n .values ≡ []
       → Moves v el (n .phase) (n .branch) (seen κ (n .pool) (n .instance)) (Label.sends m vs) σ
       → κ .σm m .size < 64
       → Steps v C n κ (sends m vs) (add (updInst κ (n .pool) (n .instance) σ) m vs)
 
--- document 01's delivery from outside: add(σm,m,ṽ), for a name 0 to 15 and at most 4 values, where the queue holds fewer than 64
+-- document 01's delivery from outside: add(σm,m,ṽ), for a name 0 to 15 and at most 4 values, where the queue holds fewer than 64 (RULES: post)
 pub data Posts (κ : Configuration) (m : ℕ) (vs : List ℕ) : Configuration → Type 0 where
   posted : m < 16 → length vs ≤ 4 → κ .σm m .size < 64 → Posts κ m vs (add κ m vs)

@@ -1,5 +1,5 @@
 -- eval, upd and match of figure 6 and appendix B. What a value, a sum, a difference and a truth are is document 01's: "A sum above 4,294,967,295 or a
--- difference below 0 is undefined, and so is all that uses an undefined operand; such a condition holds neither true nor false."
+-- difference below 0 is undefined, and so is all that uses an undefined operand; such a condition holds neither true nor false." (RULES: values)
 use Prim.Native.Nat.{ℕ}
 use mathlib.Core.Path.{_≡_}
 use mathlib.Core.List.{List, [], _∷_}

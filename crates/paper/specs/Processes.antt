@@ -1,6 +1,6 @@
 -- FIGURES 7 TO 9: the transitions of one process instance. Above each constructor stands its line of the figure.
 -- Document 01 names a step's rule by its phase and branch: phase 0 but for tasks that are not atomic, branch 0 but where a line has a choice.
--- v is the version that the state was made for; no rule changes it. `room` is document 01's: no edge and no task count, after the taking, passes 255. The paper has no such bound.
+-- v is the version that the state was made for; no rule changes it. `room` is document 01's: no edge and no task count, after the taking, passes 255. The paper has no such bound. (RULES: steps)
 use Prim.Native.Nat.{ℕ, _<_}
 use mathlib.Core.Path.{_≡_}
 use mathlib.Core.List.{List}
@@ -26,11 +26,11 @@ pub data Label : Type 0 where
 abbrev pub isInactive : Local → ℕ → Type 0
 isInactive σ n = (σ .active n ≡ 0) × (σ .ready n ≡ 0)
 
--- under version v a task of mode N waits until it is inactive. (The paper: N = na_nc. Document 02, wish 7: "under 10 an `na_c` task waits .., as `na_nc` does".)
+-- under version v a task of mode N waits until it is inactive. (The paper: N = na_nc. Document 02, wish 7: "under 10 an `na_c` task waits .., as `na_nc` does".) (RULES: versions)
 abbrev pub waits : ℕ → Mode → Type 0
 waits v N = (N ≡ na-nc) ⊎ (v ≡ 10)
 
--- below the greatest count of document 01
+-- below the greatest count of document 01 (RULES: steps)
 abbrev pub room : (ℕ → ℕ) → ℕ → Type 0
 room σ k = σ k < 255
 
@@ -62,7 +62,7 @@ pub data Moves (v : ℕ) : Element → ℕ → ℕ → Local → Label → Local
   P-AndSplit : {e : ℕ} {E : List ℕ} {σ : Local} → 0 < σ .σe e → Each (room (dec (σ .σe) e)) E
       → Moves v (andSplit e E) 0 0 σ (τ Internal.ε) (σ edges: incs (dec (σ .σe) e) E)
   -- xorSplit(e,{(e′,exp)} ∪ G) —ε→ ⟨inc(dec(σe,e),e′)⟩   σe(e) > 0, eval(exp,σd,true)
-  -- (document 02, wish 6: "and all earlier ones other than default are false")
+  -- (document 02, wish 6: "and all earlier ones other than default are false") (RULES: branches)
   P-XorSplit1 : {e b : ℕ} {G : List Choice} {g : Choice} {σ : Local} → Stands g b G → 0 < σ .σe e → truth (σ .σd) (g .condition) ≡ True
       → ((j : ℕ) (c : Choice) → Stands c j G → j < b → (c .condition ≡ default → ⊥) → truth (σ .σd) (c .condition) ≡ False) → room (dec (σ .σe) e) (g .exit)
       → Moves v (xorSplit e G) 0 b σ (τ Internal.ε) (σ edges: inc (dec (σ .σe) e) (g .exit))
@@ -90,7 +90,7 @@ pub data Moves (v : ℕ) : Element → ℕ → ℕ → Local → Label → Local
       → Templates (σ .σd) ts us → room (dec (σ .σe) e) e′
       → Moves v (taskRcv e n a c A m ts e′) 0 0 σ (receives m us A) (σ edges: inc (dec (σ .σe) e) e′)
   -- taskSnd(e,n,a,exp′,A,m:e͠xp,e′) —!m:ṽ→ ⟨inc(dec(σe,e),e′),σd′⟩   σe(e) > 0, eval(exp′,σd,true), upd(σd,A,σd′), eval(e͠xp,σd,ṽ)
-  -- (document 01: "taskSnd assigns, then works out its message", so it is eval(e͠xp,σd′,ṽ))
+  -- (document 01: "taskSnd assigns, then works out its message", so it is eval(e͠xp,σd′,ṽ)) (RULES: steps)
   P-TaskSnd-A : {e n m e′ : ℕ} {c : Cond} {A : Assignments} {xs : List Exp} {vs : List ℕ} {σ : Local} {σd′ : ℕ → Value} → 0 < σ .σe e → truth (σ .σd) c ≡ True
       → Updates (σ .σd) A σd′ → Evals σd′ xs vs → room (dec (σ .σe) e) e′
       → Moves v (taskSnd e n a c A m xs e′) 0 0 σ (sends m vs) (σ edges: inc (dec (σ .σe) e) e′ fields: σd′)

@@ -9,7 +9,7 @@ use Rattle.meaning.specs.declared.Value.the-variants.{Undefined}
 
 -- ⟨σe, σd, σt⟩: tokens of edges, data, and for tasks how often each is active and how often it is ready. (Ready is the paper's status s of a
 -- taskSnd and its r of a taskRcv: no task has both.) σd is what an instance sees, "the triple (σdo, σdc, σds) representing the state of all data
--- elements": of data objects fields 0 to 15, of data stores fields 16 to 31 (document 02, wish 8: s0 to s15), no data collections.
+-- elements": of data objects fields 0 to 15, of data stores fields 16 to 31 (document 02, wish 8: s0 to s15), no data collections. (RULES: stores)
 pub record Local : Type 0 where
   pub σe : ℕ → ℕ
   pub σd : ℕ → Value

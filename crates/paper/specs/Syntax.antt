@@ -1,4 +1,4 @@
--- THE SYNTAX of figure 3, as far as document 01 builds it. Edges, tasks, fields, message names and pools are numbers.
+-- THE SYNTAX of figure 3, as far as document 01 builds it. Edges, tasks, fields, message names and pools are numbers. (RULES: elements)
 use Prim.Native.Nat.{ℕ, suc}
 use mathlib.Core.List.{List, [], _∷_}
 
@@ -53,7 +53,7 @@ pub record Receipt : Type 0 where
   pub template : List Item
   pub exit : ℕ
 
--- the elements of a process, in the order of document 01
+-- the elements of a process, in the order of document 01 (RULES: elements)
 pub data Element : Type 0 where
   start : (e e′ : ℕ) → Element
   startRcv : (m : ℕ) (ts : List Item) (e : ℕ) → Element

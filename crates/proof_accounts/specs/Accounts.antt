@@ -23,7 +23,7 @@ use Rattle.engine.specs.Engine.{valid, stepped, postedTo}
 abbrev pub Given : List ℕ → List ℕ → List Entry → List ℕ → Type 0
 Given t z h y = GivenBy (stepped t) (postedTo t) z h y
 
--- "from the fresh state of a valid table in either version, refused ones among them"
+-- "from the fresh state of a valid table in either version, refused ones among them" (RULES: accounts)
 pub record FromFresh (t : List ℕ) (v : ℕ) (h : List Entry) (y : List ℕ) : Type 0 where
   pub table : valid t ≡ true
   pub version : isVersion v ≡ true
@@ -36,7 +36,7 @@ pub record Belongs (t : List ℕ) (n : Name) (y : List ℕ) (p i : ℕ) : Type 0
   pub instance : i ≡ n .instance
   pub there : i < madeCount (instancesOf y) p
 
--- one that was made before; "for startRcv the one it makes"
+-- one that was made before; "for startRcv the one it makes" (RULES: accounts)
 unfoldable pub Stood : List ℕ → Name → ℕ → ℕ → Type 0
 Stood t n before after = (n .instance < before) × (after ≡ before)
 
@@ -53,9 +53,9 @@ pub record OneInstance (t : List ℕ) (n : Name) (z y : List ℕ) (p : ℕ) : Ty
 
 -- WHAT IS CLAIMED of a history and its last state
 pub record Accounted (t : List ℕ) (h : List Entry) (y : List ℕ) : Type 0 where
-  -- "for each name and tuple: posted + sent = queued + consumed"
+  -- "for each name and tuple: posted + sent = queued + consumed" (RULES: accounts)
   pub balanced : (m : ℕ) (g : Tuple) → balances (accountsOf m g h y) ≡ true
-  -- "nothing gets lost or used twice"
+  -- "nothing gets lost or used twice" (RULES: accounts)
   pub matched : Matched h (sourceOf h)
-  -- "no pool has more instances than its limit"
+  -- "no pool has more instances than its limit" (RULES: accounts)
   pub limited : (p : ℕ) → p < poolCount t → madeCount (instancesOf y) p ≤ limitOf t p

@@ -1,4 +1,4 @@
--- RUNS AND POLLS IN A HISTORY: "a batch stands in the history as its items given one by one up to the first refused one", a run as its steps. t is a table, z a state.
+-- RUNS AND POLLS IN A HISTORY: "a batch stands in the history as its items given one by one up to the first refused one", a run as its steps. t is a table, z a state. (RULES: accounts)
 use Prim.Native.Nat.{ℕ, _+_}
 use mathlib.Core.List.{List, [], _∷_, _++_}
 use lib.Dec.{ltb}

@@ -1,5 +1,5 @@
 -- A SESSION ACCOUNTED FOR, on document 01's own model: "posts 3:7, 3:7, one refused (name 16), 3:7,7; startRcv with 8 refused (15), with 7 accepted; pool 1 sends 3:7; startRcv with 7 accepted; a third refused (16).
--- For (3, 7): 2 + 1 = 1 + 2. For (3, 7,7): 1 + 0 = 1 + 0. A history with the send left out, a post told twice or a queue with one message fewer doesn't add up."
+-- For (3, 7): 2 + 1 = 1 + 2. For (3, 7,7): 1 + 0 = 1 + 0. A history with the send left out, a post told twice or a queue with one message fewer doesn't add up." (RULES: accounts)
 use Prim.Native.Nat.{ℕ}
 use mathlib.Core.List.{List, [], _∷_, _++_}
 use Rattle.base_words.specs.Text.{bytes}

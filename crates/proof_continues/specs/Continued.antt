@@ -20,7 +20,7 @@ abbrev pub Nowhere : List ℕ → ℕ → Type 0
 Nowhere t p = (w : List ℕ) → (n : ℕ) × (model (resumed t p w) .end ≡ Refused n (placeOf (resumed t p w) p))
 
 -- "2: the token at this place (or the text's end) continues no text of the notation", but what stands before it does go on: to a text that is read
--- whole; or, where a count is full, to nothing but the first item too many
+-- whole; or, where a count is full, to nothing but the first item too many (RULES: places)
 pub data GoesOn (t : List ℕ) (p : ℕ) : Type 0 where
   whole : (w : List ℕ) → model (resumed t p w) .end ≡ At (length (resumed t p w)) → GoesOn t p
   tooMany : (w : List ℕ) → model (resumed t p w) .end ≡ Refused excessive (p + 1) → Nowhere t p → GoesOn t p
@@ -37,7 +37,7 @@ isNumeral t p = startsNumber t p || startsField t p
 unfoldable pub startsItem : List ℕ → ℕ → Bool
 startsItem t p = isNumeral t p || (startsSign (code "?") t p || (startsSign (code "(") t p || (startsElement t p || startsPool t p)))
 
--- "3: a number is outside its range or a count above it": with another number or field the text goes on; or the token starts an item, and nothing goes on
+-- "3: a number is outside its range or a count above it": with another number or field the text goes on; or the token starts an item, and nothing goes on (RULES: places)
 pub data Exceeds (t : List ℕ) (p : ℕ) : Type 0 where
   range : isNumeral t p ≡ true → (w : List ℕ) → isNumeral (resumed t p w) p ≡ true → model (resumed t p w) .end ≡ At (length (resumed t p w)) → Exceeds t p
   count : startsItem t p ≡ true → Nowhere t p → Exceeds t p

@@ -21,6 +21,7 @@ use Rattle.engine.specs.declared.Written.{Written}
 use Rattle.state_figures.specs.Figures.{Figured}
 use Rattle.engine.specs.Engine.{Left, Stepped, RanTo, WrittenTo}
 use Rattle.engine.specs.Desk.{AtDesk}
+use Rattle.engine.specs.Replay.{Replayed}
 use Rattle.engine.specs.Calls.{Act, aStep, aPost, did, numbers, after}
 use Rattle.engine.proofs.check.Reads as check
 use Rattle.engine.proofs.fresh.Reads as fresh
@@ -33,6 +34,8 @@ use Rattle.engine.proofs.draw.Reads as draw
 use Rattle.engine.proofs.write.Reads as write
 use Rattle.engine.proofs.poll.Reads as poll
 use Rattle.engine.proofs.judge.Reads as judge
+use Rattle.engine.proofs.replay.Reads as replay
+use Rattle.engine.proofs.resume.Reads as resume
 use Rattle.engine.proofs.repair.Reads as repair
 use Rattle.engine.proofs.figures.Reads as figures
 use Rattle.engine.proofs.nested.Reads as nested
@@ -94,6 +97,20 @@ module _ (κ : Two) where
         ap (λ (o : Repair). record { number = o .number; length = o .length; kept = o .kept; dropped = o .dropped }) p,
         ap (λ (o : Repair). o .buffer) p,
       )
+
+-- a log, and a state that is lent with it
+module _ (κ : Three) where
+  pub replay-firm : (t log z t₁ t₂ log₁ log₂ z₁ z₂ : Lent) (v v₁ v₂ : ℕ) (r₁ r₂ : Judged)
+      → replay.Post κ (t, (v, (log, (z, tt)))) r₁ (t₁, (v₁, (log₁, (z₁, tt)))) → replay.Post κ (t, (v, (log, (z, tt)))) r₂ (t₂, (v₂, (log₂, (z₂, tt))))
+      → (r₁ ≡ r₂) × (now z₁ ≡ now z₂)
+  replay-firm t log z t₁ t₂ log₁ log₂ z₁ z₂ v v₁ v₂ r₁ r₂ p₁ p₂ =
+      let p = p₁ ∙ sym p₂ in (ap (λ (o : Replayed). o .answer) p, ap (λ (o : Replayed). o .state) p)
+
+  pub resume-firm : (t z log t₁ t₂ z₁ z₂ log₁ log₂ : Lent) (r₁ r₂ : Judged)
+      → resume.Post κ (t, (z, (log, tt))) r₁ (t₁, (z₁, (log₁, tt))) → resume.Post κ (t, (z, (log, tt))) r₂ (t₂, (z₂, (log₂, tt)))
+      → (r₁ ≡ r₂) × (now z₁ ≡ now z₂)
+  resume-firm t z log t₁ t₂ z₁ z₂ log₁ log₂ r₁ r₂ p₁ p₂ =
+      let p = p₁ ∙ sym p₂ in (ap (λ (o : Replayed). o .answer) p, ap (λ (o : Replayed). o .state) p)
 
 -- the calls with records
 module _ (κ : Three) where

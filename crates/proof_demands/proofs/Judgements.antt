@@ -28,7 +28,7 @@ use Rattle.proof_demands.proofs.StatesLeft.{step-number, post-number}
 
 -- what holds of the number of a log that is lawful, of one with an event at fault and of a text that is no log holds of every number
 module _ (f : ℕ → Bool) (none : f 0 ≡ true) (event : f 24 ≡ true) where
-  lines-among : (take : List ℕ → List ℕ → Taking) (ws : List (List ℕ)) (k : ℕ) (z : List ℕ) → f (judgedBy take ws k z .number) ≡ true
+  pub lines-among : (take : List ℕ → List ℕ → Taking) (ws : List (List ℕ)) (k : ℕ) (z : List ℕ) → f (judgedBy take ws k z .number) ≡ true
   unfolding judgedBy
   lines-among take [] k z = none
   lines-among take (w ∷ ws) k z =
@@ -39,7 +39,7 @@ module _ (f : ℕ → Bool) (none : f 0 ≡ true) (event : f 24 ≡ true) where
       (λ d. event))
       (λ e. event)
 
-  end-among : f 23 ≡ true → (s : Skipped) (j : Judged) → f (j .number) ≡ true → f (judgedEnd s j .number) ≡ true
+  pub end-among : f 23 ≡ true → (s : Skipped) (j : Judged) → f (j .number) ≡ true → f (judgedEnd s j .number) ≡ true
   unfolding judgedEnd
   end-among text (Past q) j h = h
   end-among text (Fault q) j h = text
@@ -80,7 +80,7 @@ module _ (t : List ℕ) where
   act-own (aPost name g) z v = rw (post-number t z v name g) (first-among (among ownNumbers) (postRefusals (queuesOf z) name g) refl refl)
 
   -- what a line does
-  line-own : (w z : List ℕ) → Valid t z → (among ownNumbers (taken (stepped t) (postedTo t) w z .number) ≡ true) × Valid t (taken (stepped t) (postedTo t) w z .state)
+  pub line-own : (w z : List ℕ) → Valid t z → (among ownNumbers (taken (stepped t) (postedTo t) w z .number) ≡ true) × Valid t (taken (stepped t) (postedTo t) w z .state)
   unfolding taken takenBy did
   line-own w z v =
       let post : Act = aPost (entryOf w .name .pool) (entryOf w .name .given) in

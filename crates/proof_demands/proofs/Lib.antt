@@ -22,6 +22,7 @@ pub mod NeverBad
 pub mod PollSteps
 pub mod Polls
 pub mod Judgements
+pub mod Replays
 pub mod RepairNumbers
 pub mod Boards
 pub mod Counted

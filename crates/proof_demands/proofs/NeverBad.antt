@@ -1,4 +1,4 @@
--- NO CALL ANSWERS 10, 25 OR 26 to a table that was read, a state that the engine made of it, by fresh for version 10 or 20, then by any steps, posts, runs and polls, and the records that it left beside it, which are
+-- NO CALL ANSWERS 10, 25 OR 26 to a table that was read, a state that the engine made of it, by fresh for version 10 or 20 or out of a lawful log, then by any steps, posts, runs, polls and further logs, and the records that it left beside it, which are
 -- what a count over it gives. Assumes nothing.
 use Prim.Native.Nat.{ℕ}
 use mathlib.Core.Path.{_≡_, refl, sym, _∙_, ap, subst}
@@ -30,6 +30,7 @@ use Rattle.engine.specs.Engine.{valid, verdictOf, askedNumber, freshened, fitti
 use Rattle.engine.specs.Desk.{steppedAt, ranAt, polledAt, figuredTo}
 use Rattle.engine.specs.Calls.{Act, aStep, aPost, did, Valid, polledTo, judgedTo}
 use Rattle.engine.specs.Profile.{nestedOf}
+use Rattle.engine.specs.Replay.{replayedTo, resumedTo}
 use Rattle.engine.proofs.CallLaws.{lent-zero, asked-good}
 use Rattle.engine.proofs.ProfileLaws.{by-nested}
 use Rattle.engine.proofs.KeepsValid.{did-valid}
@@ -41,6 +42,7 @@ use Rattle.proof_demands.proofs.ListAndRun.{list-number, run-number-is}
 use Rattle.proof_demands.proofs.PollSteps.{by-first, polled-valid}
 use Rattle.proof_demands.proofs.AtDesk.{step-agrees, run-agrees, poll-agrees, figured-zero}
 use Rattle.proof_demands.proofs.Judgements.{judged-among}
+use Rattle.proof_demands.proofs.Replays.{replay-answer, resume-among}
 use Rattle.proof_demands.proofs.ReadAndWrite.{written-number}
 use Rattle.proof_demands.proofs.TextsAndTables.{read-valid, read-then-check}
 
@@ -132,6 +134,12 @@ poll-other t z v w count =
 judge-other : (t : List ℕ) → valid t ≡ true → (v : ℕ) → isVersion v ≡ true → (log : List ℕ) → Right (judgedTo t v log .number)
 judge-other t h v k log = other (judgedTo t v log .number) (judged-among t v log Other refl refl refl (asked-good t v h k))
 
+replay-other : (t : List ℕ) → valid t ≡ true → (v : ℕ) → isVersion v ≡ true → (log z : List ℕ) → Right (replayedTo t v log z .answer .number)
+replay-other t h v k log z = rw (replay-answer t v log z) (judge-other t h v k log)
+
+resume-other : (t z : List ℕ) → Valid t z → (log : List ℕ) → Right (resumedTo t z log .answer .number)
+resume-other t z v log = other (resumedTo t z log .answer .number) (resume-among t z (v .fits) log Other refl refl refl)
+
 write-other : (t out : List ℕ) → valid t ≡ true → Right (writtenTo t out .number)
 write-other t out v =
     other (writtenTo t out .number)
@@ -160,4 +168,6 @@ never-bad text t₀ n z m =
       figures = figures-other t z s;
       judge = judge-other t v;
       nested = nested-other t v;
+      replay = replay-other t v;
+      resume = resume-other t z s;
     }

@@ -27,10 +27,12 @@ use Rattle.engine.proofs.draw.Reads as draw
 use Rattle.engine.proofs.write.Reads as write
 use Rattle.engine.proofs.poll.Reads as poll
 use Rattle.engine.proofs.judge.Reads as judge
+use Rattle.engine.proofs.replay.Reads as replay
+use Rattle.engine.proofs.resume.Reads as resume
 use Rattle.engine.proofs.repair.Reads as repair
 use Rattle.engine.proofs.figures.Reads as figures
 use Rattle.engine.proofs.nested.Reads as nested
-use Rattle.proof_demands.specs.Promises.{Checks, Freshens, Steps, Posts, Lists, Runs, Reads, Draws, Writes, Polls, Figures, Judges, Repairs, Nests}
+use Rattle.proof_demands.specs.Promises.{Checks, Freshens, Steps, Posts, Lists, Runs, Reads, Draws, Writes, Polls, Figures, Judges, Replays, Resumes, Repairs, Nests}
 use Rattle.proof_demands.specs.Demands.{Allowed}
 
 -- a slice or an array that is lent, the desk's records, and the lifetimes of one, of two, of three and of four
@@ -89,6 +91,15 @@ module _ (κ : Two) where
       → (post.Post κ (t, (z, (name, (g, tt)))) r (t₁, (z₁, (name₁, (g₁, tt)))) × (rs ≡ rs)) ≡ Allowed (now t) (aPost name g) (now z) rs r (now z₁) rs
   unfolding Allowed
   post-allowed t z t₁ z₁ rs name name₁ g g₁ r = refl
+
+-- a log, and a state that is lent with it
+module _ (κ : Three) where
+  pub replay-promise : (t log z t₁ log₁ z₁ : Lent) (v v₁ : ℕ) (r : Judged)
+      → replay.Post κ (t, (v, (log, (z, tt)))) r (t₁, (v₁, (log₁, (z₁, tt)))) ≡ Replays (now t) v (now log) (now z) r (now z₁)
+  replay-promise t log z t₁ log₁ z₁ v v₁ r = refl
+
+  pub resume-promise : (t z log t₁ z₁ log₁ : Lent) (r : Judged) → resume.Post κ (t, (z, (log, tt))) r (t₁, (z₁, (log₁, tt))) ≡ Resumes (now t) (now z) (now log) r (now z₁)
+  resume-promise t z log t₁ z₁ log₁ r = refl
 
 -- THE CALLS WITH RECORDS
 module _ (κ : Three) where

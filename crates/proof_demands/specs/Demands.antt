@@ -31,10 +31,11 @@ use Rattle.engine.specs.Engine.{verdictOf, freshened, lentNumber, fitting, post
 use Rattle.engine.specs.Calls.{Act, aStep, aPost, did, after, polledTo, judgedTo}
 use Rattle.engine.specs.Desk.{steppedAt, ranAt, polledAt, figuredTo}
 use Rattle.engine.specs.Profile.{nestedOf}
+use Rattle.engine.specs.Replay.{replayedTo, resumedTo}
 use Rattle.proof_demands.specs.Promises.{Steps, Posts}
 
 -- DEMAND 1. "Bad ones are refused with the number document 01 gives": 10 where table or state are bad, 25 for another version, else that of the first
--- condition that does not hold
+-- condition that does not hold (RULES: calls)
 unfoldable pub numberGiven : List ℕ → Act → List ℕ → ℕ
 numberGiven t (aStep n) z = if fitting t z then firstRefusal (refusals t (instancesOf z) (queuesOf z) n) else lentNumber t z
 numberGiven t (aPost name g) z = if fitting t z then firstRefusal (postRefusals (queuesOf z) name g) else lentNumber t z
@@ -136,7 +137,7 @@ ranGiven t limit z =
     }
 
 -- DEMAND 3. "two valid states of one model, alike but for further messages in the second's queues": equal instances, and in each queue exactly the
--- further messages e more, "equal ones counted singly". The version stands with the instances, so that "states of one version" is said by `alike`
+-- further messages e more, "equal ones counted singly". The version stands with the instances, so that "states of one version" is said by `alike` (RULES: calls)
 pub record Further (e : ℕ → List Tuple) (z₁ z₂ : List ℕ) : Type 0 where
   pub alike : instancesOf z₁ ≡ instancesOf z₂
   pub more : (m : ℕ) → m < names → (g : Tuple) → times g (messagesOf (queuesOf z₂) m) ≡ times g (messagesOf (queuesOf z₁) m) + times g (e m)
@@ -192,6 +193,8 @@ pub record NeverBad (t z : List ℕ) : Type 0 where
   pub figures : (rs : List (List ℕ)) → length rs ≡ poolCount t → Right (figuredTo t z rs .number)
   pub judge : (v : ℕ) → isVersion v ≡ true → (log : List ℕ) → Right (judgedTo t v log .number)
   pub nested : Right (nestedOf t .number)
+  pub replay : (v : ℕ) → isVersion v ≡ true → (log y : List ℕ) → Right (replayedTo t v log y .answer .number)
+  pub resume : (log : List ℕ) → Right (resumedTo t z log .answer .number)
 
 -- how many steps are accepted
 unfoldable pub acceptedSteps : List ℕ → List ℕ → ℕ

@@ -23,6 +23,7 @@ use Rattle.engine.specs.Calls.{polledTo, judgedTo}
 use Rattle.engine.specs.Profile.{nestedOf}
 use Rattle.engine.specs.Engine.{Left, Stepped, RanTo, WrittenTo, verdictOf, freshened, stepped, postedTo, listedAt, ranTo, writtenTo}
 use Rattle.engine.specs.Desk.{AtDesk, steppedAt, ranAt, polledAt, figuredTo}
+use Rattle.engine.specs.Replay.{Replayed, replayedTo, resumedTo}
 
 abbrev pub Checks : List ℕ → Verdict → Type 0
 Checks t r = r ≡ verdictOf t
@@ -61,6 +62,12 @@ Figures t z rs r ys = _≡_ {A = Figured} (record { number = r; records = ys }) 
 
 abbrev pub Judges : List ℕ → ℕ → List ℕ → Judged → Type 0
 Judges t v log r = r ≡ judgedTo t v log
+
+abbrev pub Replays : List ℕ → ℕ → List ℕ → List ℕ → Judged → List ℕ → Type 0
+Replays t v log z r y = _≡_ {A = Replayed} (record { answer = r; state = y }) (replayedTo t v log z)
+
+abbrev pub Resumes : List ℕ → List ℕ → List ℕ → Judged → List ℕ → Type 0
+Resumes t z log r y = _≡_ {A = Replayed} (record { answer = r; state = y }) (resumedTo t z log)
 
 abbrev pub Repairs : List ℕ → List ℕ → Repaired → List ℕ → Type 0
 Repairs text out r y = _≡_ {A = Repair} (record { number = r .number; length = r .length; kept = r .kept; dropped = r .dropped; buffer = y }) (repairedTo text out)

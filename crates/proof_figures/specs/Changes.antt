@@ -1,4 +1,4 @@
--- WHAT A STEP DOES TO THE RECORD w OF ITS POOL, in the words of wish 9's reading: only two changes are possible.
+-- WHAT A STEP DOES TO THE RECORD w OF ITS POOL, in the words of wish 9's reading: only two changes are possible. (RULES: figures)
 use Prim.Native.Nat.{ℕ, _+_, _-_}
 use mathlib.Core.Bool.{Bool}
 use mathlib.Core.List.{List, [], _∷_}
@@ -12,11 +12,11 @@ use Rattle.meaning.specs.declared.Name.{Name}
 use Rattle.meaning.specs.Step.{poolNamed, elementNamed, instancesAfter}
 use Rattle.state_figures.specs.Figures.{isFinished}
 
--- "made and unfinished one more"
+-- "made and unfinished one more" (RULES: figures)
 abbrev pub oneMade : List ℕ → List ℕ
 oneMade w = (at w 0 + 1) ∷ (at w 1 + 1) ∷ at w 2 ∷ []
 
--- "unfinished one less, finished one more"
+-- "unfinished one less, finished one more" (RULES: figures)
 abbrev pub oneFinished : List ℕ → List ℕ
 oneFinished w = at w 0 ∷ (at w 1 - 1) ∷ (at w 2 + 1) ∷ []
 

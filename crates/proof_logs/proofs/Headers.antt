@@ -29,6 +29,7 @@ use Rattle.xml_markup.specs.Tokens.{endOf, wholeInTag, wholeInInstruction, whol
 use Rattle.xml_markup.specs.Markup.{advance, scanFrom, scan, beginsAt, opensMarkup, marked, placed, markup}
 use Rattle.xml_markup.specs.Spans.{isOf, run, hasSecond, nameAt, bytesOf, opener, localFrom, localOf, behindColon}
 use Rattle.xml_markup.proofs.CutLaws.{cut-off}
+use Rattle.xml_skip.specs.declared.Skipped.{Skipped}
 use Rattle.xml_skip.specs.declared.Skipped.the-variants.{Past}
 use Rattle.xml_skip.specs.declared.Part.the-variants.{Element as PartElement, Close as PartClose}
 use Rattle.xml_skip.specs.Skipping.{partFor, partAt, tagBy, tagOf, behind as onward, byTag, elementBy, byPart, contentBy, contentIn, contentAt, elementAt, skipped}
@@ -50,7 +51,7 @@ abbrev pub declaration : List ℕ
 declaration = bytes "<?xml version=\"1.0\" encoding=\"UTF-8\"?>\n"
 
 abbrev pub logTag : List ℕ
-logTag = bytes "<log xes.version=\"1.0\" xes.features=\"\" xmlns=\"http://www.xes-standard.org/\">"
+logTag = bytes "<log xes.version=\"1849.2016\" xes.features=\"\" xmlns=\"http://www.xes-standard.org/\">"
 
 abbrev pub extensionTag : List ℕ
 extensionTag = bytes "<extension name=\"Concept\" prefix=\"concept\" uri=\"http://www.xes-standard.org/concept.xesext\"/>"
@@ -59,7 +60,7 @@ abbrev pub globalText : List ℕ
 globalText = bytes "<global scope=\"event\"><string key=\"concept:name\" value=\"UNKNOWN\"/></global>"
 
 abbrev pub classifierTag : List ℕ
-classifierTag = bytes "<classifier name=\"Event Name\" keys=\"concept:name\"/>"
+classifierTag = bytes "<classifier name=\"Event-Name\" keys=\"concept:name\"/>"
 
 abbrev pub runTag : List ℕ
 runTag = bytes "<string key=\"concept:name\" value=\"run\"/>"
@@ -103,11 +104,11 @@ module _ (y : List ℕ) where
   declaration-passed = rw (no-blank t (bytes "?xml version=\"1.0\" encoding=\"UTF-8\"?>\n" ++ (logTag ++ y)) 0 refl, lt-leb (length t) 0 (omega (arith, length-append declaration (logTag ++ y))), declaration-opens, no-data, declaration-markup) refl
 
   is-log : StartAt t (bytes "log") 39
-  is-log = log-start t (bytes "xes.version=\"1.0\" xes.features=\"\" xmlns=\"http://www.xes-standard.org/\">" ++ y) 39 refl
+  is-log = log-start t (bytes "xes.version=\"1849.2016\" xes.features=\"\" xmlns=\"http://www.xes-standard.org/\">" ++ y) 39 refl
 
   log-next : outsideAt t (run Blanks t 38) ≡ Element 39
   unfolding outsideAt tagAt tagFor if_then_else_
-  log-next = rw (newline t (bytes "log xes.version=\"1.0\" xes.features=\"\" xmlns=\"http://www.xes-standard.org/\">" ++ y) 38 refl, lt-leb (length t) 39 (omega (arith, length-append declaration (logTag ++ y), length-append logTag y)), is-log .opens) refl
+  log-next = rw (newline t (bytes "log xes.version=\"1849.2016\" xes.features=\"\" xmlns=\"http://www.xes-standard.org/\">" ++ y) 38 refl, lt-leb (length t) 39 (omega (arith, length-append declaration (logTag ++ y), length-append logTag y)), is-log .opens) refl
 
   root-in : (n : ℕ) → outsideIn (suc (suc n)) t 0 ≡ Element 39
   unfolding outsideIn further
@@ -126,7 +127,7 @@ module _ (y : List ℕ) where
   pub log-named : bytesOf t (nameAt t 39) ≡ bytes "log"
   log-named = is-log .named
 
-  pub started : length t ≤ logMost → start t ≡ On (inLog 39 115)
+  pub started : length t ≤ logMost → start t ≡ On (inLog 39 121)
   unfolding start begin beginBy tagOf tagBy if_then_else_
   started h = rw (le-ltb logMost (length t) h, root-is, log-markup t y 39 refl) refl
 
@@ -227,12 +228,12 @@ module _ (t x : List ℕ) (p q : ℕ) (log-is : bytesOf t (nameAt t p) ≡ bytes
   classifier-stands = rest t _ 10 (past-global .at) behind-global
 
   is-classifier : StartAt t (bytes "classifier") (past-global .at + 1)
-  is-classifier = classifier-start t (bytes "name=\"Event Name\" keys=\"concept:name\"/>" ++ (10 ∷ (bytes "<trace>" ++ (runTag ++ x)))) (past-global .at + 1) classifier-stands
+  is-classifier = classifier-start t (bytes "name=\"Event-Name\" keys=\"concept:name\"/>" ++ (10 ∷ (bytes "<trace>" ++ (runTag ++ x)))) (past-global .at + 1) classifier-stands
 
   classifier-passed : advanced t past-global ≡ On past-classifier
   unfolding sameBytes localOf localFrom behindColon if_then_else_
   classifier-passed =
-      at-element t (bytes "classifier name=\"Event Name\" keys=\"concept:name\"/>" ++ (10 ∷ (bytes "<trace>" ++ (runTag ++ x)))) (bytes "classifier") past-global (past-global .at + 1) (newline t _ (past-global .at) behind-global) classifier-stands is-classifier
+      at-element t (bytes "classifier name=\"Event-Name\" keys=\"concept:name\"/>" ++ (10 ∷ (bytes "<trace>" ++ (runTag ++ x)))) (bytes "classifier") past-global (past-global .at + 1) (newline t _ (past-global .at) behind-global) classifier-stands is-classifier
       ∙ passed-in-log t (bytes "classifier") past-global (past-global .at + 1) (past-classifier .at) is-classifier refl refl refl (skipped-empty t (past-global .at + 1) (past-classifier .at) (classifier-markup t (10 ∷ (bytes "<trace>" ++ (runTag ++ x))) (past-global .at + 1) classifier-stands))
 
   behind-classifier : drop (past-classifier .at) t ≡ 10 ∷ (bytes "<trace>" ++ (runTag ++ x))
@@ -268,11 +269,11 @@ module _ (t x : List ℕ) (p q : ℕ) (log-is : bytesOf t (nameAt t p) ≡ bytes
   pub in-trace : InTrace t (bytes "log") (bytes "trace") past-name
   in-trace = record { level-is = refl; log-is = log-is; trace-is = is-trace .named; opened-is = ne-eqb (past-name .opened) 0 (λ e. omega (arith, e)) }
 
-  pub header-read : (m : ℕ) (lines : List (List ℕ)) → Reads t m past-name lines → Reads t (suc (suc (suc (suc (suc m))))) at-log lines
+  pub header-read : (e : Skipped) (o m : ℕ) (lines : List (List ℕ)) → Reads t e o m past-name lines → Reads t e o (suc (suc (suc (suc (suc m))))) at-log lines
   unfolding closesEvent
-  header-read m lines r =
-      reads-on t (suc (suc (suc (suc m)))) at-log past-extension lines extension-passed
-      (reads-on t (suc (suc (suc m))) past-extension past-global lines global-passed
-      (reads-on t (suc (suc m)) past-global past-classifier lines classifier-passed
-      (reads-on t (suc m) past-classifier at-trace lines trace-entered
-      (reads-on t m at-trace past-name lines name-passed r refl) refl) refl) refl) refl
+  header-read e o m lines r =
+      reads-on t e o (suc (suc (suc (suc m)))) at-log past-extension lines extension-passed
+      (reads-on t e o (suc (suc (suc m))) past-extension past-global lines global-passed
+      (reads-on t e o (suc (suc m)) past-global past-classifier lines classifier-passed
+      (reads-on t e o (suc m) past-classifier at-trace lines trace-entered
+      (reads-on t e o m at-trace past-name lines name-passed r refl) refl) refl) refl) refl

@@ -44,11 +44,11 @@ record Computed : Type 0 where
   classifier-name : Names (code "c") (bytes "lassifier")
   trace-name : Names (code "t") (bytes "race")
   event-name : Names (code "e") (bytes "vent")
-  log-tag : (let w : List ℕ = bytes "<log xes.version=\"1.0\" xes.features=\"\" xmlns=\"http://www.xes-standard.org/\">" in readTo w (begun 0) w 0) ≡ Past StartTag 76
+  log-tag : (let w : List ℕ = bytes "<log xes.version=\"1849.2016\" xes.features=\"\" xmlns=\"http://www.xes-standard.org/\">" in readTo w (begun 0) w 0) ≡ Past StartTag 82
   extension-tag : (let w : List ℕ = bytes "<extension name=\"Concept\" prefix=\"concept\" uri=\"http://www.xes-standard.org/concept.xesext\"/>" in readTo w (begun 0) w 0) ≡ Past EmptyTag 93
   global-tag : (let w : List ℕ = bytes "<global scope=\"event\">" in readTo w (begun 0) w 0) ≡ Past StartTag 22
   unknown-tag : (let w : List ℕ = bytes "<string key=\"concept:name\" value=\"UNKNOWN\"/>" in readTo w (begun 0) w 0) ≡ Past EmptyTag 44
-  classifier-tag : (let w : List ℕ = bytes "<classifier name=\"Event Name\" keys=\"concept:name\"/>" in readTo w (begun 0) w 0) ≡ Past EmptyTag 51
+  classifier-tag : (let w : List ℕ = bytes "<classifier name=\"Event-Name\" keys=\"concept:name\"/>" in readTo w (begun 0) w 0) ≡ Past EmptyTag 51
   trace-tag : (let w : List ℕ = bytes "<trace>" in readTo w (begun 0) w 0) ≡ Past StartTag 7
   run-tag : (let w : List ℕ = bytes "<string key=\"concept:name\" value=\"run\"/>" in readTo w (begun 0) w 0) ≡ Past EmptyTag 40
   event-tag : (let w : List ℕ = bytes "<event>" in readTo w (begun 0) w 0) ≡ Past StartTag 7
@@ -115,8 +115,8 @@ module _ (t x : List ℕ) (p : ℕ) where
   pub event-start : drop p t ≡ bytes "<event>" ++ x → StartAt t (bytes "event") p
   event-start e = start-at t (bytes "vent") x p (code "e") (code ">") e (computed .event-name) (computed .tag-ends)
 
-  pub log-markup : drop p t ≡ bytes "<log xes.version=\"1.0\" xes.features=\"\" xmlns=\"http://www.xes-standard.org/\">" ++ x → markup t p ≡ marked StartTag (p + 76)
-  log-markup e = markup-past t (bytes "log xes.version=\"1.0\" xes.features=\"\" xmlns=\"http://www.xes-standard.org/\">") x 60 p StartTag 76 e (computed .opens) (computed .log-tag)
+  pub log-markup : drop p t ≡ bytes "<log xes.version=\"1849.2016\" xes.features=\"\" xmlns=\"http://www.xes-standard.org/\">" ++ x → markup t p ≡ marked StartTag (p + 82)
+  log-markup e = markup-past t (bytes "log xes.version=\"1849.2016\" xes.features=\"\" xmlns=\"http://www.xes-standard.org/\">") x 60 p StartTag 82 e (computed .opens) (computed .log-tag)
 
   pub extension-markup : drop p t ≡ bytes "<extension name=\"Concept\" prefix=\"concept\" uri=\"http://www.xes-standard.org/concept.xesext\"/>" ++ x → markup t p ≡ marked EmptyTag (p + 93)
   extension-markup e = markup-past t (bytes "extension name=\"Concept\" prefix=\"concept\" uri=\"http://www.xes-standard.org/concept.xesext\"/>") x 60 p EmptyTag 93 e (computed .opens) (computed .extension-tag)
@@ -127,8 +127,8 @@ module _ (t x : List ℕ) (p : ℕ) where
   pub unknown-markup : drop p t ≡ bytes "<string key=\"concept:name\" value=\"UNKNOWN\"/>" ++ x → markup t p ≡ marked EmptyTag (p + 44)
   unknown-markup e = markup-past t (bytes "string key=\"concept:name\" value=\"UNKNOWN\"/>") x 60 p EmptyTag 44 e (computed .opens) (computed .unknown-tag)
 
-  pub classifier-markup : drop p t ≡ bytes "<classifier name=\"Event Name\" keys=\"concept:name\"/>" ++ x → markup t p ≡ marked EmptyTag (p + 51)
-  classifier-markup e = markup-past t (bytes "classifier name=\"Event Name\" keys=\"concept:name\"/>") x 60 p EmptyTag 51 e (computed .opens) (computed .classifier-tag)
+  pub classifier-markup : drop p t ≡ bytes "<classifier name=\"Event-Name\" keys=\"concept:name\"/>" ++ x → markup t p ≡ marked EmptyTag (p + 51)
+  classifier-markup e = markup-past t (bytes "classifier name=\"Event-Name\" keys=\"concept:name\"/>") x 60 p EmptyTag 51 e (computed .opens) (computed .classifier-tag)
 
   pub trace-markup : drop p t ≡ bytes "<trace>" ++ x → markup t p ≡ marked StartTag (p + 7)
   trace-markup e = markup-past t (bytes "trace>") x 60 p StartTag 7 e (computed .opens) (computed .trace-tag)

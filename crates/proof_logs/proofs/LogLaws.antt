@@ -30,7 +30,7 @@ module _ (t : List ℕ) (v : ℕ) (a : List ℕ) where
   end-lines (Past q) j number beside own other e = e
   end-lines (Fault q) j number beside own other e = absurd (other (sym (ap (λ (d : Judged). d .number) e)))
 
-  by-lines : (number beside own : ℕ) → (number ≡ 10 → ⊥) → (number ≡ 25 → ⊥) → (number ≡ 23 → ⊥) → judgedTo t v a ≡ answered number beside own
+  pub by-lines : (number beside own : ℕ) → (number ≡ 10 → ⊥) → (number ≡ 25 → ⊥) → (number ≡ 23 → ⊥) → judgedTo t v a ≡ answered number beside own
       → (askedNumber t v ≡ 0) × (judged (linesOf a) ≡ answered number beside own)
   unfolding judgedTo judgedFrom if_then_else_
   by-lines number beside own bad version other e = go (eqb (askedNumber t v) 0) refl e

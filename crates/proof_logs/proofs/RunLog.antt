@@ -32,7 +32,7 @@ module _ (t : List ℕ) where
   line-plain (aStep n) z = step-plain n (stepped t z n .answer)
   line-plain (aPost name g) z = post-plain name g
 
-  told-entries : (acts : List Act) (z : List ℕ) → Valid t z → allAccepted t acts z ≡ true → AllWords t acts z → Each Entry (told t acts z)
+  pub told-entries : (acts : List Act) (z : List ℕ) → Valid t z → allAccepted t acts z ≡ true → AllWords t acts z → Each Entry (told t acts z)
   unfolding told allAccepted AllWords
   told-entries [] z v h words = tt
   told-entries (a ∷ rest) z v h words =

@@ -44,7 +44,7 @@ use Rattle.proof_logs.proofs.SameSteps.{step-same, post-same}
 
 module _ (t : List ℕ) where
   -- a call as its line is taken
-  abbrev Retaken : Act → List ℕ → Type 0
+  abbrev pub Retaken : Act → List ℕ → Type 0
   Retaken a z = taken (stepped t) (postedTo t) (lineTold t a z) z ≡ record { number = 0; right = true; state = did t a z .state }
 
   module _ (z : List ℕ) (v : Valid t z) where
@@ -138,7 +138,7 @@ module _ (t : List ℕ) where
     act-right (aStep n) e words = ap (λ (x : Entry). x .right) (step-named n e words)
     act-right (aPost name g) e words = ap (λ (x : Entry). x .right) (post-entry name g (few name g e) (record { few = short name g e; small = words }))
 
-    act-again : (a : Act) → did t a z .number ≡ 0 → ((j : ℕ) → at (message t a z .values) j ≤ greatest) → Retaken a z
+    pub act-again : (a : Act) → did t a z .number ≡ 0 → ((j : ℕ) → at (message t a z .values) j ≤ greatest) → Retaken a z
     unfolding message
     act-again (aStep n) e words = step-again n e words
     act-again (aPost name g) e words = post-again name g e words

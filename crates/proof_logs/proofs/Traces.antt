@@ -1,56 +1,69 @@
--- The events of a printed log and its end: from the place before the first event on, the reader comes to the end of the text, with exactly those lines. Assumes nothing.
-use mathlib.Core.Path.{_≡_, _∙_, refl, ap, subst}
+-- The events of a printed log and its end: from the place before the first event on, the reader comes to the end of the text, with exactly those lines; and so it does where the end tags are not there yet. Assumes
+-- nothing.
+use mathlib.Core.Path.{_≡_, _∙_, refl, sym, ap, subst}
 use mathlib.Core.Bool.{true, false}
 use mathlib.Core.List.{List, [], _∷_, _++_, append-assoc}
 use Prim.Native.Nat.{ℕ, zero, suc, _+_, _<_, _≤_}
 use native.Mathlib.Omega.{arith}
 use lib.Dec.{eqb}
-use lib.ListN.{length, drop, length-append}
-use borrow.Author.Tests.{ne-eqb}
+use lib.ListN.{length, drop, length-append, length-drop, List·getD-eq-default}
+use borrow.Author.Tests.{ne-eqb, le-leb}
 use Rattle.base_words.specs.Pick.{if_then_else_}
 use Rattle.base_words.specs.Text.{bytes}
+use Rattle.text_lexer.specs.Lexer.{past}
+use Rattle.xml_characters.specs.Names.{isBlank}
 use Rattle.xml_markup.specs.declared.Class.the-variants.{Blanks}
-use Rattle.xml_markup.specs.Spans.{run, nameAt, bytesOf}
-use Rattle.xml_skip.specs.declared.Skipped.the-variants.{Past}
+use Rattle.xml_markup.specs.declared.Opener.the-variants.{Other}
+use Rattle.xml_markup.specs.Spans.{isOf, run, nameAt, bytesOf, opensName, opener}
+use Rattle.xml_skip.specs.declared.Skipped.{Skipped}
+use Rattle.xml_skip.specs.declared.Skipped.the-variants.{Past, Fault as SkipFault}
+use Rattle.xml_document.specs.Document.{outsideAt}
 use Rattle.xml_document.specs.Around.{lastFrom}
 use Rattle.log_lines.specs.Entries.{entryOf}
 use Rattle.log_text.specs.declared.Level.the-variants.{Log, Trace, Event}
 use Rattle.log_text.specs.declared.Cursor.{Cursor}
-use Rattle.log_text.specs.declared.Move.the-variants.{On, Done}
+use Rattle.log_text.specs.declared.Move.the-variants.{On, Done, Fault}
 use Rattle.log_text.specs.Cursors.{reached, inEvent, named, behindEvent, behindTrace, lacksBy, tagBy as openTag}
-use Rattle.log_text.specs.Logs.{leftBy, advance, byMove, scanIn, closesEvent, lineOf, linesIn}
+use Rattle.log_text.specs.Inside.{endsAt, between, insideAt}
+use Rattle.log_text.specs.Logs.{leftBy, byInside, advance, byMove, scanIn, closesEvent, lineOf, linesIn}
 use Rattle.log_write.specs.Xes.{eventOpening, eventClosing, eventText, eventsText, footer}
 use Rattle.proof_local.proofs.Stands.{behind, rest}
 use Rattle.proof_local.proofs.Elements.{EndAt, no-blank, newline, at-end, ends-there}
 use Rattle.proof_logs.proofs.Known.{stringOpening, event-start, event-end, trace-end, log-end}
 use Rattle.proof_logs.proofs.Events.{Plain, event-begun, line-says, string-passed, string-behind, event-ended}
 
--- from c on, m steps are enough: the end is the end of the text, and the lines are these
-pub record Reads (t : List ℕ) (m : ℕ) (c : Cursor) (lines : List (List ℕ)) : Type 0 where
-  pub ends : (n : ℕ) → m ≤ n → scanIn n t c .end ≡ Past (length t)
+-- from c on, m steps are enough: e is the reader's end, o the place behind the trace's start tag, and the lines are these
+pub record Reads (t : List ℕ) (e : Skipped) (o m : ℕ) (c : Cursor) (lines : List (List ℕ)) : Type 0 where
+  pub ends : (n : ℕ) → m ≤ n → scanIn n t c .end ≡ e
+  pub opens : (n : ℕ) → m ≤ n → scanIn n t c .last .opened ≡ o
   pub says : (n : ℕ) → m ≤ n → linesIn n t c ≡ lines
 
-module _ (t : List ℕ) (m : ℕ) (c d : Cursor) (lines : List (List ℕ)) (goes : advance t c ≡ On d) (further : Reads t m d lines) where
-  on-ends : (n : ℕ) → suc m ≤ n → scanIn n t c .end ≡ Past (length t)
+module _ (t : List ℕ) (e : Skipped) (o m : ℕ) (c d : Cursor) (lines : List (List ℕ)) (goes : advance t c ≡ On d) (further : Reads t e o m d lines) where
+  on-ends : (n : ℕ) → suc m ≤ n → scanIn n t c .end ≡ e
   unfolding scanIn byMove
   on-ends zero h = absurd (omega arith)
   on-ends (suc n) h = rw goes (further .ends n (omega arith))
 
+  on-opens : (n : ℕ) → suc m ≤ n → scanIn n t c .last .opened ≡ o
+  unfolding scanIn byMove
+  on-opens zero h = absurd (omega arith)
+  on-opens (suc n) h = rw goes (further .opens n (omega arith))
+
   between-says : closesEvent (c .level) (d .level) ≡ false → (n : ℕ) → suc m ≤ n → linesIn n t c ≡ lines
   unfolding linesIn byMove if_then_else_
-  between-says e zero h = absurd (omega arith)
-  between-says e (suc n) h = rw (goes, e) (further .says n (omega arith))
+  between-says k zero h = absurd (omega arith)
+  between-says k (suc n) h = rw (goes, k) (further .says n (omega arith))
 
   event-says : closesEvent (c .level) (d .level) ≡ true → (n : ℕ) → suc m ≤ n → linesIn n t c ≡ lineOf t d ∷ lines
   unfolding linesIn byMove if_then_else_
-  event-says e zero h = absurd (omega arith)
-  event-says e (suc n) h = rw (goes, e) (ap (λ (l : List (List ℕ)). lineOf t d ∷ l) (further .says n (omega arith)))
+  event-says k zero h = absurd (omega arith)
+  event-says k (suc n) h = rw (goes, k) (ap (λ (l : List (List ℕ)). lineOf t d ∷ l) (further .says n (omega arith)))
 
-  pub reads-on : closesEvent (c .level) (d .level) ≡ false → Reads t (suc m) c lines
-  reads-on e = record { ends = on-ends; says = between-says e }
+  pub reads-on : closesEvent (c .level) (d .level) ≡ false → Reads t e o (suc m) c lines
+  reads-on k = record { ends = on-ends; opens = on-opens; says = between-says k }
 
-  pub reads-line : closesEvent (c .level) (d .level) ≡ true → Reads t (suc m) c (lineOf t d ∷ lines)
-  reads-line e = record { ends = on-ends; says = event-says e }
+  pub reads-line : closesEvent (c .level) (d .level) ≡ true → Reads t e o (suc m) c (lineOf t d ∷ lines)
+  reads-line k = record { ends = on-ends; opens = on-opens; says = event-says k }
 
 module _ (t : List ℕ) (c d : Cursor) (goes : advance t c ≡ Done d) (last : lastFrom t (d .at) ≡ Past (length t)) where
   done-ends : (n : ℕ) → 1 ≤ n → scanIn n t c .end ≡ Past (length t)
@@ -58,13 +71,38 @@ module _ (t : List ℕ) (c d : Cursor) (goes : advance t c ≡ Done d) (last : l
   done-ends zero h = absurd (omega arith)
   done-ends (suc n) h = rw goes last
 
+  done-opens : (n : ℕ) → 1 ≤ n → scanIn n t c .last .opened ≡ d .opened
+  unfolding scanIn byMove
+  done-opens zero h = absurd (omega arith)
+  done-opens (suc n) h = rw goes refl
+
   done-says : (n : ℕ) → 1 ≤ n → linesIn n t c ≡ []
   unfolding linesIn byMove
   done-says zero h = absurd (omega arith)
   done-says (suc n) h = rw goes refl
 
-  pub reads-end : Reads t 1 c []
-  reads-end = record { ends = done-ends; says = done-says }
+  pub reads-end : Reads t (Past (length t)) (d .opened) 1 c []
+  reads-end = record { ends = done-ends; opens = done-opens; says = done-says }
+
+-- or the text ends there, before its end tags
+module _ (t : List ℕ) (c : Cursor) (q : ℕ) (goes : advance t c ≡ Fault q) where
+  stop-ends : (n : ℕ) → 1 ≤ n → scanIn n t c .end ≡ SkipFault q
+  unfolding scanIn byMove
+  stop-ends zero h = absurd (omega arith)
+  stop-ends (suc n) h = rw goes refl
+
+  stop-opens : (n : ℕ) → 1 ≤ n → scanIn n t c .last .opened ≡ c .opened
+  unfolding scanIn byMove
+  stop-opens zero h = absurd (omega arith)
+  stop-opens (suc n) h = rw goes refl
+
+  stop-says : (n : ℕ) → 1 ≤ n → linesIn n t c ≡ []
+  unfolding linesIn byMove
+  stop-says zero h = absurd (omega arith)
+  stop-says (suc n) h = rw goes refl
+
+  pub reads-stop : Reads t (SkipFault q) (c .opened) 1 c []
+  reads-stop = record { ends = stop-ends; opens = stop-opens; says = stop-says }
 
 -- in the trace of a log, whose tags have these names
 pub record InTrace (t log trace : List ℕ) (c : Cursor) : Type 0 where
@@ -90,8 +128,8 @@ module _ (t log trace x y : List ℕ) (c : Cursor) (k : InTrace t log trace c) (
   unfolding closesEvent
   not-closed = rw (k .level-is) refl
 
-  pub closing-read : Reads t 2 c []
-  closing-read = reads-on t 1 c out [] trace-left (reads-end t out (reached out (q + 3 + length log)) log-left last) not-closed
+  pub closing-read : Reads t (Past (length t)) (c .opened) 2 c []
+  closing-read = reads-on t (Past (length t)) (c .opened) 1 c out [] trace-left (reads-end t out (reached out (q + 3 + length log)) log-left last) not-closed
 
 module _ (t : List ℕ) (c : Cursor) (k : InTrace t (bytes "log") (bytes "trace") c) (stands : drop (c .at) t ≡ 10 ∷ footer) where
   trace-ended : EndAt t (bytes "trace") (10 ∷ (bytes "</log>" ++ (10 ∷ []))) (c .at + 1)
@@ -101,11 +139,31 @@ module _ (t : List ℕ) (c : Cursor) (k : InTrace t (bytes "log") (bytes "trace"
   log-ended : EndAt t (bytes "log") (10 ∷ []) (c .at + 1 + 3 + 5 + 1)
   log-ended = log-end t (10 ∷ []) (c .at + 1 + 3 + 5 + 1) (rest t (bytes "</log>" ++ (10 ∷ [])) 10 (c .at + 1 + 3 + 5) (trace-ended .behind))
 
-  pub footer-read : Reads t 2 c []
+  pub footer-read : Reads t (Past (length t)) (c .opened) 2 c []
   unfolding footer
   footer-read =
       closing-read t (bytes "log") (bytes "trace") (10 ∷ (bytes "</log>" ++ (10 ∷ []))) (10 ∷ []) c k (c .at + 1) (c .at + 1 + 3 + 5 + 1) (newline t (bytes "/trace>\n</log>\n") (c .at) stands) trace-ended (newline t (bytes "/log>\n") (c .at + 1 + 3 + 5) (trace-ended .behind)) log-ended
       (ends-there t (c .at + 1 + 3 + 5 + 1 + 3 + 3) (log-ended .behind))
+
+-- NO END TAGS YET: only the newline behind the last event
+module _ (t : List ℕ) (c : Cursor) (stands : drop (c .at) t ≡ 10 ∷ []) where
+  long : length t ≡ c .at + 1
+  long = omega (arith, length-drop (c .at) t, ap length stands)
+
+  blank : run Blanks t (c .at) ≡ length t
+  unfolding run past isOf isBlank if_then_else_
+  blank = rw stands (sym long)
+
+  no-opener : opener t (length t) ≡ Other
+  unfolding opener opensName if_then_else_
+  no-opener = let end : length t ≤ length t = omega arith in rw (List·getD-eq-default t 0 end)
+
+  stopped : advance t c ≡ Fault (length t)
+  unfolding advance byInside insideAt between endsAt outsideAt if_then_else_
+  stopped = rw (blank, no-opener, le-leb (length t) (length t) (omega arith)) refl
+
+  pub stop-read : Reads t (SkipFault (length t)) (c .opened) 1 c []
+  stop-read = reads-stop t c (length t) stopped
 
 -- AN EVENT
 module _ (t line x : List ℕ) (c : Cursor) (k : InTrace t (bytes "log") (bytes "trace") c) (stands : drop (c .at) t ≡ 10 ∷ (bytes "<event>" ++ (stringOpening ++ (line ++ (bytes "\"/>" ++ (bytes "</event>" ++ x)))))) (plain : Plain line) (entry : entryOf line .right ≡ true) where
@@ -161,11 +219,11 @@ module _ (t line x : List ℕ) (c : Cursor) (k : InTrace t (bytes "log") (bytes 
   pub event-inside : InTrace t (bytes "log") (bytes "trace") ended
   event-inside = record { level-is = refl; log-is = k .log-is; trace-is = k .trace-is; opened-is = k .opened-is }
 
-  pub event-read : (m : ℕ) (lines : List (List ℕ)) → Reads t m ended lines → Reads t (suc (suc (suc m))) c (line ∷ lines)
-  event-read m lines r =
-      reads-on t (suc (suc m)) c opened (line ∷ lines) (event-begun t (stringOpening ++ (line ++ (bytes "\"/>" ++ (bytes "</event>" ++ x)))) c (k .level-is) stands)
-      (reads-on t (suc m) opened lined (line ∷ lines) (string-passed t line (bytes "</event>" ++ x) (p + 7) string-stands plain opened refl refl refl entry)
-      (subst (λ (l : List ℕ). Reads t (suc m) lined (l ∷ lines)) says-line (reads-line t m lined ended lines (event-ended t (bytes "event") x lined refl has-line named-event (no-blank t (bytes "/event>" ++ x) (lined .at) end-stands) event-ends) r closes))
+  pub event-read : (e : Skipped) (m : ℕ) (lines : List (List ℕ)) → Reads t e (c .opened) m ended lines → Reads t e (c .opened) (suc (suc (suc m))) c (line ∷ lines)
+  event-read e m lines r =
+      reads-on t e (c .opened) (suc (suc m)) c opened (line ∷ lines) (event-begun t (stringOpening ++ (line ++ (bytes "\"/>" ++ (bytes "</event>" ++ x)))) c (k .level-is) stands)
+      (reads-on t e (c .opened) (suc m) opened lined (line ∷ lines) (string-passed t line (bytes "</event>" ++ x) (p + 7) string-stands plain opened refl refl refl entry)
+      (subst (λ (l : List ℕ). Reads t e (c .opened) (suc m) lined (l ∷ lines)) says-line (reads-line t e (c .opened) m lined ended lines (event-ended t (bytes "event") x lined refl has-line named-event (no-blank t (bytes "/event>" ++ x) (lined .at) end-stands) event-ends) r closes))
       inside)
       not-yet
 
@@ -179,26 +237,33 @@ pub record Entry (line : List ℕ) : Type 0 where
   pub plain : Plain line
   pub right : entryOf line .right ≡ true
 
-abbrev pub steps : List (List ℕ) → ℕ
-steps [] = 2
-steps (line ∷ lines) = suc (suc (suc (steps lines)))
+abbrev pub steps : List (List ℕ) → ℕ → ℕ
+steps [] m = m
+steps (line ∷ lines) m = suc (suc (suc (steps lines m)))
 
-pub few-steps : (lines : List (List ℕ)) → steps lines ≤ length (eventsText lines) + 2
+pub few-steps : (lines : List (List ℕ)) (m : ℕ) → steps lines m ≤ length (eventsText lines) + m
 unfolding eventsText eventText eventOpening
-few-steps [] = omega arith
-few-steps (line ∷ lines) = omega (arith, few-steps lines, length-append (eventText line) (eventsText lines), length-append eventOpening (line ++ eventClosing))
+few-steps [] m = omega arith
+few-steps (line ∷ lines) m = omega (arith, few-steps lines m, length-append (eventText line) (eventsText lines), length-append eventOpening (line ++ eventClosing))
 
-event-first : (line : List ℕ) (lines : List (List ℕ)) → eventsText (line ∷ lines) ++ footer ≡ bytes "<event>" ++ (stringOpening ++ (line ++ (bytes "\"/>" ++ (bytes "</event>" ++ (10 ∷ (eventsText lines ++ footer))))))
-unfolding eventsText eventText eventOpening eventClosing
-event-first line lines =
-    ap (λ (l : List ℕ). bytes "<event>" ++ (stringOpening ++ l))
-    (append-assoc (line ++ bytes "\"/></event>\n") (eventsText lines) footer ∙ append-assoc line (bytes "\"/></event>\n") (eventsText lines ++ footer))
+-- x is what stands behind them
+module _ (x : List ℕ) where
+  event-first : (line : List ℕ) (lines : List (List ℕ)) → eventsText (line ∷ lines) ++ x ≡ bytes "<event>" ++ (stringOpening ++ (line ++ (bytes "\"/>" ++ (bytes "</event>" ++ (10 ∷ (eventsText lines ++ x))))))
+  unfolding eventsText eventText eventOpening eventClosing
+  event-first line lines =
+      ap (λ (l : List ℕ). bytes "<event>" ++ (stringOpening ++ l))
+      (append-assoc (line ++ bytes "\"/></event>\n") (eventsText lines) x ∙ append-assoc line (bytes "\"/></event>\n") (eventsText lines ++ x))
 
-pub events-read : (t : List ℕ) (lines : List (List ℕ)) (c : Cursor) → InTrace t (bytes "log") (bytes "trace") c → drop (c .at) t ≡ 10 ∷ (eventsText lines ++ footer) → Each Entry lines → Reads t (steps lines) c lines
-events-read t [] c k e a = footer-read t c k (unfold eventsText in e)
-events-read t (line ∷ lines) c k e a =
-    event-read t line (10 ∷ (eventsText lines ++ footer)) c k stands (a .0 .plain) (a .0 .right) (steps lines) lines
-    (events-read t lines (ended t line (10 ∷ (eventsText lines ++ footer)) c k stands (a .0 .plain) (a .0 .right)) (event-inside t line (10 ∷ (eventsText lines ++ footer)) c k stands (a .0 .plain) (a .0 .right)) (event-behind t line (10 ∷ (eventsText lines ++ footer)) c k stands (a .0 .plain) (a .0 .right)) (a .1))
-  where
-    stands : drop (c .at) t ≡ 10 ∷ (bytes "<event>" ++ (stringOpening ++ (line ++ (bytes "\"/>" ++ (bytes "</event>" ++ (10 ∷ (eventsText lines ++ footer)))))))
-    stands = e ∙ ap (λ (l : List ℕ). 10 ∷ l) (event-first line lines)
+  -- from any cursor before it on
+  abbrev pub Onward : List ℕ → Skipped → ℕ → Type 0
+  Onward t e m = (d : Cursor) → InTrace t (bytes "log") (bytes "trace") d → drop (d .at) t ≡ 10 ∷ x → Reads t e (d .opened) m d []
+
+  module _ (t : List ℕ) (e : Skipped) (m : ℕ) (onward : Onward t e m) where
+    pub events-read : (lines : List (List ℕ)) (c : Cursor) → InTrace t (bytes "log") (bytes "trace") c → drop (c .at) t ≡ 10 ∷ (eventsText lines ++ x) → Each Entry lines → Reads t e (c .opened) (steps lines m) c lines
+    events-read [] c k s a = onward c k (unfold eventsText in s)
+    events-read (line ∷ lines) c k s a =
+        event-read t line (10 ∷ (eventsText lines ++ x)) c k stands (a .0 .plain) (a .0 .right) e (steps lines m) lines
+        (events-read lines (ended t line (10 ∷ (eventsText lines ++ x)) c k stands (a .0 .plain) (a .0 .right)) (event-inside t line (10 ∷ (eventsText lines ++ x)) c k stands (a .0 .plain) (a .0 .right)) (event-behind t line (10 ∷ (eventsText lines ++ x)) c k stands (a .0 .plain) (a .0 .right)) (a .1))
+      where
+        stands : drop (c .at) t ≡ 10 ∷ (bytes "<event>" ++ (stringOpening ++ (line ++ (bytes "\"/>" ++ (bytes "</event>" ++ (10 ∷ (eventsText lines ++ x)))))))
+        stands = s ∙ ap (λ (l : List ℕ). 10 ∷ l) (event-first line lines)

@@ -1,21 +1,28 @@
--- A PRINTED LOG IS READ AS IT WAS WRITTEN: the log of any lines that name steps or posts, in bytes that XML writes as they are, is a log, and its lines are exactly those. Assumes nothing.
-use mathlib.Core.Path.{_≡_, refl, subst}
-use mathlib.Core.List.{List, _∷_, _++_}
-use Prim.Native.Nat.{ℕ, suc, _≤_}
+-- A PRINTED LOG IS READ AS IT WAS WRITTEN: the log of any lines that name steps or posts, in bytes that XML writes as they are, is a log, and its lines are exactly those; so they are before the end tags are written.
+-- Assumes nothing.
+use mathlib.Core.Path.{_≡_, _∙_, refl, sym, ap, subst}
+use mathlib.Core.List.{List, [], _∷_, _++_, append-nil}
+use Prim.Native.Nat.{ℕ, suc, _+_, _≤_}
 use native.Mathlib.Omega.{arith}
 use lib.ListN.{length, length-append}
 use Rattle.base_words.specs.Text.{bytes}
-use Rattle.xml_skip.specs.declared.Skipped.the-variants.{Past}
+use Rattle.xml_skip.specs.declared.Skipped.{Skipped}
+use Rattle.xml_skip.specs.declared.Skipped.the-variants.{Past, Fault}
 use Rattle.log_text.specs.Cursors.{inLog}
 use Rattle.log_text.specs.Logs.{logMost, byMove, scanFrom, scan, linesFrom, linesOf}
-use Rattle.log_write.specs.Xes.{opening, extension, global, classifier, traceOpening, header, eventsText, footer, logText}
-use Rattle.proof_logs.proofs.Traces.{Reads, Each, Entry, steps, few-steps, events-read}
+use Rattle.log_write.specs.Xes.{opening, extension, global, classifier, traceOpening, header, eventsText, written, footer, logText}
+use Rattle.proof_logs.proofs.Traces.{Reads, Each, Entry, Onward, steps, few-steps, footer-read, stop-read, events-read}
 use Rattle.proof_logs.proofs.Headers.{declaration, logTag, extensionTag, globalText, classifierTag, runTag, log-named, started, past-name, behind-name, in-trace, header-read}
 
-module _ (lines : List (List ℕ)) where
+-- the place behind the trace's start tag
+abbrev pub traceAt : ℕ
+traceAt = 351
+
+-- THE TEXT UP TO ITS EVENTS, them, and what stands behind them: x
+module _ (lines : List (List ℕ)) (x : List ℕ) where
   -- behind the trace's name, and behind the log's tag
   abbrev events : List ℕ
-  events = 10 ∷ (eventsText lines ++ footer)
+  events = 10 ∷ (eventsText lines ++ x)
 
   abbrev content : List ℕ
   content = 10 ∷ (extensionTag ++ (10 ∷ (globalText ++ (10 ∷ (classifierTag ++ (10 ∷ (bytes "<trace>" ++ (runTag ++ events))))))))
@@ -23,36 +30,62 @@ module _ (lines : List (List ℕ)) where
   abbrev t : List ℕ
   t = declaration ++ (logTag ++ content)
 
-  is-text : logText lines ≡ t
-  unfolding logText header opening extension global classifier traceOpening
-  is-text = refl
+  module _ (e : Skipped) (m : ℕ) (onward : Onward x t e m) (few : m ≤ 2) (entries : Each Entry lines) where
+    enough : suc (suc (suc (suc (suc (steps lines m))))) ≤ length t
+    enough = omega (arith, few, few-steps lines m, length-append declaration (logTag ++ content), length-append (eventsText lines) x)
 
-  enough : suc (suc (suc (suc (suc (steps lines))))) ≤ length t
-  enough = omega (arith, few-steps lines, length-append declaration (logTag ++ content), length-append (eventsText lines) footer)
-
-  module _ (entries : Each Entry lines) where
-    pub read : Reads t (suc (suc (suc (suc (suc (steps lines)))))) (inLog 39 115) lines
+    read : Reads t e traceAt (suc (suc (suc (suc (suc (steps lines m)))))) (inLog 39 121) lines
     read =
-        header-read t events 39 115 (log-named content) refl (steps lines) lines
-        (events-read t lines (past-name t events 39 115 (log-named content) refl) (in-trace t events 39 115 (log-named content) refl) (behind-name t events 39 115 (log-named content) refl) entries)
+        header-read t events 39 121 (log-named content) refl e traceAt (steps lines m) lines
+        (events-read x t e m onward lines (past-name t events 39 121 (log-named content) refl) (in-trace t events 39 121 (log-named content) refl) (behind-name t events 39 121 (log-named content) refl) entries)
 
     module _ (short : length t ≤ logMost) where
-      scanned : scan t .end ≡ Past (length t)
+      scanned : scan t .end ≡ e
       unfolding scan scanFrom byMove
       scanned = rw (started content short) (read .ends (length t) enough)
+
+      opened : scan t .last .opened ≡ traceAt
+      unfolding scan scanFrom byMove
+      opened = rw (started content short) (read .opens (length t) enough)
 
       lined : linesOf t ≡ lines
       unfolding linesOf linesFrom byMove
       lined = rw (started content short) (read .says (length t) enough)
 
--- the theorem
-pub record ReadBack (lines : List (List ℕ)) : Type 0 where
-  pub whole : scan (logText lines) .end ≡ Past (length (logText lines))
-  pub lines-are : linesOf (logText lines) ≡ lines
+-- the theorems: u was written of the lines, and e is the reader's end
+pub record ReadBack (u : List ℕ) (e : Skipped) (lines : List (List ℕ)) : Type 0 where
+  pub whole : scan u .end ≡ e
+  pub trace-at : scan u .last .opened ≡ traceAt
+  pub lines-are : linesOf u ≡ lines
 
-pub printed-log-reads : (lines : List (List ℕ)) → Each Entry lines → length (logText lines) ≤ logMost → ReadBack lines
-printed-log-reads lines entries short =
-    record {
-      whole = rw (is-text lines) (scanned lines entries (subst (λ (l : List ℕ). length l ≤ logMost) (is-text lines) short));
-      lines-are = rw (is-text lines) (lined lines entries (subst (λ (l : List ℕ). length l ≤ logMost) (is-text lines) short));
-    }
+module _ (lines : List (List ℕ)) (entries : Each Entry lines) where
+  is-text : logText lines ≡ t lines footer
+  unfolding logText header opening extension global classifier traceOpening
+  is-text = refl
+
+  is-begun : written lines ≡ t lines []
+  unfolding written header opening extension global classifier traceOpening
+  is-begun = ap (λ (l : List ℕ). header ++ l) (sym (append-nil (eventsText lines)))
+
+  pub printed-log-reads : length (logText lines) ≤ logMost → ReadBack (logText lines) (Past (length (logText lines))) lines
+  printed-log-reads short =
+      let s : length (t lines footer) ≤ logMost = subst (λ (l : List ℕ). length l ≤ logMost) is-text short in
+      let onward : Onward footer (t lines footer) (Past (length (t lines footer))) 2 = λ d k h. footer-read (t lines footer) d k h in
+      rw is-text
+      (record {
+        whole = scanned lines footer (Past (length (t lines footer))) 2 onward (omega arith) entries s;
+        trace-at = opened lines footer (Past (length (t lines footer))) 2 onward (omega arith) entries s;
+        lines-are = lined lines footer (Past (length (t lines footer))) 2 onward (omega arith) entries s;
+      })
+
+  -- what was written so far
+  pub begun-log-reads : length (written lines) ≤ logMost → ReadBack (written lines) (Fault (length (written lines))) lines
+  begun-log-reads short =
+      let s : length (t lines []) ≤ logMost = subst (λ (l : List ℕ). length l ≤ logMost) is-begun short in
+      let onward : Onward [] (t lines []) (Fault (length (t lines []))) 1 = λ d k h. stop-read (t lines []) d h in
+      rw is-begun
+      (record {
+        whole = scanned lines [] (Fault (length (t lines []))) 1 onward (omega arith) entries s;
+        trace-at = opened lines [] (Fault (length (t lines []))) 1 onward (omega arith) entries s;
+        lines-are = lined lines [] (Fault (length (t lines []))) 1 onward (omega arith) entries s;
+      })

@@ -9,7 +9,7 @@ use Rattle.meaning.specs.declared.Tuple.{Tuple}
 use Rattle.engine.specs.Engine.{stepped}
 use Rattle.engine.specs.Calls.{Act, aStep, aPost, did}
 
--- "`post M:V`. V is values joined by commas, possibly none"
+-- "`post M:V`. V is values joined by commas, possibly none" (RULES: lawful)
 unfoldable pub postLine : ℕ → Tuple → List ℕ
 postLine name g = bytes "post " ++ (shown name ++ (bytes ":" ++ valuesLine g))
 

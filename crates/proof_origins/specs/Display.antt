@@ -1,5 +1,5 @@
 -- THE TEXT OF A COLLABORATION, over the paper's own syntax: document 01's notation, with no table and no words of one. "The writer writes no blanks, keeps
--- the order of the table, ends with one newline."
+-- the order of the table, ends with one newline." (RULES: calls)
 use Prim.Native.Char.{code}
 use Prim.Native.String.{String}
 use Prim.Native.Nat.{ℕ, _-_}

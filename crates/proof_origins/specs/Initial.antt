@@ -1,6 +1,6 @@
 -- THE INITIAL CONFIGURATION of a collaboration, over the paper's own syntax and states. Section 3.2 shows one (data inputs, which are not built, left out): σi(p) = {⟨σe⁰·[e ↦ 1], σd⁰, σt⁰⟩}
 -- for the pool whose start has the first edge e, and σi(p) = ∅ for the others. Document 01: "Fresh state: empty queues; a pool with `start` has instance 0, with one token on start's
--- first edge; a pool with `startRcv` has none." Document 02, wish 8: "fields `s0` to `s15`, undefined at first".
+-- first edge; a pool with `startRcv` has none." Document 02, wish 8: "fields `s0` to `s15`, undefined at first". (RULES: stores)
 use Prim.Native.Nat.{ℕ}
 use mathlib.Core.Bool.{Bool, true, false}
 use mathlib.Core.List.{List, [], _∷_}

@@ -1,5 +1,5 @@
 -- Points of document 01 beside the starred ones: the notation, the listing, the run, the writing. One table; each row says in
--- the document's words what is tried, and tries it on the definitions.
+-- the document's words what is tried, and tries it on the definitions. (RULES: reading)
 use Prim.Native.Nat.{ℕ, _+_, _-_}
 use Prim.Native.String.{String}
 use mathlib.Core.Bool.{Bool, true, false, _&&_}

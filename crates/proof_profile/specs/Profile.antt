@@ -33,10 +33,10 @@ pub record GoesOn (t z : List ℕ) (p i : ℕ) : Type 0 where
   pub number : (g : Tuple) → among otherwise (stepped t z (nameOf t p i element phase branch g) .answer .number) ≡ true
 
 pub record Safe (t z : List ℕ) (p : ℕ) : Type 0 where
-  -- "no edge holds more than one token in an instance, each task's two counts together are at most 1"
+  -- "no edge holds more than one token in an instance, each task's two counts together are at most 1" (RULES: calls)
   pub one-token : (i : ℕ) → i < madeCount (instancesOf z) p → (e : ℕ) → 1 ≤ e → e ≤ edges → tokens (instanceAt (instancesOf z) p i) e ≤ 1
   pub one-count : (i : ℕ) → i < madeCount (instancesOf z) p → (n : ℕ) → 1 ≤ n → n ≤ tasks → activeCount (instanceAt (instancesOf z) p i) n + readyCount (instanceAt (instancesOf z) p i) n ≤ 1
-  -- "and refusal 18 never occurs", nor at the item of a poll that is refused
+  -- "and refusal 18 never occurs", nor at the item of a poll that is refused (RULES: calls)
   pub never-18 : (n : Name) → poolNamed t n ≡ p → stepped t z n .answer .number ≡ 18 → ⊥
   pub never-in-poll : (w : List ℕ) (count : ℕ) (n : Name) (rest : List Act) → poolNamed t n ≡ p
       → drop (polledTo t z w count .accepted) (actsIn w count) ≡ aStep n ∷ rest → polledTo t z w count .number ≡ 18 → ⊥

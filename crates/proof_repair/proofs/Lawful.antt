@@ -53,7 +53,7 @@ module _ (m : List ℕ) (v : ℕ) where
   never-23 t out z = log-never (output (repairedTo t out)) (repaired-right t out z .is-log)
 
   module _ (a : List ℕ) (e : judgedTo m v a ≡ lawful) where
-    a-log : IsLog a
+    pub a-log : IsLog a
     unfolding judgedTo judgedFrom judgedEnd if_then_else_
     a-log = go (eqb (askedNumber m v) 0) refl (scan a .end) refl (ap (λ (j : Judged). j .number) e)
       where

@@ -1,4 +1,4 @@
--- THE SEQUENCE OF A TEXT'S TOKENS. "Blank, tab and newline may stand between tokens": they are no part of it. And what it is for two texts to be answered alike.
+-- THE SEQUENCE OF A TEXT'S TOKENS. "Blank, tab and newline may stand between tokens": they are no part of it. And what it is for two texts to be answered alike. (RULES: tokens)
 use Prim.Native.Nat.{ℕ, zero, suc, _≤_}
 use mathlib.Core.Path.{_≡_}
 use mathlib.Core.List.{List, [], _∷_, _++_}

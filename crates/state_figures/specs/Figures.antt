@@ -1,5 +1,5 @@
 -- FIGURES FOR THE ROUTE DESK. "For each pool in text order, one record with instances made, unfinished (a token or a task count left) and finished":
--- t is a table, s the instances of a state, h the words from an instance on, a record three words.
+-- t is a table, s the instances of a state, h the words from an instance on, a record three words. (RULES: figures)
 use Prim.Native.Nat.{ℕ, _-_}
 use mathlib.Core.Bool.{Bool, not, _&&_}
 use mathlib.Core.List.{List, [], _∷_}
@@ -29,11 +29,11 @@ finished s p = sum (λ i. oneIf (isFinished (instanceAt s p i))) (madeCount s p)
 unfoldable pub recordOf : List ℕ → ℕ → List ℕ
 recordOf s p = madeCount s p ∷ unfinished s p ∷ finished s p ∷ []
 
--- "what a count over the state gives"
+-- "what a count over the state gives" (RULES: figures)
 unfoldable pub counted : List ℕ → List ℕ → List (List ℕ)
 counted t s = tab (recordOf s) (poolCount t)
 
--- "26 the number of records isn't the number of pools, or they don't agree with the state"
+-- "26 the number of records isn't the number of pools, or they don't agree with the state" (RULES: figures)
 abbrev pub recordAt : List (List ℕ) → ℕ → List ℕ
 recordAt rs p = getD rs p []
 

@@ -28,7 +28,7 @@ record3 made unfinished finished = made ∷ unfinished ∷ finished ∷ []
 abbrev alone : List ℕ → ℕ → ℕ → ℕ → Bool
 alone h made unfinished finished = agree (record3 made unfinished finished ∷ []) (1 ∷ []) (state 1 0 h blank blank)
 
--- the session of document 01, fresh, with its records, and after `end` of pool 1
+-- the session of document 01, fresh, with its records, and after `end` of pool 1 (RULES: figures)
 abbrev fresh : List ℕ
 fresh = state 1 0 (token 1) blank blank
 

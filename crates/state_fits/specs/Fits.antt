@@ -1,5 +1,5 @@
 -- "A state fits when a pool with `start` has one instance and the others at most their limit, only edges of the table carry tokens, only na tasks have
--- counts (`task` no ready count), and unused places hold 0." t is a table, s the instances and q the queues of a state, h an instance.
+-- counts (`task` no ready count), and unused places hold 0." t is a table, s the instances and q the queues of a state, h an instance. (RULES: fits)
 use Prim.Native.Nat.{ℕ, _+_, _-_, _*_}
 use mathlib.Core.Bool.{Bool, true, _&&_}
 use mathlib.Core.List.{List, [], _∷_, _++_}

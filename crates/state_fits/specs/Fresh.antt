@@ -1,5 +1,5 @@
 -- "Fresh state: empty queues; a pool with `start` has instance 0, with one token on start's first edge; a pool with `startRcv` has none." "A fresh state is
--- made for version 10 or 20 and keeps it."
+-- made for version 10 or 20 and keeps it." (RULES: fresh)
 use Prim.Native.Nat.{ℕ, _+_}
 use mathlib.Core.List.{List}
 use lib.ListN.{set, replicate}

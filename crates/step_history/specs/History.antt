@@ -1,5 +1,5 @@
 -- A HISTORY OF CALLS, and what is counted in it: "posted, from a post's arguments where its answer was 0; sent and consumed, from a step's answer (its traffic, name and tuple) where its number was 0. Only queued is
--- read from the last state." m is a name, g a tuple, h a history, z a state.
+-- read from the last state." m is a name, g a tuple, h a history, z a state. (RULES: steps)
 use Prim.Native.Nat.{ℕ, _+_}
 use mathlib.Core.Path.{_≡_}
 use mathlib.Core.Bool.{Bool, true, false, _&&_}
@@ -52,7 +52,7 @@ unfoldable pub leftBy : (List ℕ → Name → Stepped) → (List ℕ → ℕ �
 leftBy step post [] z = z
 leftBy step post (a ∷ rest) z = leftBy step post rest (stateBy step post a z)
 
--- WHICH ENTRIES COUNT. "Tuples are equal as in document 01: length and the values within it."
+-- WHICH ENTRIES COUNT. "Tuples are equal as in document 01: length and the values within it." (RULES: steps)
 unfoldable pub isMessage : ℕ → Tuple → ℕ → Tuple → Bool
 isMessage m g name tuple = eqb name m && sameTuple tuple g
 
@@ -119,6 +119,6 @@ queued m g z = times g (messagesOf (queuesOf z) m)
 unfoldable pub accountsOf : ℕ → Tuple → List Entry → List ℕ → Accounts
 accountsOf m g h z = record { posted = counted (posts m g) h; sent = counted (sends m g) h; consumed = counted (consumes m g) h; queued = queued m g z }
 
--- "posted + sent = queued + consumed"
+-- "posted + sent = queued + consumed" (RULES: steps)
 unfoldable pub balances : Accounts → Bool
 balances a = eqb (a .posted + a .sent) (a .queued + a .consumed)

@@ -29,7 +29,7 @@ unfoldable pub consumesOwn : Entry → Bool
 consumesOwn (stepGave n a) = consumes (a .name) (a .tuple) (stepGave n a)
 consumesOwn (postGave m g k) = false
 
--- WHERE IT CAME FROM: "Consuming removes the oldest equal message", so that the k-th consumed is the k-th that was brought; i is the place of the step, the rest what stands from there on
+-- WHERE IT CAME FROM: "Consuming removes the oldest equal message", so that the k-th consumed is the k-th that was brought; i is the place of the step, the rest what stands from there on (RULES: steps)
 unfoldable pub sourceIn : List Entry → ℕ → List Entry → ℕ
 sourceIn h i [] = 0
 sourceIn h i (stepGave n a ∷ rest) = placeOf (brings (a .name) (a .tuple)) (counted (consumes (a .name) (a .tuple)) (take i h)) h

@@ -1,5 +1,5 @@
 -- THE LISTING: t the table, s the instances, q the queues of a state. All names that a step could have, in the order of document 01, and of these the
--- accepted ones: "by pool in text order, instance, element, phase, branch, queue place".
+-- accepted ones: "by pool in text order, instance, element, phase, branch, queue place". (RULES: list)
 use Prim.Native.Nat.{ℕ, zero, suc, _+_}
 use mathlib.Core.List.{List, [], _∷_}
 use lib.Dec.{eqb}
@@ -17,7 +17,7 @@ use Rattle.meaning.specs.Requirements.{branchCount}
 use Rattle.step_names.specs.Names.{offered, stepName, namedBy, accepted, blank}
 use Rattle.step_list.specs.declared.Listed.{Listed}
 
--- "The values are the message consumed, else empty": how many queue places a move looks at, and the values at place k
+-- "The values are the message consumed, else empty": how many queue places a move looks at, and the values at place k (RULES: list)
 unfoldable pub places : Move → List ℕ → ℕ → ℕ
 places m q name = if eqb (m .receives) on then messageCount q name else 1
 
@@ -53,7 +53,7 @@ stepNames t s q = joined (byPool t s q) (poolCount t)
 unfoldable pub listed : List ℕ → List ℕ → List ℕ → List Name
 listed t s q = those (accepted t s q) (stepNames t s q)
 
--- "The listing gives the k-th accepted step, k from 0"; "6: no accepted step with that ordinal". A refusal has a blank name beside it.
+-- "The listing gives the k-th accepted step, k from 0"; "6: no accepted step with that ordinal". A refusal has a blank name beside it. (RULES: list)
 unfoldable pub chosen : List Name → ℕ → Listed
 chosen [] k = record { number = 6; name = blank }
 chosen (n ∷ ns) zero = record { number = 0; name = n }

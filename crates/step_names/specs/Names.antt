@@ -24,7 +24,7 @@ unfoldable pub namedBy : (Tuple → Name) → List Tuple → List Name
 namedBy f [] = []
 namedBy f (g ∷ gs) = f g ∷ namedBy f gs
 
--- "equal messages appear once, at the oldest": message k of the queue of a name, where no older one is equal to it
+-- "equal messages appear once, at the oldest": message k of the queue of a name, where no older one is equal to it (RULES: list)
 unfoldable pub offered : List ℕ → ℕ → ℕ → List Tuple
 offered q name k = if has (messageAt q name k) (tab (messageAt q name) k) then [] else messageAt q name k ∷ []
 

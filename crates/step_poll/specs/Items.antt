@@ -1,5 +1,5 @@
 -- THE ITEMS OF A POLL out of lent words w: each has 11, "1 for a post, anything else a step; pool or name; instance; element; phase; branch; length; 4
--- values". What a post does not use is ignored.
+-- values". What a post does not use is ignored. (RULES: poll)
 use Prim.Native.Nat.{ℕ, zero, suc}
 use mathlib.Core.List.{List, [], _∷_}
 use lib.Dec.{eqb}
@@ -9,7 +9,7 @@ use Rattle.base_words.specs.Words.{at}
 use Rattle.meaning.specs.declared.Name.{Name}
 use Rattle.meaning.specs.declared.Tuple.{Tuple}
 
--- "named steps and posts"
+-- "named steps and posts" (RULES: poll)
 pub data Act : Type 0 where
   aStep : Name → Act
   aPost : ℕ → Tuple → Act
@@ -17,7 +17,7 @@ pub data Act : Type 0 where
 abbrev pub itemWords : ℕ
 itemWords = 11
 
--- "up to 64 of them in one call"
+-- "up to 64 of them in one call" (RULES: poll)
 abbrev pub itemsMost : ℕ
 itemsMost = 64
 

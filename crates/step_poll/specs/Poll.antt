@@ -1,5 +1,5 @@
 -- A WHOLE POLL, by a way to do one step or post: "the state is that of giving them one by one until the first refusal; the answer is how many were
--- accepted and that refusal's number, 0 if there was none".
+-- accepted and that refusal's number, 0 if there was none". (RULES: poll)
 use Prim.Native.Nat.{ℕ, _+_}
 use mathlib.Core.List.{List, [], _∷_, _++_}
 use lib.Dec.{eqb, ltb}
@@ -36,7 +36,7 @@ polledBy give (a ∷ rest) z =
     if eqb (give a z .number) 0 then oneBefore (polledBy give rest (give a z .state))
     else record { number = give a z .number; accepted = 0; state = give a z .state }
 
--- "22 more than 64 items, checked first, nothing done; then 10, with no items too": right is 0, or the number that table and state are refused with
+-- "22 more than 64 items, checked first, nothing done; then 10, with no items too": right is 0, or the number that table and state are refused with (RULES: poll)
 unfoldable pub polledFrom : (Act → List ℕ → Left) → ℕ → List ℕ → ℕ → List ℕ → Polling
 polledFrom give right w count z =
     if ltb itemsMost count then record { number = 22; accepted = 0; state = z }

@@ -46,6 +46,6 @@ oneTooMany item p = Refused (if item then excessive else misplaced) p
 unfoldable pub tooMany : Bool → ℕ → List ℕ → Parsed
 tooMany item p x = refused (if item then excessive else misplaced) p x
 
--- the count stored behind k items; "a list that closes too early is 2 at the closing sign"
+-- the count stored behind k items; "a list that closes too early is 2 at the closing sign" (RULES: places)
 unfoldable pub counted : ℕ → ℕ → ℕ → Reader
 counted least count k text at x = if ltb k least then refused misplaced (placeOf text at) x else passed at (set x count k)

@@ -19,7 +19,7 @@ use Rattle.text_parts.specs.Parts.{partOf}
 abbrev pub kindCount : ℕ
 kindCount = 15
 
--- "A keyword is compared whole, as fixed bytes, letter case included": the kind whose keyword a word is, 0 where there is none
+-- "A keyword is compared whole, as fixed bytes, letter case included": the kind whose keyword a word is, 0 where there is none (RULES: reading)
 unfoldable pub isKeyword : List ℕ → ℕ → Bool
 isKeyword w j = sameBytes w (keywordOf (j + 1))
 

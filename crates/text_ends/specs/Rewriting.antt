@@ -1,5 +1,5 @@
 -- WHAT AN endSnd BECOMES, over models. "The reader still takes `endSnd(e,m:X)` but the table holds an `interSnd` to the lowest unused edge of the pool, with an `end` for it behind the pool's other elements; several
--- are treated in text order." els is the elements of a pool, el one of them, f an edge.
+-- are treated in text order." els is the elements of a pool, el one of them, f an edge. (RULES: ends)
 use Prim.Native.Nat.{ℕ, zero, suc, _+_}
 use mathlib.Core.Bool.{Bool, _&&_}
 use mathlib.Core.List.{List, [], _∷_, _++_}
@@ -26,7 +26,7 @@ timesIn el list e = sum (λ j. hit (at el (edgePlace list j)) e) branches
 unfoldable pub mentioned : ℕ → List ℕ → ℕ
 mentioned e el = timesIn el entriesPlace e + timesIn el exitsPlace e
 
--- "Unused: a number 1 to 48 that no element of the pool mentions, before or behind (start's first edge is mentioned)": the edge k + 1
+-- "Unused: a number 1 to 48 that no element of the pool mentions, before or behind (start's first edge is mentioned)": the edge k + 1 (RULES: ends)
 unfoldable pub isUnused : List (List ℕ) → ℕ → Bool
 isUnused els k = each (λ el. eqb (mentioned (k + 1) el) 0) els
 
@@ -48,7 +48,7 @@ sendingTo f el = withOne interSnd exitsPlace f el
 unfoldable pub endOf : ℕ → List ℕ
 endOf f = withOne end entriesPlace f (replicate elementWords 0)
 
--- ONE endSnd, the first: "it stays at its place among the elements", and the end for it stands behind the others
+-- ONE endSnd, the first: "it stays at its place among the elements", and the end for it stands behind the others (RULES: ends)
 unfoldable pub firstEnd : List (List ℕ) → ℕ
 firstEnd els = firstFrom (λ j. isEndSnd (getD els j [])) (length els) 0
 
@@ -65,7 +65,7 @@ allTreated els = iter (λ k. treated) els (endSends els)
 unfoldable pub rewritten : Pool → Pool
 rewritten p = record { number = p .number; limit = p .limit; elements = allTreated (p .elements) }
 
--- ROOM for it; 28 where there is none: "some pool has fewer unused edges than endSnds, or more than 32 elements with the ends"
+-- ROOM for it; 28 where there is none: "some pool has fewer unused edges than endSnds, or more than 32 elements with the ends" (RULES: ends)
 unfoldable pub unusedCount : List (List ℕ) → ℕ
 unusedCount els = sum (λ k. oneIf (isUnused els k)) edges
 

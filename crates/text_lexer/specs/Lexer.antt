@@ -1,5 +1,5 @@
 -- "Blank, tab and newline may stand between tokens. A word is the longest run of letters, digits and `_`; `:=` is one token." "A byte that starts
--- no token counts as one." A token is a function of the bytes that are left and of the place where they start.
+-- no token counts as one." A token is a function of the bytes that are left and of the place where they start. (RULES: tokens)
 use Prim.Native.Char.{code}
 use Prim.Native.Nat.{ℕ, _+_}
 use mathlib.Core.Bool.{Bool, false, not, _||_, _&&_}

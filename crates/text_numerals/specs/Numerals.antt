@@ -1,5 +1,5 @@
 -- "Numbers are decimal without leading zeros, 0 to 4,294,967,295. A keyword is compared whole, as fixed bytes, letter case included." "An operand is a
--- number or a field": `d0` to `d15`, or a store, `s0` to `s15`. A number of any length above its range is still a number.
+-- number or a field": `d0` to `d15`, or a store, `s0` to `s15`. A number of any length above its range is still a number. (RULES: tokens)
 use Prim.Native.Char.{code}
 use Prim.Native.Nat.{ℕ, _+_, _-_, _*_}
 use mathlib.Core.Bool.{Bool, true, false, _&&_, _||_}

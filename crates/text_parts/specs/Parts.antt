@@ -1,4 +1,4 @@
--- THE PARTS OF AN ELEMENT'S TEXT, in the words of document 01. x is the words of the element, in which each part is stored at its place.
+-- THE PARTS OF AN ELEMENT'S TEXT, in the words of document 01. x is the words of the element, in which each part is stored at its place. (RULES: reading)
 use Prim.Native.Char.{code}
 use Prim.Native.Nat.{ℕ, zero, suc, _+_, _-_}
 use mathlib.Core.Bool.{Bool, false}
@@ -15,7 +15,7 @@ unfoldable pub use Rattle.text_bounds.specs.Bounds.{starts, tooMany, counted}
 use Rattle.text_parts.specs.declared.Series.{Series}
 
 -- LISTS
--- "E a list `{e,f,..}`"; "X is `<..>` with 0 to 4 expressions"; "lists and branches 2 to 8"
+-- "E a list `{e,f,..}`"; "X is `<..>` with 0 to 4 expressions"; "lists and branches 2 to 8" (RULES: reading)
 abbrev pub edgeList : ℕ → Series
 edgeList list = record { item = anEdge; opener = code "{"; closer = code "}"; least = fewest; most = branches; count = list; branch = 0 }
 
@@ -57,7 +57,7 @@ inside s text at x =
 unfoldable pub series : Series → Reader
 series s = sign (s .opener) then inside s
 
--- "m a message name": `m:T` or `m:X`, the message of branch b
+-- "m a message name": `m:T` or `m:X`, the message of branch b (RULES: reading)
 unfoldable pub message : ℕ → ℕ → Reader
 message item b = number 0 (names - 1) (messagePlace b) then sign (code ":") then series (tuple item b)
 
@@ -68,7 +68,7 @@ receiving b = sign (code "(") then message aTemplateItem b then sign (code ",") 
 unfoldable pub receivingBranches : Reader
 receivingBranches = itemsFrom receiving (startsSign (code "(")) fewest exitsPlace branches 0
 
--- one entry or exit; "n a task number", k, C, A
+-- one entry or exit; "n a task number", k, C, A (RULES: reading)
 unfoldable pub oneEdge : ℕ → Reader
 oneEdge list = edge (edgePlace list 0) then store list 1
 

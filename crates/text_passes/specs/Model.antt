@@ -46,7 +46,7 @@ elementAlone text at = record { end = element text at (replicate elementWords 0)
 unfoldable pub elementsAt : List ℕ → ℕ → Got (List (List ℕ))
 elementsAt = barred elementAlone startsElement elements
 
--- "A pool is `pool(p,P)` or `miPool(p,P,n)`": 1 or 2, and 0 for any other word
+-- "A pool is `pool(p,P)` or `miPool(p,P,n)`": 1 or 2, and 0 for any other word (RULES: reading)
 abbrev pub plain : ℕ
 plain = 1
 

@@ -17,7 +17,7 @@ pub use Rattle.text_passes.specs.Model.{Got, plain, multiple, noPool, unread}
 unfoldable pub use Rattle.text_passes.specs.Model.{putBefore, barred, elementAlone, elementsAt, poolWord, opening, closing, closed, insidePool, poolOfWord, pool, startsPool, poolsAt, model, flat, filled, poolTable, tableOf}
 
 -- READING a text into a lent table t: "1: text above 65,536 bytes"; 2 and 3 with their place; "4 with the lowest check broken"; "28 no edge or element number free, after 4"; else 0, and every word is the model's, with
--- each pool rewritten: the text is read, counted and checked as it stands, endSnds and all
+-- each pool rewritten: the text is read, counted and checked as it stands, endSnds and all (RULES: reading)
 pub record ReadInto : Type 0 where
   pub number : ℕ
   pub beside : ℕ

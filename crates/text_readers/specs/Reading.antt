@@ -31,7 +31,7 @@ pub record Parsed : Type 0 where
 abbrev pub Reader : Type 0
 Reader = List ℕ → ℕ → List ℕ → Parsed
 
--- "2: the token at this place (or the text's end) continues no text of the notation"; "3: a number is outside its range or a count above it"
+-- "2: the token at this place (or the text's end) continues no text of the notation"; "3: a number is outside its range or a count above it" (RULES: places)
 abbrev pub misplaced : ℕ
 misplaced = 2
 
@@ -112,7 +112,7 @@ field place text at x =
     (keepNumber (fieldOf (letters text at)) 0 (named - 1) place (placeOf text at) (behind text at) x)
     (refused misplaced (placeOf text at) x)
 
--- "An operand is a number or a field": 0 and the number, or 1 and the field's number
+-- "An operand is a number or a field": 0 and the number, or 1 and the field's number (RULES: reading)
 unfoldable pub keepOperand : Operand → ℕ → ℕ → ℕ → List ℕ → Parsed
 keepOperand (OfNumber v) place p q x = passed q (set (set x place 0) (place + operandNumber) v)
 keepOperand (Field d) place p q x = passed q (set (set x place aField) (place + operandNumber) d)
@@ -125,7 +125,7 @@ operand place text at x =
     (keepOperand (operandOf (letters text at)) place (placeOf text at) (behind text at) x)
     (refused misplaced (placeOf text at) x)
 
--- "k is `a`, `na_c` or `na_nc`"; 0 for any other word
+-- "k is `a`, `na_c` or `na_nc`"; 0 for any other word (RULES: reading)
 unfoldable pub modeNamed : List ℕ → ℕ
 modeNamed w =
     if sameBytes w (bytes "a") then a

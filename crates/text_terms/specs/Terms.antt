@@ -1,5 +1,5 @@
 -- THE TERMS OF AN ELEMENT'S TEXT, in the words of document 01: expressions, items of a template, conditions, assignments, guarded branches. x is the words
--- of the element, in which each is stored at its place.
+-- of the element, in which each is stored at its place. (RULES: reading)
 use Prim.Native.Char.{code}
 use Prim.Native.Nat.{ℕ, _+_}
 use mathlib.Core.Bool.{Bool, true, _&&_}
@@ -17,7 +17,7 @@ use Rattle.text_readers.specs.Reading.{Parsed, Reader, misplaced, passed, refus
 abbrev pub store : ℕ → ℕ → Reader
 store place v text at x = passed at (set x place v)
 
--- "An expression is an operand, or two joined by `+` or `-`."
+-- "An expression is an operand, or two joined by `+` or `-`." (RULES: reading)
 unfoldable pub joint : ℕ → Reader
 joint place text at x =
     ifAt (signAt (code "+") text at) (λ q. (store (place + formPlace) plus then operand (place + rightPlace)) text q x)
@@ -27,14 +27,14 @@ joint place text at x =
 unfoldable pub expression : ℕ → Reader
 expression place = operand (place + leftPlace) then joint place
 
--- "T is the same, but an item may be `?d3`, which binds that field."
+-- "T is the same, but an item may be `?d3`, which binds that field." (RULES: reading)
 unfoldable pub bind : ℕ → Reader
 bind place = store (place + formPlace) binding then store (place + leftPlace) aField then field (place + leftPlace + operandNumber)
 
 unfoldable pub templateItem : ℕ → Reader
 templateItem place text at x = ifAt (signAt (code "?") text at) (λ q. bind place text q x) (expression place text at x)
 
--- "C is `true`, or two operands joined by `=` or `<`; in xorSplit also `default`."
+-- "C is `true`, or two operands joined by `=` or `<`; in xorSplit also `default`." (RULES: reading)
 unfoldable pub comparison : ℕ → Reader
 comparison place text at x =
     ifAt (signAt (code "=") text at) (λ q. (store (place + formPlace) equals then operand (place + rightPlace)) text q x)
@@ -48,7 +48,7 @@ condition defaults place text at x =
     else (operand (place + leftPlace) then comparison place) text at x)
     (refused misplaced (placeOf text at) x)
 
--- "A is `{}` or up to 4 of `d3:=expression`."
+-- "A is `{}` or up to 4 of `d3:=expression`." (RULES: reading)
 unfoldable pub assignment : ℕ → Reader
 assignment j = field (assignmentPlace j) then assign then expression (assignmentPlace j + assignedIn)
 

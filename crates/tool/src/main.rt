@@ -2,6 +2,7 @@
 //
 //   drawing    a drawing: its text in the notation
 //   judge V    a model's text and a log: lawful, or what the log is refused with, under version V
+//   accounts V the same, and of a lawful log for each message a line with its four numbers
 //   repair     a log that ended in the middle: what is kept, and the repaired log
 //   log V      a model's text: its run under version V, as an XES log
 //   nested     a model's text: nested, or the pool that is not, and the element at which it offends
@@ -11,6 +12,7 @@ use libc::STDERR_FILENO;
 use text_lexer::piece;
 use text_numerals::same;
 
+mod accounts;
 mod drawing;
 mod judge;
 mod log;
@@ -18,6 +20,7 @@ mod nested;
 mod repair;
 
 use drawing::do_drawing;
+use judge::do_accounts;
 use judge::do_judge;
 use log::do_log;
 use nested::do_nested;
@@ -48,6 +51,10 @@ fn do_command(name: &[u8]) {
     }
     if same(name, b"judge") {
         do_judge();
+        return;
+    }
+    if same(name, b"accounts") {
+        do_accounts();
         return;
     }
     if same(name, b"repair") {

@@ -1,4 +1,4 @@
--- What is said of a log: "`lawful`, `refused 23 PLACE`, `refused 24 ORDINAL NUMBER`"; a bad table is refused with 10 alone, another version with 25. Its newline is with it.
+-- What is said of a log: "`lawful`, `refused 23 PLACE`, `refused 24 ORDINAL NUMBER`"; a bad table is refused with 10 alone, another version with 25. Its newline is with it. (RULES: lines)
 use Prim.Native.Nat.{ℕ, _+_}
 use mathlib.Core.Bool.{Bool, _||_}
 use mathlib.Core.List.{List, [], _++_}

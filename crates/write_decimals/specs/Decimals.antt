@@ -1,4 +1,4 @@
--- "Numbers are decimal without leading zeros, 0 to 4,294,967,295."
+-- "Numbers are decimal without leading zeros, 0 to 4,294,967,295." (RULES: writing)
 use Prim.Native.Nat.{ℕ, zero, suc, _+_, _*_, _-_, _/_, _%_}
 use mathlib.Core.List.{List, [], _∷_, _++_}
 use mathlib.Core.Bool.{Bool, _&&_}

@@ -1,4 +1,4 @@
--- The line of a step: "prints pool, instance, element, phase, branch, then `!` sent or `?` consumed with name, colon, values joined by commas, or `-`". No newline is in it.
+-- The line of a step: "prints pool, instance, element, phase, branch, then `!` sent or `?` consumed with name, colon, values joined by commas, or `-`". No newline is in it. (RULES: lines)
 use Prim.Native.Nat.{ℕ, _+_, _*_, _-_}
 use mathlib.Core.List.{List, [], _∷_, _++_}
 use lib.Dec.{eqb}
@@ -23,7 +23,7 @@ marked mark j x = if eqb j 0 then shown x else mark ++ shown x
 unfoldable pub row : List ℕ → List ℕ → ℕ → List ℕ
 row mark s n = joined (λ j. marked mark j (at s j)) n
 
--- "values joined by commas": what a tuple has behind its values is not written
+-- "values joined by commas": what a tuple has behind its values is not written (RULES: lines)
 unfoldable pub valuesLine : Tuple → List ℕ
 valuesLine g = row (bytes ",") (g .values) (lesser (g .length) values)
 
@@ -31,11 +31,11 @@ valuesLine g = row (bytes ",") (g .values) (lesser (g .length) values)
 unfoldable pub tupleLine : Tuple → List ℕ
 tupleLine g = if eqb (g .length) 0 then bytes "-" else valuesLine g
 
--- "name, colon, values"
+-- "name, colon, values" (RULES: lines)
 unfoldable pub messageLine : Answer → List ℕ
 messageLine a = shown (a .name) ++ bytes ":" ++ valuesLine (a .tuple)
 
--- "`!` sent or `?` consumed .., or `-`"
+-- "`!` sent or `?` consumed .., or `-`" (RULES: lines)
 unfoldable pub signed : Traffic → List ℕ → List ℕ
 signed Nothing m = bytes "-"
 signed Consumed m = bytes "?" ++ m
@@ -48,7 +48,7 @@ trafficLine a = signed (a .traffic) (messageLine a)
 abbrev pub placeNumbers : ℕ
 placeNumbers = 5
 
--- "pool, instance, element, phase, branch"
+-- "pool, instance, element, phase, branch" (RULES: lines)
 unfoldable pub placeLine : Name → List ℕ
 placeLine n = row (bytes " ") (n .pool ∷ n .instance ∷ n .element ∷ n .phase ∷ n .branch ∷ []) placeNumbers
 
@@ -79,7 +79,7 @@ stepMost = placeMost + 1 + trafficMost
 abbrev pub nameMost : ℕ
 nameMost = placeMost + 1 + valuesMost
 
--- "A refused text prints `refused`, the number and what stands beside it, on one line", its newline with it
+-- "A refused text prints `refused`, the number and what stands beside it, on one line", its newline with it (RULES: lines)
 unfoldable pub unreadLine : ℕ → ℕ → List ℕ
 unreadLine number beside = bytes "refused " ++ shown number ++ bytes " " ++ shown beside ++ bytes "\n"
 

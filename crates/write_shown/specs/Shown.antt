@@ -1,5 +1,5 @@
 -- THE TEXT OF A TABLE: "The writer writes no blanks, keeps the order of the table, ends with one newline." x is the words from a place on, el an element's,
--- t a table. The parts of an element are those of the table of kinds, as they are read.
+-- t a table. The parts of an element are those of the table of kinds, as they are read. (RULES: writing)
 use Prim.Native.Char.{code}
 use Prim.Native.Nat.{ℕ, zero, suc, _+_, _-_}
 use mathlib.Core.Bool.{Bool, true, false}

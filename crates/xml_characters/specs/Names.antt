@@ -1,5 +1,5 @@
 -- Bytes (R7, R9): "Bytes from 128 are letters of names and characters of text, unexamined." "Names: ASCII letter, `_`, `:` or a byte from 128; then also
--- digits, `-`, `.`." Blanks are space, tab, CR, LF; "a byte below 32 other than tab, LF, CR" stands nowhere.
+-- digits, `-`, `.`." Blanks are space, tab, CR, LF; "a byte below 32 other than tab, LF, CR" stands nowhere. (RULES: xml)
 use Prim.Native.Char.{code}
 use Prim.Native.Nat.{ℕ}
 use mathlib.Core.Bool.{Bool, not, _||_, _&&_}

@@ -1,5 +1,5 @@
 -- References (R3): "`&lt; &gt; &amp; &quot; &apos;`, `&#..;`, `&#x..;`", and the characters of XML 1.0. A token here is its bytes from the `&` on, without the `;`.
--- A reference that says no character is 0, which is no character of XML either.
+-- A reference that says no character is 0, which is no character of XML either. (RULES: xml)
 use Prim.Native.Char.{code}
 use Prim.Native.Nat.{ℕ, _+_, _-_, _*_}
 use mathlib.Core.Bool.{Bool, true, false}

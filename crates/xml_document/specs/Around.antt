@@ -1,4 +1,4 @@
--- The root of a document, and what stands behind it. "The root's name is .., else 20 at its `<`" (R9); without a root the text breaks off; behind the root there is no element.
+-- The root of a document, and what stands behind it. "The root's name is .., else 20 at its `<`" (R9); without a root the text breaks off; behind the root there is no element. (RULES: xml)
 use Prim.Native.Nat.{ℕ}
 use mathlib.Core.List.{List}
 use lib.ListN.{length}

@@ -1,5 +1,5 @@
 -- "Character data, CDATA and references together": the bytes that a text says, one by one, with the place where the next one comes from. "A CR standing in the text is a line end" (R21), with
--- an LF behind it one line end; the character that a reference says is its number, and 128 for every number from 128 on: such bytes are alike in what is read here.
+-- an LF behind it one line end; the character that a reference says is its number, and 128 for every number from 128 on: such bytes are alike in what is read here. (RULES: flows)
 use Prim.Native.Char.{code}
 use Prim.Native.Nat.{ℕ, _+_, _-_}
 use mathlib.Core.List.{List}

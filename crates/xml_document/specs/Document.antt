@@ -1,4 +1,4 @@
--- "Outside the root only blanks (space, tab, CR, LF), comments, instructions; anything else is 20 there" (R9). A whole `</`name or `<![CDATA[` is at fault whatever follows it.
+-- "Outside the root only blanks (space, tab, CR, LF), comments, instructions; anything else is 20 there" (R9). A whole `</`name or `<![CDATA[` is at fault whatever follows it. (RULES: xml)
 use Prim.Native.Char.{code}
 use Prim.Native.Nat.{ℕ, zero, suc}
 use mathlib.Core.Bool.{Bool}

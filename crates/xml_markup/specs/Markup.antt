@@ -1,5 +1,5 @@
 -- What markup stands at a place (R3 to R5). "A text that breaks off anywhere is 20 at its length; so is a name, reference or opening that runs up to the end" (R4):
--- whatever is read byte by byte and meets the end of the text is a fault there.
+-- whatever is read byte by byte and meets the end of the text is a fault there. (RULES: xml)
 use Prim.Native.Char.{code}
 use Prim.Native.Nat.{ℕ, _+_}
 use mathlib.Core.Bool.{Bool, _||_}
@@ -19,7 +19,7 @@ use Rattle.xml_markup.specs.declared.Markup.{Markup}
 use Rattle.xml_characters.specs.Names.{isControl}
 use Rattle.xml_markup.specs.Tokens.{whole, moved, ifOn, begun, isFaulty}
 
--- One byte: first the token that it shows to be whole is judged; then "a byte below 32 other than tab, LF, CR: there, wherever it is"; then it moves on.
+-- One byte: first the token that it shows to be whole is judged; then "a byte below 32 other than tab, LF, CR: there, wherever it is"; then it moves on. (RULES: xml)
 unfoldable pub advance : List ℕ → ℕ → Cursor → ℕ → Scan
 advance t start c i =
     if leb (length t) i then Fault i
@@ -39,7 +39,7 @@ scan t p = scanFrom t p (begun p) (drop p t) p
 unfoldable pub beginsAt : List ℕ → ℕ → List ℕ → Bool
 beginsAt t i w = sameBytes (part (part t i (length t)) 0 (length w)) w
 
--- "`]]>` in character data: at the first `]`"
+-- "`]]>` in character data: at the first `]`" (RULES: xml)
 unfoldable pub closesData : List ℕ → ℕ → Bool
 closesData t i = beginsAt t i (bytes "]]>")
 

@@ -1,4 +1,4 @@
--- What R3 to R8 say, tried at the boundary of each sentence: one table. A row says what is tried, and names a text, a place in it and the markup there.
+-- What R3 to R8 say, tried at the boundary of each sentence: one table. A row says what is tried, and names a text, a place in it and the markup there. (RULES: xml)
 use Prim.Native.Nat.{ℕ}
 use Prim.Native.String.{String}
 use mathlib.Core.List.{List, [], _∷_, _++_}

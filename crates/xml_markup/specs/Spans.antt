@@ -1,5 +1,5 @@
 -- Where a tag's name and its attributes' values stand, and how names are compared. "Prefixes are not resolved: an element's name is what stands behind its last colon.
--- Attributes are compared whole. An end tag repeats the start tag's name byte for byte." (R6)
+-- Attributes are compared whole. An end tag repeats the start tag's name byte for byte." (R6) (RULES: xml)
 use Prim.Native.Char.{code}
 use Prim.Native.Nat.{ℕ, _+_}
 use mathlib.Core.Bool.{Bool, false, not, _||_}

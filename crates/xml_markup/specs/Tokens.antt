@@ -1,5 +1,5 @@
 -- Tokens that are judged when they are whole, that is, when the byte behind them shows where they end; one at fault is a fault at its first byte. What the end of the
--- text cuts off is not judged (R4). u is the text up to the token's end, `start` the place of the markup, `mark` that of the token.
+-- text cuts off is not judged (R4). u is the text up to the token's end, `start` the place of the markup, `mark` that of the token. (RULES: xml)
 use Prim.Native.Char.{code}
 use Prim.Native.Nat.{ℕ, _+_}
 use mathlib.Core.Bool.{Bool, true, false, not, _&&_}
@@ -104,11 +104,11 @@ unfoldable pub isFound : Found → Bool
 isFound (Behind i) = true
 isFound Nowhere = false
 
--- "a second attribute of the same name (compared whole, with prefix): at its name" (R5)
+-- "a second attribute of the same name (compared whole, with prefix): at its name" (R5) (RULES: xml)
 unfoldable pub twice : List ℕ → ℕ → ℕ → Bool
 twice u start mark = isFound (found (part u 0 mark) (part u mark (length u)) start)
 
--- "a UTF-8 BOM may stand first" (R7); the end behind one that it cuts off (R4)
+-- "a UTF-8 BOM may stand first" (R7); the end behind one that it cuts off (R4) (RULES: xml)
 abbrev pub byteOrderMark : List ℕ
 byteOrderMark = 239 ∷ 187 ∷ 191 ∷ []
 
@@ -124,7 +124,7 @@ saysXml w =
     if eqb (length w) 5 then (if eqb (lower (at w 2)) (code "x") then (if eqb (lower (at w 3)) (code "m") then eqb (lower (at w 4)) (code "l") else false) else false)
     else false
 
--- "`<?xml` (those letters) only at the first byte or behind the BOM .. any other instruction whose target is xml in any letter case is 20 at its `<`" (R8)
+-- "`<?xml` (those letters) only at the first byte or behind the BOM .. any other instruction whose target is xml in any letter case is 20 at its `<`" (R8) (RULES: xml)
 unfoldable pub isDeclaration : List ℕ → Bool
 isDeclaration w = sameBytes w (bytes "<?xml")
 

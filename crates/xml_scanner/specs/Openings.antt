@@ -1,5 +1,5 @@
 -- The token that opens a markup (R5): "`<`name, `</`name, `<!--`, `<![CDATA[`, `<?`target .. are each one token, at their first byte. So: `< a`, `<1`, `<!x`, `<?1`,
--- `</ a` .. at the `<`." "`<!DOCTYPE` is 20 at its `<`" (R3).
+-- `</ a` .. at the `<`." "`<!DOCTYPE` is 20 at its `<`" (R3). (RULES: xml)
 use Prim.Native.Char.{code}
 use Prim.Native.Nat.{ℕ, _+_}
 use lib.Dec.{ltb, eqb}

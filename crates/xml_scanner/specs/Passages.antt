@@ -1,4 +1,4 @@
--- Comments, CDATA sections and instructions. "`--` in a comment not followed by `>`: at the first `-`" (R5). "Behind a target comes a blank or `?>`" (R8).
+-- Comments, CDATA sections and instructions. "`--` in a comment not followed by `>`: at the first `-`" (R5). "Behind a target comes a blank or `?>`" (R8). (RULES: xml)
 use Prim.Native.Char.{code}
 use Prim.Native.Nat.{ℕ}
 use lib.Dec.{eqb}

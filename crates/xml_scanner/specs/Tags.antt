@@ -1,5 +1,5 @@
 -- Tags with their attributes (R5): "inside a tag an attribute's name, `=`, a value's bytes, `/>`, `>` stand for themselves. Missing blank before an attribute,
--- missing `=` or quote, stray byte in a tag, `/` without `>`: at that byte. `<` in a value: there."
+-- missing `=` or quote, stray byte in a tag, `/` without `>`: at that byte. `<` in a value: there." (RULES: xml)
 use Prim.Native.Char.{code}
 use Prim.Native.Nat.{ℕ}
 use mathlib.Core.Bool.{Bool, _||_}

@@ -1,5 +1,5 @@
 -- "An element inside an element, up to 16 deep, is skipped whole." "It is 1 deep, an element in it 2, and so on; the 17th is 20 at its `<`, an empty tag too" (R11a). "An end tag
--- repeats the start tag's name byte for byte" (R6), "an end tag with another name: at the `<`" (R5).
+-- repeats the start tag's name byte for byte" (R6), "an end tag with another name: at the `<`" (R5). (RULES: skipping)
 use Prim.Native.Nat.{ℕ, zero, suc, _-_}
 use mathlib.Core.List.{List}
 use lib.Dec.{leb, eqb}

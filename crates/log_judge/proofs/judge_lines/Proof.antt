@@ -1,5 +1,5 @@
 use mathlib.Core.Path.{_∙_}
-use Rattle.log_judge.proofs.JudgeLaws.{judged-none, judged-start}
+use Rattle.log_judge.proofs.JudgeLaws.{judged-none, left-none, judged-start, left-start}
 use borrow.Author.Needs.{needs}
 use Rattle.log_judge.proofs.judge_lines.Statement.{statement}
 use Rattle.log_judge.proofs.judge_lines.Tie as tie
@@ -11,6 +11,6 @@ judge-lines-spec =
     (λ c κs. search needs)
     (λ c. search needs)
     (λ c κs. search needs)
-    (λ c. c .lawful .ensures ∙ judged-none _ _ _ _ (c .before .before .start .ensures) (c .before .match .keys2))
+    (λ c. (c .lawful .ensures ∙ judged-none _ _ _ _ (c .before .before .start .ensures) (c .before .match .keys2), λ h. left-none _ _ _ _ (c .before .before .start .ensures) (c .before .match .keys2)))
     (λ c κs. search needs)
-    (λ c. c .judge-from .ensures ∙ judged-start _ _ _ _ (c .before .before .before .before .before .start .ensures) _ (c .before .before .before .m .given .1)))
+    (λ c. (c .judge-from .ensures .0 ∙ judged-start _ _ _ _ (c .before .before .before .before .before .start .ensures) _ (c .before .before .before .m .given .1), λ h. c .judge-from .ensures .1 h ∙ left-start _ _ _ _ (c .before .before .before .before .before .start .ensures) _ (c .before .before .before .m .given .1))))

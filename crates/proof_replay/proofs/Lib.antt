@@ -1,0 +1,5 @@
+pub mod LineLaws
+pub mod Exactly
+pub mod OwnState
+pub mod Resumed
+pub mod Cuts
