@@ -28,3 +28,4 @@ pub mod Boards
 pub mod Counted
 pub mod AtDesk
 pub mod Figures
+pub mod PollCalls

@@ -95,6 +95,41 @@ module _ (t : List ℕ) where
       ∙ ap oneBefore w
       ∙ (λ i. record { number = 0; accepted = next (length rest) i; state = after t rest (did t a z .state) })
 
+  -- as many calls as are accepted in a row, a poll accepts
+  pub as-far : (acts : List Act) (z : List ℕ) (k : ℕ) → k ≤ length acts → allAccepted t (take k acts) z ≡ true → k ≤ polledBy (did t) acts z .accepted
+  unfolding oneBefore allAccepted
+  as-far acts z zero l e = omega arith
+  as-far [] z (suc k) l e = absurd (omega arith)
+  as-far (a ∷ rest) z (suc k) l e =
+      let n = eqb-true (did t a z .number) 0 (and-left (eqb (did t a z .number) 0) (allAccepted t (take k rest) (did t a z .state)) e) in
+      by-first (λ (p : Polling). suc k ≤ p .accepted) a rest z
+      (λ y. omega (arith, as-far rest (did t a z .state) k (omega arith) (and-right (eqb (did t a z .number) 0) (allAccepted t (take k rest) (did t a z .state)) e)))
+      (λ y. absurd (y n))
+
+  -- and no more than there are
+  pub no-further : (acts : List Act) (z : List ℕ) → polledBy (did t) acts z .accepted ≤ length acts
+  unfolding polledBy oneBefore
+  no-further [] z = omega arith
+  no-further (a ∷ rest) z =
+      by-first (λ (p : Polling). p .accepted ≤ suc (length rest)) a rest z (λ e. omega (arith, no-further rest (did t a z .state))) (λ e. omega arith)
+
+  -- its number is 0 exactly where all are accepted
+  pub zero-whole : (acts : List Act) (z : List ℕ) → polledBy (did t) acts z .number ≡ 0 → polledBy (did t) acts z .accepted ≡ length acts
+  unfolding polledBy oneBefore
+  zero-whole [] z = λ h. refl
+  zero-whole (a ∷ rest) z =
+      by-first (λ (p : Polling). p .number ≡ 0 → p .accepted ≡ suc (length rest)) a rest z
+      (λ e h. omega (arith, zero-whole rest (did t a z .state) h))
+      (λ e h. absurd (e h))
+
+  pub whole-zero : (acts : List Act) (z : List ℕ) → polledBy (did t) acts z .accepted ≡ length acts → polledBy (did t) acts z .number ≡ 0
+  unfolding polledBy oneBefore
+  whole-zero [] z = λ h. refl
+  whole-zero (a ∷ rest) z =
+      by-first (λ (p : Polling). p .accepted ≡ suc (length rest) → p .number ≡ 0) a rest z
+      (λ e h. whole-zero rest (did t a z .state) (omega (arith, h)))
+      (λ e h. absurd (omega (arith, h)))
+
   pub poll-valid : (acts : List Act) (z : List ℕ) → Valid t z → Valid t (polledBy (did t) acts z .state)
   poll-valid acts z v = rw (state-after acts z) (after-valid t (take (polledBy (did t) acts z .accepted) acts) z v)
 
@@ -153,6 +188,18 @@ module _ (give : Act → List ℕ → Left) (ys : List Act) where
           → (if b then oneBefore (polledBy give (xs ++ ys) (give a z .state)) else r) ≡ also (if b then oneBefore p else r)
       go true e d = accepted d
       go false e d = refused e
+
+-- HOW MANY ITEMS there are, and the first k of them
+pub acts-length : (n : ℕ) (w : List ℕ) → length (actsIn w n) ≡ n
+unfolding actsIn
+acts-length zero w = refl
+acts-length (suc n) w = ap suc (acts-length n _)
+
+pub first-items : (k n : ℕ) (w : List ℕ) → k ≤ n → take k (actsIn w n) ≡ actsIn w k
+unfolding actsIn
+first-items zero n w l = refl
+first-items (suc k) zero w l = absurd (omega arith)
+first-items (suc k) (suc n) w l = ap (λ (acts : List Act). actIn w ∷ acts) (first-items k n (drop itemWords w) (omega arith))
 
 -- the items of both, out of the words of one block
 pub two-lists : (n m : ℕ) (w : List ℕ) → actsIn w (n + m) ≡ actsIn w n ++ actsIn (drop (itemWords * n) w) m

@@ -1,18 +1,14 @@
 -- CALLS, POLLS AND RUNS BY THE RULES: what is accepted of them is a trace of the paper's rules, from the initial configuration where they begin at a fresh state; and what is a trace is
 -- accepted. t is a table, z a valid state of it, C the collaboration that it stands for. Assumes nothing.
-use Prim.Native.Nat.{ℕ, zero, suc, _≤_}
-use mathlib.Core.Path.{_≡_, refl, sym, _∙_, ap, subst}
+use Prim.Native.Nat.{ℕ, _≤_}
+use mathlib.Core.Path.{_≡_, sym, _∙_, ap, subst}
 use mathlib.Core.Bool.{true}
-use mathlib.Core.List.{List, [], _∷_, map}
-use native.Mathlib.Omega.{arith}
-use lib.Dec.{eqb}
+use mathlib.Core.List.{List, map}
 use lib.ListN.{length, take}
-use borrow.Author.Tests.{eqb-true}
-use Rattle.base_words.proofs.AllLaws.{and-left, and-right}
 use Rattle.base_state.specs.Instances.{instancesOf, queuesOf, versionOf}
 use Rattle.state_fits.specs.Fresh.{fresh}
 use Rattle.step_poll.specs.Items.{itemsMost, actsIn}
-use Rattle.step_poll.specs.Poll.{Polling, oneBefore, polledBy}
+use Rattle.step_poll.specs.Poll.{Polling, polledBy}
 use Rattle.step_run.specs.Run.{ran}
 use Rattle.engine.specs.Engine.{lentNumber, askedNumber, fitting, RanTo, ended, ranTo}
 use Rattle.engine.specs.Calls.{Act, did, allAccepted, after, Valid, polledTo}
@@ -20,7 +16,7 @@ use Rattle.engine.proofs.CallLaws.{asked-valid}
 use Rattle.engine.proofs.KeepsValid.{fresh-valid}
 use Rattle.proof_steps.proofs.Choices.{chosen}
 use Rattle.proof_demands.specs.Demands.{runSteps, runLeft, ranGiven}
-use Rattle.proof_demands.proofs.PollSteps.{by-first, state-after, accepted-part}
+use Rattle.proof_demands.proofs.PollSteps.{state-after, accepted-part, as-far, acts-length}
 use Rattle.proof_demands.proofs.Polls.{poll-is}
 use Rattle.proof_demands.proofs.RunSteps.{run-accepted, run-is-steps}
 use Rattle.paper.specs.Syntax.{Pool}
@@ -59,22 +55,6 @@ module _ (t : List ℕ) where
         let y : Trace v C acts (stateOf t z₀) ls κ = subst (λ c. Trace v C acts c ls κ) (sym begins) w in
         trace-complete t acts z₀ (fresh-valid t v asked) (subst (λ k. Trace k C acts (stateOf t z₀) ls κ) (sym under) y)
 
-  -- as many calls as are accepted in a row, a poll accepts
-  as-far : (acts : List Act) (z : List ℕ) (k : ℕ) → k ≤ length acts → allAccepted t (take k acts) z ≡ true → k ≤ polledBy (did t) acts z .accepted
-  unfolding oneBefore allAccepted
-  as-far acts z zero l e = omega arith
-  as-far [] z (suc k) l e = absurd (omega arith)
-  as-far (a ∷ rest) z (suc k) l e =
-      let n = eqb-true (did t a z .number) 0 (and-left (eqb (did t a z .number) 0) (allAccepted t (take k rest) (did t a z .state)) e) in
-      by-first t (λ (p : Polling). suc k ≤ p .accepted) a rest z
-      (λ y. omega (arith, as-far rest (did t a z .state) k (omega arith) (and-right (eqb (did t a z .number) 0) (allAccepted t (take k rest) (did t a z .state)) e)))
-      (λ y. absurd (y n))
-
-  acts-length : (n : ℕ) (w : List ℕ) → length (actsIn w n) ≡ n
-  unfolding actsIn
-  acts-length zero w = refl
-  acts-length (suc n) w = ap suc (acts-length n _)
-
   module _ (z : List ℕ) (s : Valid t z) where
     abbrev version : ℕ
     version = versionOf (instancesOf z)
@@ -103,7 +83,7 @@ module _ (t : List ℕ) where
 
       pub poll-complete : (k : ℕ) → k ≤ count → {ls : List Seen} {κ : Configuration} → Trace version C (take k (actsIn w count)) (stateOf t z) ls κ → k ≤ p .accepted
       poll-complete k l y =
-          let f = as-far (actsIn w count) z k (subst (λ n. k ≤ n) (sym (acts-length count w)) l) (trace-complete t (take k (actsIn w count)) z s y .0) in
+          let f = as-far t (actsIn w count) z k (subst (λ n. k ≤ n) (sym (acts-length count w)) l) (trace-complete t (take k (actsIn w count)) z s y .0) in
           subst (λ (q : Polling). k ≤ q .accepted) (sym is) f
 
     -- A RUN: its steps, each the first listed one, are a trace, to the state that it leaves
