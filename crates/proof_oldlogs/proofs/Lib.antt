@@ -1,0 +1,9 @@
+pub mod Alike
+pub mod Elements
+pub mod Sites
+pub mod Spots
+pub mod Pools
+pub mod Cases
+pub mod Steps
+pub mod Beginnings
+pub mod Theorems
