@@ -32,6 +32,26 @@ extern "C" {
 #define CV_ITEM_WORDS 11
 #define CV_POLL_WORDS 704
 
+/* WHICH LIBRARY. CV_ABI counts the layouts that table, state and what crosses in a call have had. The library has a function whose name ends in its number, which gives it;
+   a program that was compiled with the header of another number does not link. Who declares the calls otherwise than by this header refers to that function himself.
+   cv_version gives the library's version: 10,000 for its first number, 100 for its second, 1 for its third. */
+#define CV_ABI 4
+#define CV_JOINED(name, number) name##number
+#define CV_NUMBERED(name, number) CV_JOINED(name, number)
+uint32_t CV_NUMBERED(cv_abi_, CV_ABI)(void);
+uint32_t cv_version(void);
+
+/* what makes the linker look for it, in a word that nobody reads; `retain` keeps that where sections without use are dropped */
+#if defined __has_attribute
+#if __has_attribute(retain)
+#define CV_KEPT __attribute__((used, retain))
+#endif
+#endif
+#ifndef CV_KEPT
+#define CV_KEPT __attribute__((used))
+#endif
+CV_KEPT static uint32_t (*const cv_abi_wanted)(void) = CV_NUMBERED(cv_abi_, CV_ABI);
+
 /* A TABLE, word by word. Places that are not in use hold 0.
    0                      the count of pools, 1 to 4
    1 + 8387 p             pool p, in the text's order: its number, 1 to 9
@@ -196,4 +216,5 @@ cv_verdict cv_nested(const uint32_t *table, size_t table_words);
 }
 #endif
 #undef CV_STATIC_ASSERT
+#undef CV_KEPT
 #endif

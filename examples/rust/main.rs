@@ -55,8 +55,13 @@ mod c {
         pub beside: usize,
     }
 
+    /// A library with other layouts than these has no function of this name: the program does not link with it.
+    #[used]
+    static LAYOUTS: unsafe extern "C" fn() -> u32 = cv_abi_4;
+
     #[link(name = "cuttingvale", kind = "static")]
     extern "C" {
+        fn cv_abi_4() -> u32;
         pub fn cv_read(text: *const u8, length: usize, table: *mut u32, table_words: usize) -> Reading;
         pub fn cv_fresh(table: *const u32, table_words: usize, version: u32, state: *mut u32, state_words: usize) -> u32;
         pub fn cv_post(table: *const u32, table_words: usize, state: *mut u32, state_words: usize, name: u32, values: Tuple) -> u32;

@@ -27,6 +27,8 @@ use step_poll::Polled;
 use step_run::Steps;
 use text_read::Reading;
 
+pub mod version;
+
 // What a step did to the queues, as a number: an enum does not cross to C.
 pub const NOTHING: Word = 0;
 
