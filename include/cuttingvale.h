@@ -1,11 +1,19 @@
-/* Cuttingvale: a process engine for tram junction controllers. Link with libcuttingvale.a; nothing else is needed.
+/* Cuttingvale: a process engine for tram junction controllers, for C11 or C++11 on x86-64 with the calls of System V. Link with libcuttingvale.a: from a C library it
+   takes memcpy and memset, and nothing else is needed.
 
    The caller lends a table (a model) and a state (its instances and queues), two blocks of 32-bit words, and keeps them. No call trusts them: each checks
    what it is lent, refuses with a number, and a refused call changes no byte it was lent. No call keeps a pointer, allocates, locks or fails to end.
 
-   Each block comes with its length in words. A length other than CV_TABLE_WORDS or CV_STATE_WORDS is refused with 10 before the block is looked at, so a null
-   pointer with length 0 is safe. What a length cannot say is the caller's word: that the block has that many words, that a text or a buffer has that
-   many bytes, that there are that many records, and that two blocks lent to one call do not overlap.
+   Each block comes with its length in words. A length other than CV_TABLE_WORDS or CV_STATE_WORDS is refused with 10 before anything is looked at, a text's length
+   too, so that 10 goes before 1; only 22 goes before it. So a null pointer with length 0 is safe for a block, and as safe for a text, a buffer and records: an empty
+   text, no room, no records. What a length cannot say is the caller's word: that the block has that many words, that a text or a buffer has that
+   many bytes, that there are that many records, that a block and records stand at a multiple of 4 (texts and buffers stand anywhere), and that two blocks lent to
+   one call do not overlap.
+
+   Calls are re-entrant: the library has no data that it writes. Threads may lend one table at the same time where each call has it as const; a state, with its
+   records, is lent to one call at a time, and so is a table that is being read into.
+
+   Beside a refusal stands 0, an empty message or name, unless the type of the answer says what does.
 
    The calls that take steps are lent the route desk's records too, one for each pool in the text's order, and bring them up to date; cv_figures sets them. */
 #ifndef CUTTINGVALE_H
@@ -82,6 +90,10 @@ CV_KEPT static uint32_t (*const cv_abi_wanted)(void) = CV_NUMBERED(cv_abi_, CV_A
    7172 + 2 k, 7173 + 2 k        1 where store k is defined; its value
    7204                          the version it was made for, 10 or 20, which it keeps
    7205 + 321 m                  how many messages queue m holds, at most 64; then for each, oldest first, its length and 4 values
+   Places that are not in use hold 0, else the state is refused with 10: those of pools and instances that are not made, of edges and counts that the model has not, the
+   value of a field or store that is not defined, values behind a message's length, messages behind a queue's last.
+   Saved, a state is its 49,364 bytes as they stand, the lowest byte of each word first. It does not say which model it is of: save the model's text with it, as cv_write
+   gives it, which is the same for equal tables and for no others. A state that is lent with another model's table may fit it and be accepted.
    A state that was saved when there were no versions has 12,308 words, and no call takes it; examples/c/carry.c has the ten lines that carry it over. */
 #define CV_STORES 7172
 #define CV_STORE(k) (7172 + 2 * (k))
@@ -144,10 +156,10 @@ typedef struct { uint32_t number, traffic, name; cv_tuple tuple; } cv_answer;
 typedef struct { uint32_t number; cv_name name; } cv_listed;
 /* steps taken, 0 to 65,535 as the limit, and 1 or 0 for whether one is still accepted */
 typedef struct { uint32_t number; uint16_t steps; uint32_t left; } cv_ran;
-/* beside: the place where the number is 2, 3 or 20, the lowest check broken where it is 4 */
+/* beside: the place where the number is 2, 3 or 20, from 0, the lowest check broken where it is 4 */
 typedef struct { uint32_t number; size_t beside; } cv_reading;
 typedef struct { uint32_t number; size_t length; } cv_written;
-/* the number of the first refusal, 0 where there was none, and how many items were accepted */
+/* the number of the first refusal, 0 where there was none, and how many items were accepted before it */
 typedef struct { uint32_t number; size_t accepted; } cv_polled;
 /* beside: the place where the number is 23, the event's ordinal from 0 where it is 24; own: the step's or post's own number, 0 where only the line is untrue */
 typedef struct { uint32_t number; size_t beside; uint32_t own; } cv_judged;
@@ -190,7 +202,7 @@ cv_reading cv_read(const uint8_t *text, size_t length, uint32_t *table, size_t t
    of it is the model's. */
 cv_reading cv_draw(const uint8_t *text, size_t length, uint32_t *table, size_t table_words);
 
-/* Writes a table's text, one line: 10, or 5 where the buffer is shorter than it, and the buffer stays; else 0 and its length, at most CV_TEXT_MOST. */
+/* Writes a table's text, one line with its newline: 10, or 5 where the buffer is shorter than it, and the buffer stays; else 0 and its length, at most CV_TEXT_MOST. */
 cv_written cv_write(const uint32_t *table, size_t table_words, uint8_t *buffer, size_t length);
 
 /* A whole poll: takes up to CV_ITEMS named steps and posts one by one until the first refusal. 22 where count is above CV_ITEMS, then 10, 25 and 26, with no items too, and nothing is
