@@ -19,7 +19,7 @@ use Rattle.xml_markup.specs.Markup.{scanFrom, scan, opensMarkup, marked,
 use Rattle.xml_markup.proofs.ScanLaws.{cut-from}
 use Rattle.xml_markup.proofs.MarkupLaws.{markup-within}
 
-rest-of : (l : List ℕ) (p n : ℕ) → p ≤ n → p ≤ length l → drop p (take n l) ≡ take (n - p) (drop p l)
+pub rest-of : (l : List ℕ) (p n : ℕ) → p ≤ n → p ≤ length l → drop p (take n l) ≡ take (n - p) (drop p l)
 rest-of l p n h k =
     ap (λ (m : ℕ). drop p (take m l)) (let e : n ≡ p + (n - p) = omega arith in e)
     ∙ ap (drop p) (take-add p (n - p) l)

@@ -1,9 +1,10 @@
 pub mod TokenLaws
-pub mod NameLaws
 pub mod StayLaws
 pub mod ScanLaws
 pub mod TextLaws
 pub mod SpanLaws
 pub mod MarkupLaws
 pub mod CutLaws
+pub mod ShelfLaws
+pub mod AheadLaws
 pub mod PointsHold

@@ -3,3 +3,4 @@ pub mod Markup
 pub mod Spans
 pub mod Points
 pub mod Staying
+pub mod Ahead

@@ -2,7 +2,9 @@
 use xml_scanner::Sort;
 use xml_scanner::State;
 
+pub mod ahead;
 pub mod scanning;
+pub mod shelf;
 pub mod spans;
 pub mod staying;
 pub mod tokens;
@@ -64,4 +66,23 @@ pub enum Class {
     Blanks,
     Name,
     Value(u8),
+}
+
+// How many numbers are kept; or no more are.
+pub enum Taken {
+    To(usize),
+    Not,
+}
+
+// How far a tag is read ahead, and how many names are kept or may be.
+pub struct Reach {
+    pub cursor: Cursor,
+    pub place: usize,
+    pub most: usize,
+}
+
+// Between these places a number is looked for.
+pub struct Bounds {
+    pub low: usize,
+    pub high: usize,
 }

@@ -1,14 +1,20 @@
 // A markup read byte by byte.
 ghost use mathlib.Core.Path.{_≡_};
 ghost use lib.ListN.{drop};
+ghost use mathlib.Core.Bool.{false};
+ghost use Rattle.base_words.specs.Words.{at, part};
+ghost use Rattle.xml_markup.specs.Tokens.{whole, ifAttribute, twice};
 ghost use Rattle.xml_markup.specs.Markup.{advance, scan, beginsAt, closesData, opensMarkup, textFrom, marked, placed, markup};
 use super::Cursor;
 use super::Markup;
 use super::Scan;
+use super::Whole;
+use super::ahead::NAMES;
+use super::ahead::read_new;
+use super::ahead::tried;
 use super::staying::stay;
 use super::tokens::begun;
-use super::tokens::is_faulty;
-use super::tokens::moved;
+use super::tokens::twice;
 use super::tokens::whole;
 use text_lexer::byte;
 use text_lexer::piece;
@@ -16,22 +22,28 @@ use text_numerals::same;
 use xml_characters::is_control;
 use xml_scanner::Sort;
 
+// Whether the byte at a place shows an attribute's name to be whole that stands in the tag before.
+fn is_second(text: &[u8], start: usize, c: Cursor, i: usize) -> bool
+    ensures { λ r. ⌜ r ≡ ifAttribute (whole (c .state) (at (now (text .entry)) i)) (twice (part (now (text .entry)) 0 i) start (c .mark)) false ⌝ }
+{
+    let s = c.state;
+    let w = whole(s, byte(text, i));
+    let Whole::Attribute = w else {
+        return false;
+    };
+    twice(piece(text, 0, i), start, c.mark)
+}
+
 fn advance(text: &[u8], start: usize, c: Cursor, i: usize) -> Scan
     ensures { λ r. ⌜ r ≡ advance (now (text .entry)) start c i ⌝ }
 {
     if text.len() <= i {
         return Scan::Fault(i);
     }
-    let b = text[i];
-    let s = c.state;
-    let mark = c.mark;
-    if is_faulty(whole(s, b), piece(text, 0, i), start, mark) {
-        return Scan::Fault(mark);
+    if is_second(text, start, c, i) {
+        return Scan::Fault(c.mark);
     }
-    if is_control(b) {
-        return Scan::Fault(i);
-    }
-    moved(c, b, i, i + 1)
+    tried(text, start, c, i)
 }
 
 // The markup that `<` or `&` opens at a place.
@@ -40,14 +52,18 @@ fn scan(text: &[u8], p: usize) -> Scan
 {
     let mut c = begun(p);
     let mut i = p;
+    let mut most = NAMES;
     while i < text.len() {
         let a = advance(text, p, c, i);
         let Scan::On(next) = a else {
             return a;
         };
-        c = next;
         let s = next.state;
-        i = stay(s, text, i + 1);
+        let r = read_new(text, p, next, stay(s, text, i + 1), most);
+        let d = r.cursor;
+        c = d;
+        i = r.place;
+        most = r.most;
     }
     Scan::Fault(i)
 }

@@ -1,13 +1,9 @@
 // Tokens that are judged when they are whole.
 ghost use mathlib.Core.Path.{_≡_};
-ghost use mathlib.Core.Bool.{not, false};
-ghost use Rattle.base_words.specs.Words.{at, part};
-ghost use Prim.Native.Nat.{ℕ, _+_, _≤_, _<_};
+ghost use Rattle.base_words.specs.Words.{part};
 ghost use lib.ListN.{length};
-ghost use Rattle.text_numerals.specs.Numerals.{sameBytes};
-ghost use Rattle.xml_characters.specs.Names.{isName};
 ghost use Rattle.xml_characters.specs.References.{characterOf, isCharacter};
-ghost use Rattle.xml_markup.specs.Tokens.{endOf, wholeInTag, wholeInInstruction, whole, moveTo, moved, isNamed, begun, found, isFound, twice, first, lower, saysXml, isDeclaration, reserved, isFaulty};
+ghost use Rattle.xml_markup.specs.Tokens.{endOf, wholeInTag, wholeInInstruction, whole, moveTo, moved, isNamed, begun, found, isFound, twice, first, lower, saysXml, isDeclaration, reserved};
 use super::Cursor;
 use super::Found;
 use super::Scan;
@@ -149,49 +145,12 @@ fn is_found(f: Found) -> bool
     }
 }
 
-// Whether an attribute's name may end at a place; its last byte is looked at first, as names that begin alike are many.
-fn may_end(text: &[u8], name: &[u8], i: usize) -> bool
-    requires { ⌜ i < length (now text) ⌝ }
-    ensures { λ r. ⌜ (r ≡ false → isName (at (now (text .entry)) (i + 1)) ≡ false → (m : ℕ) → sameBytes (part (now (text .entry)) m (i + 1)) (now (name .entry)) ≡ false) ⌝ }
-{
-    let n = name.len();
-    if n == 0 {
-        return true;
-    }
-    if text[i] != name[n - 1] {
-        return false;
-    }
-    if is_name(byte(text, i + 1)) {
-        return false;
-    }
-    if i + 1 < n {
-        return false;
-    }
-    same(piece(text, i + 1 - n, i + 1), name)
-}
-
-// Whether the name may stand in the text; in a value it may, and be no attribute's.
-fn may_stand(text: &[u8], name: &[u8], start: usize) -> bool
-    ensures { λ r. ⌜ (r ≡ false → (i : ℕ) → start ≤ i → i < length (now (text .entry)) → isName (at (now (text .entry)) (i + 1)) ≡ false → (m : ℕ) → sameBytes (part (now (text .entry)) m (i + 1)) (now (name .entry)) ≡ false) ⌝ }
-{
-    let mut i = start;
-    while i < text.len() {
-        if may_end(text, name, i) {
-            return true;
-        }
-        i += 1;
-    }
-    false
-}
-
-fn twice(text: &[u8], start: usize, mark: usize) -> bool
+// Whether the name from `mark` on is that of an attribute before it in the tag at `start`.
+pub fn twice(text: &[u8], start: usize, mark: usize) -> bool
     ensures { λ r. ⌜ r ≡ twice (now (text .entry)) start mark ⌝ }
 {
     let tag = piece(text, 0, mark);
     let name = piece(text, mark, text.len());
-    if !may_stand(tag, name, start) {
-        return false;
-    }
     is_found(found(tag, name, start))
 }
 
@@ -234,7 +193,7 @@ fn is_declaration(w: &[u8]) -> bool
     same(w, b"<?xml")
 }
 
-fn reserved(text: &[u8], start: usize, mark: usize) -> bool
+pub fn reserved(text: &[u8], start: usize, mark: usize) -> bool
     ensures { λ r. ⌜ r ≡ reserved (now (text .entry)) start mark ⌝ }
 {
     let w = piece(text, mark, text.len());
@@ -247,19 +206,8 @@ fn reserved(text: &[u8], start: usize, mark: usize) -> bool
     start != first(text)
 }
 
-fn speaks(text: &[u8], mark: usize) -> bool
+pub fn speaks(text: &[u8], mark: usize) -> bool
     ensures { λ r. ⌜ r ≡ isCharacter (characterOf (part (now (text .entry)) mark (length (now (text .entry))))) ⌝ }
 {
     is_character(character_of(piece(text, mark, text.len())))
-}
-
-pub fn is_faulty(w: Whole, text: &[u8], start: usize, mark: usize) -> bool
-    ensures { λ r. ⌜ r ≡ isFaulty w (now (text .entry)) start mark ⌝ }
-{
-    match w {
-        Whole::Nothing => false,
-        Whole::Attribute => twice(text, start, mark),
-        Whole::Target => reserved(text, start, mark),
-        Whole::Reference => !speaks(text, mark),
-    }
 }

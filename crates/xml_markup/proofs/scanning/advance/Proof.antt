@@ -1,24 +1,22 @@
-use borrow.Author.Tests.{le-leb, lt-leb}
-use mathlib.Core.Path.{refl}
-use Rattle.base_words.proofs.PickLaws.{pick-no, pick-yes}
+use mathlib.Core.Path.{_∙_, refl, sym}
+use borrow.Author.Tests.{le-leb}
+use Rattle.base_words.proofs.PickLaws.{pick-yes}
 use Rattle.xml_markup.specs.Markup.{advance}
+use Rattle.xml_markup.proofs.AheadLaws.{second-fault, second-not}
 use borrow.Author.Needs.{needs}
 use Rattle.xml_markup.proofs.scanning.advance.Statement.{statement}
 use Rattle.xml_markup.proofs.scanning.advance.Tie as tie
 
-pub advance-spec : {M : Type 1} → statement M
+returns : tie.Need-returns
 unfolding advance
+returns c = pick-yes _ _ _ _ (le-leb _ _ (c .if1 .taken)) refl
+
+pub advance-spec : {M : Type 1} → statement M
 advance-spec =
     tie.close
     (tie.spec
-    (λ c. pick-yes _ _ _ _ (le-leb _ _ (c .if1 .taken)) refl)
-    (λ c. search needs)
+    returns
     (λ c κs. search needs)
+    (λ c. second-fault _ _ _ _ (c .before .before .if1 .left) (sym (c .before .is-second .ensures) ∙ c .if2 .taken))
     (λ c κs. search needs)
-    (λ c κs. search needs)
-    (λ c. rw (← c .before .before .before .whole .ensures, ← c .before .before .piece .ensures, ← c .before .is-faulty .ensures) (pick-no _ _ _ _ (lt-leb _ _ (c .before .before .before .before .before .if1 .left)) (pick-yes _ _ _ _ (c .if2 .taken) refl)))
-    (λ c κs. search needs)
-    (λ c. rw (← c .before .before .before .before .before .whole .ensures, ← c .before .before .before .before .piece .ensures, ← c .before .before .before .is-faulty .ensures, ← c .before .is-control .ensures) (pick-no _ _ _ _ (lt-leb _ _ (c .before .before .before .before .before .before .before .if1 .left)) (pick-no _ _ _ _ (c .before .before .if2 .left) (pick-yes _ _ _ _ (c .if3 .taken) refl))))
-    (λ c. search needs)
-    (λ c κs. search needs)
-    (λ c. rw (← c .before .before .before .before .before .before .whole .ensures, ← c .before .before .before .before .before .piece .ensures, ← c .before .before .before .before .is-faulty .ensures, ← c .before .before .is-control .ensures) (pick-no _ _ _ _ (lt-leb _ _ (c .before .before .before .before .before .before .before .before .if1 .left)) (pick-no _ _ _ _ (c .before .before .before .if2 .left) (pick-no _ _ _ _ (c .before .if3 .left) (c .moved .ensures))))))
+    (λ c. c .tried .ensures ∙ sym (second-not _ _ _ _ (sym (c .before .before .is-second .ensures) ∙ c .before .if2 .left))))

@@ -1,35 +1,37 @@
 use mathlib.Core.Path.{_≡_, _∙_, refl, sym}
 use Prim.Native.Nat.{_-_, _+_}
+use native.Mathlib.Omega.{arith}
 use lib.ListN.{length, drop}
 use Rattle.xml_markup.specs.Markup.{scanFrom, scan}
+use Rattle.xml_markup.specs.Ahead.{Reached}
 use Rattle.xml_markup.proofs.StayLaws.{scan-stay, stay-ahead}
-use native.Mathlib.Omega.{arith}
 use Rattle.xml_markup.proofs.ScanLaws.{scan-on, scan-stops, scan-end}
+use Rattle.xml_markup.proofs.AheadLaws.{advance-moved, reached-begun, reached-byte, reached-run}
 use borrow.Author.Needs.{needs}
 use Rattle.xml_markup.proofs.scanning.scan.Statement.{statement}
 use Rattle.xml_markup.proofs.scanning.scan.Tie as tie
 
 abbrev Inv-loop : tie.InvT-loop
-Inv-loop text p c₀ i₀ c i = scanFrom text p c (drop i text) i ≡ scan text p
+Inv-loop text p c₀ i₀ most₀ c i most = (scanFrom text p c (drop i text) i ≡ scan text p) × Reached text p c i
 
 abbrev μ-loop : tie.MeasureT-loop
-μ-loop text p c₀ i₀ c i = length text - i
+μ-loop text p c₀ i₀ most₀ c i most = length text - i
 
 loop-holds : tie.Need-loop-holds Inv-loop μ-loop
 unfolding scan
-loop-holds c = rw (c .begun .ensures) refl
+loop-holds c = rw (c .begun .ensures) (refl, reached-begun (c .before .before .args .text .now) (c .before .before .args .p))
 
 returns : tie.Need-returns Inv-loop μ-loop
-returns c = sym (scan-stops _ _ _ _ (c .before .before .loop-test .taken) _ (c .before .advance .ensures) (c .match .keys2)) ∙ c .before .before .before .loop .inv
+returns c = sym (scan-stops _ _ _ _ (c .before .before .loop-test .taken) _ (c .before .advance .ensures) (c .match .keys2)) ∙ c .before .before .before .loop .inv .0
 
-loop-less : tie.Need-loop-less Inv-loop μ-loop
-loop-less c = omega (arith, stay-ahead _ _ _ _ (c .stay .ensures))
+read-new-requires : tie.Need-read-new-requires Inv-loop μ-loop
+read-new-requires c κs =
+    reached-run (c .before .before .before .before .before .before .before .before .before .args .text .now) (c .before .before .before .before .before .before .before .before .before .args .p) _ (c .before .before .before .before .before .before .loop .i + 1) _ (c .stay .ensures)
+    (reached-byte (c .before .before .before .before .before .before .before .before .before .args .text .now) (c .before .before .before .before .before .before .before .before .before .args .p) (c .before .before .before .before .before .before .loop .c) (c .before .before .before .before .before .before .loop .i) (c .before .before .before .before .before .loop-test .taken) (c .before .before .before .before .before .before .loop .inv .1) _ (advance-moved _ _ _ _ _ (sym (c .before .before .before .before .advance .ensures) ∙ c .before .before .a .given .1)))
 
 loop-again : tie.Need-loop-again Inv-loop μ-loop
-loop-again c = sym (scan-on _ _ _ _ (c .before .before .before .before .before .loop-test .taken) _ (c .before .before .before .before .advance .ensures) _ (c .before .before .a .given .1) ∙ scan-stay _ _ _ (c .before .before .before .before .before .before .loop .i + 1) _ (c .stay .ensures)) ∙ c .before .before .before .before .before .before .loop .inv
-
-returns-2 : tie.Need-returns-2 Inv-loop μ-loop
-returns-2 c = sym (scan-end _ _ _ _ (c .loop-test .left)) ∙ c .before .loop .inv
+loop-again c =
+    (sym (scan-on _ _ _ _ (c .before .before .before .before .before .before .before .loop-test .taken) _ (c .before .before .before .before .before .before .advance .ensures) _ (c .before .before .before .before .a .given .1) ∙ scan-stay _ _ _ (c .before .before .before .before .before .before .before .before .loop .i + 1) _ (c .before .before .stay .ensures) ∙ c .before .read-new .ensures .same) ∙ c .before .before .before .before .before .before .before .before .loop .inv .0, c .before .read-new .ensures .reached)
 
 pub scan-spec : {M : Type 1} → statement M
 scan-spec =
@@ -44,6 +46,7 @@ scan-spec =
     returns
     (λ c. search needs)
     (λ c κs. search needs)
-    loop-less
+    read-new-requires
+    (λ c. omega (arith, c .before .read-new .ensures .on, stay-ahead _ _ _ _ (c .before .before .stay .ensures)))
     loop-again
-    returns-2)
+    (λ c. sym (scan-end _ _ _ _ (c .loop-test .left)) ∙ c .before .loop .inv .0))

@@ -1,7 +1,5 @@
 use Rattle.xml_markup.specs.Tokens.{twice}
-use Rattle.xml_markup.proofs.NameLaws.{stands-nowhere}
 use borrow.Author.Needs.{needs}
-use borrow.Author.Tests.{not-true}
 use Rattle.xml_markup.proofs.tokens.twice.Statement.{statement}
 use Rattle.xml_markup.proofs.tokens.twice.Tie as tie
 
@@ -13,7 +11,5 @@ twice-spec =
     (λ c κs. search needs)
     (λ c κs. search needs)
     (λ c κs. search needs)
-    (λ c. rw (← c .before .before .before .piece .ensures, ← c .before .before .piece2 .ensures) (stands-nowhere _ _ _ (c .before .may-stand .ensures (not-true _ (c .if1 .taken)))))
     (λ c κs. search needs)
-    (λ c κs. search needs)
-    (λ c. rw (← c .before .before .before .before .before .piece .ensures, ← c .before .before .before .before .piece2 .ensures, ← c .before .found .ensures) (c .is-found .ensures)))
+    (λ c. rw (← c .before .before .before .piece .ensures, ← c .before .before .piece2 .ensures, ← c .before .found .ensures) (c .is-found .ensures)))

@@ -1,0 +1,50 @@
+use mathlib.Core.Path.{_≡_, _∙_, refl, sym}
+use mathlib.Core.Bool.{false≢true}
+use mathlib.Core.List.{List}
+use Prim.Native.Nat.{ℕ, _-_, _+_}
+use native.Mathlib.Omega.{arith}
+use lib.ListN.{length, drop}
+use Rattle.xml_markup.specs.Tokens.{foundFrom, found}
+use Rattle.xml_markup.specs.Ahead.{keyOf, Rising, Kept}
+use Rattle.xml_markup.proofs.StayLaws.{found-stay, stay-ahead}
+use Rattle.xml_markup.proofs.TokenLaws.{found-on, found-stops, found-end}
+use borrow.Author.Needs.{needs}
+use Rattle.xml_markup.proofs.ahead.is_clear.Statement.{statement}
+use Rattle.xml_markup.proofs.ahead.is_clear.Tie as tie
+
+abbrev Inv-loop : tie.InvT-loop
+Inv-loop text start v n c₀ i₀ c i = Rising v n → (name : List ℕ) → Kept v n (keyOf name) → foundFrom text name c (drop i text) i ≡ found text name start
+
+abbrev μ-loop : tie.MeasureT-loop
+μ-loop text start v n c₀ i₀ c i = length text - i
+
+loop-holds : tie.Need-loop-holds Inv-loop μ-loop
+unfolding found
+loop-holds c up name k = rw (c .begun .ensures) refl
+
+returns-2 : tie.Need-returns-2 Inv-loop μ-loop
+returns-2 c e up name k = sym (c .before .before .before .before .before .before .loop .inv up name k) ∙ found-stops _ _ _ _ (c .before .before .before .before .before .loop-test .taken) (c .before .before .before .before .is-met .ensures (c .before .before .before .if1 .left) up name k) _ (c .before .before .byte .ensures) _ (c .before .moved .ensures) (c .match .keys2)
+
+loop-again : tie.Need-loop-again Inv-loop μ-loop
+loop-again c up name k = sym (found-on _ _ _ _ (c .before .before .before .before .before .before .before .before .loop-test .taken) (c .before .before .before .before .before .before .before .is-met .ensures (c .before .before .before .before .before .before .if1 .left) up name k) _ (c .before .before .before .before .before .byte .ensures) _ (c .before .before .before .before .moved .ensures) _ (c .before .before .a .given .1) ∙ found-stay _ _ _ (c .before .before .before .before .before .before .before .before .before .loop .i + 1) _ (c .stay .ensures)) ∙ c .before .before .before .before .before .before .before .before .before .loop .inv up name k
+
+pub is-clear-spec : {M : Type 1} → statement M
+is-clear-spec =
+    tie.close
+    (tie.spec
+    Inv-loop
+    μ-loop
+    (λ c κs. search needs)
+    loop-holds
+    (λ c κs. search needs)
+    (λ c e. absurd (false≢true e))
+    (λ c κs. search needs)
+    (λ c. search needs)
+    (λ c κs. search needs)
+    (λ c. search needs)
+    returns-2
+    (λ c. search needs)
+    (λ c κs. search needs)
+    (λ c. omega (arith, stay-ahead _ _ _ _ (c .stay .ensures)))
+    loop-again
+    (λ c e up name k. sym (c .before .loop .inv up name k) ∙ found-end _ _ _ _ (c .loop-test .left)))

@@ -1,0 +1,203 @@
+// A tag read ahead: whether its names are new is asked of many at a time.
+ghost use mathlib.Core.Path.{_≡_};
+ghost use mathlib.Core.Bool.{true, false};
+ghost use mathlib.Core.List.{List};
+ghost use Prim.Native.Nat.{ℕ, _≤_};
+ghost use lib.ListN.{length, drop};
+ghost use Rattle.base_words.specs.Words.{at, part};
+ghost use Rattle.xml_markup.specs.declared.Taken.the-variants.{To, Not};
+ghost use Rattle.xml_markup.specs.declared.Whole.the-variants.{Attribute};
+ghost use Rattle.xml_markup.specs.declared.Found.the-variants.{Nowhere};
+ghost use Rattle.xml_markup.specs.Tokens.{whole, isNamed, found};
+ghost use Rattle.xml_markup.specs.Markup.{scanFrom};
+ghost use Rattle.xml_markup.specs.Ahead.{keyOf, Rising, Kept, More, With, Reached, Ahead, Sure, isFaultyElse, tried};
+use super::Cursor;
+use super::Reach;
+use super::Scan;
+use super::Taken;
+use super::Whole;
+use super::shelf::is_kept;
+use super::shelf::keep;
+use super::shelf::key_of;
+use super::staying::stay;
+use super::tokens::begun;
+use super::tokens::moved;
+use super::tokens::reserved;
+use super::tokens::speaks;
+use super::tokens::whole;
+use text_lexer::byte;
+use text_lexer::piece;
+use xml_characters::is_control;
+
+// The most names that are looked at together.
+pub const NAMES: usize = 256;
+
+fn is_faulty_else(w: Whole, text: &[u8], start: usize, mark: usize) -> bool
+    ensures { λ r. ⌜ r ≡ isFaultyElse w (now (text .entry)) start mark ⌝ }
+{
+    match w {
+        Whole::Nothing => false,
+        Whole::Attribute => false,
+        Whole::Target => reserved(text, start, mark),
+        Whole::Reference => !speaks(text, mark),
+    }
+}
+
+// What a byte does, where the name that it shows to be whole is new.
+pub fn tried(text: &[u8], start: usize, c: Cursor, i: usize) -> Scan
+    ensures { λ r. ⌜ r ≡ tried (now (text .entry)) start c i ⌝ }
+{
+    if text.len() <= i {
+        return Scan::Fault(i);
+    }
+    let b = text[i];
+    let s = c.state;
+    let mark = c.mark;
+    if is_faulty_else(whole(s, b), piece(text, 0, i), start, mark) {
+        return Scan::Fault(mark);
+    }
+    if is_control(b) {
+        return Scan::Fault(i);
+    }
+    moved(c, b, i, i + 1)
+}
+
+// Puts the number of the name that the byte at a place shows to be whole among the first n.
+fn take_name(text: &[u8], c: Cursor, i: usize, most: usize, v: &mut [usize], n: usize) -> Taken
+    requires { ⌜ n ≤ length (now v) ⌝ }
+    ensures { λ r. ⌜ ((m : ℕ) → r ≡ To m → Rising (now (v .entry)) n → More (now (v .entry)) n (now (v .exit)) m × (whole (c .state) (at (now (text .entry)) i) ≡ Attribute → With (keyOf (part (now (text .entry)) (c .mark) i)) (now (v .entry)) n (now (v .exit)) m)) × (r ≡ Not → now (v .exit) ≡ now (v .entry)) ⌝ }
+{
+    let s = c.state;
+    let w = whole(s, byte(text, i));
+    let Whole::Attribute = w else {
+        return Taken::To(n);
+    };
+    if most <= n || v.len() <= n {
+        return Taken::Not;
+    }
+    if keep(v, n, key_of(piece(text, c.mark, i))) {
+        return Taken::To(n + 1);
+    }
+    Taken::Not
+}
+
+// Whether the byte at a place shows a name to be whole whose number is one of the first n.
+fn is_met(text: &[u8], c: Cursor, i: usize, v: &[usize], n: usize) -> bool
+    requires { ⌜ n ≤ length (now v) ⌝ }
+    ensures { λ r. ⌜ (r ≡ false → Rising (now (v .entry)) n → (name : List ℕ) → Kept (now (v .entry)) n (keyOf name) → isNamed (now (text .entry)) name c i ≡ false) ⌝ }
+{
+    let s = c.state;
+    let w = whole(s, byte(text, i));
+    let Whole::Attribute = w else {
+        return false;
+    };
+    is_kept(v, n, key_of(piece(text, c.mark, i)))
+}
+
+// Whether no name of the tag at `start` has one of the first n numbers.
+fn is_clear(text: &[u8], start: usize, v: &[usize], n: usize) -> bool
+    requires { ⌜ n ≤ length (now v) ⌝ }
+    ensures { λ r. ⌜ (r ≡ true → Rising (now (v .entry)) n → (name : List ℕ) → Kept (now (v .entry)) n (keyOf name) → found (now (text .entry)) name start ≡ Nowhere) ⌝ }
+{
+    let mut c = begun(start);
+    let mut i = start;
+    while i < text.len() {
+        if is_met(text, c, i, v, n) {
+            return false;
+        }
+        let a = moved(c, byte(text, i), i, i + 1);
+        let Scan::On(next) = a else {
+            return true;
+        };
+        c = next;
+        let s = next.state;
+        i = stay(s, text, i + 1);
+    }
+    true
+}
+
+// Reads a tag ahead as long as its names have different numbers, which are kept; it is read rightly where no name before has one of them.
+fn read_ahead(text: &[u8], start: usize, c: Cursor, p: usize, most: usize, v: &mut [usize]) -> Reach
+    requires { ⌜ Reached (now text) start c p ⌝ }
+    ensures { λ r. ⌜ Ahead (now (text .entry)) start c p (now (v .exit)) (r .most) (r .cursor) (r .place) ⌝ }
+{
+    let mut here = c;
+    let mut i = p;
+    let mut n: usize = 0;
+    while i < text.len() {
+        let a = tried(text, start, here, i);
+        let Scan::On(next) = a else {
+            return Reach {
+                cursor: here,
+                place: i,
+                most: n,
+            };
+        };
+        let t = take_name(text, here, i, most, v, n);
+        let Taken::To(m) = t else {
+            return Reach {
+                cursor: here,
+                place: i,
+                most: n,
+            };
+        };
+        n = m;
+        here = next;
+        let s = next.state;
+        i = stay(s, text, i + 1);
+    }
+    Reach {
+        cursor: here,
+        place: i,
+        most: n,
+    }
+}
+
+// Reads ahead up to `most` names of a tag from a place on where one is being read; nothing, and half as many next time, where one may not be new.
+fn read_some(text: &[u8], start: usize, c: Cursor, p: usize, most: usize) -> Reach
+    requires { ⌜ Reached (now text) start c p ⌝ }
+    ensures { λ r. ⌜ Sure (now (text .entry)) start c p (r .cursor) (r .place) ⌝ }
+{
+    let s = c.state;
+    let w = whole(s, 0);
+    let Whole::Attribute = w else {
+        return Reach {
+            cursor: c,
+            place: p,
+            most: most,
+        };
+    };
+    let mut v = [0; NAMES];
+    let r = read_ahead(text, start, c, p, most, &mut v);
+    if is_clear(piece(text, 0, p), start, &v, r.most) {
+        let d = r.cursor;
+        return Reach {
+            cursor: d,
+            place: r.place,
+            most: most,
+        };
+    }
+    Reach {
+        cursor: c,
+        place: p,
+        most: most / 2,
+    }
+}
+
+// Reads a tag ahead as far as its names are new.
+pub fn read_new(text: &[u8], start: usize, c: Cursor, p: usize, most: usize) -> Reach
+    requires { ⌜ Reached (now text) start c p ⌝ }
+    ensures { λ r. ⌜ Sure (now (text .entry)) start c p (r .cursor) (r .place) ⌝ }
+{
+    let mut last = p;
+    let mut r = read_some(text, start, c, p, most);
+    while last < r.place {
+        if text.len() <= last {
+            return r;
+        }
+        last = r.place;
+        let d = r.cursor;
+        r = read_some(text, start, d, r.place, r.most);
+    }
+    r
+}
