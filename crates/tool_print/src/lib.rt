@@ -8,10 +8,11 @@ ghost use Rattle.write_buffer.specs.Buffers.{Put, lesser};
 ghost use Rattle.write_decimals.specs.Decimals.{shown};
 ghost use Rattle.write_lines.specs.Lines.{unreadLine};
 ghost use Rattle.text_read.specs.Notation.{readInto};
-ghost use Rattle.engine.specs.Engine.{RanTo, freshened};
+ghost use Rattle.engine.specs.Engine.{Stepped, RanTo, freshened};
 ghost use Rattle.engine.specs.Desk.{AtDesk, ranAt};
 ghost use Prim.Native.Nat.{_+_, _≤_};
 ghost use Rattle.tool_print.specs.Judged.{besideLine, hasBeside, unlawfulLine, judgedLine, judgedMost};
+ghost use Rattle.tool_print.specs.Lent.{lentOf, takenOn, ranOn, countedOn, ranFresh};
 use base_state::places::STATE_WORDS;
 use base_state::versions::PRESENT;
 use base_table::places::TABLE_WORDS;
@@ -219,7 +220,7 @@ fn tell_step(n: Name, a: Answer) {
 pub const RECORDS: usize = 4;
 
 pub fn lent(t: &[Word; TABLE_WORDS], records: usize) -> usize
-    ensures { λ r. ⌜ r ≤ records ⌝ }
+    ensures { λ r. ⌜ (r ≡ lentOf (now (t .entry)) records) × (r ≤ records) ⌝ }
 {
     least(wide(pool_count(t)), records)
 }
@@ -229,7 +230,9 @@ pub fn set_records(
     t: &[Word; TABLE_WORDS],
     z: &[Word; STATE_WORDS],
     rs: &mut [[Word; RECORD_WORDS]],
-) -> Word {
+) -> Word
+    ensures { λ r. ⌜ record { done = r; records = now (rs .exit) } ≡ countedOn (now (t .entry)) (now (z .entry)) (now (rs .entry)) ⌝ }
+{
     let n = lent(t, rs.len());
     engine::figures(t, z, &mut rs[..n])
 }
@@ -240,7 +243,9 @@ pub fn take(
     z: &mut [Word; STATE_WORDS],
     rs: &mut [[Word; RECORD_WORDS]],
     name: Name,
-) -> Answer {
+) -> Answer
+    ensures { λ r. ⌜ record { done = record { answer = r; state = now (z .exit) }; records = now (rs .exit) } ≡ takenOn (now (t .entry)) (now (z .entry)) (now (rs .entry)) name ⌝ }
+{
     let n = lent(t, rs.len());
     engine::step(t, z, &mut rs[..n], name)
 }
@@ -251,7 +256,9 @@ pub fn run_all(
     z: &mut [Word; STATE_WORDS],
     rs: &mut [[Word; RECORD_WORDS]],
     limit: Steps,
-) -> Ran {
+) -> Ran
+    ensures { λ r. ⌜ record { done = record { number = r .number; steps = r .steps; left = r .left; state = now (z .exit) }; records = now (rs .exit) } ≡ ranOn (now (t .entry)) (now (z .entry)) (now (rs .entry)) limit ⌝ }
+{
     let n = lent(t, rs.len());
     engine::run(t, z, &mut rs[..n], limit)
 }
@@ -315,7 +322,9 @@ pub fn tell_run(
 }
 
 // The run of a fresh state, with the records of its own.
-pub fn tell_fresh_run(t: &[Word; TABLE_WORDS], z: &mut [Word; STATE_WORDS], limit: Steps) {
+pub fn tell_fresh_run(t: &[Word; TABLE_WORDS], z: &mut [Word; STATE_WORDS], limit: Steps)
+    ensures { λ _. ⌜ now (z .exit) ≡ ranFresh (now (t .entry)) (now (z .entry)) limit ⌝ }
+{
     let mut rs: [[Word; RECORD_WORDS]; RECORDS] = [[0; RECORD_WORDS]; RECORDS];
     set_records(t, z, &mut rs);
     tell_lent_run(t, z, &mut rs, limit);
@@ -326,7 +335,9 @@ fn tell_lent_run(
     z: &mut [Word; STATE_WORDS],
     rs: &mut [[Word; RECORD_WORDS]],
     limit: Steps,
-) {
+)
+    ensures { λ _. ⌜ now (z .exit) ≡ ranOn (now (t .entry)) (now (z .entry)) (now (rs .entry)) limit .done .state ⌝ }
+{
     let n = lent(t, rs.len());
     tell_run(t, z, &mut rs[..n], limit);
 }
