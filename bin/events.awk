@@ -1,4 +1,4 @@
-# The line of one event of a log that is one, for people to see: a look by other means than the proved program. -v event=N: its ordinal from 0.
+# The line of one event of a log that is one, or of each, for people to see: a look by other means than the proved program. -v event=N: its ordinal from 0; -v event=all: every one.
 function value(tag, name,    quote) {
     if (!match(tag, "[ \t\r\n]" name "[ \t\r\n]*=[ \t\r\n]*(\"|\047)")) return ""
     quote = substr(tag, RSTART + RLENGTH - 1, 1)
@@ -25,8 +25,8 @@ END {
         gsub(/^<|[ \t\r\n\/>].*$/, "", name)
         sub(/^.*:/, "", name)
         depth++
-        if (depth == 3 && name == "event") ordinal++
-        if (depth == 4 && name == "string" && ordinal == event && value(tag, "key") == "concept:name") { print value(tag, "value"); exit }
+        if (depth == 3 && (inside = name == "event")) ordinal++
+        if (depth == 4 && inside && name == "string" && (event == "all" || ordinal == event) && value(tag, "key") == "concept:name") { print value(tag, "value"); if (event != "all") exit }
         if (tag ~ /\/>$/) depth--
     }
 }

@@ -4,7 +4,7 @@ from collections import defaultdict
 import layers
 from layout import CHANNEL, HEADER, OUTSIDER, SIGN, Placing, Plan, label_boxes
 from measure import width
-from routes import Box, Router, lines_of
+from routes import Box, Router, elbow, lines_of
 
 SIDE, TOP = 24, 20
 
@@ -192,8 +192,7 @@ class Stacking:
         there = [router.port(box, "top"), router.port(box, "foot"), router.port(box, "left", 0, 2), router.port(box, "right", 0, 4)]
         here = node_ports(router, self.plan.nodes[end]) if isinstance(end, str) else outsider_ports(router, self.plan.outside[end], at)
         points = router.route(here, there) if sending else router.route(there, here)
-        if not points:
-            points = [here[0].point, at] if sending else [at, here[0].point]
+        points = points or (elbow(here[0].point, at) if sending else elbow(at, here[0].point))
         router.claim(points)
         return points
 

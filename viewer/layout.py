@@ -4,7 +4,7 @@ from dataclasses import dataclass, field
 
 import layers
 from measure import width, wrapped
-from routes import MARGIN, Box, Port, Router, lines_of
+from routes import MARGIN, Box, Port, Router, elbow, lines_of
 
 HEADER, EVENT, GATEWAY, TASK = 34, 36, 50, (120, 72)
 LABEL, LINE = 112, 15
@@ -121,7 +121,7 @@ class Placing:
             router.block(box)
             router.soften(box, 0.6, 24)
             for part in label_boxes(self.labels.get(key)):
-                router.soften(part, 6, 3)
+                router.soften(part, 10, 3)
         self.points = {}
         for key in sorted(self.lines, key=self.routing_order):
             self.points[key] = self.route(router, key)
@@ -136,7 +136,7 @@ class Placing:
         line, back = self.lines[key], key in self.backward
         source, target = self.boxes[line.source], self.boxes[line.target]
         points = router.route(leaving(router, source, back, self.taken(line.source)), entering(router, target, back, self.taken(line.target)))
-        return points or [source.middle, target.middle]
+        return points or elbow(source.middle, target.middle)
 
     def taken(self, key):
         """The side of an event where its message flow ends; a task is wide enough for both."""

@@ -5,6 +5,7 @@ from dataclasses import dataclass
 
 MARGIN = 9
 BEND, CROSSING, ALONG = 6, 3, 60
+PATIENCE = 15000
 SIDES = {"right": (1, 0), "foot": (0, 1), "left": (-1, 0), "top": (0, -1)}
 
 
@@ -58,6 +59,12 @@ def lines_of(low, high, through, pitch=10):
     return sorted(found)
 
 
+def elbow(begin, end):
+    """A line of three pieces, where no better way was found."""
+    level = (begin[1] + end[1]) / 2
+    return straightened([begin, (begin[0], level), (end[0], level), end])
+
+
 def straightened(points):
     """Without the points that are no corner."""
     kept = []
@@ -68,6 +75,21 @@ def straightened(points):
             kept.pop()
         kept.append(point)
     return kept
+
+
+class Goals:
+    """The ports where a way may end, and how far it is at least to the nearest."""
+
+    def __init__(self, router, ports):
+        self.router, self.at = router, {}
+        for port in ports:
+            self.at.setdefault(port.cell, []).append(port)
+        places = [router.point(cell) for cell in self.at]
+        self.low, self.high = [min(place[k] for place in places) for k in (0, 1)], [max(place[k] for place in places) for k in (0, 1)]
+
+    def rest(self, cell):
+        point = self.router.point(cell)
+        return sum(max(self.low[k] - point[k], 0, point[k] - self.high[k]) for k in (0, 1)) / 10
 
 
 class Router:
@@ -121,48 +143,40 @@ class Router:
         return self.soft.get(cell, 0) + (ALONG if bits & along else CROSSING if bits else 0)
 
     def route(self, starts, ends):
-        """The points of the cheapest way from one of some ports to one of others; nothing where there is none."""
-        goals = {}
-        for port in ends:
-            goals.setdefault(port.cell, []).append(port)
-        heap, best, count = [], {}, 0
+        """The points of the cheapest way from one of some ports to one of others; nothing where there is none, or where it is not found soon enough."""
+        goals, heap, best, count = Goals(self, ends), [], {}, 0
         for port in starts:
             if port.cell not in self.blocked:
                 cost = port.cost + self.entry_cost(port.cell, port.way)
-                heapq.heappush(heap, (cost + self.rest(port.cell, goals), count, cost, port.cell, port.way, (port, None)))
+                heapq.heappush(heap, (cost + goals.rest(port.cell), count, cost, port.cell, port.way, (port, None)))
                 count += 1
-        while heap:
+        while heap and count < PATIENCE:
             _, _, cost, cell, way, trail = heapq.heappop(heap)
             if cell is None:
                 return self.traced(trail)
-            if best.get((cell, way), cost + 1) <= cost:
+            if best.get((cell, way), cost) < cost:
                 continue
-            best[cell, way] = cost
-            for step in self.steps(cell, way, cost, trail, goals):
-                count += 1
-                heapq.heappush(heap, (step[0], count, *step[1:]))
+            for guess, total, *step in self.steps(cell, way, cost, trail, goals):
+                if step[0] is None or total < best.get((step[0], step[1]), total + 1):
+                    count += 1
+                    best[step[0], step[1]] = total
+                    heapq.heappush(heap, (guess, count, total, *step))
         return []
 
-    def rest(self, cell, goals):
-        x, y = self.xs[cell[0]], self.ys[cell[1]]
-        return min(abs(self.xs[i] - x) + abs(self.ys[j] - y) for i, j in goals) / 10
-
     def steps(self, cell, way, cost, trail, goals):
-        for port in goals.get(cell, ()):
-            back = (-port.way[0], -port.way[1])
-            if (way[0], way[1]) != port.way:
-                total = cost + port.cost + (0 if way == back else BEND)
-                yield total, total, None, way, (port, trail)
-        for turn in ((1, 0), (0, 1), (-1, 0), (0, -1)):
-            if turn == (-way[0], -way[1]):
-                continue
+        """What can be done from a cell: go in at a port, or on to the next cell, straight or round a corner."""
+        for port in goals.at.get(cell, ()):
+            if way != port.way:
+                total = cost + port.cost + (0 if way == (-port.way[0], -port.way[1]) else BEND)
+                yield total, total, None, port, (port, trail)
+        for turn in SIDES.values():
             i, j = cell[0] + turn[0], cell[1] + turn[1]
-            if not (0 <= i < len(self.xs) and 0 <= j < len(self.ys)) or (i, j) in self.blocked:
+            if turn == (-way[0], -way[1]) or not (0 <= i < len(self.xs) and 0 <= j < len(self.ys)) or (i, j) in self.blocked:
                 continue
             bend = 0 if turn == way else BEND + (ALONG if self.used.get(cell) else 0)
             length = abs(self.xs[i] - self.xs[cell[0]]) + abs(self.ys[j] - self.ys[cell[1]])
             total = cost + bend + length / 10 + self.entry_cost((i, j), turn)
-            yield total + self.rest((i, j), goals), total, (i, j), turn, ((i, j), trail)
+            yield total + goals.rest((i, j)), total, (i, j), turn, ((i, j), trail)
 
     def traced(self, trail):
         last, trail = trail
