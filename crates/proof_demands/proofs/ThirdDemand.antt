@@ -4,13 +4,14 @@
 -- Assumes nothing.
 use Prim.Native.Nat.{ℕ}
 use mathlib.Core.Path.{_≡_, refl, sym, _∙_, ap}
-use mathlib.Core.Bool.{true, _&&_}
+use mathlib.Core.Bool.{true, _&&_, false≢true}
 use mathlib.Core.List.{List, [], _∷_}
 use lib.Dec.{eqb}
 use borrow.Author.Tests.{eqb-true, eq-eqb}
 use Rattle.base_words.specs.Each.{each}
 use Rattle.base_words.proofs.AllLaws.{and-left, and-right}
 use Rattle.base_words.proofs.PickLaws.{and-true}
+use Rattle.proof_steps.proofs.Choices.{by-test}
 use Rattle.base_state.specs.Instances.{instancesOf}
 use Rattle.meaning.specs.declared.Tuple.{Tuple}
 use Rattle.state_figures.specs.Figures.{counted}
@@ -21,10 +22,11 @@ use Rattle.proof_demands.proofs.OneMore.{one-more}
 use Rattle.proof_demands.proofs.Firmness.{all-allowed-is}
 
 module _ (t : List ℕ) (e : ℕ → List Tuple) where
+  -- whatever else is asked
   room-now : (acts : List Act) (z : List ℕ) → neverPasses t e acts z ≡ true → roomFor e z ≡ true
   unfolding neverPasses
   room-now [] z h = h
-  room-now (a ∷ rest) z h = and-left (roomFor e z) (neverPasses t e rest (did t a z .state)) h
+  room-now (a ∷ rest) z h = by-test (roomFor e z) (λ r. r) (λ r. absurd (false≢true (rw r at h)))
 
   -- MORE MESSAGES TAKE NOTHING AWAY
   pub more-messages : (acts : List Act) (z₁ z₂ : List ℕ)
