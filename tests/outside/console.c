@@ -371,6 +371,7 @@ static unsigned words_of(const char *s, size_t n, struct text *w) {
 
 static void do_line(const char *s, size_t n) {
     struct text w[ARGUMENTS];
+    if (n == 0 || s[0] == '#') return;
     if (n > LINE_MOST) {
         puts("bad line");
         return;
