@@ -9,8 +9,9 @@ use Rattle.base_words.specs.Words.{digits}
 use Rattle.meaning.specs.declared.Tuple.{Tuple}
 use Rattle.write_decimals.specs.Decimals.{shown}
 use Rattle.write_lines.specs.Lines.{valuesLine, valuesMost}
+use Rattle.log_write.specs.Xes.{closingMost}
 
--- "`post M:V`. V is values joined by commas, possibly none"
+-- "`post M:V`. V is values joined by commas, possibly none" (RULES: lawful)
 unfoldable pub postLine : ℕ → Tuple → List ℕ
 postLine name g = bytes "post " ++ (shown name ++ (bytes ":" ++ valuesLine g))
 
@@ -19,7 +20,7 @@ abbrev pub postMost : ℕ
 postMost = 5 + digits + 1 + valuesMost
 
 abbrev pub postEventMost : ℕ
-postEventMost = 41 + postMost + 12
+postEventMost = 41 + postMost + closingMost
 
 -- "5: the writer's buffer is shorter than the text", and nothing is written; else the text, its length, and the later bytes stay
 pub record Pieced : Type 0 where

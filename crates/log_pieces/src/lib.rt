@@ -7,6 +7,7 @@ ghost use Rattle.log_pieces.specs.Pieces.{postLine, postMost, postEventM
 use base_words::Word;
 use base_words::numbers::ACCEPTED;
 use base_words::numbers::TOO_SHORT;
+use log_write::put_closing;
 use log_write::put_event;
 use log_write::put_footer;
 use log_write::put_header;
@@ -45,12 +46,12 @@ fn put_post_line(out: &mut [u8], from: usize, name: Word, g: Tuple) -> usize
 }
 
 // The event of a post: its name is the post's line.
-fn put_post(out: &mut [u8], from: usize, name: Word, g: Tuple) -> usize
-    ensures { λ r. ⌜ Put (eventText (postLine name g)) postEventMost from (now (out .entry)) r (now (out .exit)) ⌝ }
+fn put_post(out: &mut [u8], from: usize, name: Word, g: Tuple, moment: u64) -> usize
+    ensures { λ r. ⌜ Put (eventText moment (postLine name g)) postEventMost from (now (out .entry)) r (now (out .exit)) ⌝ }
 {
     let opening = put_bytes(out, from, b"<event><string key=\"concept:name\" value=\"");
     let line = put_post_line(out, opening, name, g);
-    put_bytes(out, line, b"\"/></event>\n")
+    put_closing(out, line, moment)
 }
 
 // What stands before the events. Each piece is measured first, by writing it into a buffer of one byte.
@@ -69,32 +70,32 @@ pub fn begin(out: &mut [u8]) -> Piece
     }
 }
 
-// The event of a step, with what it answered.
-pub fn step(n: Name, a: Answer, out: &mut [u8]) -> Piece
-    ensures { λ r. ⌜ record { number = r .number; length = r .length; buffer = now (out .exit) } ≡ pieceIn (eventText (stepLine n a)) (now (out .entry)) ⌝ }
+// The event of a step, with what it answered and when it was.
+pub fn step(n: Name, a: Answer, moment: u64, out: &mut [u8]) -> Piece
+    ensures { λ r. ⌜ record { number = r .number; length = r .length; buffer = now (out .exit) } ≡ pieceIn (eventText moment (stepLine n a)) (now (out .entry)) ⌝ }
 {
     let mut none = [0u8; 1];
-    let size = put_event(&mut none, 0, n, a);
+    let size = put_event(&mut none, 0, n, a, moment);
     if out.len() < size {
         return no_room();
     }
-    let end = put_event(out, 0, n, a);
+    let end = put_event(out, 0, n, a, moment);
     Piece {
         number: ACCEPTED,
         length: end,
     }
 }
 
-// The event of a post.
-pub fn post(name: Word, g: Tuple, out: &mut [u8]) -> Piece
-    ensures { λ r. ⌜ record { number = r .number; length = r .length; buffer = now (out .exit) } ≡ pieceIn (eventText (postLine name g)) (now (out .entry)) ⌝ }
+// The event of a post, and when it was.
+pub fn post(name: Word, g: Tuple, moment: u64, out: &mut [u8]) -> Piece
+    ensures { λ r. ⌜ record { number = r .number; length = r .length; buffer = now (out .exit) } ≡ pieceIn (eventText moment (postLine name g)) (now (out .entry)) ⌝ }
 {
     let mut none = [0u8; 1];
-    let size = put_post(&mut none, 0, name, g);
+    let size = put_post(&mut none, 0, name, g, moment);
     if out.len() < size {
         return no_room();
     }
-    let end = put_post(out, 0, name, g);
+    let end = put_post(out, 0, name, g, moment);
     Piece {
         number: ACCEPTED,
         length: end,

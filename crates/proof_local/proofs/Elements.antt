@@ -27,7 +27,7 @@ use Rattle.xml_document.specs.declared.Outside.the-variants.{Nothing}
 use Rattle.xml_document.specs.Document.{tagFor, tagAt, outsideAt, further, outsideIn, outside}
 use Rattle.xml_document.specs.Around.{lastBy, lastFrom}
 use Rattle.log_text.specs.declared.Inside.the-variants.{Element, Close}
-use Rattle.log_text.specs.declared.Level.the-variants.{Log, Trace}
+use Rattle.log_text.specs.declared.Level.the-variants.{Log, Trace, Event}
 use Rattle.log_text.specs.declared.Cursor.{Cursor}
 use Rattle.log_text.specs.declared.Move.the-variants.{On}
 use Rattle.log_text.specs.Inside.{endsAt, closing, between, insideAt}
@@ -96,7 +96,7 @@ pub skipped-empty : (t : List ℕ) (p q : ℕ) → markup t p ≡ marked EmptyTa
 unfolding skipped elementAt elementBy byTag tagOf tagBy if_then_else_
 skipped-empty t p q e = rw e refl
 
--- an element that is skipped in the log, and in the trace
+-- an element that is skipped in the log, in the trace, and in an event
 pub passed-in-log : (t name : List ℕ) (c : Cursor) (p q : ℕ) → StartAt t name p → sameBytes (localOf name) (bytes "log") ≡ false → sameBytes (localOf name) (bytes "trace") ≡ false → sameBytes (localOf name) (bytes "event") ≡ false → skipped t p ≡ Past q → enteredBy Log t c p ≡ On (reached c q)
 unfolding enteredBy otherAt isOfLog over if_then_else_
 passed-in-log t name c p q k a b d e = rw (k .called (bytes "trace"), k .called (bytes "log"), k .called (bytes "event"), a, b, d, e) refl
@@ -104,6 +104,10 @@ passed-in-log t name c p q k a b d e = rw (k .called (bytes "trace"), k .called 
 pub passed-in-trace : (t name : List ℕ) (c : Cursor) (p q : ℕ) → StartAt t name p → sameBytes (localOf name) (bytes "log") ≡ false → sameBytes (localOf name) (bytes "trace") ≡ false → sameBytes (localOf name) (bytes "event") ≡ false → skipped t p ≡ Past q → enteredBy Trace t c p ≡ On (reached c q)
 unfolding enteredBy otherAt isOfLog over if_then_else_
 passed-in-trace t name c p q k a b d e = rw (k .called (bytes "trace"), k .called (bytes "log"), k .called (bytes "event"), a, b, d, e) refl
+
+pub passed-in-event : (t name : List ℕ) (c : Cursor) (p q : ℕ) → StartAt t name p → sameBytes (localOf name) (bytes "string") ≡ false → sameBytes (localOf name) (bytes "log") ≡ false → sameBytes (localOf name) (bytes "trace") ≡ false → sameBytes (localOf name) (bytes "event") ≡ false → skipped t p ≡ Past q → enteredBy Event t c p ≡ On (reached c q)
+unfolding enteredBy otherAt isOfLog over if_then_else_
+passed-in-event t name c p q k s a b d e = rw (k .called (bytes "string"), k .called (bytes "trace"), k .called (bytes "log"), k .called (bytes "event"), s, a, b, d, e) refl
 
 -- AN END TAG
 pub same-bytes : (w : List ℕ) → sameBytes w w ≡ true

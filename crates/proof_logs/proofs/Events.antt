@@ -1,4 +1,4 @@
--- An event of a printed log: its three tags, and the line that is read. Assumes nothing.
+-- An event of a printed log: its tags, the line that is read, and the date that is passed. Assumes nothing.
 use mathlib.Core.Path.{_≡_, _∙_, refl, sym, ap}
 use mathlib.Core.Bool.{Bool, true, false, not, false≢true}
 use mathlib.Core.List.{List, [], _∷_, _++_}
@@ -26,13 +26,17 @@ use Rattle.log_text.specs.declared.Level.{Level}
 use Rattle.log_text.specs.declared.Level.the-variants.{Trace, Event}
 use Rattle.log_text.specs.declared.Cursor.{Cursor}
 use Rattle.log_text.specs.declared.Move.the-variants.{On}
-use Rattle.log_text.specs.Cursors.{inEvent, named, behindEvent, lacksBy, tagBy as openTag}
+use Rattle.log_text.specs.Cursors.{reached, inEvent, named, behindEvent, lacksBy, tagBy as openTag}
 use Rattle.log_text.specs.Logs.{overNamed, lineBy, nameBy, stringBy, stringAt, eventBy, enteredBy, leftBy, advance}
 use Rattle.proof_local.proofs.Stands.{behind, whole-part, rest}
-use Rattle.proof_local.proofs.Shifted.{scan-on, markup-opened, found-at}
+use Rattle.xml_markup.specs.Tokens.{begun}
+use Rattle.xml_markup.specs.declared.Scan.the-variants.{On as Reading}
+use Rattle.xml_scanner.specs.declared.InTag.the-variants.{Value as InValue}
+use Rattle.xml_scanner.specs.declared.State.the-variants.{Tag}
+use Rattle.proof_local.proofs.Shifted.{readTo, scan-on, markup-opened, found-at}
 use Rattle.proof_local.proofs.Tags.{value-is, empty-closed}
-use Rattle.proof_local.proofs.Elements.{StartAt, EndAt, no-blank, newline, at-element, at-end, skipped-empty}
-use Rattle.proof_logs.proofs.Known.{string-start, event-start, event-markup, stringOpening, string-opened, key-found, value-found}
+use Rattle.proof_local.proofs.Elements.{StartAt, EndAt, no-blank, newline, at-element, at-end, skipped-empty, passed-in-event}
+use Rattle.proof_logs.proofs.Known.{string-start, event-start, date-start, event-markup, stringOpening, dateTag, string-opened, date-opened, key-found, value-found}
 
 -- "A line has no byte that XML would write in another way": every byte is from 32 on and is not `"`, `&` or `<`
 abbrev pub Plain : List ℕ → Type 0
@@ -62,6 +66,24 @@ event-begun t x c l e =
     is-event : StartAt t (bytes "event") (c .at + 1)
     is-event = event-start t x (c .at + 1) (rest t (bytes "<event>" ++ x) 10 (c .at) e)
 
+-- A TAG BY ITSELF, its last value v written as it is: w and then v
+module _ (t w v x : List ℕ) (p mark : ℕ) (stands : drop p t ≡ (60 ∷ w) ++ (v ++ (bytes "\"/>" ++ x))) (opened : readTo (60 ∷ w) (begun 0) (60 ∷ w) 0 ≡ Reading (record { state = Tag (InValue 34); mark = mark })) (plain : Plain v) where
+  opens : opensMarkup 60 ≡ true
+  unfolding opensMarkup
+  opens = refl
+
+  value-stands : drop (p + length (60 ∷ w)) t ≡ v ++ (bytes "\"/>" ++ x)
+  value-stands = behind t (60 ∷ w) (v ++ (bytes "\"/>" ++ x)) p stands
+
+  single-markup : markup t p ≡ marked EmptyTag (p + length (60 ∷ w) + length v + 3)
+  unfolding placed
+  single-markup =
+      markup-opened t (w ++ (v ++ (bytes "\"/>" ++ x))) 60 p stands opens
+      ∙ ap placed (scan-on t (60 ∷ w) (v ++ (bytes "\"/>" ++ x)) p stands _ opened ∙ empty-closed t v x p (p + mark) (p + length (60 ∷ w)) value-stands plain)
+
+  single-behind : drop (p + length (60 ∷ w) + length v + 3) t ≡ x
+  single-behind = behind t (bytes "\"/>") x (p + length (60 ∷ w) + length v) (behind t v (bytes "\"/>" ++ x) (p + length (60 ∷ w)) value-stands)
+
 -- ITS STRING, which stands at p
 module _ (t line x : List ℕ) (p : ℕ) (stands : drop p t ≡ stringOpening ++ (line ++ (bytes "\"/>" ++ x))) (plain : Plain line) where
   is-string : StartAt t (bytes "string") p
@@ -70,15 +92,8 @@ module _ (t line x : List ℕ) (p : ℕ) (stands : drop p t ≡ stringOpening ++
   line-stands : drop (p + 34) t ≡ line ++ (bytes "\"/>" ++ x)
   line-stands = behind t stringOpening (line ++ (bytes "\"/>" ++ x)) p stands
 
-  opens : opensMarkup 60 ≡ true
-  unfolding opensMarkup
-  opens = refl
-
   string-markup : markup t p ≡ marked EmptyTag (p + 34 + length line + 3)
-  unfolding placed
-  string-markup =
-      markup-opened t (bytes "string key=\"concept:name\" value=\"" ++ (line ++ (bytes "\"/>" ++ x))) 60 p stands opens
-      ∙ ap placed (scan-on t stringOpening (line ++ (bytes "\"/>" ++ x)) p stands _ string-opened ∙ empty-closed t line x p (p + 27) (p + 34) line-stands plain)
+  string-markup = single-markup t (bytes "string key=\"concept:name\" value=\"") line x p 27 stands string-opened plain
 
   further : (i : ℕ) (y : List ℕ) → drop i (stringOpening ++ (line ++ (bytes "\"/>" ++ x))) ≡ y → drop (p + i) t ≡ y
   further i y e = sym (drop-drop i p t) ∙ ap (drop i) stands ∙ e
@@ -128,7 +143,22 @@ module _ (t line x : List ℕ) (p : ℕ) (stands : drop p t ≡ stringOpening ++
       ∙ string-entered c z r
 
   pub string-behind : drop (p + 34 + length line + 3) t ≡ x
-  string-behind = behind t (bytes "\"/>") x (p + 34 + length line) (behind t line (bytes "\"/>" ++ x) (p + 34) line-stands)
+  string-behind = single-behind t (bytes "string key=\"concept:name\" value=\"") line x p 27 stands string-opened plain
+
+-- ITS DATE, which stands at p
+module _ (t v x : List ℕ) (p : ℕ) (stands : drop p t ≡ dateTag ++ (v ++ (bytes "\"/>" ++ x))) (plain : Plain v) where
+  is-date : StartAt t (bytes "date") p
+  is-date = date-start t (bytes "key=\"time:timestamp\" value=\"" ++ (v ++ (bytes "\"/>" ++ x))) p stands
+
+  date-markup : markup t p ≡ marked EmptyTag (p + 34 + length v + 3)
+  date-markup = single-markup t (bytes "date key=\"time:timestamp\" value=\"") v x p 27 stands date-opened plain
+
+  pub date-passed : (c : Cursor) → c .level ≡ Event → c .at ≡ p → advance t c ≡ On (reached c (p + 34 + length v + 3))
+  unfolding sameBytes localOf localFrom behindColon if_then_else_
+  date-passed c l a =
+      at-element t (bytes "date key=\"time:timestamp\" value=\"" ++ (v ++ (bytes "\"/>" ++ x))) (bytes "date") c p (rw a (no-blank t (bytes "date key=\"time:timestamp\" value=\"" ++ (v ++ (bytes "\"/>" ++ x))) p stands)) stands is-date
+      ∙ ap (λ (k : Level). enteredBy k t c p) l
+      ∙ passed-in-event t (bytes "date") c p (p + 34 + length v + 3) is-date refl refl refl refl (skipped-empty t p (p + 34 + length v + 3) date-markup)
 
 -- ITS END, of whatever name
 pub event-ended : (t name x : List ℕ) (c : Cursor) → c .level ≡ Event → eqb (c .to) 0 ≡ false → bytesOf t (nameAt t (c .event)) ≡ name → run Blanks t (c .at) ≡ c .at → EndAt t name x (c .at) → advance t c ≡ On (behindEvent t c (c .at + 3 + length name))

@@ -36,7 +36,8 @@ use Rattle.xml_skip.specs.Skipping.{partFor, partAt, tagBy, tagOf, behind as on
 use Rattle.xml_document.specs.declared.Outside.the-variants.{Element, On as Onward}
 use Rattle.xml_document.specs.Document.{otherBy, otherOf, opensData, tagFor, tagAt, outsideAt, further, outsideIn, outside}
 use Rattle.xml_document.specs.Around.{rootBy, rootAt}
-use Rattle.log_text.specs.declared.Level.the-variants.{Trace}
+use Rattle.log_text.specs.declared.Level.{Level}
+use Rattle.log_text.specs.declared.Level.the-variants.{Log, Trace}
 use Rattle.log_text.specs.declared.Cursor.{Cursor}
 use Rattle.log_text.specs.declared.Move.the-variants.{On}
 use Rattle.log_text.specs.Cursors.{inLog, reached, traced}
@@ -44,17 +45,20 @@ use Rattle.log_text.specs.Logs.{logMost, traceBy, enteredBy, beginBy, begin, st
 use Rattle.proof_local.proofs.Stands.{behind as stands-behind, within, rest}
 use Rattle.proof_local.proofs.Tags.{from-second, opens-name, opener-by}
 use Rattle.proof_local.proofs.Elements.{StartAt, no-blank, newline, at-element, skipped-empty, passed-in-log, passed-in-trace, part-in}
-use Rattle.proof_logs.proofs.Known.{log-start, log-markup, extension-start, extension-markup, global-start, global-markup, string-start, unknown-markup, global-end, classifier-start, classifier-markup, trace-start, trace-markup, run-markup}
+use Rattle.proof_logs.proofs.Known.{log-start, log-markup, extension-start, extension-markup, time-markup, global-start, global-markup, string-start, unknown-markup, global-end, classifier-start, classifier-markup, trace-start, trace-markup, run-markup}
 use Rattle.proof_logs.proofs.Traces.{Reads, reads-on, InTrace}
 
 abbrev pub declaration : List ℕ
 declaration = bytes "<?xml version=\"1.0\" encoding=\"UTF-8\"?>\n"
 
 abbrev pub logTag : List ℕ
-logTag = bytes "<log xes.version=\"1849.2016\" xes.features=\"\" xmlns=\"http://www.xes-standard.org/\">"
+logTag = bytes "<log xes.version=\"1849-2016\" xes.features=\"\" xmlns=\"http://www.xes-standard.org/\">"
 
 abbrev pub extensionTag : List ℕ
 extensionTag = bytes "<extension name=\"Concept\" prefix=\"concept\" uri=\"http://www.xes-standard.org/concept.xesext\"/>"
+
+abbrev pub timeTag : List ℕ
+timeTag = bytes "<extension name=\"Time\" prefix=\"time\" uri=\"http://www.xes-standard.org/time.xesext\"/>"
 
 abbrev pub globalText : List ℕ
 globalText = bytes "<global scope=\"event\"><string key=\"concept:name\" value=\"UNKNOWN\"/></global>"
@@ -104,11 +108,11 @@ module _ (y : List ℕ) where
   declaration-passed = rw (no-blank t (bytes "?xml version=\"1.0\" encoding=\"UTF-8\"?>\n" ++ (logTag ++ y)) 0 refl, lt-leb (length t) 0 (omega (arith, length-append declaration (logTag ++ y))), declaration-opens, no-data, declaration-markup) refl
 
   is-log : StartAt t (bytes "log") 39
-  is-log = log-start t (bytes "xes.version=\"1849.2016\" xes.features=\"\" xmlns=\"http://www.xes-standard.org/\">" ++ y) 39 refl
+  is-log = log-start t (bytes "xes.version=\"1849-2016\" xes.features=\"\" xmlns=\"http://www.xes-standard.org/\">" ++ y) 39 refl
 
   log-next : outsideAt t (run Blanks t 38) ≡ Element 39
   unfolding outsideAt tagAt tagFor if_then_else_
-  log-next = rw (newline t (bytes "log xes.version=\"1849.2016\" xes.features=\"\" xmlns=\"http://www.xes-standard.org/\">" ++ y) 38 refl, lt-leb (length t) 39 (omega (arith, length-append declaration (logTag ++ y), length-append logTag y)), is-log .opens) refl
+  log-next = rw (newline t (bytes "log xes.version=\"1849-2016\" xes.features=\"\" xmlns=\"http://www.xes-standard.org/\">" ++ y) 38 refl, lt-leb (length t) 39 (omega (arith, length-append declaration (logTag ++ y), length-append logTag y)), is-log .opens) refl
 
   root-in : (n : ℕ) → outsideIn (suc (suc n)) t 0 ≡ Element 39
   unfolding outsideIn further
@@ -177,16 +181,43 @@ module _ (t x : List ℕ) (p : ℕ) (stands : drop p t ≡ globalText ++ x) wher
   unfolding skipped elementAt elementBy byTag tagOf tagBy contentAt if_then_else_
   global-skipped = rw (global-markup t (bytes "<string key=\"concept:name\" value=\"UNKNOWN\"/></global>" ++ x) p stands) (content-passed (length t) (omega (arith, inner-in)))
 
--- BEHIND THE LOG'S TAG, which is at p
-module _ (t x : List ℕ) (p q : ℕ) (log-is : bytesOf t (nameAt t p) ≡ bytes "log") (stands : drop q t ≡ 10 ∷ (extensionTag ++ (10 ∷ (globalText ++ (10 ∷ (classifierTag ++ (10 ∷ (bytes "<trace>" ++ (runTag ++ x))))))))) where
+-- an extension, y behind its name
+module _ (t y z : List ℕ) (c : Cursor) (level-is : c .level ≡ Log) (stands : drop (c .at) t ≡ 10 ∷ (bytes "<extension " ++ (y ++ z))) (n : ℕ) (tag : markup t (c .at + 1) ≡ marked EmptyTag (c .at + 1 + n)) where
+  tag-stands : drop (c .at + 1) t ≡ bytes "<extension " ++ (y ++ z)
+  tag-stands = rest t (bytes "<extension " ++ (y ++ z)) 10 (c .at) stands
+
+  is-extension : StartAt t (bytes "extension") (c .at + 1)
+  is-extension = extension-start t (y ++ z) (c .at + 1) tag-stands
+
+  extension-passed : advanced t c ≡ On (reached c (c .at + 1 + n))
+  unfolding sameBytes localOf localFrom behindColon if_then_else_
+  extension-passed =
+      at-element t (bytes "extension " ++ (y ++ z)) (bytes "extension") c (c .at + 1) (newline t _ (c .at) stands) tag-stands is-extension
+      ∙ ap (λ (l : Level). enteredBy l t c (c .at + 1)) level-is
+      ∙ passed-in-log t (bytes "extension") c (c .at + 1) (c .at + 1 + n) is-extension refl refl refl (skipped-empty t (c .at + 1) (c .at + 1 + n) tag)
+
+-- BEHIND THE LOG'S TAG, which is at p; the rest from each place on
+abbrev pub onTrace : List ℕ → List ℕ
+onTrace x = 10 ∷ (bytes "<trace>" ++ (runTag ++ x))
+
+abbrev pub onGlobal : List ℕ → List ℕ
+onGlobal x = 10 ∷ (globalText ++ (10 ∷ (classifierTag ++ onTrace x)))
+
+abbrev pub onExtension : List ℕ → List ℕ
+onExtension x = 10 ∷ (extensionTag ++ (10 ∷ (timeTag ++ onGlobal x)))
+
+module _ (t x : List ℕ) (p q : ℕ) (log-is : bytesOf t (nameAt t p) ≡ bytes "log") (stands : drop q t ≡ onExtension x) where
   abbrev at-log : Cursor
   at-log = inLog p q
 
   abbrev past-extension : Cursor
   past-extension = reached at-log (q + 1 + 93)
 
+  abbrev past-time : Cursor
+  past-time = reached past-extension (past-extension .at + 1 + 84)
+
   abbrev past-global : Cursor
-  past-global = reached past-extension (past-extension .at + 1 + 22 + 44 + 3 + 6)
+  past-global = reached past-time (past-time .at + 1 + 22 + 44 + 3 + 6)
 
   abbrev past-classifier : Cursor
   past-classifier = reached past-global (past-global .at + 1 + 51)
@@ -197,46 +228,53 @@ module _ (t x : List ℕ) (p q : ℕ) (log-is : bytesOf t (nameAt t p) ≡ bytes
   abbrev pub past-name : Cursor
   past-name = reached at-trace (at-trace .at + 40)
 
-  extension-stands : drop (q + 1) t ≡ extensionTag ++ (10 ∷ (globalText ++ (10 ∷ (classifierTag ++ (10 ∷ (bytes "<trace>" ++ (runTag ++ x)))))))
-  extension-stands = rest t (extensionTag ++ (10 ∷ (globalText ++ (10 ∷ (classifierTag ++ (10 ∷ (bytes "<trace>" ++ (runTag ++ x)))))))) 10 q stands
+  extension-stands : drop (q + 1) t ≡ extensionTag ++ (10 ∷ (timeTag ++ onGlobal x))
+  extension-stands = rest t (extensionTag ++ (10 ∷ (timeTag ++ onGlobal x))) 10 q stands
 
-  is-extension : StartAt t (bytes "extension") (q + 1)
-  is-extension = extension-start t (bytes "name=\"Concept\" prefix=\"concept\" uri=\"http://www.xes-standard.org/concept.xesext\"/>" ++ (10 ∷ (globalText ++ (10 ∷ (classifierTag ++ (10 ∷ (bytes "<trace>" ++ (runTag ++ x)))))))) (q + 1) extension-stands
+  concept-passed : advanced t at-log ≡ On past-extension
+  concept-passed =
+      extension-passed t (bytes "name=\"Concept\" prefix=\"concept\" uri=\"http://www.xes-standard.org/concept.xesext\"/>") (10 ∷ (timeTag ++ onGlobal x)) at-log refl stands 93
+      (extension-markup t (10 ∷ (timeTag ++ onGlobal x)) (q + 1) extension-stands)
 
-  extension-passed : advanced t at-log ≡ On past-extension
-  unfolding sameBytes localOf localFrom behindColon if_then_else_
-  extension-passed =
-      at-element t (bytes "extension name=\"Concept\" prefix=\"concept\" uri=\"http://www.xes-standard.org/concept.xesext\"/>" ++ (10 ∷ (globalText ++ (10 ∷ (classifierTag ++ (10 ∷ (bytes "<trace>" ++ (runTag ++ x)))))))) (bytes "extension") at-log (q + 1) (newline t _ q stands) extension-stands is-extension
-      ∙ passed-in-log t (bytes "extension") at-log (q + 1) (past-extension .at) is-extension refl refl refl (skipped-empty t (q + 1) (past-extension .at) (extension-markup t (10 ∷ (globalText ++ (10 ∷ (classifierTag ++ (10 ∷ (bytes "<trace>" ++ (runTag ++ x))))))) (q + 1) extension-stands))
-
-  behind-extension : drop (past-extension .at) t ≡ 10 ∷ (globalText ++ (10 ∷ (classifierTag ++ (10 ∷ (bytes "<trace>" ++ (runTag ++ x))))))
+  behind-extension : drop (past-extension .at) t ≡ 10 ∷ (timeTag ++ onGlobal x)
   behind-extension = stands-behind t extensionTag _ (q + 1) extension-stands
 
-  global-stands : drop (past-extension .at + 1) t ≡ globalText ++ (10 ∷ (classifierTag ++ (10 ∷ (bytes "<trace>" ++ (runTag ++ x)))))
-  global-stands = rest t _ 10 (past-extension .at) behind-extension
+  time-stands : drop (past-extension .at + 1) t ≡ timeTag ++ onGlobal x
+  time-stands = rest t (timeTag ++ onGlobal x) 10 (past-extension .at) behind-extension
 
-  global-passed : advanced t past-extension ≡ On past-global
+  time-passed : advanced t past-extension ≡ On past-time
+  time-passed =
+      extension-passed t (bytes "name=\"Time\" prefix=\"time\" uri=\"http://www.xes-standard.org/time.xesext\"/>") (onGlobal x) past-extension refl behind-extension 84
+      (time-markup t (onGlobal x) (past-extension .at + 1) time-stands)
+
+  behind-time : drop (past-time .at) t ≡ onGlobal x
+  behind-time = stands-behind t timeTag _ (past-extension .at + 1) time-stands
+
+  global-stands : drop (past-time .at + 1) t ≡ globalText ++ (10 ∷ (classifierTag ++ onTrace x))
+  global-stands = rest t _ 10 (past-time .at) behind-time
+
+  global-passed : advanced t past-time ≡ On past-global
   unfolding sameBytes localOf localFrom behindColon if_then_else_
   global-passed =
-      at-element t (bytes "global scope=\"event\"><string key=\"concept:name\" value=\"UNKNOWN\"/></global>" ++ (10 ∷ (classifierTag ++ (10 ∷ (bytes "<trace>" ++ (runTag ++ x)))))) (bytes "global") past-extension (past-extension .at + 1) (newline t _ (past-extension .at) behind-extension) global-stands (is-global t (10 ∷ (classifierTag ++ (10 ∷ (bytes "<trace>" ++ (runTag ++ x))))) (past-extension .at + 1) global-stands)
-      ∙ passed-in-log t (bytes "global") past-extension (past-extension .at + 1) (past-global .at) (is-global t (10 ∷ (classifierTag ++ (10 ∷ (bytes "<trace>" ++ (runTag ++ x))))) (past-extension .at + 1) global-stands) refl refl refl (global-skipped t (10 ∷ (classifierTag ++ (10 ∷ (bytes "<trace>" ++ (runTag ++ x))))) (past-extension .at + 1) global-stands)
+      at-element t (bytes "global scope=\"event\"><string key=\"concept:name\" value=\"UNKNOWN\"/></global>" ++ (10 ∷ (classifierTag ++ onTrace x))) (bytes "global") past-time (past-time .at + 1) (newline t _ (past-time .at) behind-time) global-stands (is-global t (10 ∷ (classifierTag ++ onTrace x)) (past-time .at + 1) global-stands)
+      ∙ passed-in-log t (bytes "global") past-time (past-time .at + 1) (past-global .at) (is-global t (10 ∷ (classifierTag ++ onTrace x)) (past-time .at + 1) global-stands) refl refl refl (global-skipped t (10 ∷ (classifierTag ++ onTrace x)) (past-time .at + 1) global-stands)
 
-  behind-global : drop (past-global .at) t ≡ 10 ∷ (classifierTag ++ (10 ∷ (bytes "<trace>" ++ (runTag ++ x))))
-  behind-global = global-end t _ (past-extension .at + 1 + 22 + 44) (last-stands t (10 ∷ (classifierTag ++ (10 ∷ (bytes "<trace>" ++ (runTag ++ x))))) (past-extension .at + 1) global-stands) .behind
+  behind-global : drop (past-global .at) t ≡ 10 ∷ (classifierTag ++ onTrace x)
+  behind-global = global-end t _ (past-time .at + 1 + 22 + 44) (last-stands t (10 ∷ (classifierTag ++ onTrace x)) (past-time .at + 1) global-stands) .behind
 
-  classifier-stands : drop (past-global .at + 1) t ≡ classifierTag ++ (10 ∷ (bytes "<trace>" ++ (runTag ++ x)))
+  classifier-stands : drop (past-global .at + 1) t ≡ classifierTag ++ onTrace x
   classifier-stands = rest t _ 10 (past-global .at) behind-global
 
   is-classifier : StartAt t (bytes "classifier") (past-global .at + 1)
-  is-classifier = classifier-start t (bytes "name=\"Event-Name\" keys=\"concept:name\"/>" ++ (10 ∷ (bytes "<trace>" ++ (runTag ++ x)))) (past-global .at + 1) classifier-stands
+  is-classifier = classifier-start t (bytes "name=\"Event-Name\" keys=\"concept:name\"/>" ++ onTrace x) (past-global .at + 1) classifier-stands
 
   classifier-passed : advanced t past-global ≡ On past-classifier
   unfolding sameBytes localOf localFrom behindColon if_then_else_
   classifier-passed =
-      at-element t (bytes "classifier name=\"Event-Name\" keys=\"concept:name\"/>" ++ (10 ∷ (bytes "<trace>" ++ (runTag ++ x)))) (bytes "classifier") past-global (past-global .at + 1) (newline t _ (past-global .at) behind-global) classifier-stands is-classifier
-      ∙ passed-in-log t (bytes "classifier") past-global (past-global .at + 1) (past-classifier .at) is-classifier refl refl refl (skipped-empty t (past-global .at + 1) (past-classifier .at) (classifier-markup t (10 ∷ (bytes "<trace>" ++ (runTag ++ x))) (past-global .at + 1) classifier-stands))
+      at-element t (bytes "classifier name=\"Event-Name\" keys=\"concept:name\"/>" ++ onTrace x) (bytes "classifier") past-global (past-global .at + 1) (newline t _ (past-global .at) behind-global) classifier-stands is-classifier
+      ∙ passed-in-log t (bytes "classifier") past-global (past-global .at + 1) (past-classifier .at) is-classifier refl refl refl (skipped-empty t (past-global .at + 1) (past-classifier .at) (classifier-markup t (onTrace x) (past-global .at + 1) classifier-stands))
 
-  behind-classifier : drop (past-classifier .at) t ≡ 10 ∷ (bytes "<trace>" ++ (runTag ++ x))
+  behind-classifier : drop (past-classifier .at) t ≡ onTrace x
   behind-classifier = stands-behind t classifierTag _ (past-global .at + 1) classifier-stands
 
   trace-stands : drop (past-classifier .at + 1) t ≡ bytes "<trace>" ++ (runTag ++ x)
@@ -269,11 +307,12 @@ module _ (t x : List ℕ) (p q : ℕ) (log-is : bytesOf t (nameAt t p) ≡ bytes
   pub in-trace : InTrace t (bytes "log") (bytes "trace") past-name
   in-trace = record { level-is = refl; log-is = log-is; trace-is = is-trace .named; opened-is = ne-eqb (past-name .opened) 0 (λ e. omega (arith, e)) }
 
-  pub header-read : (e : Skipped) (o m : ℕ) (lines : List (List ℕ)) → Reads t e o m past-name lines → Reads t e o (suc (suc (suc (suc (suc m))))) at-log lines
+  pub header-read : (e : Skipped) (o m : ℕ) (lines : List (List ℕ)) → Reads t e o m past-name lines → Reads t e o (suc (suc (suc (suc (suc (suc m)))))) at-log lines
   unfolding closesEvent
   header-read e o m lines r =
-      reads-on t e o (suc (suc (suc (suc m)))) at-log past-extension lines extension-passed
-      (reads-on t e o (suc (suc (suc m))) past-extension past-global lines global-passed
+      reads-on t e o (suc (suc (suc (suc (suc m))))) at-log past-extension lines concept-passed
+      (reads-on t e o (suc (suc (suc (suc m)))) past-extension past-time lines time-passed
+      (reads-on t e o (suc (suc (suc m))) past-time past-global lines global-passed
       (reads-on t e o (suc (suc m)) past-global past-classifier lines classifier-passed
       (reads-on t e o (suc m) past-classifier at-trace lines trace-entered
-      (reads-on t e o m at-trace past-name lines name-passed r refl) refl) refl) refl) refl
+      (reads-on t e o m at-trace past-name lines name-passed r refl) refl) refl) refl) refl) refl

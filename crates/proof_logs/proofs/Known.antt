@@ -32,6 +32,10 @@ use Rattle.proof_local.proofs.Elements.{Names, StartAt, start-at, EndAt, end-at
 abbrev pub stringOpening : List ℕ
 stringOpening = bytes "<string key=\"concept:name\" value=\""
 
+-- its date, up to its moment
+abbrev pub dateTag : List ℕ
+dateTag = bytes "<date key=\"time:timestamp\" value=\""
+
 -- what is computed
 record Computed : Type 0 where
   blank-ends : isOf Name (code " ") ≡ false
@@ -44,8 +48,10 @@ record Computed : Type 0 where
   classifier-name : Names (code "c") (bytes "lassifier")
   trace-name : Names (code "t") (bytes "race")
   event-name : Names (code "e") (bytes "vent")
-  log-tag : (let w : List ℕ = bytes "<log xes.version=\"1849.2016\" xes.features=\"\" xmlns=\"http://www.xes-standard.org/\">" in readTo w (begun 0) w 0) ≡ Past StartTag 82
+  date-name : Names (code "d") (bytes "ate")
+  log-tag : (let w : List ℕ = bytes "<log xes.version=\"1849-2016\" xes.features=\"\" xmlns=\"http://www.xes-standard.org/\">" in readTo w (begun 0) w 0) ≡ Past StartTag 82
   extension-tag : (let w : List ℕ = bytes "<extension name=\"Concept\" prefix=\"concept\" uri=\"http://www.xes-standard.org/concept.xesext\"/>" in readTo w (begun 0) w 0) ≡ Past EmptyTag 93
+  time-tag : (let w : List ℕ = bytes "<extension name=\"Time\" prefix=\"time\" uri=\"http://www.xes-standard.org/time.xesext\"/>" in readTo w (begun 0) w 0) ≡ Past EmptyTag 84
   global-tag : (let w : List ℕ = bytes "<global scope=\"event\">" in readTo w (begun 0) w 0) ≡ Past StartTag 22
   unknown-tag : (let w : List ℕ = bytes "<string key=\"concept:name\" value=\"UNKNOWN\"/>" in readTo w (begun 0) w 0) ≡ Past EmptyTag 44
   classifier-tag : (let w : List ℕ = bytes "<classifier name=\"Event-Name\" keys=\"concept:name\"/>" in readTo w (begun 0) w 0) ≡ Past EmptyTag 51
@@ -53,6 +59,7 @@ record Computed : Type 0 where
   run-tag : (let w : List ℕ = bytes "<string key=\"concept:name\" value=\"run\"/>" in readTo w (begun 0) w 0) ≡ Past EmptyTag 40
   event-tag : (let w : List ℕ = bytes "<event>" in readTo w (begun 0) w 0) ≡ Past StartTag 7
   string-tag : readTo stringOpening (begun 0) stringOpening 0 ≡ On (record { state = Tag (Value 34); mark = 27 })
+  date-tag : readTo dateTag (begun 0) dateTag 0 ≡ On (record { state = Tag (Value 34); mark = 27 })
   key-name : found stringOpening (bytes "key") 0 ≡ Behind 11
   value-name : found stringOpening (bytes "value") 0 ≡ Behind 32
 
@@ -70,8 +77,10 @@ computed =
       classifier-name = record { begins = refl; every = refl };
       trace-name = record { begins = refl; every = refl };
       event-name = record { begins = refl; every = refl };
+      date-name = record { begins = refl; every = refl };
       log-tag = refl;
       extension-tag = refl;
+      time-tag = refl;
       global-tag = refl;
       unknown-tag = refl;
       classifier-tag = refl;
@@ -79,12 +88,16 @@ computed =
       run-tag = refl;
       event-tag = refl;
       string-tag = refl;
+      date-tag = refl;
       key-name = refl;
       value-name = refl;
     }
 
 pub string-opened : readTo stringOpening (begun 0) stringOpening 0 ≡ On (record { state = Tag (Value 34); mark = 27 })
 string-opened = computed .string-tag
+
+pub date-opened : readTo dateTag (begun 0) dateTag 0 ≡ On (record { state = Tag (Value 34); mark = 27 })
+date-opened = computed .date-tag
 
 pub key-found : found stringOpening (bytes "key") 0 ≡ Behind 11
 key-found = computed .key-name
@@ -115,11 +128,17 @@ module _ (t x : List ℕ) (p : ℕ) where
   pub event-start : drop p t ≡ bytes "<event>" ++ x → StartAt t (bytes "event") p
   event-start e = start-at t (bytes "vent") x p (code "e") (code ">") e (computed .event-name) (computed .tag-ends)
 
-  pub log-markup : drop p t ≡ bytes "<log xes.version=\"1849.2016\" xes.features=\"\" xmlns=\"http://www.xes-standard.org/\">" ++ x → markup t p ≡ marked StartTag (p + 82)
-  log-markup e = markup-past t (bytes "log xes.version=\"1849.2016\" xes.features=\"\" xmlns=\"http://www.xes-standard.org/\">") x 60 p StartTag 82 e (computed .opens) (computed .log-tag)
+  pub date-start : drop p t ≡ bytes "<date " ++ x → StartAt t (bytes "date") p
+  date-start e = start-at t (bytes "ate") x p (code "d") (code " ") e (computed .date-name) (computed .blank-ends)
+
+  pub log-markup : drop p t ≡ bytes "<log xes.version=\"1849-2016\" xes.features=\"\" xmlns=\"http://www.xes-standard.org/\">" ++ x → markup t p ≡ marked StartTag (p + 82)
+  log-markup e = markup-past t (bytes "log xes.version=\"1849-2016\" xes.features=\"\" xmlns=\"http://www.xes-standard.org/\">") x 60 p StartTag 82 e (computed .opens) (computed .log-tag)
 
   pub extension-markup : drop p t ≡ bytes "<extension name=\"Concept\" prefix=\"concept\" uri=\"http://www.xes-standard.org/concept.xesext\"/>" ++ x → markup t p ≡ marked EmptyTag (p + 93)
   extension-markup e = markup-past t (bytes "extension name=\"Concept\" prefix=\"concept\" uri=\"http://www.xes-standard.org/concept.xesext\"/>") x 60 p EmptyTag 93 e (computed .opens) (computed .extension-tag)
+
+  pub time-markup : drop p t ≡ bytes "<extension name=\"Time\" prefix=\"time\" uri=\"http://www.xes-standard.org/time.xesext\"/>" ++ x → markup t p ≡ marked EmptyTag (p + 84)
+  time-markup e = markup-past t (bytes "extension name=\"Time\" prefix=\"time\" uri=\"http://www.xes-standard.org/time.xesext\"/>") x 60 p EmptyTag 84 e (computed .opens) (computed .time-tag)
 
   pub global-markup : drop p t ≡ bytes "<global scope=\"event\">" ++ x → markup t p ≡ marked StartTag (p + 22)
   global-markup e = markup-past t (bytes "global scope=\"event\">") x 60 p StartTag 22 e (computed .opens) (computed .global-tag)

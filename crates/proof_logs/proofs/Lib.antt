@@ -11,8 +11,9 @@ pub mod OwnLog
 pub mod LogLaws
 pub mod Known
 pub mod Events
+pub mod PlainLines
+pub mod Stamps
 pub mod Traces
 pub mod Headers
 pub mod XesReads
-pub mod PlainLines
 pub mod RunLog

@@ -22,7 +22,7 @@ use Rattle.meaning.specs.Queues.{tidied}
 use Rattle.proof_steps.proofs.Choices.{passed}
 use Rattle.xml_markup.specs.Markup.{beginsAt}
 use Rattle.log_lines.specs.Entries.{numberMost, postName, stepEntry, postEntry, entryOf}
-use Rattle.proof_logs.specs.Told.{postLine}
+use Rattle.log_pieces.specs.Pieces.{postLine}
 use Rattle.proof_logs.proofs.StepEntries.{Sound, Small, stepOf, givenBy, whole, place-spaced, step-from, message-read}
 
 -- a text is the same as itself

@@ -38,7 +38,7 @@ digit-plain b e = rw (le-ltb b 32 (omega (arith, low)), ne-eqb b 34 (λ q. omega
     high : b ≤ 57
     high = leb-true b 57 (and-right (leb 48 b) (leb b 57) e)
 
-digits-plain : (w : List ℕ) → each isDigit w ≡ true → Plain w
+pub digits-plain : (w : List ℕ) → each isDigit w ≡ true → Plain w
 unfolding each
 digits-plain [] e = refl
 digits-plain (b ∷ w) e = and-true (isPlain 34 b) (each (isPlain 34) w) (digit-plain b (and-left (isDigit b) (each isDigit w) e)) (digits-plain w (and-right (isDigit b) (each isDigit w) e))

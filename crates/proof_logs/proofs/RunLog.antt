@@ -1,4 +1,4 @@
--- THE LOG THAT A RUN IS PRINTED AS IS LAWFUL: calls accepted from the fresh state, and the run behind them, each a line, in the text of a log. t is a valid table, v version 10 or 20. Assumes nothing.
+-- THE LOG THAT A RUN IS PRINTED AS IS LAWFUL: calls accepted from the fresh state, and the run behind them, each a line, in the text of a log, with whatever moments. t is a valid table, v version 10 or 20. Assumes nothing.
 use Prim.Native.Nat.{ℕ, _≤_}
 use mathlib.Core.Path.{_≡_}
 use mathlib.Core.Bool.{true}
@@ -18,7 +18,8 @@ use Rattle.engine.specs.Calls.{Act, aStep, aPost, did, allAccepted, after, Vali
 use Rattle.engine.proofs.CallLaws.{asked-good}
 use Rattle.engine.proofs.KeepsValid.{did-valid, fresh-valid}
 use Rattle.proof_demands.specs.Demands.{runSteps}
-use Rattle.proof_logs.specs.Told.{postLine, lineTold, told, AllPosted, AllWords}
+use Rattle.log_pieces.specs.Pieces.{postLine}
+use Rattle.proof_logs.specs.Told.{lineTold, told, AllPosted, AllWords}
 use Rattle.proof_logs.proofs.Events.{Plain}
 use Rattle.proof_logs.proofs.Traces.{Each, Entry}
 use Rattle.proof_logs.proofs.PlainLines.{step-plain, post-plain}
@@ -42,17 +43,17 @@ module _ (t : List ℕ) where
       )
 
   -- "a log made of a run's own lines, in the text that the run program prints, is lawful (for every model, state reached from fresh, and limit)", under the version of that state; small is what the type of a lent table says
-  module _ (right : valid t ≡ true) (v : ℕ) (known : isVersion v ≡ true) (small : (i : ℕ) → at t i ≤ greatest) (acts : List Act) (accepted : allAccepted t acts (fresh t v) ≡ true) (posted : AllPosted acts) (limit : ℕ) where
+  module _ (right : valid t ≡ true) (v : ℕ) (known : isVersion v ≡ true) (small : (i : ℕ) → at t i ≤ greatest) (acts : List Act) (accepted : allAccepted t acts (fresh t v) ≡ true) (posted : AllPosted acts) (limit : ℕ) (moments : ℕ → ℕ) where
     abbrev whole : List Act
     whole = acts ++ runSteps t limit (after t acts (fresh t v))
 
     abbrev printed : List ℕ
-    printed = logText (told t whole (fresh t v))
+    printed = logText moments (told t whole (fresh t v))
 
     pub run-log-lawful : length printed ≤ logMost → judgedTo t v printed ≡ lawful
     run-log-lawful short =
         let asked : askedNumber t v ≡ 0 = asked-good t v right known in
         let taken : allAccepted t whole (fresh t v) ≡ true = whole-accepted t v asked small acts accepted posted limit in
         let words : AllWords t whole (fresh t v) = fresh-words t v asked small whole taken (whole-posted t v asked small acts accepted posted limit) in
-        let back = printed-log-reads (told t whole (fresh t v)) (told-entries whole (fresh t v) (fresh-valid t v asked) taken words) short in
+        let back = printed-log-reads moments (told t whole (fresh t v)) (told-entries whole (fresh t v) (fresh-valid t v asked) taken words) short in
         own-log-lawful t v asked small acts accepted posted limit printed (length printed) (back .whole) (back .lines-are)

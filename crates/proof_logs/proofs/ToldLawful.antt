@@ -36,7 +36,8 @@ use Rattle.engine.proofs.CallLaws.{table-fits, state-fits}
 use Rattle.engine.proofs.KeepsValid.{did-valid}
 use Rattle.proof_demands.proofs.Numbers.{stepped-traffic}
 use Rattle.proof_demands.proofs.StatesLeft.{step-number, post-number}
-use Rattle.proof_logs.specs.Told.{postLine, lineTold, told, message, AllWords}
+use Rattle.log_pieces.specs.Pieces.{postLine}
+use Rattle.proof_logs.specs.Told.{lineTold, told, message, AllWords}
 use Rattle.proof_logs.proofs.StepEntries.{stepOf, givenBy}
 use Rattle.proof_logs.proofs.LineEntries.{same-self, step-entry, post-entry}
 use Rattle.proof_logs.proofs.TakenSteps.{step-small, says-name, says-few, given-few, given-is}

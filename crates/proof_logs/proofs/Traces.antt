@@ -26,11 +26,13 @@ use Rattle.log_text.specs.declared.Move.the-variants.{On, Done, Fault}
 use Rattle.log_text.specs.Cursors.{reached, inEvent, named, behindEvent, behindTrace, lacksBy, tagBy as openTag}
 use Rattle.log_text.specs.Inside.{endsAt, between, insideAt}
 use Rattle.log_text.specs.Logs.{leftBy, byInside, advance, byMove, scanIn, closesEvent, lineOf, linesIn}
+use Rattle.log_write.specs.Times.{stampText}
 use Rattle.log_write.specs.Xes.{eventOpening, eventClosing, eventText, eventsText, footer}
 use Rattle.proof_local.proofs.Stands.{behind, rest}
 use Rattle.proof_local.proofs.Elements.{EndAt, no-blank, newline, at-end, ends-there}
-use Rattle.proof_logs.proofs.Known.{stringOpening, event-start, event-end, trace-end, log-end}
-use Rattle.proof_logs.proofs.Events.{Plain, event-begun, line-says, string-passed, string-behind, event-ended}
+use Rattle.proof_logs.proofs.Known.{stringOpening, dateTag, event-start, event-end, trace-end, log-end}
+use Rattle.proof_logs.proofs.Events.{Plain, event-begun, line-says, string-passed, string-behind, date-passed, event-ended}
+use Rattle.proof_logs.proofs.Stamps.{Stamped, none, dated, stamp-is}
 
 -- from c on, m steps are enough: e is the reader's end, o the place behind the trace's start tag, and the lines are these
 pub record Reads (t : List ℕ) (e : Skipped) (o m : ℕ) (c : Cursor) (lines : List (List ℕ)) : Type 0 where
@@ -64,6 +66,10 @@ module _ (t : List ℕ) (e : Skipped) (o m : ℕ) (c d : Cursor) (lines : List (
 
   pub reads-line : closesEvent (c .level) (d .level) ≡ true → Reads t e o (suc m) c (lineOf t d ∷ lines)
   reads-line k = record { ends = on-ends; opens = on-opens; says = event-says k }
+
+-- a step more is enough too
+pub reads-more : {t : List ℕ} {e : Skipped} {o m : ℕ} {c : Cursor} {lines : List (List ℕ)} → Reads t e o m c lines → Reads t e o (suc m) c lines
+reads-more r = record { ends = λ n h. r .ends n (omega arith); opens = λ n h. r .opens n (omega arith); says = λ n h. r .says n (omega arith) }
 
 module _ (t : List ℕ) (c d : Cursor) (goes : advance t c ≡ Done d) (last : lastFrom t (d .at) ≡ Past (length t)) where
   done-ends : (n : ℕ) → 1 ≤ n → scanIn n t c .end ≡ Past (length t)
@@ -165,8 +171,28 @@ module _ (t : List ℕ) (c : Cursor) (stands : drop (c .at) t ≡ 10 ∷ []) whe
   pub stop-read : Reads t (SkipFault (length t)) (c .opened) 1 c []
   stop-read = reads-stop t c (length t) stopped
 
+-- ITS DATE, or none: x stands behind it
+module _ (t stamp x : List ℕ) (c : Cursor) (level-is : c .level ≡ Event) (stands : drop (c .at) t ≡ stamp ++ x) where
+  abbrev pub past-stamp : Cursor
+  past-stamp = reached c (c .at + length stamp)
+
+  none-passed : stamp ≡ [] → past-stamp ≡ c
+  none-passed e = ap (reached c) (ap (λ (w : List ℕ). c .at + length w) e ∙ (let z : c .at + 0 ≡ c .at = omega arith in z))
+
+  date-says : closesEvent (c .level) (c .level) ≡ false
+  unfolding closesEvent
+  date-says = rw level-is refl
+
+  pub stamp-read : Stamped stamp → (e : Skipped) (o m : ℕ) (lines : List (List ℕ)) → Reads t e o m past-stamp lines → Reads t e o (suc m) c lines
+  stamp-read (none is) e o m lines r = reads-more (subst (λ (d : Cursor). Reads t e o m d lines) (none-passed is) r)
+  stamp-read (dated v is plain) e o m lines r =
+      reads-on t e o m c past-stamp lines
+      (date-passed t v x (c .at) (stands ∙ ap (λ (w : List ℕ). w ++ x) is ∙ ap (λ (w : List ℕ). dateTag ++ w) (append-assoc v (bytes "\"/>") x)) plain c level-is refl
+      ∙ ap (λ (q : ℕ). On (reached c q)) (let z : c .at + 34 + length v + 3 ≡ c .at + length stamp = omega (arith, ap length is, length-append dateTag (v ++ bytes "\"/>"), length-append v (bytes "\"/>")) in z))
+      r date-says
+
 -- AN EVENT
-module _ (t line x : List ℕ) (c : Cursor) (k : InTrace t (bytes "log") (bytes "trace") c) (stands : drop (c .at) t ≡ 10 ∷ (bytes "<event>" ++ (stringOpening ++ (line ++ (bytes "\"/>" ++ (bytes "</event>" ++ x)))))) (plain : Plain line) (entry : entryOf line .right ≡ true) where
+module _ (t line stamp x : List ℕ) (c : Cursor) (k : InTrace t (bytes "log") (bytes "trace") c) (stands : drop (c .at) t ≡ 10 ∷ (bytes "<event>" ++ (stringOpening ++ (line ++ (bytes "\"/>" ++ (stamp ++ (bytes "</event>" ++ x))))))) (plain : Plain line) (entry : entryOf line .right ≡ true) (stamped : Stamped stamp) where
   abbrev p : ℕ
   p = c .at + 1
 
@@ -176,26 +202,32 @@ module _ (t line x : List ℕ) (c : Cursor) (k : InTrace t (bytes "log") (bytes 
   abbrev lined : Cursor
   lined = named opened (p + 7 + 32 + 2) (p + 7 + 32 + 2 + length line) (p + 7 + 34 + length line + 3)
 
+  abbrev timed : Cursor
+  timed = reached lined (lined .at + length stamp)
+
   abbrev pub ended : Cursor
-  ended = behindEvent t lined (lined .at + 3 + 5)
+  ended = behindEvent t timed (timed .at + 3 + 5)
 
-  event-stands : drop p t ≡ bytes "<event>" ++ (stringOpening ++ (line ++ (bytes "\"/>" ++ (bytes "</event>" ++ x))))
-  event-stands = rest t (bytes "<event>" ++ (stringOpening ++ (line ++ (bytes "\"/>" ++ (bytes "</event>" ++ x))))) 10 (c .at) stands
+  event-stands : drop p t ≡ bytes "<event>" ++ (stringOpening ++ (line ++ (bytes "\"/>" ++ (stamp ++ (bytes "</event>" ++ x)))))
+  event-stands = rest t (bytes "<event>" ++ (stringOpening ++ (line ++ (bytes "\"/>" ++ (stamp ++ (bytes "</event>" ++ x)))))) 10 (c .at) stands
 
-  string-stands : drop (p + 7) t ≡ stringOpening ++ (line ++ (bytes "\"/>" ++ (bytes "</event>" ++ x)))
-  string-stands = behind t (bytes "<event>") (stringOpening ++ (line ++ (bytes "\"/>" ++ (bytes "</event>" ++ x)))) p event-stands
+  string-stands : drop (p + 7) t ≡ stringOpening ++ (line ++ (bytes "\"/>" ++ (stamp ++ (bytes "</event>" ++ x))))
+  string-stands = behind t (bytes "<event>") (stringOpening ++ (line ++ (bytes "\"/>" ++ (stamp ++ (bytes "</event>" ++ x))))) p event-stands
 
-  end-stands : drop (lined .at) t ≡ bytes "</event>" ++ x
-  end-stands = string-behind t line (bytes "</event>" ++ x) (p + 7) string-stands plain
+  stamp-stands : drop (lined .at) t ≡ stamp ++ (bytes "</event>" ++ x)
+  stamp-stands = string-behind t line (stamp ++ (bytes "</event>" ++ x)) (p + 7) string-stands plain
 
-  event-ends : EndAt t (bytes "event") x (lined .at)
-  event-ends = event-end t x (lined .at) end-stands
+  end-stands : drop (timed .at) t ≡ bytes "</event>" ++ x
+  end-stands = behind t stamp (bytes "</event>" ++ x) (lined .at) stamp-stands
+
+  event-ends : EndAt t (bytes "event") x (timed .at)
+  event-ends = event-end t x (timed .at) end-stands
 
   named-event : bytesOf t (nameAt t p) ≡ bytes "event"
-  named-event = event-start t (stringOpening ++ (line ++ (bytes "\"/>" ++ (bytes "</event>" ++ x)))) p event-stands .named
+  named-event = event-start t (stringOpening ++ (line ++ (bytes "\"/>" ++ (stamp ++ (bytes "</event>" ++ x))))) p event-stands .named
 
-  has-line : eqb (lined .to) 0 ≡ false
-  has-line = ne-eqb (lined .to) 0 (λ e. omega (arith, e))
+  has-line : eqb (timed .to) 0 ≡ false
+  has-line = ne-eqb (timed .to) 0 (λ e. omega (arith, e))
 
   not-yet : closesEvent (c .level) Event ≡ false
   unfolding closesEvent
@@ -211,7 +243,7 @@ module _ (t line x : List ℕ) (c : Cursor) (k : InTrace t (bytes "log") (bytes 
 
   says-line : lineOf t ended ≡ line
   unfolding lineOf
-  says-line = line-says t line (bytes "</event>" ++ x) (p + 7) string-stands plain
+  says-line = line-says t line (stamp ++ (bytes "</event>" ++ x)) (p + 7) string-stands plain
 
   pub event-behind : drop (ended .at) t ≡ x
   event-behind = event-ends .behind
@@ -219,11 +251,12 @@ module _ (t line x : List ℕ) (c : Cursor) (k : InTrace t (bytes "log") (bytes 
   pub event-inside : InTrace t (bytes "log") (bytes "trace") ended
   event-inside = record { level-is = refl; log-is = k .log-is; trace-is = k .trace-is; opened-is = k .opened-is }
 
-  pub event-read : (e : Skipped) (m : ℕ) (lines : List (List ℕ)) → Reads t e (c .opened) m ended lines → Reads t e (c .opened) (suc (suc (suc m))) c (line ∷ lines)
+  pub event-read : (e : Skipped) (m : ℕ) (lines : List (List ℕ)) → Reads t e (c .opened) m ended lines → Reads t e (c .opened) (suc (suc (suc (suc m)))) c (line ∷ lines)
   event-read e m lines r =
-      reads-on t e (c .opened) (suc (suc m)) c opened (line ∷ lines) (event-begun t (stringOpening ++ (line ++ (bytes "\"/>" ++ (bytes "</event>" ++ x)))) c (k .level-is) stands)
-      (reads-on t e (c .opened) (suc m) opened lined (line ∷ lines) (string-passed t line (bytes "</event>" ++ x) (p + 7) string-stands plain opened refl refl refl entry)
-      (subst (λ (l : List ℕ). Reads t e (c .opened) (suc m) lined (l ∷ lines)) says-line (reads-line t e (c .opened) m lined ended lines (event-ended t (bytes "event") x lined refl has-line named-event (no-blank t (bytes "/event>" ++ x) (lined .at) end-stands) event-ends) r closes))
+      reads-on t e (c .opened) (suc (suc (suc m))) c opened (line ∷ lines) (event-begun t (stringOpening ++ (line ++ (bytes "\"/>" ++ (stamp ++ (bytes "</event>" ++ x))))) c (k .level-is) stands)
+      (reads-on t e (c .opened) (suc (suc m)) opened lined (line ∷ lines) (string-passed t line (stamp ++ (bytes "</event>" ++ x)) (p + 7) string-stands plain opened refl refl refl entry)
+      (stamp-read t stamp (bytes "</event>" ++ x) lined refl stamp-stands stamped e (c .opened) (suc m) (line ∷ lines)
+      (subst (λ (l : List ℕ). Reads t e (c .opened) (suc m) timed (l ∷ lines)) says-line (reads-line t e (c .opened) m timed ended lines (event-ended t (bytes "event") x timed refl has-line named-event (no-blank t (bytes "/event>" ++ x) (timed .at) end-stands) event-ends) r closes)))
       inside)
       not-yet
 
@@ -239,31 +272,45 @@ pub record Entry (line : List ℕ) : Type 0 where
 
 abbrev pub steps : List (List ℕ) → ℕ → ℕ
 steps [] m = m
-steps (line ∷ lines) m = suc (suc (suc (steps lines m)))
+steps (line ∷ lines) m = suc (suc (suc (suc (steps lines m))))
 
-pub few-steps : (lines : List (List ℕ)) (m : ℕ) → steps lines m ≤ length (eventsText lines) + m
+pub few-steps : (moments : ℕ → ℕ) (lines : List (List ℕ)) (m : ℕ) → steps lines m ≤ length (eventsText moments lines) + m
 unfolding eventsText eventText eventOpening
-few-steps [] m = omega arith
-few-steps (line ∷ lines) m = omega (arith, few-steps lines m, length-append (eventText line) (eventsText lines), length-append eventOpening (line ++ eventClosing))
+few-steps moments [] m = omega arith
+few-steps moments (line ∷ lines) m =
+    omega (
+      arith,
+      few-steps (λ k. moments (suc k)) lines m,
+      length-append (eventText (moments 0) line) (eventsText (λ k. moments (suc k)) lines),
+      length-append (eventOpening ++ line) (eventClosing (moments 0)),
+      length-append eventOpening line,
+    )
 
 -- x is what stands behind them
 module _ (x : List ℕ) where
-  event-first : (line : List ℕ) (lines : List (List ℕ)) → eventsText (line ∷ lines) ++ x ≡ bytes "<event>" ++ (stringOpening ++ (line ++ (bytes "\"/>" ++ (bytes "</event>" ++ (10 ∷ (eventsText lines ++ x))))))
+  event-first : (moments : ℕ → ℕ) (line : List ℕ) (lines : List (List ℕ)) → eventsText moments (line ∷ lines) ++ x ≡ bytes "<event>" ++ (stringOpening ++ (line ++ (bytes "\"/>" ++ (stampText (moments 0) ++ (bytes "</event>" ++ (10 ∷ (eventsText (λ k. moments (suc k)) lines ++ x)))))))
   unfolding eventsText eventText eventOpening eventClosing
-  event-first line lines =
+  event-first moments line lines =
+      let rest : List ℕ = eventsText (λ k. moments (suc k)) lines in
+      let s : List ℕ = stampText (moments 0) in
       ap (λ (l : List ℕ). bytes "<event>" ++ (stringOpening ++ l))
-      (append-assoc (line ++ bytes "\"/></event>\n") (eventsText lines) x ∙ append-assoc line (bytes "\"/></event>\n") (eventsText lines ++ x))
+      (append-assoc (line ++ (bytes "\"/>" ++ s ++ bytes "</event>\n")) rest x
+      ∙ append-assoc line (bytes "\"/>" ++ s ++ bytes "</event>\n") (rest ++ x)
+      ∙ ap (λ (l : List ℕ). line ++ (bytes "\"/>" ++ l)) (append-assoc s (bytes "</event>\n") (rest ++ x)))
 
   -- from any cursor before it on
   abbrev pub Onward : List ℕ → Skipped → ℕ → Type 0
   Onward t e m = (d : Cursor) → InTrace t (bytes "log") (bytes "trace") d → drop (d .at) t ≡ 10 ∷ x → Reads t e (d .opened) m d []
 
   module _ (t : List ℕ) (e : Skipped) (m : ℕ) (onward : Onward t e m) where
-    pub events-read : (lines : List (List ℕ)) (c : Cursor) → InTrace t (bytes "log") (bytes "trace") c → drop (c .at) t ≡ 10 ∷ (eventsText lines ++ x) → Each Entry lines → Reads t e (c .opened) (steps lines m) c lines
-    events-read [] c k s a = onward c k (unfold eventsText in s)
-    events-read (line ∷ lines) c k s a =
-        event-read t line (10 ∷ (eventsText lines ++ x)) c k stands (a .0 .plain) (a .0 .right) e (steps lines m) lines
-        (events-read lines (ended t line (10 ∷ (eventsText lines ++ x)) c k stands (a .0 .plain) (a .0 .right)) (event-inside t line (10 ∷ (eventsText lines ++ x)) c k stands (a .0 .plain) (a .0 .right)) (event-behind t line (10 ∷ (eventsText lines ++ x)) c k stands (a .0 .plain) (a .0 .right)) (a .1))
+    pub events-read : (moments : ℕ → ℕ) (lines : List (List ℕ)) (c : Cursor) → InTrace t (bytes "log") (bytes "trace") c → drop (c .at) t ≡ 10 ∷ (eventsText moments lines ++ x) → Each Entry lines → Reads t e (c .opened) (steps lines m) c lines
+    events-read moments [] c k s a = onward c k (unfold eventsText in s)
+    events-read moments (line ∷ lines) c k s a =
+        event-read t line (stampText (moments 0)) later c k stands (a .0 .plain) (a .0 .right) (stamp-is (moments 0)) e (steps lines m) lines
+        (events-read (λ i. moments (suc i)) lines (ended t line (stampText (moments 0)) later c k stands (a .0 .plain) (a .0 .right) (stamp-is (moments 0))) (event-inside t line (stampText (moments 0)) later c k stands (a .0 .plain) (a .0 .right) (stamp-is (moments 0))) (event-behind t line (stampText (moments 0)) later c k stands (a .0 .plain) (a .0 .right) (stamp-is (moments 0))) (a .1))
       where
-        stands : drop (c .at) t ≡ 10 ∷ (bytes "<event>" ++ (stringOpening ++ (line ++ (bytes "\"/>" ++ (bytes "</event>" ++ (10 ∷ (eventsText lines ++ x)))))))
-        stands = s ∙ ap (λ (l : List ℕ). 10 ∷ l) (event-first line lines)
+        later : List ℕ
+        later = 10 ∷ (eventsText (λ i. moments (suc i)) lines ++ x)
+
+        stands : drop (c .at) t ≡ 10 ∷ (bytes "<event>" ++ (stringOpening ++ (line ++ (bytes "\"/>" ++ (stampText (moments 0) ++ (bytes "</event>" ++ later))))))
+        stands = s ∙ ap (λ (l : List ℕ). 10 ∷ l) (event-first moments line lines)

@@ -1,4 +1,5 @@
--- A PRINTED LOG IS READ AS IT WAS WRITTEN: the log of any lines that name steps or posts, in bytes that XML writes as they are, is a log, and its lines are exactly those; so they are before the end tags are written.
+-- A PRINTED LOG IS READ AS IT WAS WRITTEN: the log of any lines that name steps or posts, in bytes that XML writes as they are, is a log, and its lines are exactly those, whatever moments are written with them; so
+-- they are before the end tags are written.
 -- Assumes nothing.
 use mathlib.Core.Path.{_≡_, _∙_, refl, sym, ap, subst}
 use mathlib.Core.List.{List, [], _∷_, _++_, append-nil}
@@ -10,34 +11,34 @@ use Rattle.xml_skip.specs.declared.Skipped.{Skipped}
 use Rattle.xml_skip.specs.declared.Skipped.the-variants.{Past, Fault}
 use Rattle.log_text.specs.Cursors.{inLog}
 use Rattle.log_text.specs.Logs.{logMost, byMove, scanFrom, scan, linesFrom, linesOf}
-use Rattle.log_write.specs.Xes.{opening, extension, global, classifier, traceOpening, header, eventsText, written, footer, logText}
+use Rattle.log_write.specs.Xes.{opening, extension, timeExtension, global, classifier, traceOpening, header, eventsText, written, footer, logText}
 use Rattle.proof_logs.proofs.Traces.{Reads, Each, Entry, Onward, steps, few-steps, footer-read, stop-read, events-read}
-use Rattle.proof_logs.proofs.Headers.{declaration, logTag, extensionTag, globalText, classifierTag, runTag, log-named, started, past-name, behind-name, in-trace, header-read}
+use Rattle.proof_logs.proofs.Headers.{declaration, logTag, onExtension, log-named, started, past-name, behind-name, in-trace, header-read}
 
 -- the place behind the trace's start tag
 abbrev pub traceAt : ℕ
-traceAt = 351
+traceAt = 436
 
 -- THE TEXT UP TO ITS EVENTS, them, and what stands behind them: x
-module _ (lines : List (List ℕ)) (x : List ℕ) where
+module _ (moments : ℕ → ℕ) (lines : List (List ℕ)) (x : List ℕ) where
   -- behind the trace's name, and behind the log's tag
   abbrev events : List ℕ
-  events = 10 ∷ (eventsText lines ++ x)
+  events = 10 ∷ (eventsText moments lines ++ x)
 
   abbrev content : List ℕ
-  content = 10 ∷ (extensionTag ++ (10 ∷ (globalText ++ (10 ∷ (classifierTag ++ (10 ∷ (bytes "<trace>" ++ (runTag ++ events))))))))
+  content = onExtension events
 
   abbrev t : List ℕ
   t = declaration ++ (logTag ++ content)
 
   module _ (e : Skipped) (m : ℕ) (onward : Onward x t e m) (few : m ≤ 2) (entries : Each Entry lines) where
-    enough : suc (suc (suc (suc (suc (steps lines m))))) ≤ length t
-    enough = omega (arith, few, few-steps lines m, length-append declaration (logTag ++ content), length-append (eventsText lines) x)
+    enough : suc (suc (suc (suc (suc (suc (steps lines m)))))) ≤ length t
+    enough = omega (arith, few, few-steps moments lines m, length-append declaration (logTag ++ content), length-append (eventsText moments lines) x)
 
-    read : Reads t e traceAt (suc (suc (suc (suc (suc (steps lines m)))))) (inLog 39 121) lines
+    read : Reads t e traceAt (suc (suc (suc (suc (suc (suc (steps lines m))))))) (inLog 39 121) lines
     read =
         header-read t events 39 121 (log-named content) refl e traceAt (steps lines m) lines
-        (events-read x t e m onward lines (past-name t events 39 121 (log-named content) refl) (in-trace t events 39 121 (log-named content) refl) (behind-name t events 39 121 (log-named content) refl) entries)
+        (events-read x t e m onward moments lines (past-name t events 39 121 (log-named content) refl) (in-trace t events 39 121 (log-named content) refl) (behind-name t events 39 121 (log-named content) refl) entries)
 
     module _ (short : length t ≤ logMost) where
       scanned : scan t .end ≡ e
@@ -58,34 +59,34 @@ pub record ReadBack (u : List ℕ) (e : Skipped) (lines : List (List ℕ)) : Typ
   pub trace-at : scan u .last .opened ≡ traceAt
   pub lines-are : linesOf u ≡ lines
 
-module _ (lines : List (List ℕ)) (entries : Each Entry lines) where
-  is-text : logText lines ≡ t lines footer
-  unfolding logText header opening extension global classifier traceOpening
+module _ (moments : ℕ → ℕ) (lines : List (List ℕ)) (entries : Each Entry lines) where
+  is-text : logText moments lines ≡ t moments lines footer
+  unfolding logText header opening extension timeExtension global classifier traceOpening
   is-text = refl
 
-  is-begun : written lines ≡ t lines []
-  unfolding written header opening extension global classifier traceOpening
-  is-begun = ap (λ (l : List ℕ). header ++ l) (sym (append-nil (eventsText lines)))
+  is-begun : written moments lines ≡ t moments lines []
+  unfolding written header opening extension timeExtension global classifier traceOpening
+  is-begun = ap (λ (l : List ℕ). header ++ l) (sym (append-nil (eventsText moments lines)))
 
-  pub printed-log-reads : length (logText lines) ≤ logMost → ReadBack (logText lines) (Past (length (logText lines))) lines
+  pub printed-log-reads : length (logText moments lines) ≤ logMost → ReadBack (logText moments lines) (Past (length (logText moments lines))) lines
   printed-log-reads short =
-      let s : length (t lines footer) ≤ logMost = subst (λ (l : List ℕ). length l ≤ logMost) is-text short in
-      let onward : Onward footer (t lines footer) (Past (length (t lines footer))) 2 = λ d k h. footer-read (t lines footer) d k h in
+      let s : length (t moments lines footer) ≤ logMost = subst (λ (l : List ℕ). length l ≤ logMost) is-text short in
+      let onward : Onward footer (t moments lines footer) (Past (length (t moments lines footer))) 2 = λ d k h. footer-read (t moments lines footer) d k h in
       rw is-text
       (record {
-        whole = scanned lines footer (Past (length (t lines footer))) 2 onward (omega arith) entries s;
-        trace-at = opened lines footer (Past (length (t lines footer))) 2 onward (omega arith) entries s;
-        lines-are = lined lines footer (Past (length (t lines footer))) 2 onward (omega arith) entries s;
+        whole = scanned moments lines footer (Past (length (t moments lines footer))) 2 onward (omega arith) entries s;
+        trace-at = opened moments lines footer (Past (length (t moments lines footer))) 2 onward (omega arith) entries s;
+        lines-are = lined moments lines footer (Past (length (t moments lines footer))) 2 onward (omega arith) entries s;
       })
 
   -- what was written so far
-  pub begun-log-reads : length (written lines) ≤ logMost → ReadBack (written lines) (Fault (length (written lines))) lines
+  pub begun-log-reads : length (written moments lines) ≤ logMost → ReadBack (written moments lines) (Fault (length (written moments lines))) lines
   begun-log-reads short =
-      let s : length (t lines []) ≤ logMost = subst (λ (l : List ℕ). length l ≤ logMost) is-begun short in
-      let onward : Onward [] (t lines []) (Fault (length (t lines []))) 1 = λ d k h. stop-read (t lines []) d h in
+      let s : length (t moments lines []) ≤ logMost = subst (λ (l : List ℕ). length l ≤ logMost) is-begun short in
+      let onward : Onward [] (t moments lines []) (Fault (length (t moments lines []))) 1 = λ d k h. stop-read (t moments lines []) d h in
       rw is-begun
       (record {
-        whole = scanned lines [] (Fault (length (t lines []))) 1 onward (omega arith) entries s;
-        trace-at = opened lines [] (Fault (length (t lines []))) 1 onward (omega arith) entries s;
-        lines-are = lined lines [] (Fault (length (t lines []))) 1 onward (omega arith) entries s;
+        whole = scanned moments lines [] (Fault (length (t moments lines []))) 1 onward (omega arith) entries s;
+        trace-at = opened moments lines [] (Fault (length (t moments lines []))) 1 onward (omega arith) entries s;
+        lines-are = lined moments lines [] (Fault (length (t moments lines []))) 1 onward (omega arith) entries s;
       })

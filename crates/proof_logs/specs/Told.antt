@@ -1,19 +1,14 @@
 -- THE LINES OF A RUN: what a log tells of accepted calls, one after the other. t is a table, z a state.
 use Prim.Native.Nat.{ℕ, _≤_}
-use mathlib.Core.List.{List, [], _∷_, _++_}
-use Rattle.base_words.specs.Text.{bytes}
+use mathlib.Core.List.{List, [], _∷_}
 use Rattle.base_words.specs.Words.{at, greatest}
-use Rattle.write_decimals.specs.Decimals.{shown}
-use Rattle.write_lines.specs.Lines.{valuesLine, stepLine}
+use Rattle.write_lines.specs.Lines.{stepLine}
+use Rattle.log_pieces.specs.Pieces.{postLine}
 use Rattle.meaning.specs.declared.Tuple.{Tuple}
 use Rattle.engine.specs.Engine.{stepped}
 use Rattle.engine.specs.Calls.{Act, aStep, aPost, did}
 
--- "`post M:V`. V is values joined by commas, possibly none" (RULES: lawful)
-unfoldable pub postLine : ℕ → Tuple → List ℕ
-postLine name g = bytes "post " ++ (shown name ++ (bytes ":" ++ valuesLine g))
-
--- a step's line is the one that the run program prints
+-- a step's line is the one that the run program prints, a post's the one that is journaled
 unfoldable pub lineTold : List ℕ → Act → List ℕ → List ℕ
 lineTold t (aStep n) z = stepLine n (stepped t z n .answer)
 lineTold t (aPost name g) z = postLine name g

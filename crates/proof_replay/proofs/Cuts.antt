@@ -4,7 +4,7 @@ use Prim.Native.Nat.{ℕ, zero, suc, _-_, _<_, _≤_}
 use mathlib.Core.Logic.{_⊎_, inl, inr}
 use mathlib.Core.Path.{_≡_, _∙_, refl, sym, ap, subst}
 use mathlib.Core.Bool.{Bool, true, false}
-use mathlib.Core.List.{List, [], _∷_, _++_, append-assoc}
+use mathlib.Core.List.{List, [], _∷_, _++_, append-assoc, append-nil}
 use native.Mathlib.Omega.{arith}
 use lib.Dec.{eqb}
 use lib.ListN.{length, take, drop, length-append, length-take, take-append-drop}
@@ -19,7 +19,7 @@ use Rattle.xml_skip.specs.declared.Skipped.the-variants.{Past, Fault}
 use Rattle.log_text.specs.declared.Cursor.{Cursor}
 use Rattle.log_text.specs.Logs.{logMost, scan, linesFrom, linesOf}
 use Rattle.log_text.proofs.LineLaws.{events-are-lines}
-use Rattle.log_write.specs.Xes.{opening, extension, global, classifier, traceOpening, header, eventText, eventsText, written, footer, logText}
+use Rattle.log_write.specs.Xes.{opening, extension, timeExtension, global, classifier, traceOpening, header, eventText, eventsText, written, footer, logText}
 use Rattle.log_judge.specs.Judge.{lawful}
 use Rattle.log_repair.specs.Repair.{closed, isLost, Repair, refused, given, repairedBy, repairedTo}
 use Rattle.engine.specs.Engine.{valid}
@@ -50,26 +50,50 @@ kept-is : (u out : List ℕ) → repairedTo u out .number ≡ 0 → repairedTo u
 unfolding repairedTo
 kept-is u out z = kept-by (scan u .end) u (scan u .last) out z
 
--- A LOG BEGINS with what was written of its first lines
-events-both : (xs ys : List (List ℕ)) → eventsText (xs ++ ys) ≡ eventsText xs ++ eventsText ys
-unfolding eventsText
-events-both [] ys = refl
-events-both (w ∷ xs) ys = ap (λ (l : List ℕ). eventText w ++ l) (events-both xs ys) ∙ sym (append-assoc (eventText w) (eventsText xs) (eventsText ys))
+-- A LOG BEGINS with what was written of its first lines; the moments of those behind
+abbrev behind : List (List ℕ) → (ℕ → ℕ) → ℕ → ℕ
+behind [] moments = moments
+behind (w ∷ xs) moments = behind xs (λ k. moments (suc k))
 
-log-begins : (k : ℕ) (ws : List (List ℕ)) → logText ws ≡ written (take k ws) ++ (eventsText (drop k ws) ++ footer)
+events-both : (moments : ℕ → ℕ) (xs ys : List (List ℕ)) → eventsText moments (xs ++ ys) ≡ eventsText moments xs ++ eventsText (behind xs moments) ys
+unfolding eventsText
+events-both moments [] ys = refl
+events-both moments (w ∷ xs) ys =
+    ap (λ (l : List ℕ). eventText (moments 0) w ++ l) (events-both (λ k. moments (suc k)) xs ys)
+    ∙ sym (append-assoc (eventText (moments 0) w) (eventsText (λ k. moments (suc k)) xs) (eventsText (behind xs (λ k. moments (suc k))) ys))
+
+pub log-begins : (moments : ℕ → ℕ) (k : ℕ) (ws : List (List ℕ)) → logText moments ws ≡ written moments (take k ws) ++ (eventsText (behind (take k ws) moments) (drop k ws) ++ footer)
 unfolding logText written
-log-begins k ws =
-    ap (λ (l : List ℕ). header ++ l ++ footer) (ap eventsText (sym (take-append-drop k ws)) ∙ events-both (take k ws) (drop k ws))
-    ∙ ap (λ (l : List ℕ). l ++ footer) (sym (append-assoc header (eventsText (take k ws)) (eventsText (drop k ws))))
-    ∙ append-assoc (header ++ eventsText (take k ws)) (eventsText (drop k ws)) footer
+log-begins moments k ws =
+    let rest : List ℕ = eventsText (behind (take k ws) moments) (drop k ws) in
+    ap (λ (l : List ℕ). header ++ l ++ footer) (ap (eventsText moments) (sym (take-append-drop k ws)) ∙ events-both moments (take k ws) (drop k ws))
+    ∙ ap (λ (l : List ℕ). l ++ footer) (sym (append-assoc header (eventsText moments (take k ws)) rest))
+    ∙ append-assoc (header ++ eventsText moments (take k ws)) rest footer
+
+-- PIECE BY PIECE: what stands before the events, an event behind those that are written, what stands behind them
+pub first-piece : (moments : ℕ → ℕ) → header ≡ written moments []
+unfolding written eventsText
+first-piece moments = sym (append-nil header)
+
+pub next-piece : (moments : ℕ → ℕ) (ws : List (List ℕ)) (w : List ℕ) → written moments ws ++ eventText (behind ws moments 0) w ≡ written moments (ws ++ (w ∷ []))
+unfolding written eventsText
+next-piece moments ws w =
+    let e : List ℕ = eventText (behind ws moments 0) w in
+    append-assoc header (eventsText moments ws) e
+    ∙ ap (λ (l : List ℕ). header ++ (eventsText moments ws ++ l)) (sym (append-nil e))
+    ∙ ap (λ (l : List ℕ). header ++ l) (sym (events-both moments ws (w ∷ [])))
+
+pub last-piece : (moments : ℕ → ℕ) (ws : List (List ℕ)) → written moments ws ++ footer ≡ logText moments ws
+unfolding written logText
+last-piece moments ws = refl
 
 header-long : traceAt ≤ length header
-unfolding header opening extension global classifier traceOpening
+unfolding header opening extension timeExtension global classifier traceOpening
 header-long = omega arith
 
-written-long : (ws : List (List ℕ)) → traceAt ≤ length (written ws)
+written-long : (moments : ℕ → ℕ) (ws : List (List ℕ)) → traceAt ≤ length (written moments ws)
 unfolding written
-written-long ws = omega (arith, header-long, length-append header (eventsText ws))
+written-long moments ws = omega (arith, header-long, length-append header (eventsText moments ws))
 
 module _ (t : List ℕ) (right : valid t ≡ true) (v : ℕ) (known : isVersion v ≡ true) (small : (i : ℕ) → at t i ≤ greatest) (acts : List Act) (accepted : allAccepted t acts (fresh t v) ≡ true) (posted : AllPosted acts) where
   abbrev lines : List (List ℕ)
@@ -95,26 +119,26 @@ module _ (t : List ℕ) (right : valid t ≡ true) (v : ℕ) (known : isVersion 
         (repaired-right (take n a) out e .is-log)
         (first-lines a l n inside out e ∙ ap (take (r .kept)) of-them ∙ first-told t (r .kept) acts (fresh t v))
 
-  -- THE LOG AS IT IS PRINTED, cut at n
-  module _ (short : length (logText lines) ≤ logMost) (n : ℕ) (inside : n ≤ length (logText lines)) (out : List ℕ) where
+  -- THE LOG AS IT IS PRINTED, with whatever moments, cut at n
+  module _ (moments : ℕ → ℕ) (short : length (logText moments lines) ≤ logMost) (n : ℕ) (inside : n ≤ length (logText moments lines)) (out : List ℕ) where
     abbrev log : List ℕ
-    log = logText lines
+    log = logText moments lines
 
     is-log : IsLog log
-    is-log = printed-log t right v known small acts accepted posted short
+    is-log = printed-log t right v known small acts accepted posted moments short
 
     -- behind the trace's start tag it is repaired, unless there is no room
     pub cut-repaired : traceAt ≤ n → Repairs (repairedTo (take n log) out)
-    cut-repaired h = beginning-repaired log is-log n inside (omega (arith, h, printed-log-reads lines each-line short .trace-at)) out
+    cut-repaired h = beginning-repaired log is-log n inside (omega (arith, h, printed-log-reads moments lines each-line short .trace-at)) out
 
     pub printed-cut-replayed : repairedTo (take n log) out .number ≡ 0 → (z : List ℕ)
         → replayedTo t v (output (repairedTo (take n log) out)) z ≡ record { answer = lawful; state = after t (take (repairedTo (take n log) out .kept) acts) (fresh t v) }
-    printed-cut-replayed = cut-replayed log is-log (printed-log-reads lines each-line short .lines-are) n inside out
+    printed-cut-replayed = cut-replayed log is-log (printed-log-reads moments lines each-line short .lines-are) n inside out
 
     -- WHAT WAS WRITTEN before the cut: the events of the first k calls
-    module _ (k : ℕ) (so-far : length (written (take k lines)) ≤ n) where
+    module _ (k : ℕ) (so-far : length (written moments (take k lines)) ≤ n) where
       abbrev begun : List ℕ
-      begun = written (take k lines)
+      begun = written moments (take k lines)
 
       begun-lines : Each Entry (take k lines)
       begun-lines =
@@ -125,7 +149,7 @@ module _ (t : List ℕ) (right : valid t ≡ true) (v : ℕ) (known : isVersion 
       begun-short = omega (arith, so-far, inside, short)
 
       ended : Ended begun
-      ended = ended-by begun (ap (λ (m : ℕ). eqb m 0) (begun-log-reads (take k lines) begun-lines begun-short .trace-at))
+      ended = ended-by begun (ap (λ (m : ℕ). eqb m 0) (begun-log-reads moments (take k lines) begun-lines begun-short .trace-at))
 
       mark : ended .marks .d .at ≤ length begun
       mark = mark-within begun ended
@@ -133,8 +157,8 @@ module _ (t : List ℕ) (right : valid t ≡ true) (v : ℕ) (known : isVersion 
       alike : take (ended .marks .d .at) (take n log) ≡ take (ended .marks .d .at) begun
       alike =
           take-take (ended .marks .d .at) n log (omega (arith, mark, so-far))
-          ∙ ap (take (ended .marks .d .at)) (log-begins k lines)
-          ∙ take-append-le (ended .marks .d .at) begun (eventsText (drop k lines) ++ footer) mark
+          ∙ ap (take (ended .marks .d .at)) (log-begins moments k lines)
+          ∙ take-append-le (ended .marks .d .at) begun (eventsText (behind (take k lines) moments) (drop k lines) ++ footer) mark
 
       cut-long : length (take n log) ≡ n
       cut-long = length-take-le n log inside
@@ -144,7 +168,7 @@ module _ (t : List ℕ) (right : valid t ≡ true) (v : ℕ) (known : isVersion 
 
       -- it is repaired, unless there is no room
       pub so-far-repaired : Repairs (repairedTo (take n log) out)
-      so-far-repaired = cut-repaired (omega (arith, so-far, written-long (take k lines)))
+      so-far-repaired = cut-repaired (omega (arith, so-far, written-long moments (take k lines)))
 
       module _ (e : repairedTo (take n log) out .number ≡ 0) where
         abbrev kept : ℕ
@@ -160,7 +184,7 @@ module _ (t : List ℕ) (right : valid t ≡ true) (v : ℕ) (known : isVersion 
               events-are-lines (take n log),
               ap length cut-begins,
               length-append (linesOf begun) (linesFrom (take n log) (ended .marks .d)),
-              ap length (begun-log-reads (take k lines) begun-lines begun-short .lines-are),
+              ap length (begun-log-reads moments (take k lines) begun-lines begun-short .lines-are),
               length-take-le k lines (omega (arith, h, told-long acts (fresh t v))),
             )
 
@@ -173,7 +197,7 @@ module _ (t : List ℕ) (right : valid t ≡ true) (v : ℕ) (known : isVersion 
               events-are-lines (output (repairedTo (take n log) out)),
               ap length (first-lines log is-log n inside out e),
               length-take kept (linesOf log),
-              ap length (printed-log-reads lines each-line short .lines-are),
+              ap length (printed-log-reads moments lines each-line short .lines-are),
               told-long acts (fresh t v),
             )
 

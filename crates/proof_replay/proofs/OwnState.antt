@@ -97,15 +97,16 @@ module _ (t : List ℕ) where
           ∙ told-left acts (fresh t v) (fresh-valid t v asked) accepted words in
           λ i. record { answer = j i; state = s i }
 
-      -- THE LOG AS IT IS PRINTED
-      abbrev printed : List ℕ
-      printed = logText (told t acts (fresh t v))
+      -- THE LOG AS IT IS PRINTED, with whatever moments
+      module _ (moments : ℕ → ℕ) where
+        abbrev printed : List ℕ
+        printed = logText moments (told t acts (fresh t v))
 
-      pub printed-log : length printed ≤ logMost → IsLog printed
-      printed-log short = (length printed, printed-log-reads (told t acts (fresh t v)) entries short .whole)
+        pub printed-log : length printed ≤ logMost → IsLog printed
+        printed-log short = (length printed, printed-log-reads moments (told t acts (fresh t v)) entries short .whole)
 
-      pub own-log-replayed : length printed ≤ logMost → (z : List ℕ) → replayedTo t v printed z ≡ record { answer = lawful; state = after t acts (fresh t v) }
-      own-log-replayed short = told-replayed printed (printed-log short) (printed-log-reads (told t acts (fresh t v)) entries short .lines-are)
+        pub own-log-replayed : length printed ≤ logMost → (z : List ℕ) → replayedTo t v printed z ≡ record { answer = lawful; state = after t acts (fresh t v) }
+        own-log-replayed short = told-replayed printed (printed-log short) (printed-log-reads moments (told t acts (fresh t v)) entries short .lines-are)
 
     -- and with a run behind them: the state that the run left
     module _ (acts : List Act) (accepted : allAccepted t acts (fresh t v) ≡ true) (posted : AllPosted acts) (limit : ℕ) where
@@ -123,9 +124,9 @@ module _ (t : List ℕ) where
       run-left =
           ap (λ (r : RanTo). r .state) (chosen {A = RanTo} (fitting t reached) (ended (ran t limit (instancesOf reached) (queuesOf reached))) _ (reached-valid .fits) ∙ run-is-steps t limit reached reached-valid)
 
-      pub run-log-replayed : length (logText (told t whole (fresh t v))) ≤ logMost → (z : List ℕ)
-          → replayedTo t v (logText (told t whole (fresh t v))) z ≡ record { answer = lawful; state = ranTo t reached limit .state }
-      run-log-replayed short z =
+      pub run-log-replayed : (moments : ℕ → ℕ) → length (logText moments (told t whole (fresh t v))) ≤ logMost → (z : List ℕ)
+          → replayedTo t v (logText moments (told t whole (fresh t v))) z ≡ record { answer = lawful; state = ranTo t reached limit .state }
+      run-log-replayed moments short z =
           let s : after t whole (fresh t v) ≡ ranTo t reached limit .state = after-both acts (runSteps t limit reached) (fresh t v) ∙ sym run-left in
-          own-log-replayed whole (whole-accepted t v asked small acts accepted posted limit) (whole-posted t v asked small acts accepted posted limit) short z
+          own-log-replayed whole (whole-accepted t v asked small acts accepted posted limit) (whole-posted t v asked small acts accepted posted limit) moments short z
           ∙ (λ i. record { answer = lawful; state = s i })

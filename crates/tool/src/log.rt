@@ -35,7 +35,7 @@ fn tell_header() {
 
 fn tell_event(n: Name, a: Answer) {
     let mut out = [0u8; EVENT];
-    let k = log_write::put_event(&mut out, 0, n, a);
+    let k = log_write::put_event(&mut out, 0, n, a, 0);
     tell(piece(&out, 0, k));
 }
 

@@ -1,0 +1,2 @@
+pub mod StampLaws
+pub mod Points
