@@ -1,14 +1,14 @@
 /* The engine and the reference in one program: the same calls on the same blocks.
    bench times CALLS     each call through both by turns; a line each: call, case, nanoseconds of the engine's, of the reference's, the ratio
-   bench counts CALLS    each call once through either, for callgrind, which writes the instructions of each under its name
+   bench counts CALLS    each call once through either, for who counts the instructions (bench/count.h): call, case, who, and the steps to divide by
    bench sizes           a line for each case: its name and the bytes of its text
    CALLS: names with commas around each, as ,check,step, or all. Ends with 1 where the two differ. */
+#include "count.h"
 #include "cuttingvale.h"
 #include "models.h"
 #include <stdio.h>
 #include <stdlib.h>
 #include <time.h>
-#include <valgrind/callgrind.h>
 
 enum { ROUNDS = 41, BATCH = 8, LIMIT = 100 };
 
@@ -210,10 +210,9 @@ static void count_call(side call, const struct job *j, const char *who) {
     struct answer a;
     snprintf(label, sizeof label, "%s\t%s\t%s\t%u", j->name, j->setting->name, who, j->steps);
     prepare(j, &lent, 1);
-    CALLGRIND_TOGGLE_COLLECT;
+    count_from();
     call(j, &lent, 0, &a);
-    CALLGRIND_TOGGLE_COLLECT;
-    CALLGRIND_DUMP_STATS_AT(label);
+    count_to(label);
 }
 
 static void count_job(const struct job *j) {
