@@ -40,6 +40,10 @@ extern "C" {
 #define CV_ITEM_WORDS 11
 #define CV_POLL_WORDS 704
 
+/* TIME, measured and not proved: to read a text, a drawing or a log, accepted or refused, takes at most CV_INSTRUCTIONS_MOST instructions for each of CV_TEXT_MOST bytes in the
+   dearest that tests/outside/run --worst makes; an ordinary one takes some 100 for each of its own. */
+#define CV_INSTRUCTIONS_MOST 3000
+
 /* WHICH LIBRARY. CV_ABI counts the layouts that table, state and what crosses in a call have had. The library has a function whose name ends in its number, which gives it;
    a program that was compiled with the header of another number does not link. Who declares the calls otherwise than by this header refers to that function himself.
    cv_version gives the library's version: 10,000 for its first number, 100 for its second, 1 for its third. */
@@ -104,6 +108,25 @@ CV_KEPT static uint32_t (*const cv_abi_wanted)(void) = CV_NUMBERED(cv_abi_, CV_A
 /* THE ITEMS OF A POLL, 64 of 11 words: 1 for a post, anything else a step; the pool's number, or the name posted to; instance, element, phase, branch,
    which a post does not use; the length of the message and its 4 values. What stands behind the items counted is ignored. */
 #define CV_ITEM(k) (11 * (k))
+
+/* STACK that a call needs below its caller's frame, in bytes: the most that was touched of a stack that was filled before, over the largest models and the deepest texts, and
+   an eighth more, at most 1,024. tests/outside/stack.c measures it, and fails where a call needs more than this says. */
+enum cv_stack {
+    CV_STACK_CHECK = 1472,
+    CV_STACK_FRESH = 1472,
+    CV_STACK_STEP = 2816,
+    CV_STACK_POST = 2112,
+    CV_STACK_LIST = 5184,
+    CV_STACK_RUN = 5376,
+    CV_STACK_FIGURES = 2048,
+    CV_STACK_READ = 4032,
+    CV_STACK_DRAW = 137152,
+    CV_STACK_WRITE = 1472,
+    CV_STACK_POLL = 2752,
+    CV_STACK_JUDGE = 54976,
+    CV_STACK_REPAIR = 4800,
+    CV_STACK_NESTED = 1792
+};
 
 /* The numbers given back, in the words of documents 01 and 02. */
 enum cv_number {

@@ -7,9 +7,11 @@
    compare nestings CASES SEED           the same for nested models and models that nearly are, and what is promised of nested ones
    compare accounts CASES SEED           the same from fresh states; for each name and tuple what was posted and sent is what is queued and was consumed
    compare cuts FILE                     a log cut off at every byte, judged and repaired
-   compare worst                         drawings and logs that hold as much of one thing as fits, and models that loop: compared, and timed
+   compare worst                         drawings, logs and texts that hold as much of one thing as fits, and models that loop: compared, and timed, a line each
+   compare worst counts                  the same, the engine's calls alone, for who counts their instructions (bench/count.h)
    compare sessions FIRST COUNT SEED     prints sessions for the two consoles, one after the other */
 #include "accounts.h"
+#include "../../bench/count.h"
 #include "cuttingvale.h"
 #include "generate.h"
 #include <stdio.h>
@@ -853,55 +855,129 @@ static int compare_cuts(const char *name) {
     return 0;
 }
 
-static unsigned since(clock_t start) { return (unsigned)((clock() - start) * 1000.0 / CLOCKS_PER_SEC); }
+static double since(clock_t start) { return (clock() - start) * 1000.0 / CLOCKS_PER_SEC; }
+
+/* a line of a text that was read by both: what of, its bytes, the number, processor time of the reference and of the engine */
+static void told(const char *call, const char *name, unsigned number, double reference, double engine) {
+    printf("%s\t%s\t%zu\t%u\t%.1f\t%.1f\n", call, name, text_length, number, reference, engine);
+    fflush(stdout);
+}
 
 static void time_drawing(const char *name) {
     clock_t start = clock();
     ref_reading b = ref_draw((const uint8_t *)text, text_length, theirs.table);
-    printf("%-34s %5zu bytes, %2u %5zu, reference %5u ms", name, text_length, b.number, b.beside, since(start));
+    double reference = since(start);
     start = clock();
     cv_reading a = cv_draw((const uint8_t *)text, text_length, TABLE);
-    printf(", engine %5u ms", since(start));
+    told("draw", name, a.number, reference, since(start));
     same("draw", "number", a.number, b.number);
     same("draw", "beside", a.beside, b.beside);
-    putchar('\n');
+}
+
+static void time_text(const char *name) {
+    clock_t start = clock();
+    ref_reading b = ref_read((const uint8_t *)text, text_length, theirs.table);
+    double reference = since(start);
+    start = clock();
+    cv_reading a = cv_read((const uint8_t *)text, text_length, TABLE);
+    told("read", name, a.number, reference, since(start));
+    same("read", "number", a.number, b.number);
+    same("read", "beside", a.beside, b.beside);
 }
 
 static void time_log(const char *name) {
     clock_t start = clock();
     ref_judged b = ref_judge(theirs.table, REF_VERSION_20, (const uint8_t *)text, text_length);
-    printf("%-34s %5zu bytes, %2u %5zu %2u, reference %5u ms", name, text_length, b.number, b.beside, b.own, since(start));
+    double reference = since(start);
     start = clock();
     cv_judged a = cv_judge(TABLE, CV_VERSION_20, (const uint8_t *)text, text_length);
-    printf(", engine %5u ms", since(start));
+    told("judge", name, a.number, reference, since(start));
     same("judge", "number", a.number, b.number);
     same("judge", "beside", a.beside, b.beside);
     same("judge", "own", a.own, b.own);
-    putchar('\n');
+}
+
+static void time_repair(const char *name) {
+    clock_t start = clock();
+    ref_repaired b = ref_repair((const uint8_t *)text, text_length, theirs.buffer, TEXT_ROOM);
+    double reference = since(start);
+    start = clock();
+    cv_repaired a = cv_repair((const uint8_t *)text, text_length, ours.buffer, TEXT_ROOM);
+    told("repair", name, a.number, reference, since(start));
+    same("repair", "number", a.number, b.number);
+    same("repair", "kept", a.kept, b.kept);
+    same("repair", "dropped", a.dropped, b.dropped);
 }
 
 static void time_nesting(unsigned branches) {
     text_length = worst_nesting(branches, text);
     same("read", "number", ref_read((const uint8_t *)text, text_length, theirs.table).number, 0);
     memcpy(ours.table, theirs.table, REF_TABLE_WORDS * sizeof *ours.table);
+    char name[32];
+    sprintf(name, "a loop of %u branches", branches);
     clock_t start = clock();
     ref_verdict b = ref_nested(theirs.table);
-    printf("nested, of a loop of %u branches %9zu bytes, %2u %5u, reference %5u ms", branches, text_length, b.number, b.beside, since(start));
-    fflush(stdout);
+    double reference = since(start);
     start = clock();
     cv_verdict a = cv_nested(TABLE);
-    printf(", engine %5u ms\n", since(start));
+    told("nested", name, a.number, reference, since(start));
     same("nested", "number", a.number, b.number);
     same("nested", "pool", a.beside, b.beside);
 }
 
-static int time_worst(void) {
+static void counted(const char *call, const char *name, unsigned number) {
+    char label[160];
+    snprintf(label, sizeof label, "%s\t%s\t%zu\t%u", call, name, text_length, number);
+    count_to(label);
+}
+
+/* the engine's call alone, for who counts its instructions */
+static void count_drawing(const char *name) {
+    count_from();
+    cv_reading a = cv_draw((const uint8_t *)text, text_length, TABLE);
+    counted("draw", name, a.number);
+}
+
+static void count_text(const char *name) {
+    count_from();
+    cv_reading a = cv_read((const uint8_t *)text, text_length, TABLE);
+    counted("read", name, a.number);
+}
+
+static void count_log(const char *name) {
+    count_from();
+    cv_judged a = cv_judge(TABLE, CV_VERSION_20, (const uint8_t *)text, text_length);
+    counted("judge", name, a.number);
+}
+
+static void count_repair(const char *name) {
+    count_from();
+    cv_repaired a = cv_repair((const uint8_t *)text, text_length, ours.buffer, TEXT_ROOM);
+    counted("repair", name, a.number);
+}
+
+/* the texts that hold as much of one thing as fits, each in the calls that read it; repairs of the logs as they are, and without their last bytes */
+static void each_worst(void (*drawing)(const char *), void (*log)(const char *), void (*repair)(const char *), void (*notation)(const char *)) {
     const char *name;
-    for (unsigned k = 0; (name = worst_text(k, text, &text_length)); k++) time_drawing(name), fflush(stdout);
+    for (unsigned k = 0; (name = worst_text(k, text, &text_length)); k++) drawing(name);
     ref_read((const uint8_t *)worst_model, strlen(worst_model), theirs.table);
     memcpy(ours.table, theirs.table, REF_TABLE_WORDS * sizeof *ours.table);
-    for (unsigned k = 0; (name = worst_log(k, text, &text_length)); k++) time_log(name), fflush(stdout);
+    for (unsigned k = 0; (name = worst_log(k, text, &text_length)); k++) {
+        char cut[80];
+        snprintf(cut, sizeof cut, "%s, cut off", name);
+        log(name), repair(name), text_length -= 3, repair(cut);
+    }
+    for (unsigned k = 0; (name = worst_notation(k, text, &text_length)); k++) notation(name);
+}
+
+static int time_worst(void) {
+    each_worst(time_drawing, time_log, time_repair, time_text);
     for (unsigned branches = 2; branches < BRANCHES; branches++) time_nesting(branches);
+    return 0;
+}
+
+static int count_worst(void) {
+    each_worst(count_drawing, count_log, count_repair, count_text);
     return 0;
 }
 
@@ -1107,8 +1183,9 @@ int main(int count, char **words) {
     if (count == 3 && !strcmp(words[1], "cuts")) return compare_cuts(words[2]);
     if (count == 3 && !strcmp(words[1], "drawing")) return print_drawing(number(words[2]));
     if (count == 2 && !strcmp(words[1], "worst")) return time_worst();
+    if (count == 3 && !strcmp(words[1], "worst") && !strcmp(words[2], "counts")) return count_worst();
     if (count != 5 || strcmp(words[1], "sessions")) {
-        fprintf(stderr, "usage: compare calls CASES SEED, compare drawings CASES SEED, compare drawing CASE, compare logs CASES SEED, compare repairs CASES SEED, compare nestings CASES SEED, compare accounts CASES SEED, compare cuts FILE, compare worst, or compare sessions FIRST COUNT SEED\n");
+        fprintf(stderr, "usage: compare calls CASES SEED, compare drawings CASES SEED, compare drawing CASE, compare logs CASES SEED, compare repairs CASES SEED, compare nestings CASES SEED, compare accounts CASES SEED, compare cuts FILE, compare worst [counts], or compare sessions FIRST COUNT SEED\n");
         return 2;
     }
     for (uint64_t k = number(words[2]), last = k + number(words[3]); k < last; k++) {

@@ -24,8 +24,9 @@ size_t spoiled_text(struct random *r, char *text, size_t n);
 size_t drawing_text(struct random *r, char *text, size_t room, int *due);
 /* a drawing that holds as much of one thing as fits, by its ordinal: returns what of, or NULL where there are no more */
 const char *worst_text(unsigned which, char *text, size_t *length);
-/* the same for logs, under one model */
+/* the same for logs, under one model, and for model texts */
 const char *worst_log(unsigned which, char *text, size_t *length);
+const char *worst_notation(unsigned which, char *text, size_t *length);
 extern const char worst_model[];
 /* a model that is not nested and loops, 2 to 7 branches of a split each going back to before it or on: who goes along every path takes long */
 size_t worst_nesting(unsigned branches, char *text);
