@@ -1,7 +1,7 @@
 /* The engine and the reference in one program: the same calls on the same blocks.
    bench times CALLS     each call through both by turns; a line each: call, case, nanoseconds of the engine's, of the reference's, the ratio
    bench counts CALLS    each call once through either, for who counts the instructions (bench/count.h): call, case, who, and the steps to divide by
-   bench sizes           a line for each case: its name and the bytes of its text
+   bench sizes           a line for each case: its name and the bytes of its text, its drawing and its log
    CALLS: names with commas around each, as ,check,step, or all. Ends with 1 where the two differ. */
 #include "count.h"
 #include "cuttingvale.h"
@@ -12,12 +12,12 @@
 
 enum { ROUNDS = 41, BATCH = 8, LIMIT = 100 };
 
-enum call { CHECK, FRESH, STEP, POST, LIST, RUN, READ, WRITE, POLL };
+enum call { CHECK, FRESH, STEP, POST, LIST, RUN, READ, WRITE, POLL, DRAW, JUDGE };
 
 /* A call in a case, with what is given to it; the time is divided by the steps that it takes. */
 struct job { const char *name; const struct setting *setting; enum call call; size_t ordinal; ref_name step; unsigned steps; bool room, empty; };
 
-/* All that the nine calls give back, one after the other; what a call does not give is 0. */
+/* All that the calls give back, one after the other; what a call does not give is 0. */
 struct answer { size_t number, beside; ref_name name; ref_tuple tuple; };
 
 struct blocks { word table[REF_TABLE_WORDS], states[BATCH][REF_STATE_WORDS]; ref_record records[BATCH][POOLS]; uint8_t buffer[REF_TEXT_MOST]; };
@@ -88,6 +88,16 @@ static __attribute__((noinline)) void engine(const struct job *j, struct blocks 
         a->number = v.number, a->beside = v.accepted;
         break;
     }
+    case DRAW: {
+        cv_reading v = cv_draw(j->setting->drawing, j->setting->drawing_length, b->table, tw);
+        a->number = v.number, a->beside = v.beside;
+        break;
+    }
+    case JUDGE: {
+        cv_judged v = cv_judge(b->table, tw, CV_VERSION_20, j->setting->log, j->setting->log_length);
+        a->number = v.number, a->beside = v.beside;
+        break;
+    }
     }
 }
 
@@ -131,6 +141,16 @@ static __attribute__((noinline)) void reference(const struct job *j, struct bloc
     case POLL: {
         ref_polled v = ref_poll(b->table, state, records, pools, items, CV_ITEMS);
         a->number = v.number, a->beside = v.accepted;
+        break;
+    }
+    case DRAW: {
+        ref_reading v = ref_draw(j->setting->drawing, j->setting->drawing_length, b->table);
+        a->number = v.number, a->beside = v.beside;
+        break;
+    }
+    case JUDGE: {
+        ref_judged v = ref_judge(b->table, REF_VERSION_20, j->setting->log, j->setting->log_length);
+        a->number = v.number, a->beside = v.beside;
         break;
     }
     }
@@ -259,6 +279,8 @@ static void each_job(const char *calls, void (*act)(const struct job *)) {
             {.name = "read", .call = READ, .steps = 1},
             {.name = "write", .call = WRITE, .steps = 1},
             {.name = "poll", .call = POLL, .empty = true, .steps = CV_ITEMS},
+            {.name = "draw", .call = DRAW, .steps = 1},
+            {.name = "judge", .call = JUDGE, .steps = 1},
         };
         for (unsigned c = 0; c < sizeof jobs / sizeof *jobs; c++) {
             if (!asked(calls, jobs[c].name) || (text_only && jobs[c].call != READ)) continue;
@@ -275,7 +297,7 @@ int main(int count, char **words) {
     if (count == 3 && !strcmp(words[1], "times")) each_job(words[2], time_job);
     else if (count == 3 && !strcmp(words[1], "counts")) each_job(words[2], count_job);
     else if (count == 2 && !strcmp(words[1], "sizes"))
-        for (unsigned k = 0; k < SETTINGS; k++) printf("%s\t%zu\n", settings[k].name, settings[k].length);
+        for (unsigned k = 0; k < SETTINGS; k++) printf("%s\t%zu\t%zu\t%zu\n", settings[k].name, settings[k].length, settings[k].drawing_length, settings[k].log_length);
     else {
         fprintf(stderr, "usage: bench times CALLS, bench counts CALLS, or bench sizes\n");
         return 2;

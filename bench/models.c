@@ -15,6 +15,20 @@ static void print(struct setting *s, const char *form, ...) {
     va_end(words);
 }
 
+static void sketch(struct setting *s, const char *form, ...) {
+    va_list words;
+    va_start(words, form);
+    s->drawing_length += vsnprintf((char *)s->drawing + s->drawing_length, sizeof s->drawing - s->drawing_length, form, words);
+    va_end(words);
+}
+
+static void tell(struct setting *s, const char *form, ...) {
+    va_list words;
+    va_start(words, form);
+    s->log_length += vsnprintf((char *)s->log + s->log_length, sizeof s->log - s->log_length, form, words);
+    va_end(words);
+}
+
 /* Pool p receives names 4p to 4p+3 and sends the next pool's. */
 static unsigned received(unsigned p, unsigned k) { return 4 * p + k % 4; }
 static unsigned sent(unsigned p, unsigned k) { return 4 * ((p + 1) % 4) + k % 4; }
@@ -137,6 +151,51 @@ static void read_text(struct setting *s) {
     exit(1);
 }
 
+static void sketch_flow(struct setting *s, unsigned p, unsigned k, unsigned from, unsigned to, bool conditional) {
+    sketch(s, "    <bpmn:sequenceFlow id=\"Flow_%u_%u\" sourceRef=\"Node_%u_%u\" targetRef=\"Node_%u_%u\"", p, k, p, from, p, to);
+    if (conditional) sketch(s, ">\n      <bpmn:conditionExpression xsi:type=\"bpmn:tFormalExpression\">d0 = %u</bpmn:conditionExpression>\n    </bpmn:sequenceFlow>\n", k);
+    else sketch(s, " />\n");
+}
+
+/* Process p as a modelling tool saves it: a start, tasks in a row, between two of them a split whose second branch has a condition, its join, an end. */
+static void sketch_process(struct setting *s, unsigned p, unsigned tasks, unsigned splits) {
+    unsigned nodes = 2 + tasks + 2 * splits, flow = 0;
+    sketch(s, "  <bpmn:process id=\"Process_%u\" isExecutable=\"true\">\n    <bpmn:startEvent id=\"Node_%u_0\" name=\"begins\" />\n", p, p);
+    for (unsigned k = 1; k + 1 < nodes; k++)
+        sketch(s, k % 3 == 2 && k / 3 < splits ? "    <bpmn:exclusiveGateway id=\"Node_%u_%u\" />\n" : k % 3 == 0 && k / 3 <= splits ? "    <bpmn:exclusiveGateway id=\"Node_%u_%u\" name=\"joins\" />\n"
+                                                                                                                            : "    <bpmn:task id=\"Node_%u_%u\" name=\"sets the points\" />\n", p, k);
+    sketch(s, "    <bpmn:endEvent id=\"Node_%u_%u\" />\n", p, nodes - 1);
+    for (unsigned k = 0; k + 1 < nodes; k++) {
+        sketch_flow(s, p, flow++, k, k + 1, false);
+        if (k % 3 == 2 && k / 3 < splits) sketch_flow(s, p, flow++, k, k + 1, true);
+    }
+    sketch(s, "  </bpmn:process>\n");
+}
+
+/* The shapes of the nodes, which are skipped. */
+static void sketch_shapes(struct setting *s, unsigned processes, unsigned nodes) {
+    sketch(s, "  <bpmndi:BPMNDiagram id=\"Diagram\">\n    <bpmndi:BPMNPlane id=\"Plane\" bpmnElement=\"Process_0\">\n");
+    for (unsigned p = 0; p < processes; p++)
+        for (unsigned k = 0; k < nodes; k++)
+            sketch(s, "      <bpmndi:BPMNShape id=\"Shape_%u_%u\" bpmnElement=\"Node_%u_%u\">\n        <dc:Bounds x=\"%u\" y=\"%u\" width=\"100\" height=\"80\" />\n      </bpmndi:BPMNShape>\n", p, k, p, k, 120 * k, 200 * p);
+    sketch(s, "    </bpmndi:BPMNPlane>\n  </bpmndi:BPMNDiagram>\n");
+}
+
+static void sketch_all(struct setting *s, unsigned processes, unsigned tasks, unsigned splits) {
+    sketch(s, "<?xml version=\"1.0\" encoding=\"UTF-8\"?>\n<bpmn:definitions xmlns:bpmn=\"http://www.omg.org/spec/BPMN/20100524/MODEL\" id=\"Definitions\">\n");
+    for (unsigned p = 0; p < processes; p++) sketch_process(s, p, tasks, splits);
+    sketch_shapes(s, processes, 2 + tasks + 2 * splits);
+    sketch(s, "</bpmn:definitions>\n");
+}
+
+/* A log of as many posts as a queue holds, each received or not, in the manner of a tool. */
+static void tell_all(struct setting *s, unsigned events) {
+    tell(s, "<?xml version=\"1.0\" encoding=\"UTF-8\"?>\n<log xes.version=\"1849-2016\" xmlns=\"http://www.xes-standard.org/\">\n\t<trace>\n");
+    for (unsigned k = 0; k < events; k++)
+        tell(s, "\t\t<event>\n\t\t\t<string key=\"concept:name\" value=\"post %u:%u,2\" />\n\t\t\t<date key=\"time:timestamp\" value=\"2026-10-05T06:%02u:%02u+00:00\" />\n\t\t</event>\n", k % NAMES, k, k / 60 % 60, k % 60);
+    tell(s, "\t</trace>\n</log>\n");
+}
+
 void make_settings(void) {
     struct setting *session = &settings[0], *all = &settings[1], *one = &settings[2], *longest = &settings[3];
     print(session, "%s", session_text);
@@ -148,4 +207,7 @@ void make_settings(void) {
     for (unsigned p = 0; p < POOLS; p++) print_pool(longest, p);
     pad(longest);
     read_text(longest);
+    sketch_all(session, 2, 2, 1), tell_all(session, 8);
+    sketch_all(all, POOLS, TASKS, 7), tell_all(all, 350);
+    sketch_all(one, POOLS, TASKS, 0), tell_all(one, 350);
 }

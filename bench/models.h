@@ -4,12 +4,12 @@
 
 #include "layout.h"
 
-/* A text, the table it is read as, and a state that fits; of the longest text only these two. */
+/* A text, the table it is read as, and a state that fits; of the longest text only these two. A drawing and a lawful log, of models of their own kind, as long as such a model's are. */
 struct setting {
     const char *name;
     word table[REF_TABLE_WORDS], state[REF_STATE_WORDS];
-    uint8_t text[REF_TEXT_MOST];
-    size_t length;
+    uint8_t text[REF_TEXT_MOST], drawing[REF_TEXT_MOST], log[REF_TEXT_MOST];
+    size_t length, drawing_length, log_length;
     bool longest;
 };
 
