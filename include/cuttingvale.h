@@ -2,7 +2,8 @@
    takes memcpy and memset, and nothing else is needed.
 
    The caller lends a table (a model) and a state (its instances and queues), two blocks of 32-bit words, and keeps them. No call trusts them: each checks
-   what it is lent, refuses with a number, and a refused call changes no byte it was lent. No call keeps a pointer, allocates, locks or fails to end.
+   what it is lent, refuses with a number, and a refused call changes no byte it was lent, but that a poll keeps the items it accepted before the refused
+   one. No call keeps a pointer, allocates, locks or fails to end.
 
    Each block comes with its length in words. A length other than CV_TABLE_WORDS or CV_STATE_WORDS is refused with 10 before anything is looked at, a text's length
    too, so that 10 goes before 1; only 22 goes before it. So a null pointer with length 0 is safe for a block, and as safe for a text, a buffer and records: an empty
