@@ -1,9 +1,16 @@
 # shellcheck shell=bash
 # Proves crates, builds programs and starts them. What was proved before and has not changed is not proved again, also after an interruption.
+# A release has its programs in programs/, and nothing is proved there.
 root=$(cd "$(dirname "$(readlink -f "${BASH_SOURCE[0]}")")/.." && pwd -P)
 
+released() { [ -d "$root/programs" ]; }
+
 needs_rt() {
+    ! released || misused "a release has the programs, and not the sources that this works on"
     command -v rt >/dev/null || misused "rt, the command of the Rattle kit, is not on the path"
+    [ -z "${kit:-}" ] || return 0
+    kit=$(rt version)
+    [ "$kit" = "$(cat "$root/KIT")" ] || echo "$0: this kit is '$kit', and the sources were proved with '$(cat "$root/KIT")' (the file KIT): a proof may fail with another one" >&2
 }
 
 # The named crates and all that they stand on, or every crate where none is named: a line each, with its CPU seconds as docs/cost.tsv has them.
@@ -112,6 +119,25 @@ prove() { # NAMES RUN...
     return "$status"
 }
 
+# Whether the header has the version of the file VERSION; the pkg-config file is made from it.
+version_agrees() {
+    local major minor patch
+    IFS=. read -r major minor patch <"$root/VERSION"
+    [ "$(sed -n 's/^#define CV_VERSION_\(MAJOR\|MINOR\|PATCH\) //p' "$root/include/cuttingvale.h" | tr '\n' ' ')" = "$major $minor $patch " ] ||
+        misused "include/cuttingvale.h has another version than the file VERSION, $(cat "$root/VERSION")"
+}
+
+# The library for pkg-config, with the folders of its header and of its archive.
+pkg_config() { # INCLUDE LIBRARY
+    cat <<END
+Name: cuttingvale
+Description: A process engine for tram junction controllers
+Version: $(cat "$root/VERSION")
+Cflags: -I$1
+Libs: -L$2 -lcuttingvale
+END
+}
+
 # Whether a file is older than the sources: what a program is run on, and the edits that must be refused, are none.
 stale() { # FILE
     [ ! -e "$1" ] || [ -n "$(find "$root"/crates/*/{src,specs,proofs} "$root/crates.txt" -newer "$1" -type f 2>/dev/null | head -n 1)" ]
@@ -119,6 +145,7 @@ stale() { # FILE
 
 # Proves and builds a program, where that has not been done since the sources changed.
 build() { # NAME
+    ! released || return 0
     needs_rt
     stale "$root/target/bin/$1" || return 0
     prove "$1" "check $1" || misused "$1 is not proved, so it is not run"
@@ -129,6 +156,10 @@ build() { # NAME
 start() { # NAME WORDS...
     local name=$1
     shift
+    if released; then
+        "$root/programs/$name" "$@"
+        return
+    fi
     local kit tools emulator
     # programs are for x86-64; on another processor the kit has an emulator, beside its compiler
     kit=$(cd "$(dirname "$(readlink -f "$(command -v rt)")")/.." && pwd -P)

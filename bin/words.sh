@@ -1,6 +1,15 @@
 # shellcheck shell=bash
 # What the scripts here say to people: a wrong use in one line, the numbers given back in the words of documents 01 and 02, and the place of a refusal.
 
+# --version alone is the release; with a number behind it, of the commands that take one, it is the version of a state.
+case $#:${1:-} in
+1:--version)
+    # shellcheck disable=SC2154
+    echo "cuttingvale $(cat "$here/../VERSION")"
+    exit 0
+    ;;
+esac
+
 # One line on a wrong use, and its exit status.
 misused() { # WORDS
     echo "$0: $1" >&2

@@ -30,6 +30,11 @@ extern "C" {
 #define CV_STATIC_ASSERT _Static_assert
 #endif
 
+/* The release; the versions of a state are others. */
+#define CV_VERSION_MAJOR 2
+#define CV_VERSION_MINOR 0
+#define CV_VERSION_PATCH 0
+
 #define CV_TABLE_WORDS 33549
 #define CV_STATE_WORDS 12341
 #define CV_VERSION_10 10
