@@ -109,14 +109,31 @@ model_check() { # CHECK
 ranges="pools 1 to 9, at most 4; elements, at most 32 a pool; edges 1 to 48; tasks 1 to 16; messages 0 to 15; n 1 to 16; lists and branches 2 to 8; \
 fields d0 to d15; values 0 to 4,294,967,295; at most 4 items in a message and 4 assignments"
 
+# What a look at a text that was refused finds: a place, and what is said of it; nothing where it finds nothing, as in a text that is no notation at all.
+looked_at() { # FILE AWK-WORDS...
+    local file=$1
+    shift
+    tr '\0' '\002' <"$file" | LC_ALL=C awk "$@" -f "$root/bin/notation.awk"
+}
+
 # A refusal in words. The number and what stands beside it are as the program printed them; the text is in FILE, and NAME is what people call it.
 explain() { # NUMBER BESIDE FILE NAME
+    local place said
     case $1 in
     2 | 3)
-        at_place "$2" "$3" "$4" "$(meaning "$1") ($1)"
+        read -r place said < <(looked_at "$3" -v "number=$1" -v "place=$2")
+        at_place "$2" "$3" "$4" "${said:-$(meaning "$1") ($1)}"
         unseen "$2" "$3"
         ;;
-    4) echo "$4: $(meaning 4) (4): check $2 wants that $(model_check "$2")" ;;
+    4)
+        read -r place said < <(looked_at "$3" -v "check=$2")
+        if [ -n "$said" ]; then
+            at_place "$place" "$3" "$4" "$said (4)"
+            echo "check $2 wants that $(model_check "$2")"
+        else
+            echo "$4: $(meaning 4) (4): check $2 wants that $(model_check "$2")"
+        fi
+        ;;
     28) explain_room "$4" "$(tr '\0' '?' <"$3" | LC_ALL=C awk -f "$root/bin/room.awk")" ;;
     29) echo "$4, pool $2: $(meaning 29) (29)" ;;
     *) echo "$4: $(meaning "$1") ($1)" ;;
