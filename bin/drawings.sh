@@ -19,6 +19,7 @@ read_drawing() { # FILE NAME TEXT
 }
 
 explain_drawing() { # NUMBER BESIDE FILE NAME
+    local found
     case $1 in
     1) echo "$4: drawing above 65,536 bytes (1)" ;;
     3 | 20)
@@ -26,7 +27,11 @@ explain_drawing() { # NUMBER BESIDE FILE NAME
         tr '\r' ' ' <"$3" >"$room/plain"
         at_place "$2" "$room/plain" "$4" "$(meaning "$1") ($1)$(standing_in "$2" "$room/plain")"
         ;;
-    4) explain "$@" ;;
+    4)
+        found=$(tr '\0' '?' <"$3" | LC_ALL=C awk -v "check=$2" -f "$root/bin/suspects.awk")
+        [ -z "$found" ] || found=", $found"
+        echo "$4${found:-: $(meaning 4)} (4): check $2 wants that $(model_check "$2")"
+        ;;
     28) explain_room "$4" "$(tr '\0' '?' <"$3" | LC_ALL=C awk -v room=1 -f "$root/bin/suspects.awk")" ;;
     21) echo "$4: $(suspected "$3")" ;;
     *) echo "$4: $(meaning "$1") ($1)" ;;

@@ -1,5 +1,5 @@
 # A drawing that was refused with 21: says in a line what is perhaps at fault, by a plain look at its elements; nothing where it finds nothing. With room=1, of one that was refused
-# with 28: the first pool that has no room, as room.awk says it of a text.
+# with 28: the first pool that has no room, as room.awk says it of a text. With check, of one that was refused with 4: what breaks that check.
 # The drawing is XML as the engine reads it, or it would have been refused with 20.
 function found(at, words) { if (said == "" || at < first) { said = words; first = at } }
 function attribute(name,    s) {
@@ -160,10 +160,31 @@ function full(    i, pool) {
     for (i = 1; i <= n; i++) if (sorts[i] == "participant" && named[i] != "") crowded(++pool, within[known[named[i]]])
     if (!pool) for (i = 1; i <= n; i++) if (sorts[i] == "process") crowded(++pool, within[i])
 }
+# what breaks a check in the pool of the process that stands w-th, p its participant or its process
+function breaks(pool, w, p,    i, k, starts, first, defaults) {
+    for (i = 1; i <= n; i++) if (within[i] == w && kind[i] == "startEvent" && !starts++) first = i
+    if (check == 2 && starts != 1) found(at[p], "pool " pool ", " called(p) ", has " (starts ? starts : "no") " start event" (starts ? "s" : ""))
+    if (check == 3 && multiple[p] && what[first] != "message") found(at[first], "pool " pool ", " called(p) ", is multiple, and its " called(first) " waits for no message")
+    for (i = 1; check == 7 && i <= n; i++) {
+        if (within[i] != w || kind[i] != "exclusiveGateway") continue
+        defaults = 0
+        for (k = 1; k <= n; k++) if (sorts[k] == "sequenceFlow" && source[k] == id[i] && (other[i] == id[k] || condition[k] == "default")) defaults++
+        if (defaults > 1) found(at[i], called(i) " has " defaults " defaults")
+    }
+}
+function broken(    i, pool, s, t) {
+    for (i = 1; i <= n; i++) if (sorts[i] == "participant" && named[i] != "") breaks(++pool, within[known[named[i]]], i)
+    if (!pool) for (i = 1; i <= n; i++) if (sorts[i] == "process") breaks(++pool, within[i], i)
+    for (i = 1; check == 6 && i <= n; i++) {
+        s = known[source[i]]; t = known[target[i]]
+        if (sorts[i] == "messageFlow" && s && t && sorts[s] == "node" && sorts[t] == "node" && within[s] == within[t]) found(at[i], called(i) " begins and ends in one pool")
+    }
+}
 function tell() { if (said != "") { print "line " first ": " said; exit } }
 # one fault makes others, so that those of elements come first, then those of references, then what is counted
 END {
     if (room) { full(); exit }
+    if (check) { broken(); tell(); exit }
     tell()
     for (i = 1; i <= n; i++) if (sorts[i] == "sequenceFlow") flow(i)
     pools()
