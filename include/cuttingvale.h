@@ -42,6 +42,7 @@ extern "C" {
 #define CV_TEXT_MOST 65536
 #define CV_DRAWING_MOST 65536
 #define CV_LOG_MOST 65536
+#define CV_PIECE_MOST 477
 #define CV_ITEMS 64
 #define CV_ITEM_WORDS 11
 #define CV_POLL_WORDS 704
@@ -243,6 +244,21 @@ cv_polled cv_poll(const uint32_t *table, size_t table_words, uint32_t *state, si
 /* Judges the run that an XES log of at most CV_LOG_MOST bytes tells, under a version: 10; 25; 23 with the place where it is no such log, 0 where it is longer; 24 with the first event at fault; else 0,
    and every step and post of it is accepted in turn from the fresh state, and what each line says was sent or consumed is true. The state it works on, CV_STATE_WORDS words, is its own. */
 cv_judged cv_judge(const uint32_t *table, size_t table_words, uint32_t version, const uint8_t *log, size_t length);
+
+/* Replays such a log: 10, 25, 23 and 24 as cv_judge, and the state stays; else 0, and the state is the one that the log's run leaves. Behind it cv_figures counts the records. */
+cv_judged cv_replay(const uint32_t *table, size_t table_words, uint32_t version, const uint8_t *log, size_t length, uint32_t *state, size_t state_words);
+
+/* The same from the lent state on, a checkpoint: 10 and 25 of table and state, then 23 and 24, and the state stays; else 0. A log that was replayed up to a checkpoint and one that goes on from there come to
+   what a log with the events of both comes to. */
+cv_judged cv_resume(const uint32_t *table, size_t table_words, uint32_t *state, size_t state_words, const uint8_t *log, size_t length);
+
+/* A log as it happens, piece by piece, each into a lent buffer: what stands before the events; the event of a step, with what cv_step answered; the event of a post; what stands behind them. 5 where the buffer is
+   shorter than the piece, and it stays; else 0 and the length, at most CV_PIECE_MOST. What was written of accepted calls is at any time a beginning of a log, which cv_repair closes. A moment is in milliseconds
+   since 1970-01-01T00:00:00Z: 0 is none, and behind the year 9999 none is written. docs/RECOVERY.md says how to keep a journal with them. */
+cv_written cv_log_begin(uint8_t *buffer, size_t length);
+cv_written cv_log_step(cv_name name, cv_answer answer, uint64_t moment, uint8_t *buffer, size_t length);
+cv_written cv_log_post(uint32_t name, cv_tuple values, uint64_t moment, uint8_t *buffer, size_t length);
+cv_written cv_log_end(uint8_t *buffer, size_t length);
 
 /* Repairs a log that ended in the middle: keeps all up to the end of its last whole event, or of the trace's start tag, and closes what is open. 27 where the text breaks off before
    the trace opens, is no such log at an earlier place than its end, or is longer than CV_LOG_MOST; then 5 where the repaired log is longer than the buffer or than CV_LOG_MOST, and

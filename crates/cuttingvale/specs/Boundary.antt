@@ -7,6 +7,7 @@ use Rattle.base_words.specs.Pick.{if_then_else_}
 use Rattle.base_table.specs.Places.{tableWords}
 use Rattle.base_state.specs.Places.{stateWords}
 use Rattle.meaning.specs.declared.Name.{Name}
+use Rattle.meaning.specs.declared.Answer.{Answer}
 use Rattle.meaning.specs.declared.Tuple.{Tuple}
 use Rattle.meaning.specs.declared.Traffic.{Traffic}
 use Rattle.meaning.specs.declared.Traffic.the-variants.{Nothing, Consumed, Sent}
@@ -24,6 +25,7 @@ use Rattle.state_figures.specs.Figures.{Figured}
 use Rattle.engine.specs.Calls.{judgedTo}
 use Rattle.engine.specs.Desk.{AtDesk, steppedAt, ranAt, polledAt, figuredTo}
 use Rattle.engine.specs.Profile.{nestedOf}
+use Rattle.engine.specs.Replay.{Replayed, replayedTo, resumedTo}
 use Rattle.cuttingvale.specs.declared.Taken.{Taken}
 
 -- n words of a table and m words of a state
@@ -101,6 +103,19 @@ polledBy t n z m rs w k count =
 
 unfoldable pub judgedBy : List ℕ → ℕ → ℕ → List ℕ → Judged
 judgedBy t n v log = if eqb n tableWords then judgedTo t v log else record { number = 10; beside = 0; own = 0 }
+
+unfoldable pub replayedBy : List ℕ → ℕ → ℕ → List ℕ → List ℕ → ℕ → Replayed
+replayedBy t n v log z m = if areWhole n m then replayedTo t v log z else record { answer = record { number = 10; beside = 0; own = 0 }; state = z }
+
+unfoldable pub resumedBy : List ℕ → ℕ → List ℕ → ℕ → List ℕ → Replayed
+resumedBy t n z m log = if areWhole n m then resumedTo t z log else record { answer = record { number = 10; beside = 0; own = 0 }; state = z }
+
+-- a step's answer as C has it, back: another number than 1 and 2 is nothing
+unfoldable pub trafficBy : ℕ → Traffic
+trafficBy n = if eqb n 1 then Consumed else if eqb n 2 then Sent else Nothing
+
+unfoldable pub answerBy : Taken → Answer
+answerBy a = record { number = a .number; traffic = trafficBy (a .traffic); name = a .name; tuple = a .tuple }
 
 unfoldable pub nestedBy : List ℕ → ℕ → Verdict
 nestedBy t n = if eqb n tableWords then nestedOf t else record { number = 10; beside = 0 }

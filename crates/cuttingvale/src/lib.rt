@@ -4,7 +4,10 @@ ghost use Rattle.meaning.specs.Tuples.{empty};
 ghost use Rattle.step_poll.specs.Poll.{Polling};
 ghost use Rattle.step_names.specs.Names.{blank};
 ghost use Rattle.log_repair.specs.Repair.{Repair, repairedTo};
-ghost use Rattle.cuttingvale.specs.Boundary.{areWhole, checkedBy, freshenedBy, trafficNumber, steppedBy, postedBy, listedBy, ranBy, figuredBy, readBy, drawnBy, writtenBy, lentWrong, areLent, polledBy, judgedBy, nestedBy};
+ghost use Rattle.write_lines.specs.Lines.{stepLine};
+ghost use Rattle.log_write.specs.Xes.{header, eventText, footer};
+ghost use Rattle.log_pieces.specs.Pieces.{postLine, pieceIn};
+ghost use Rattle.cuttingvale.specs.Boundary.{areWhole, checkedBy, freshenedBy, trafficNumber, steppedBy, postedBy, listedBy, ranBy, figuredBy, readBy, drawnBy, writtenBy, lentWrong, areLent, polledBy, judgedBy, replayedBy, resumedBy, trafficBy, answerBy, nestedBy};
 use base_state::places::STATE_WORDS;
 use base_table::places::TABLE_WORDS;
 use base_words::Word;
@@ -14,7 +17,9 @@ use engine::Ran;
 use engine::Verdict;
 use engine::Written;
 use log_judge::Judged;
+use log_pieces::Piece;
 use log_repair::Repaired;
+use meaning::Answer;
 use meaning::Name;
 use meaning::Traffic;
 use meaning::Tuple;
@@ -308,6 +313,16 @@ pub extern "C" fn cv_poll(
     engine::poll(table, state, records, items, count)
 }
 
+fn unjudged() -> Judged
+    ensures { λ r. ⌜ r ≡ record { number = 10; beside = 0; own = 0 } ⌝ }
+{
+    Judged {
+        number: BAD,
+        beside: 0,
+        own: 0,
+    }
+}
+
 #[no_mangle]
 pub extern "C" fn cv_judge(
     table: &[Word; TABLE_WORDS],
@@ -318,13 +333,95 @@ pub extern "C" fn cv_judge(
     ensures { λ r. ⌜ r ≡ judgedBy (now (table .entry)) tablelength version (now (log .entry)) ⌝ }
 {
     if tablelength != TABLE_WORDS {
-        return Judged {
-            number: BAD,
-            beside: 0,
-            own: 0,
-        };
+        return unjudged();
     }
     engine::judge(table, version, log)
+}
+
+#[no_mangle]
+pub extern "C" fn cv_replay(
+    table: &[Word; TABLE_WORDS],
+    tablelength: usize,
+    version: Word,
+    log: &[u8],
+    state: &mut [Word; STATE_WORDS],
+    statelength: usize,
+) -> Judged
+    ensures { λ r. ⌜ record { answer = r; state = now (state .exit) } ≡ replayedBy (now (table .entry)) tablelength version (now (log .entry)) (now (state .entry)) statelength ⌝ }
+{
+    if !are_whole(tablelength, statelength) {
+        return unjudged();
+    }
+    engine::replay(table, version, log, state)
+}
+
+#[no_mangle]
+pub extern "C" fn cv_resume(
+    table: &[Word; TABLE_WORDS],
+    tablelength: usize,
+    state: &mut [Word; STATE_WORDS],
+    statelength: usize,
+    log: &[u8],
+) -> Judged
+    ensures { λ r. ⌜ record { answer = r; state = now (state .exit) } ≡ resumedBy (now (table .entry)) tablelength (now (state .entry)) statelength (now (log .entry)) ⌝ }
+{
+    if !are_whole(tablelength, statelength) {
+        return unjudged();
+    }
+    engine::resume(table, state, log)
+}
+
+// What a number says that a step did to the queues.
+fn traffic_of(number: Word) -> Traffic
+    ensures { λ r. ⌜ r ≡ trafficBy number ⌝ }
+{
+    if number == CONSUMED {
+        return Traffic::Consumed;
+    }
+    if number == SENT {
+        return Traffic::Sent;
+    }
+    Traffic::Nothing
+}
+
+fn answer_of(a: Taken) -> Answer
+    ensures { λ r. ⌜ r ≡ answerBy a ⌝ }
+{
+    let tuple = a.tuple;
+    Answer {
+        number: a.number,
+        traffic: traffic_of(a.traffic),
+        name: a.name,
+        tuple: tuple,
+    }
+}
+
+#[no_mangle]
+pub extern "C" fn cv_log_begin(buffer: &mut [u8]) -> Piece
+    ensures { λ r. ⌜ record { number = r .number; length = r .length; buffer = now (buffer .exit) } ≡ pieceIn header (now (buffer .entry)) ⌝ }
+{
+    log_pieces::begin(buffer)
+}
+
+#[no_mangle]
+pub extern "C" fn cv_log_step(name: Name, answer: Taken, moment: u64, buffer: &mut [u8]) -> Piece
+    ensures { λ r. ⌜ record { number = r .number; length = r .length; buffer = now (buffer .exit) } ≡ pieceIn (eventText moment (stepLine name (answerBy answer))) (now (buffer .entry)) ⌝ }
+{
+    log_pieces::step(name, answer_of(answer), moment, buffer)
+}
+
+#[no_mangle]
+pub extern "C" fn cv_log_post(name: Word, values: Tuple, moment: u64, buffer: &mut [u8]) -> Piece
+    ensures { λ r. ⌜ record { number = r .number; length = r .length; buffer = now (buffer .exit) } ≡ pieceIn (eventText moment (postLine name values)) (now (buffer .entry)) ⌝ }
+{
+    log_pieces::post(name, values, moment, buffer)
+}
+
+#[no_mangle]
+pub extern "C" fn cv_log_end(buffer: &mut [u8]) -> Piece
+    ensures { λ r. ⌜ record { number = r .number; length = r .length; buffer = now (buffer .exit) } ≡ pieceIn footer (now (buffer .entry)) ⌝ }
+{
+    log_pieces::end(buffer)
 }
 
 // The buffer's length comes with it, as the text's does: there is no other length to be wrong.
