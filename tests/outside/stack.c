@@ -92,6 +92,10 @@ static void on_model(const struct setting *s) {
     measure(post), measure(run), measure(fresh);
     memcpy(text, s->text, length = s->length);
     measure(read_text);
+    memcpy(text, s->log, length = s->log_length);
+    measure(judge), measure(repair);
+    memcpy(text, s->drawing, length = s->drawing_length);
+    measure(draw_text);
 }
 
 int main(void) {
