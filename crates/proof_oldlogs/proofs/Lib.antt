@@ -7,3 +7,4 @@ pub mod Cases
 pub mod Steps
 pub mod Beginnings
 pub mod Theorems
+pub mod PointsHold

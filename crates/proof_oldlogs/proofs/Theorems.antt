@@ -14,6 +14,7 @@ use Rattle.base_words.specs.Each.{each, total}
 use Rattle.base_words.specs.Pick.{if_then_else_}
 use Rattle.base_words.specs.Sum.{oneIf}
 use Rattle.base_words.specs.Words.{at}
+use Rattle.base_words.proofs.AllLaws.{and-left, and-right}
 use Rattle.base_words.proofs.PickLaws.{and-true}
 use Rattle.base_table.specs.Table.{exitAt}
 use Rattle.base_state.specs.Places.{tokenPlace, instancePlace, instancesWords, stateWords}
@@ -32,12 +33,13 @@ use Rattle.state_fits.specs.Fresh.{fresh}
 use Rattle.text_ends.specs.Rewriting.{isEndSnd, rewritten, hasRoom}
 use Rattle.text_read.specs.Notation.{ReadInto, model, tableOf, readInto}
 use Rattle.write_lines.specs.Lines.{stepLine}
-use Rattle.log_text.specs.Logs.{linesOf}
+use Rattle.log_write.specs.Xes.{logText}
+use Rattle.log_text.specs.Logs.{logMost, linesOf}
 use Rattle.log_lines.specs.Entries.{entryOf}
 use Rattle.log_judge.specs.declared.Judged.{Judged}
 use Rattle.log_judge.specs.Judge.{lawful}
 use Rattle.engine.specs.Engine.{Left, valid, fitting, Stepped, leaving, stepped, postedTo}
-use Rattle.engine.specs.Calls.{Act, aStep, aPost, did, Valid, judgedTo}
+use Rattle.engine.specs.Calls.{Act, aStep, aPost, did, allAccepted, Valid, judgedTo}
 use Rattle.engine.proofs.CallLaws.{lent-fits, asked-good}
 use Rattle.engine.proofs.KeepsValid.{did-valid, fresh-valid}
 use Rattle.proof_steps.proofs.AcceptedParts.{Accepted}
@@ -47,12 +49,16 @@ use Rattle.proof_ends.proofs.Models.{Model}
 use Rattle.proof_ends.proofs.Rewritten.{rewritten-fits, rewritten-sound, none-left}
 use Rattle.proof_roundtrip.proofs.LowestLaws.{lowest-same}
 use Rattle.proof_roundtrip.proofs.ReadPools.{model-fit}
-use Rattle.proof_roundtrip.proofs.ReadTables.{table-fits, blocks-are}
+use Rattle.proof_roundtrip.proofs.ReadTables.{table-small, table-fits, blocks-are}
 use Rattle.proof_demands.proofs.ReadAndWrite.{Whole, Stays, taken-either}
-use Rattle.proof_logs.specs.Told.{lineTold}
+use Rattle.proof_logs.specs.Told.{lineTold, told}
+use Rattle.proof_logs.proofs.Traces.{Each, Entry}
+use Rattle.proof_logs.proofs.XesReads.{printed-log-reads}
+use Rattle.proof_logs.proofs.RunLog.{told-entries}
+use Rattle.proof_logs.proofs.OwnLog.{fresh-words, told-log}
 use Rattle.proof_replay.specs.Lines.{actOf, actsOf, Tells, AllTell}
 use Rattle.proof_replay.proofs.Exactly.{lawful-when}
-use Rattle.proof_oldlogs.specs.OldLogs.{oldStepped, oldDid, oldLine, OldTells, AllOldTell, isStepOf, stepsAt, OldLog}
+use Rattle.proof_oldlogs.specs.OldLogs.{oldStepped, oldDid, oldLine, allOldAccepted, oldTold, OldTells, AllOldTell, isStepOf, stepsAt, OldHistory, OldLog}
 use Rattle.proof_oldlogs.proofs.Pools.{Kept, poolIn, elsIn, endsIn, fit, has}
 use Rattle.proof_oldlogs.proofs.Spots.{Ended, all-ended}
 use Rattle.proof_oldlogs.proofs.Steps.{Follows, counting, none-refused, traffic-is, queues-are, follows-on, number-named}
@@ -200,6 +206,19 @@ module _ (ps : List Pool) (m : Model ps) (room : each hasRoom ps ≡ true) (soun
     act-on (aStep n) e few = step-on n e few
     act-on (aPost name g) e few = post-on name g e
 
+  -- CALL BY CALL
+  pub acts-on : (acts : List Act) (c : ℕ → ℕ → ℕ → ℕ) (z z′ : List ℕ) → Beside c z z′ → allOldAccepted t acts z ≡ true
+      → ((p i k : ℕ) → isEndSnd (getD (elsIn ps p) k []) ≡ true → c p i k + stepsAt (poolIn ps p .number) i k acts ≤ countMost)
+      → (allAccepted t′ acts z′ ≡ true) × (told t′ acts z′ ≡ oldTold t acts z)
+  unfolding allOldAccepted allAccepted oldTold told stepsAt total
+  acts-on [] c z z′ B h few = (refl, refl)
+  acts-on (a ∷ rest) c z z′ B h few =
+      let o = act-on c z z′ B a (eqb-true (oldDid t a z .number) 0 (and-left (eqb (oldDid t a z .number) 0) (allOldAccepted t rest (oldDid t a z .state)) h)) (λ p i k is. (let y = few p i k is in omega (arith, y))) in
+      let r = acts-on rest (counted c a) (oldDid t a z .state) (did t′ a z′ .state) (o .beside) (and-right (eqb (oldDid t a z .number) 0) (allOldAccepted t rest (oldDid t a z .state)) h) (λ p i k is. (let y = few p i k is in omega (arith, y))) in (
+        and-true (eqb (did t′ a z′ .number) 0) (allAccepted t′ rest (did t′ a z′ .state)) (eq-eqb (did t′ a z′ .number) 0 (o .accepted)) (r .0),
+        ap₂ (λ (w : List ℕ) (ws : List (List ℕ)). w ∷ ws) (o .told) (r .1),
+      )
+
   -- LINE BY LINE
   pub lines-on : (ws : List (List ℕ)) (c : ℕ → ℕ → ℕ → ℕ) (z z′ : List ℕ) → Beside c z z′ → AllOldTell t ws z
       → ((p i k : ℕ) → isEndSnd (getD (elsIn ps p) k []) ≡ true → c p i k + stepsAt (poolIn ps p .number) i k (actsOf ws) ≤ countMost) → AllTell t′ ws z′
@@ -249,11 +268,32 @@ module _ (ps : List Pool) (m : Model ps) (room : each hasRoom ps ≡ true) (soun
         lawful-when t′ v log (asked-good t′ v good known) (old .is-log)
         (lines-on (linesOf log) (λ p i k. 0) (fresh t v) (fresh t′ v) fresh-beside (old .told) (λ p i k is. (let w = old .few p i k is in omega (arith, w))))
 
--- A TEXT'S, by the public calls
-pub old-log-lawful : (text t₀ : List ℕ) → readInto text t₀ .number ≡ 0 → (v : ℕ) → isVersion v ≡ true → (log : List ℕ) → OldLog (model text .value) v log → judgedTo (readInto text t₀ .table) v log ≡ lawful
-old-log-lawful text t₀ n v known log old =
-    ⊎-elim
-    (λ (w : Whole text (readInto text t₀)).
-    ap (λ (r : ReadInto). judgedTo (r .table) v log) (w .is) ∙ model-lawful (model text .value) (model-fit text (w .place) (w .ended)) (w .room) (w .sound) v known log old)
-    (λ (s : Stays t₀ (readInto text t₀)). absurd (s .refused n))
-    (taken-either text t₀)
+    -- the log of a model's old history, in the text that the run program printed of it
+    pub model-printed : (acts : List Act) → OldHistory ps v acts → length (logText (oldTold t acts (fresh t v))) ≤ logMost → judgedTo t′ v (logText (oldTold t acts (fresh t v))) ≡ lawful
+    model-printed acts old short =
+        let asked = asked-good t′ v good known in
+        let small = table-small (map rewritten ps) (rewritten-fits ps m room) in
+        let both = acts-on acts (λ p i k. 0) (fresh t v) (fresh t′ v) fresh-beside (old .accepted) (λ p i k is. (let w = old .few p i k is in omega (arith, w))) in
+        let words = fresh-words t′ v asked small acts (both .0) (old .posted) in
+        let ws : List (List ℕ) = oldTold t acts (fresh t v) in
+        let entries : Each Entry ws = subst (Each Entry) (both .1) (told-entries t′ acts (fresh t′ v) fresh-good (both .0) words) in
+        let back = printed-log-reads ws entries short in
+        told-log t′ v asked small acts (both .0) (old .posted) (logText ws) (length (logText ws)) (back .whole) (back .lines-are ∙ sym (both .1))
+
+-- A TEXT'S, by the public calls: the model that it says, and the table that is read
+module _ (text t₀ : List ℕ) (read : readInto text t₀ .number ≡ 0) (v : ℕ) (known : isVersion v ≡ true) where
+  abbrev said : List Pool
+  said = model text .value
+
+  by-model : (log : List ℕ) → (Model said → each hasRoom said ≡ true → lowest said ≡ 0 → judgedTo (tableOf (map rewritten said)) v log ≡ lawful) → judgedTo (readInto text t₀ .table) v log ≡ lawful
+  by-model log f =
+      ⊎-elim (λ (w : Whole text (readInto text t₀)). ap (λ (r : ReadInto). judgedTo (r .table) v log) (w .is) ∙ f (model-fit text (w .place) (w .ended)) (w .room) (w .sound))
+      (λ (s : Stays t₀ (readInto text t₀)). absurd (s .refused read))
+      (taken-either text t₀)
+
+  pub old-log-lawful : (log : List ℕ) → OldLog said v log → judgedTo (readInto text t₀ .table) v log ≡ lawful
+  old-log-lawful log old = by-model log (λ m room sound. model-lawful said m room sound v known log old)
+
+  pub old-history-lawful : (acts : List Act) → OldHistory said v acts → length (logText (oldTold (tableOf said) acts (fresh (tableOf said) v))) ≤ logMost
+      → judgedTo (readInto text t₀ .table) v (logText (oldTold (tableOf said) acts (fresh (tableOf said) v))) ≡ lawful
+  old-history-lawful acts old short = by-model _ (λ m room sound. model-printed said m room sound v known acts old short)

@@ -1,1 +1,2 @@
 pub mod OldLogs
+pub mod Points

@@ -24,7 +24,7 @@ use Rattle.log_text.specs.Logs.{scan, linesOf}
 use Rattle.log_lines.specs.Entries.{entryOf}
 use Rattle.engine.specs.Engine.{Left, Stepped, leaving}
 use Rattle.engine.specs.Calls.{Act, aStep, aPost}
-use Rattle.proof_logs.specs.Told.{postLine}
+use Rattle.proof_logs.specs.Told.{postLine, AllPosted}
 use Rattle.proof_replay.specs.Lines.{actOf, actsOf}
 
 -- THE OLD CALLS: a step and a post by the rules alone
@@ -38,6 +38,15 @@ oldDid t (aPost name g) z = record { number = post (queuesOf z) name g .number; 
 unfoldable pub oldLine : List ℕ → Act → List ℕ → List ℕ
 oldLine t (aStep n) z = stepLine n (oldStepped t z n .answer)
 oldLine t (aPost name g) z = postLine name g
+
+-- calls one after the other: whether all were accepted, and the lines that were printed of them
+unfoldable pub allOldAccepted : List ℕ → List Act → List ℕ → Bool
+allOldAccepted t [] z = true
+allOldAccepted t (a ∷ rest) z = eqb (oldDid t a z .number) 0 && allOldAccepted t rest (oldDid t a z .state)
+
+unfoldable pub oldTold : List ℕ → List Act → List ℕ → List (List ℕ)
+oldTold t [] z = []
+oldTold t (a ∷ rest) z = oldLine t a z ∷ oldTold t rest (oldDid t a z .state)
 
 -- A LINE WAS TRUE: its call was accepted, and a step's line is the one that was printed of it
 pub record OldTells (t w z : List ℕ) : Type 0 where
@@ -59,6 +68,12 @@ stepsAt number i e acts = total (λ a. oneIf (isStepOf number i e a)) acts
 -- "no instance does more than 255 such sends at one element"
 abbrev pub FewSends : List Pool → List Act → Type 0
 FewSends ps acts = (p i e : ℕ) → isEndSnd (getD (getD ps p noPool .elements) e []) ≡ true → stepsAt (getD ps p noPool .number) i e acts ≤ countMost
+
+-- AN OLD HISTORY of accepted steps and posts from the fresh state for version v, what is posted in words
+pub record OldHistory (ps : List Pool) (v : ℕ) (acts : List Act) : Type 0 where
+  pub accepted : allOldAccepted (tableOf ps) acts (fresh (tableOf ps) v) ≡ true
+  pub posted : AllPosted acts
+  pub few : FewSends ps acts
 
 -- AN OLD LOG of accepted steps and posts, under version v
 pub record OldLog (ps : List Pool) (v : ℕ) (log : List ℕ) : Type 0 where
