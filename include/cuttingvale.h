@@ -266,7 +266,8 @@ cv_written cv_log_end(uint8_t *buffer, size_t length);
 cv_repaired cv_repair(const uint8_t *log, size_t length, uint8_t *buffer, size_t room);
 
 /* Whether every pool of a table is nested: one start or startRcv, one end, and between them elements in sequence, or blocks whose branches all run into the block's own join. 10, then 29 with
-   the number of the first pool, in text order, that is not; else 0. In a nested pool no edge of an instance ever holds more than one token, and 18 is never given. */
+   the number of the first pool, in text order, that is not; else 0. In a nested pool, from a fresh state on, no edge of an
+   instance ever holds more than one token, and 18 is never given. */
 cv_verdict cv_nested(const uint32_t *table, size_t table_words);
 
 #ifdef __cplusplus
