@@ -1,47 +1,38 @@
 -- THE FRESH STATES of the two tables are the same word for word, and no edge that the text's pool does not mention has a token in them. Assumes nothing.
-use Prim.Native.Nat.{ℕ, zero, suc, _+_, _≤_, _<_}
+use Prim.Native.Nat.{ℕ, _+_, _≤_, _<_}
 use mathlib.Core.Path.{_≡_, refl, sym, _∙_, ap, subst}
 use mathlib.Core.Bool.{Bool, true, false, false≢true}
-use mathlib.Core.List.{List, [], map}
+use mathlib.Core.List.{List, map}
 use mathlib.Core.Logic.{_⊎_, inl, inr}
 use native.Mathlib.Omega.{arith}
-use lib.Dec.{eqb, ltb}
-use lib.ListN.{length, getD, set, replicate}
+use lib.Dec.{eqb}
+use lib.ListN.{length, set, replicate, getD-replicate}
 use lib.Seq.{getD-set-other}
-use borrow.Author.Tests.{eqb-true, ltb-true, ltb-false}
-use Rattle.base_words.specs.Counts.{pools, instances, edges}
-use Rattle.base_words.specs.Each.{each, total}
+use borrow.Author.Tests.{eqb-true, ltb-true}
+use Rattle.base_words.specs.Counts.{instances, edges}
+use Rattle.base_words.specs.Each.{each}
 use Rattle.base_words.specs.Iter.{iter}
 use Rattle.base_words.specs.Pick.{if_then_else_}
 use Rattle.base_words.specs.Seek.{seek}
 use Rattle.base_words.specs.Words.{at}
 use Rattle.base_words.proofs.IterLaws.{iter-keeps}
 use Rattle.base_words.proofs.SeekLaws.{sought, seek-found}
-use Rattle.base_kinds.specs.Kinds.{kindOf, used, start, endSnd, interSnd}
+use Rattle.base_kinds.specs.Kinds.{kindOf, used, start}
 use Rattle.base_table.specs.Places.{kindPlace, entriesPlace, edgePlace, elementWords}
 use Rattle.base_table.specs.Table.{poolCount, elementCount, elementAt, kindIn, entryCount, entryAt}
-use Rattle.base_state.specs.Places.{tokenPlace, instanceWords, madePlace, instancePlace, versionAt, stateWords}
+use Rattle.base_state.specs.Places.{tokenPlace, madePlace, instancePlace, versionAt, stateWords}
 use Rattle.check_limits.proofs.SameLaws.{Same}
-use Rattle.check_occurrences.specs.Occurrences.{ofKind}
 use Rattle.check_model.specs.Checks.{Pool}
 use Rattle.state_fits.specs.Fits.{isStart, startPlace, hasStart}
 use Rattle.state_fits.specs.Fresh.{firstEdge, begun, fresh}
 use Rattle.step_queues.proofs.SlotLaws.{by-below, by-order}
-use Rattle.text_ends.specs.Rewriting.{mentioned, rewritten, hasRoom}
-use Rattle.text_ends.proofs.RewriteLaws.{seek-ext}
+use Rattle.text_ends.specs.Rewriting.{rewritten, hasRoom}
 use Rattle.text_read.specs.Notation.{tableOf}
-use Rattle.proof_roundtrip.specs.Blocks.{blockAt}
 use Rattle.proof_steps.proofs.Choices.{by-choice}
-use Rattle.proof_ends.proofs.Models.{Every, Right, Model}
-use Rattle.proof_ends.proofs.Rewritten.{all-right}
-use Rattle.proof_saved.proofs.SavedStates.{starts-by, starts-same}
+use Rattle.proof_ends.proofs.Models.{Model}
+use Rattle.proof_saved.proofs.SavedStates.{counts, counts′, start-same}
 use Rattle.proof_oldlogs.proofs.Alike.{choice-both, iter-both}
-use Rattle.proof_oldlogs.proofs.Pools.{Unmentioned, Kept, Sent, poolIn, elsIn, endsIn, counts, counts′, fit, has, old, new, count-old, count-new, spots-of, became, entries-kept, entries-within}
-
-zeros-at : (n k : ℕ) → at (replicate n 0) k ≡ 0
-zeros-at zero k = refl
-zeros-at (suc n) zero = refl
-zeros-at (suc n) (suc k) = zeros-at n k
+use Rattle.proof_oldlogs.proofs.Pools.{Unmentioned, Kept, Sent, elsIn, count-old, count-new, spots-of, became, entries-kept, entries-within}
 
 -- where none passes before i, the first of the first i is i
 none-before : (f : ℕ → Bool) (i : ℕ) → ((j : ℕ) → j < i → f j ≡ false) → seek f i ≡ i
@@ -57,19 +48,6 @@ module _ (ps : List Pool) (model : Model ps) (room : each hasRoom ps ≡ true) w
   t′ = tableOf (map rewritten ps)
 
   module _ (p : ℕ) (l : p < length ps) where
-    right-old : Every Right (blockAt t p .elements)
-    right-old = subst (λ (b : Pool). Every Right (b .elements)) (sym (old ps model room p l)) (fit ps model room p l .every)
-
-    right-new : Every Right (blockAt t′ p .elements)
-    right-new = subst (λ (b : Pool). Every Right (b .elements)) (sym (new ps model room p l)) (all-right (poolIn ps p) (fit ps model room p l .every) (unfold hasRoom in has ps model room p l))
-
-    start-same : hasStart t′ p ≡ hasStart t p
-    start-same =
-        starts-by t′ p right-new
-        ∙ ap (λ (b : Pool). ltb 0 (total (ofKind start) (b .elements))) (new ps model room p l)
-        ∙ ap (ltb 0) (starts-same (poolIn ps p) (fit ps model room p l .every) (unfold hasRoom in has ps model room p l))
-        ∙ sym (starts-by t p right-old ∙ ap (λ (b : Pool). ltb 0 (total (ofKind start) (b .elements))) (old ps model room p l))
-
     -- an element is a start in both or in none
     starts-alike : (e : ℕ) → e < length (elsIn ps p) → isStart t′ p e ≡ isStart t p e
     unfolding isStart
@@ -130,7 +108,7 @@ module _ (ps : List Pool) (model : Model ps) (room : each hasRoom ps ≡ true) w
     begun-same : (z : List ℕ) → begun t′ p z ≡ begun t p z
     unfolding begun
     begun-same z =
-        choice-both (λ (a d : List ℕ). d ≡ a) (hasStart t p) (hasStart t′ p) _ _ _ _ start-same
+        choice-both (λ (a d : List ℕ). d ≡ a) (hasStart t p) (hasStart t′ p) _ _ _ _ (start-same ps model room p l)
         (λ o. ap (λ k. set (set z (madePlace p) 1) (instancePlace p 0 + tokenPlace k) 1) (edge-same o)) (λ o. refl)
 
   pub fresh-same : (v : ℕ) → fresh t′ v ≡ fresh t v
@@ -173,4 +151,4 @@ module _ (ps : List Pool) (model : Model ps) (room : each hasRoom ps ≡ true) w
     unfolding fresh
     fresh-blank v =
         getD-set-other (iter (begun t) (replicate stateWords 0) (poolCount t)) versionAt W v 0 (λ q. omega (arith, q, l, model .high, named, low))
-        ∙ iter-keeps (begun t) (replicate stateWords 0) (λ (z : List ℕ). at z W ≡ 0) (poolCount t) (λ r z m e. blank-on r z (omega (arith, m, counts ps model room)) e) (zeros-at stateWords W)
+        ∙ iter-keeps (begun t) (replicate stateWords 0) (λ (z : List ℕ). at z W ≡ 0) (poolCount t) (λ r z m e. blank-on r z (omega (arith, m, counts ps model room)) e) (getD-replicate stateWords W 0 0 (omega (arith, l, model .high, named, low)))

@@ -1,7 +1,7 @@
 -- THE TWO CASES of an element, x and y its words in the two tables: it stayed, and a step at it is the same step; or it was an endSnd, and its step puts one token more, on an edge of its own. Assumes nothing.
 use Prim.Native.Nat.{ℕ, _+_, _≤_, _<_}
 use mathlib.Core.Path.{_≡_, refl, sym, _∙_, ap, subst}
-use mathlib.Core.Bool.{Bool, true, false, _&&_}
+use mathlib.Core.Bool.{true}
 use mathlib.Core.List.{List}
 use mathlib.Core.Logic.{_⊎_, inl, inr}
 use native.Mathlib.Decide.{ℕ-discrete}
@@ -32,7 +32,7 @@ use Rattle.proof_steps.proofs.Rows.{row-branch}
 use Rattle.proof_versions.proofs.Laws.{all-same}
 use Rattle.step_queues.proofs.SlotLaws.{by-below}
 use Rattle.proof_oldlogs.proofs.Alike.{Alike, iter-both}
-use Rattle.proof_oldlogs.proofs.Elements.{Paired, Deeds, Pairing, word-alike}
+use Rattle.proof_oldlogs.proofs.Elements.{Pairing, word-alike}
 use Rattle.proof_oldlogs.proofs.Pools.{phase-none, ending, sending, send-deeds, ending-is, sending-is, Unmentioned, Kept, kept-high, Sent}
 
 more-by-one : (n : ℕ) → more n ≤ n + 1

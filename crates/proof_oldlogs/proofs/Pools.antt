@@ -1,49 +1,49 @@
 -- THE TWO TABLES, t of a model as its text says it and t′ of the model as it is rewritten: the same pools; an element stays at its place, word for word, or was an endSnd and sends to an edge of its own now. Assumes nothing.
-use Prim.Native.Nat.{ℕ, zero, suc, _+_, _≤_, _<_}
+use Prim.Native.Nat.{ℕ, zero, suc, _≤_, _<_}
 use mathlib.Core.Path.{_≡_, refl, sym, _∙_, ap, ap₂, subst}
-use mathlib.Core.Bool.{Bool, true, not, _&&_}
-use mathlib.Core.List.{List, [], _∷_, map}
+use mathlib.Core.Bool.{true, not, _&&_}
+use mathlib.Core.List.{List, [], map}
 use mathlib.Core.Logic.{_⊎_, inl, inr, ⊎-elim}
 use native.Mathlib.Nat.{eq-or-lt-of-le}
 use native.Mathlib.Omega.{arith}
 use lib.Dec.{eqb}
-use lib.ListN.{length, getD, length-map}
+use lib.ListN.{length, getD}
 use lib.Seq.{getD-take}
 use borrow.Author.Tests.{eqb-true, eq-eqb}
-use Rattle.base_words.specs.Counts.{pools, branches, edges, instances}
+use Rattle.base_words.specs.Counts.{pools, branches, edges}
 use Rattle.base_words.specs.Each.{each, total}
 use Rattle.base_words.specs.Pick.{if_then_else_}
 use Rattle.base_words.specs.Seek.{seek}
 use Rattle.base_words.specs.Sum.{sum, hit, oneIf}
 use Rattle.base_words.specs.Words.{at}
-use Rattle.base_words.proofs.AllLaws.{all-at, and-left, and-right}
+use Rattle.base_words.proofs.AllLaws.{and-left, and-right}
 use Rattle.base_words.proofs.ListLaws.{each-at, length-tab, getD-tab}
 use Rattle.base_words.proofs.SeekLaws.{sought}
 use Rattle.base_kinds.specs.declared.moves.Move.{Move}
-use Rattle.base_kinds.specs.Kinds.{kindOf, used, none, endSnd, interSnd}
-use Rattle.base_kinds.specs.Moves.{every, branch, moves, noMove, rules, modeOf, isRule, ruleOf, moveOf}
-use Rattle.base_table.specs.Places.{kindPlace, taskPlace, modePlace, entriesPlace, exitsPlace, edgePlace, assignmentsPlace, poolPlace, limitPlace, elementWords}
-use Rattle.base_table.specs.Table.{poolCount, elementCount, elementAt, numbered, poolOf, limitOf, kindIn, modeIn, entryCount, exitCount, entryAt, exitAt}
+use Rattle.base_kinds.specs.Kinds.{kindOf, used, endSnd, interSnd}
+use Rattle.base_kinds.specs.Moves.{every, moves, noMove, rules, modeOf, isRule, ruleOf, moveOf}
+use Rattle.base_table.specs.Places.{kindPlace, taskPlace, modePlace, entriesPlace, exitsPlace, edgePlace, poolPlace, elementWords}
+use Rattle.base_table.specs.Table.{elementCount, elementAt, numbered, poolOf, kindIn, modeIn, entryCount, exitCount, entryAt, exitAt}
 use Rattle.base_state.specs.Places.{tokenPlace}
 use Rattle.check_limits.specs.Limits.{taskFits, partsFit, elementFits}
 use Rattle.check_limits.proofs.SameLaws.{Same}
 use Rattle.check_occurrences.specs.Occurrences.{asExit, asEntry}
 use Rattle.check_model.specs.Checks.{Pool}
 use Rattle.text_ends.specs.Rewriting.{isEndSnd, mentioned, sendingTo, allTreated, rewritten, roomFor, hasRoom}
-use Rattle.text_ends.proofs.RewriteLaws.{each-places, seek-ext}
+use Rattle.text_ends.proofs.RewriteLaws.{seek-ext}
 use Rattle.text_passes.specs.Model.{noPool}
 use Rattle.text_read.specs.Notation.{tableOf}
 use Rattle.proof_steps.proofs.Choices.{chosen-true}
 use Rattle.proof_steps.proofs.Elements.{entry-within, exit-within}
+use Rattle.proof_steps.proofs.Rows.{row-kind}
 use Rattle.proof_trips.proofs.FitsLaws.{task-fits}
 use Rattle.proof_ends.proofs.Models.{Every, every-in, Right, Fit, Model}
 use Rattle.proof_ends.proofs.Sends as Sends
 use Rattle.proof_ends.proofs.Counts.{entries-few, exits-few, entry-mentioned, exit-mentioned}
-use Rattle.proof_ends.proofs.Rewritten.{rewritten-fits}
-use Rattle.proof_roundtrip.specs.Blocks.{wordsAt, blockAt, blocksOf}
-use Rattle.proof_roundtrip.proofs.ReadTables.{blocks-are}
+use Rattle.proof_roundtrip.specs.Blocks.{wordsAt, blockAt}
+use Rattle.proof_saved.proofs.SavedStates.{counts, counts′, fit as fit-of, has as has-room, old as old-block, new as new-block}
 use Rattle.proof_oldlogs.proofs.Elements.{Paired, Deeds}
-use Rattle.proof_oldlogs.proofs.Spots.{total-at, edgeIn, Ended, Spots, spots, all-ended}
+use Rattle.proof_oldlogs.proofs.Spots.{total-at, edgeIn, Ended, Spots, spots}
 
 -- THE ROWS for endSnd and interSnd
 module _ (k m p : ℕ) (there : moveOf k m p .kind ≡ 0 → ⊥) where
@@ -57,21 +57,11 @@ module _ (k m p : ℕ) (there : moveOf k m p .kind ≡ 0 → ⊥) where
       (λ h. eqb-true (r .phase) p (and-right (eqb (r .kind) k && eqb (r .mode) (modeOf m)) (eqb (r .phase) p) (s .1 h)))
       (eq-or-lt-of-le (s .0))
 
-  row-kind : moveOf k m p .kind ≡ k
-  unfolding moveOf ruleOf isRule
-  row-kind =
-      let s = sought (isRule k m p) rules in
-      let i : ℕ = seek (isRule k m p) rules in
-      let r : Move = getD moves i noMove in
-      ⊎-elim (λ e. absurd (there (ap (λ (j : ℕ). getD moves j noMove .kind) e)))
-      (λ h. eqb-true (r .kind) k (and-left (eqb (r .kind) k) (eqb (r .mode) (modeOf m)) (and-left (eqb (r .kind) k && eqb (r .mode) (modeOf m)) (eqb (r .phase) p) (s .1 h))))
-      (eq-or-lt-of-le (s .0))
-
   pub phase-none : k ≡ endSnd → p ≡ 0
   unfolding moveOf each if_then_else_
   phase-none e =
       let a = each-at (λ (r : Move). if eqb (r .kind) endSnd then eqb (r .phase) 0 else true) moves noMove refl refl (ruleOf k m p) in
-      sym row-phase ∙ eqb-true (moveOf k m p .phase) 0 (chosen-true (eqb (moveOf k m p .kind) endSnd) _ true a (eq-eqb (moveOf k m p .kind) endSnd (row-kind ∙ e)))
+      sym row-phase ∙ eqb-true (moveOf k m p .phase) 0 (chosen-true (eqb (moveOf k m p .kind) endSnd) _ true a (eq-eqb (moveOf k m p .kind) endSnd (row-kind k m p there ∙ e)))
 
 abbrev pub ending : Move
 ending = moveOf endSnd 0 0
@@ -176,20 +166,6 @@ module _ (ps : List Pool) (model : Model ps) (room : each hasRoom ps ≡ true) w
   abbrev t′ : List ℕ
   t′ = tableOf (map rewritten ps)
 
-  pub counts : poolCount t ≡ length ps
-  unfolding tableOf
-  counts = refl
-
-  pub counts′ : poolCount t′ ≡ length ps
-  unfolding tableOf
-  counts′ = length-map ps rewritten
-
-  block : (qs : List Pool) → Model qs → (p : ℕ) → p < length qs → blockAt (tableOf qs) p ≡ getD qs p noPool
-  unfolding blocksOf
-  block qs f p l =
-      let n : poolCount (tableOf qs) ≡ length qs = unfold tableOf in refl in
-      sym (getD-tab (blockAt (tableOf qs)) (poolCount (tableOf qs)) p noPool (omega (arith, l, n))) ∙ ap (λ (b : List Pool). getD b p noPool) (blocks-are qs f)
-
   abbrev pool : ℕ → Pool
   pool p = poolIn ps p
 
@@ -200,23 +176,18 @@ module _ (ps : List Pool) (model : Model ps) (room : each hasRoom ps ≡ true) w
   ends p = endsIn ps p
 
   module _ (p : ℕ) (l : p < length ps) where
-    pub fit : Fit (pool p)
-    fit = every-in Fit ps noPool p (model .every) l
+    fit : Fit (pool p)
+    fit = fit-of ps model room p l
 
     pub has : roomFor (els p) ≡ true
     unfolding hasRoom
-    has = all-at (λ j. hasRoom (getD ps j noPool)) (length ps) (sym (each-places hasRoom ps noPool) ∙ room) p l
+    has = has-room ps model room p l
 
-    mapped : (qs : List Pool) (j : ℕ) → j < length qs → getD (map rewritten qs) j noPool ≡ rewritten (getD qs j noPool)
-    mapped [] j h = absurd (omega (arith, h))
-    mapped (x ∷ qs) zero h = refl
-    mapped (x ∷ qs) (suc j) h = mapped qs j (omega (arith, h))
+    old : blockAt t p ≡ pool p
+    old = old-block ps model room p l
 
-    pub old : blockAt t p ≡ pool p
-    old = block ps model p l
-
-    pub new : blockAt t′ p ≡ rewritten (pool p)
-    new = block (map rewritten ps) (rewritten-fits ps model room) p (omega (arith, l, length-map ps rewritten)) ∙ mapped ps p l
+    new : blockAt t′ p ≡ rewritten (pool p)
+    new = new-block ps model room p l
 
     pub number-is : at t (poolPlace p) ≡ pool p .number
     unfolding blockAt
@@ -225,10 +196,6 @@ module _ (ps : List Pool) (model : Model ps) (room : each hasRoom ps ≡ true) w
     pub number-same : at t′ (poolPlace p) ≡ at t (poolPlace p)
     unfolding blockAt rewritten
     number-same = ap (λ (b : Pool). b .number) new ∙ sym number-is
-
-    pub limit-same : limitOf t′ p ≡ limitOf t p
-    unfolding limitOf blockAt rewritten
-    limit-same = ap (λ (b : Pool). if eqb (b .limit) 0 then 1 else b .limit) new ∙ sym (ap (λ (b : Pool). if eqb (b .limit) 0 then 1 else b .limit) old)
 
     pub count-old : elementCount t p ≡ length (els p)
     unfolding blockAt
@@ -328,6 +295,6 @@ module _ (ps : List Pool) (model : Model ps) (room : each hasRoom ps ≡ true) w
   pub pools-same : (number : ℕ) → poolOf t′ number ≡ poolOf t number
   unfolding poolOf numbered
   pools-same number =
-      ap (seek (λ p. eqb (at t′ (poolPlace p)) number)) counts′
+      ap (seek (λ p. eqb (at t′ (poolPlace p)) number)) (counts′ ps model room)
       ∙ seek-ext (λ p. eqb (at t′ (poolPlace p)) number) (λ p. eqb (at t (poolPlace p)) number) (length ps) (λ p l. ap (λ k. eqb k number) (number-same p l))
-      ∙ sym (ap (seek (λ p. eqb (at t (poolPlace p)) number)) counts)
+      ∙ sym (ap (seek (λ p. eqb (at t (poolPlace p)) number)) (counts ps model room))

@@ -1,7 +1,7 @@
 -- WHAT A STEP COMES TO at the two elements: where it is accepted at x it is accepted at y if there is room on the exits, tells the same, leaves the same queues, and words that are alike. Assumes nothing.
 use Prim.Native.Nat.{ℕ, _≤_}
-use mathlib.Core.Path.{_≡_, refl, sym, _∙_, ap, subst}
-use mathlib.Core.Bool.{Bool, true, _&&_, _||_}
+use mathlib.Core.Path.{_≡_, refl, _∙_, ap}
+use mathlib.Core.Bool.{true, _&&_, _||_}
 use mathlib.Core.List.{List}
 use lib.Dec.{eqb, ltb}
 use lib.ListN.{length}
@@ -11,12 +11,10 @@ use Rattle.base_kinds.specs.declared.moves.Move.{Move}
 use Rattle.base_kinds.specs.Moves.{on, making}
 use Rattle.meaning.specs.declared.Tuple.{Tuple}
 use Rattle.meaning.specs.declared.Evaluated.{Evaluated}
-use Rattle.meaning.specs.declared.Answer.{Answer}
 use Rattle.meaning.specs.declared.Traffic.the-variants.{Nothing, Consumed, Sent}
 use Rattle.meaning.specs.Tuples.{empty, sameTuple}
 use Rattle.meaning.specs.Messages.{has}
 use Rattle.meaning.specs.Queues.{messagesOf, sending, consuming}
-use Rattle.meaning.specs.Assignments.{Assigned}
 use Rattle.meaning.specs.Requirements.{belowLimit, hasRooms}
 use Rattle.meaning.specs.Changes.{expected, received, worked, messageSent, more, puts}
 use Rattle.meaning.specs.Step.{Site, receives, sends, template, work, sent, defined, matches, afterTaking, messageNamed, queued, space, instanceAfter, madeAfter, queuesAfter, traffic}

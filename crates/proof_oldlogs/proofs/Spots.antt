@@ -1,9 +1,9 @@
 -- WHAT BECAME OF EACH ELEMENT of a pool, els as its text says them, b as they are when some endSnds were treated: it stayed, or it was an endSnd and goes to an edge of its own now, which no element of the text mentions.
 -- Assumes nothing.
-use Prim.Native.Nat.{ℕ, zero, suc, _+_, _≤_, _<_}
+use Prim.Native.Nat.{ℕ, zero, suc, _≤_, _<_}
 use mathlib.Core.Path.{_≡_, refl, sym, _∙_, ap, subst}
-use mathlib.Core.Bool.{Bool, true, false, false≢true}
-use mathlib.Core.List.{List, [], _∷_, _++_}
+use mathlib.Core.Bool.{true, false, false≢true}
+use mathlib.Core.List.{List, [], _∷_}
 use mathlib.Core.Logic.{_⊎_, inl, inr}
 use native.Mathlib.Decide.{ℕ-discrete}
 use native.Mathlib.Omega.{arith}
@@ -16,17 +16,15 @@ use Rattle.base_words.specs.Each.{total}
 use Rattle.base_words.specs.Iter.{iter}
 use Rattle.base_words.specs.Sum.{hit, oneIf}
 use Rattle.base_words.proofs.AllLaws.{and-left}
-use Rattle.base_kinds.specs.Kinds.{endSnd, interSnd}
-use Rattle.base_table.specs.Places.{exitsPlace, edgePlace}
-use Rattle.base_table.specs.Table.{kindIn, exitAt}
-use Rattle.check_model.specs.Checks.{Pool}
+use Rattle.base_kinds.specs.Kinds.{endSnd}
+use Rattle.base_table.specs.Table.{exitAt}
 use Rattle.text_ends.specs.Rewriting.{isEndSnd, mentioned, lowestUnused, sendingTo, endOf, firstEnd, treated, endSends, allTreated, unusedCount, roomFor}
 use Rattle.text_ends.proofs.RewriteLaws.{found, is-end, treated-total, treated-long}
 use Rattle.proof_ends.proofs.Models.{Every, every-in, Right}
 use Rattle.proof_ends.proofs.Sends.{kind-is, exit-is}
 use Rattle.proof_ends.proofs.Counts.{mentions}
 use Rattle.proof_ends.proofs.Rewritten.{no-end-at}
-use Rattle.proof_ends.proofs.Turns.{edge-is, below, unmentioned, after, Turned, turned-by}
+use Rattle.proof_ends.proofs.Turns.{edge-is, below, unmentioned, after, turned-by}
 
 pub total-at : (g : List ℕ → ℕ) (xs : List (List ℕ)) (k : ℕ) → k < length xs → g (getD xs k []) ≤ total g xs
 unfolding total

@@ -1,14 +1,14 @@
 -- A STEP THAT IS ACCEPTED in instances s of the model as its text says it is accepted in the instances s′ of the model as it is rewritten, where these follow s: alike but for the tokens on edges that no element of the text mentions, and of
 -- these at most c on the edge of an endSnd. It tells the same, and what it leaves follows. Assumes nothing.
-use Prim.Native.Nat.{ℕ, zero, suc, _+_, _-_, _≤_, _<_}
+use Prim.Native.Nat.{ℕ, _+_, _-_, _≤_, _<_}
 use mathlib.Core.Path.{_≡_, refl, sym, _∙_, ap, subst}
-use mathlib.Core.Bool.{Bool, true, false, not, _&&_}
+use mathlib.Core.Bool.{Bool, true, not}
 use mathlib.Core.List.{List, [], _++_, map}
-use mathlib.Core.Logic.{_⊎_, inl, inr, ⊎-elim}
+use mathlib.Core.Logic.{_⊎_, inl, inr}
 use native.Mathlib.Decide.{ℕ-discrete}
 use native.Mathlib.Omega.{arith}
 use lib.Dec.{eqb, ltb}
-use lib.ListN.{length, getD, replicate, length-replicate}
+use lib.ListN.{length, getD, replicate, length-replicate, getD-replicate}
 use lib.Seq.{getD-append-add}
 use borrow.Author.Tests.{eqb-true, eq-eqb, ne-eqb, lt-ltb, ltb-true}
 use Rattle.base_words.specs.Counts.{pools, instances, countMost}
@@ -33,14 +33,14 @@ use Rattle.meaning.specs.declared.Name.{Name}
 use Rattle.meaning.specs.declared.Tuple.{Tuple}
 use Rattle.meaning.specs.Refusals.{firstRefusal}
 use Rattle.meaning.specs.Requirements.{branchCount, instanceNamed, belowLimit}
-use Rattle.meaning.specs.Step.{Site, Outcome, siteOf, poolNamed, elementNamed, moveNamed, instanceOf, sharedOf, before, exists, refusals, afterTaking, instanceAfter, madeAfter, instancesAfter, queuesAfter, traffic, refused, step}
+use Rattle.meaning.specs.Step.{Site, siteOf, poolNamed, elementNamed, moveNamed, instanceOf, sharedOf, before, exists, refusals, afterTaking, instanceAfter, madeAfter, instancesAfter, queuesAfter, traffic, step}
 use Rattle.step_queues.proofs.SlotLaws.{by-below, by-order}
 use Rattle.text_ends.specs.Rewriting.{isEndSnd, rewritten, hasRoom}
 use Rattle.text_read.specs.Notation.{tableOf}
 use Rattle.engine.specs.Engine.{valid}
 use Rattle.engine.specs.Calls.{aStep}
 use Rattle.proof_steps.proofs.AcceptedParts.{Accepted, accepted-parts, parts-accepted}
-use Rattle.proof_steps.proofs.Choices.{by-test, by-choice, chosen, chosen-true, passed-true}
+use Rattle.proof_steps.proofs.Choices.{by-test, by-choice, chosen-true, passed-true}
 use Rattle.proof_steps.proofs.Elements.{limit-few}
 use Rattle.proof_steps.proofs.EveryStep.{Fitting}
 use Rattle.proof_steps.proofs.Found.{Found, found}
@@ -52,11 +52,12 @@ use Rattle.proof_valid.proofs.ChecksHold.{valid-fits}
 use Rattle.proof_paper.proofs.Pools.{instance-long}
 use Rattle.proof_versions.proofs.Laws.{tab-same}
 use Rattle.proof_ends.proofs.Models.{Model}
+use Rattle.proof_saved.proofs.SavedStates.{counts, counts′, fit, limit-same}
 use Rattle.proof_oldlogs.specs.OldLogs.{isStepOf}
 use Rattle.proof_oldlogs.proofs.Alike.{Alike, choice-both}
 use Rattle.proof_oldlogs.proofs.Sites.{placed, taking-alike, after-alike, made-same, queues-same, traffic-same, accepted-alike}
 use Rattle.proof_oldlogs.proofs.Spots.{edgeIn, Ended, all-ended}
-use Rattle.proof_oldlogs.proofs.Pools.{Unmentioned, Kept, kept-high, Sent, poolIn, elsIn, endsIn, counts, counts′, fit, has, number-is, limit-same, count-old, count-new, spots-of, word-old, edge-new, became, entries-kept, exits-kept, entries-most, exits-most, pools-same}
+use Rattle.proof_oldlogs.proofs.Pools.{Unmentioned, Kept, kept-high, Sent, poolIn, elsIn, endsIn, has, number-is, count-old, count-new, spots-of, word-old, edge-new, became, entries-kept, exits-kept, entries-most, exits-most, pools-same}
 use Rattle.proof_oldlogs.proofs.Cases.{Known, Ready, ready}
 
 -- c says of a pool's place, an instance and an element's place how many tokens there may be on the element's edge
@@ -70,11 +71,6 @@ pub record Follows (ps : List Pool) (c : ℕ → ℕ → ℕ → ℕ) (s s′ : 
 -- one step more
 abbrev pub counting : List Pool → (ℕ → ℕ → ℕ → ℕ) → Name → ℕ → ℕ → ℕ → ℕ
 counting ps c n p i e = c p i e + oneIf (isStepOf (poolIn ps p .number) i e (aStep n))
-
-zeros-at : (n k : ℕ) → at (replicate n 0) k ≡ 0
-zeros-at zero k = refl
-zeros-at (suc n) zero = refl
-zeros-at (suc n) (suc k) = zeros-at n k
 
 -- the words of another instance
 elsewhere : (p i r j k : ℕ) → i < instances → j < instances → k < instanceWords → (r ≡ p → j ≡ i → ⊥) → (instancePlace r j + k < instancePlace p i) ⊎ (instancePlace p i + instanceWords ≤ instancePlace r j + k)
@@ -240,7 +236,7 @@ module _ (ps : List Pool) (model : Model ps) (room : each hasRoom ps ≡ true) (
       let a = seen-own s′ (own s′ m′) (own-long s′ m′) w u in
       let d : at (own s′ m′) w ≤ at s′ (instancePlace p i + w) =
       by-choice (λ (z : List ℕ). at z w ≤ at s′ (instancePlace p i + w)) (eqb (m′ .also) making) zeros (instanceOf s′ p i)
-      (λ o. let z : at zeros w ≡ 0 = zeros-at instanceWords w in omega (arith, z)) (λ o. let z = instance-at s′ w u in omega (arith, z)) in
+      (λ o. let z : at zeros w ≡ 0 = getD-replicate instanceWords w 0 0 u in omega (arith, z)) (λ o. let z = instance-at s′ w u in omega (arith, z)) in
       omega (arith, a, d)
 
   -- THE SITES

@@ -1,9 +1,9 @@
 -- AN OLD LOG STAYS LAWFUL, "while no instance does more than 255 such sends at one element": a log of steps and posts that were accepted in the days of endSnd is judged lawful with the table that its model's text gives now. Assumes nothing.
 use Prim.Native.Nat.{ℕ, _+_, _≤_, _<_}
 use mathlib.Core.Path.{_≡_, refl, sym, _∙_, ap, ap₂, subst}
-use mathlib.Core.Bool.{Bool, true, false, _&&_}
+use mathlib.Core.Bool.{true}
 use mathlib.Core.List.{List, [], _∷_, _++_, map}
-use mathlib.Core.Logic.{_⊎_, inl, inr, ⊎-elim}
+use mathlib.Core.Logic.{⊎-elim}
 use native.Mathlib.Omega.{arith}
 use lib.Dec.{eqb}
 use lib.ListN.{length, getD}
@@ -25,7 +25,6 @@ use Rattle.check_model.specs.Checks.{Pool, lowest}
 use Rattle.check_lowest.specs.Model.{modelOf}
 use Rattle.meaning.specs.declared.Name.{Name}
 use Rattle.meaning.specs.declared.Tuple.{Tuple}
-use Rattle.meaning.specs.declared.Answer.{Answer}
 use Rattle.meaning.specs.Refusals.{firstRefusal}
 use Rattle.meaning.specs.Step.{Outcome, siteOf, poolNamed, refusals, instancesAfter, queuesAfter, traffic, refused, step}
 use Rattle.meaning.specs.Post.{post}
@@ -35,14 +34,11 @@ use Rattle.text_read.specs.Notation.{ReadInto, model, tableOf, readInto}
 use Rattle.write_lines.specs.Lines.{stepLine}
 use Rattle.log_write.specs.Xes.{logText}
 use Rattle.log_text.specs.Logs.{logMost, linesOf}
-use Rattle.log_lines.specs.Entries.{entryOf}
-use Rattle.log_judge.specs.declared.Judged.{Judged}
 use Rattle.log_judge.specs.Judge.{lawful}
 use Rattle.engine.specs.Engine.{Left, valid, fitting, Stepped, leaving, stepped, postedTo}
 use Rattle.engine.specs.Calls.{Act, aStep, aPost, did, allAccepted, Valid, judgedTo}
 use Rattle.engine.proofs.CallLaws.{lent-fits, asked-good}
 use Rattle.engine.proofs.KeepsValid.{did-valid, fresh-valid}
-use Rattle.proof_steps.proofs.AcceptedParts.{Accepted}
 use Rattle.proof_steps.proofs.Choices.{by-test, chosen, passed}
 use Rattle.proof_steps.proofs.EveryStep.{Fitting}
 use Rattle.proof_ends.proofs.Models.{Model}
@@ -56,11 +52,12 @@ use Rattle.proof_logs.proofs.Traces.{Each, Entry}
 use Rattle.proof_logs.proofs.XesReads.{printed-log-reads}
 use Rattle.proof_logs.proofs.RunLog.{told-entries}
 use Rattle.proof_logs.proofs.OwnLog.{fresh-words, told-log}
-use Rattle.proof_replay.specs.Lines.{actOf, actsOf, Tells, AllTell}
+use Rattle.proof_replay.specs.Lines.{actOf, actsOf, AllTell}
 use Rattle.proof_replay.proofs.Exactly.{lawful-when}
-use Rattle.proof_oldlogs.specs.OldLogs.{oldStepped, oldDid, oldLine, allOldAccepted, oldTold, OldTells, AllOldTell, isStepOf, stepsAt, OldHistory, OldLog}
-use Rattle.proof_oldlogs.proofs.Pools.{Kept, poolIn, elsIn, endsIn, fit, has}
-use Rattle.proof_oldlogs.proofs.Spots.{Ended, all-ended}
+use Rattle.proof_oldlogs.specs.OldLogs.{oldStepped, oldDid, oldLine, allOldAccepted, oldTold, AllOldTell, isStepOf, stepsAt, OldHistory, OldLog}
+use Rattle.proof_saved.proofs.SavedStates.{fit}
+use Rattle.proof_oldlogs.proofs.Pools.{poolIn, elsIn, endsIn, has}
+use Rattle.proof_oldlogs.proofs.Spots.{all-ended}
 use Rattle.proof_oldlogs.proofs.Steps.{Follows, counting, none-refused, traffic-is, queues-are, follows-on, number-named}
 use Rattle.proof_oldlogs.proofs.Beginnings.{fresh-same, fresh-blank}
 

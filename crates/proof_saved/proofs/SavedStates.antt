@@ -264,11 +264,11 @@ module _ (ps : List Pool) (m : Model ps) (room : each hasRoom ps ≡ true) where
   abbrev t′ : List ℕ
   t′ = tableOf (map rewritten ps)
 
-  counts : poolCount t ≡ length ps
+  pub counts : poolCount t ≡ length ps
   unfolding tableOf
   counts = refl
 
-  counts′ : poolCount t′ ≡ length ps
+  pub counts′ : poolCount t′ ≡ length ps
   unfolding tableOf
   counts′ = length-map ps rewritten
 
@@ -282,10 +282,10 @@ module _ (ps : List Pool) (m : Model ps) (room : each hasRoom ps ≡ true) where
     abbrev q : Pool
     q = getD ps p noPool
 
-    fit : Fit q
+    pub fit : Fit q
     fit = every-in Fit ps noPool p (m .every) l
 
-    has : hasRoom q ≡ true
+    pub has : hasRoom q ≡ true
     has = all-at (λ j. hasRoom (getD ps j noPool)) (length ps) (sym (each-places hasRoom ps noPool) ∙ room) p l
 
     mapped : (qs : List Pool) (j : ℕ) → j < length qs → getD (map rewritten qs) j noPool ≡ rewritten (getD qs j noPool)
@@ -293,10 +293,10 @@ module _ (ps : List Pool) (m : Model ps) (room : each hasRoom ps ≡ true) where
     mapped (x ∷ qs) zero h = refl
     mapped (x ∷ qs) (suc j) h = mapped qs j (omega (arith, h))
 
-    old : blockAt t p ≡ q
+    pub old : blockAt t p ≡ q
     old = block ps m p l
 
-    new : blockAt t′ p ≡ rewritten q
+    pub new : blockAt t′ p ≡ rewritten q
     new = block (map rewritten ps) (rewritten-fits ps m room) p (omega (arith, l, length-map ps rewritten)) ∙ mapped ps p l
 
     right-old : Every Right (blockAt t p .elements)
@@ -318,14 +318,14 @@ module _ (ps : List Pool) (m : Model ps) (room : each hasRoom ps ≡ true) where
             by true w z = ltb-true 0 (total (placed k) (q .elements)) w
             by false w z = absurd (omega (arith, z))
 
-    start-same : hasStart t′ p ≡ hasStart t p
+    pub start-same : hasStart t′ p ≡ hasStart t p
     start-same =
         starts-by t′ p right-new
         ∙ ap (λ (b : Pool). ltb 0 (total (ofKind start) (b .elements))) new
         ∙ ap (ltb 0) (starts-same q (fit .every) has)
         ∙ sym (starts-by t p right-old ∙ ap (λ (b : Pool). ltb 0 (total (ofKind start) (b .elements))) old)
 
-    limit-same : limitOf t′ p ≡ limitOf t p
+    pub limit-same : limitOf t′ p ≡ limitOf t p
     unfolding limitOf blockAt rewritten
     limit-same = ap (λ (b : Pool). if eqb (b .limit) 0 then 1 else b .limit) new ∙ sym (ap (λ (b : Pool). if eqb (b .limit) 0 then 1 else b .limit) old)
 
