@@ -147,14 +147,15 @@ class Diagram:
         return None if end is None else self.plan.nodes[end] if isinstance(end, str) else self.plan.outside[end]
 
     def station(self, points):
-        """The middle of the longest part that is outside all participants, or as near to it as no other sign stands."""
+        """The middle of the longest part that is outside all participants, or another place on it where the sign covers nothing."""
         parts = [(piece, part) for piece, ends in enumerate(zip(points, points[1:])) for part in self.outside_parts(ends)]
         parts = parts or [(piece, ends) for piece, ends in enumerate(zip(points, points[1:]))]
         parts.sort(key=lambda found: -length(found[1]))
+        taken = [*self.plan.bands.values(), *self.plan.outside, *(station_box(*other) for other in self.plan.stations.values())]
         for share in (0.5, 0.3, 0.7, 0.15, 0.85):
             for piece, ((x1, y1), (x2, y2)) in parts:
                 at = (x1 + (x2 - x1) * share, y1 + (y2 - y1) * share)
-                if not any(overlap(station_box(*at), station_box(*other)) for other in self.plan.stations.values()):
+                if not any(overlap(station_box(*at), other) for other in taken):
                     return at, piece
         piece, ((x1, y1), (x2, y2)) = parts[0]
         return ((x1 + x2) / 2, (y1 + y2) / 2), piece
@@ -242,7 +243,7 @@ def planned(sketch, drawing, automatic):
     if drawing is None:
         return Stacking(sketch).plan, ""
     if automatic:
-        return Stacking(sketch).plan, "laid out automatically, as asked"
+        return Stacking(sketch).plan, "laid out automatically"
     try:
         return Diagram(sketch, drawing).plan, ""
     except Unusable as reason:

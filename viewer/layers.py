@@ -154,7 +154,19 @@ def levels(rows, pieces, reach):
         for row, between in sequence if sweep % 2 == 0 else sequence[::-1]:
             weights = [WEIGHT_OF_BEND if node[0] == "bend" else 1.0 for node in row]
             level.update(zip(row, apart([wanted_level(node, level, near(node, left, right, sweep), strength) for node in row], weights, between)))
-    return {node: round(value / 10) * 10 for node, value in level.items()}
+    return snapped({node: round(value / 10) * 10 for node, value in level.items()}, rows, gaps, left)
+
+
+def snapped(level, rows, gaps, left):
+    """A node that stands nearly at the height of one before it is moved to it, where its row has room."""
+    for row, between in zip(rows, gaps):
+        for at, node in enumerate(row):
+            low = level[row[at - 1]] + between[at - 1] - 10 if at else -1e9
+            high = level[row[at + 1]] - between[at] + 10 if at + 1 < len(row) else 1e9
+            close = [level[other] for other in left[node] if abs(level[other] - level[node]) <= 20 and low <= level[other] <= high]
+            if close:
+                level[node] = min(close, key=lambda value: abs(value - level[node]))
+    return level
 
 
 def near(node, left, right, sweep):

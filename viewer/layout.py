@@ -48,7 +48,7 @@ def size_of(node):
 
 def label_lines(node):
     if len(node.label) == 1:
-        return wrapped(node.label[0], LABEL - 4 if node.form == "box" else LABEL)
+        return wrapped(node.label[0], {"box": LABEL - 4, "diamond": LABEL - 36, "round": LABEL}[node.form])
     return [line for part in node.label for line in wrapped(part, LABEL + 30, 2)]
 
 

@@ -8,7 +8,7 @@ const body = document.body, root = document.documentElement;
 const still = matchMedia("(prefers-reduced-motion: reduce)");
 const SPEEDS = [0.25, 0.5, 1, 2, 4, 16], STEP_TIME = 900, KEPT_EVERY = 128, ROW = 44, REST = 20, SPACING = 22;
 
-// --- elements -------------------------------------------------------------------------------------------------------------------------------------
+// Elements.
 
 const make = (name, kind, words) => {
   const found = document.createElement(name);
@@ -24,7 +24,7 @@ const draw = (name, attributes, words) => {
 };
 const empty = (element) => element.replaceChildren();
 
-// --- the model ------------------------------------------------------------------------------------------------------------------------------------
+// The model.
 
 const pools = new Map(data.pools.map((pool) => [pool.n, pool]));
 const entered = new Map(), tasks = new Map();
@@ -67,7 +67,7 @@ const nodeOf = (event) => {
   return data.nodes[branch] ? branch : key;
 };
 
-// --- states ---------------------------------------------------------------------------------------------------------------------------------------
+// States.
 
 const keyOf = (line) => {
   const first = line.indexOf(" ");
@@ -123,7 +123,7 @@ const stateAt = (at) => {
 };
 const isDone = (instance) => !instance.tokens.length && !instance.active.length && !instance.ready.length;
 
-// --- words ----------------------------------------------------------------------------------------------------------------------------------------
+// Words.
 
 const DOES = {
   start: "begins", end: "ends", terminate: "ends, and all else of the instance with it", andSplit: "splits", andJoin: "joins", xorJoin: "goes on", task: "done",
@@ -171,7 +171,7 @@ const saidOf = (event) => {
 const ending = (at) => {
   if (at !== last) return [];
   if (Array.isArray(data.judged)) return [[" This event of the log is at fault (24)" + (data.further ? "; " + data.further + " further " + (data.further === 1 ? "event was" : "events were") + " not looked at." : "."), "bad"]];
-  return [[(data.judged === "lawful" ? " The log is lawful." : "") + (data.left ? "" : " No further step is accepted."), ""]];
+  return [[(data.judged === "lawful" ? " The log is lawful." : "") + (data.left ? " Further steps would be accepted." : " No further step is accepted."), ""]];
 };
 const plain = (parts) => parts.map((part) => part[0]).join("");
 const put = (element, parts) => element.replaceChildren(...parts.map(([text, kind]) => kind === "strong" ? make("strong", "", text) : make("span", kind, text)));
@@ -187,21 +187,28 @@ const whereWords = (instance) => {
   return parts.join(", ") || "finished";
 };
 
-// --- why nothing is accepted any more -------------------------------------------------------------------------------------------------------------
+// Why nothing is accepted any more.
 
 const STUCK = new Set([13, 16, 17, 18]);
+const atLast = stateAt(last);
+// The fields and stores that some conditions name and that have no value in the last state.
+const withoutValue = (conditions, id) => {
+  const instance = atLast.byId.get(id), stores = atLast.beside.find((line) => line.startsWith("stores "));
+  const have = new Set([...(instance ? instance.fields : []).map((pair) => "d" + pair[0]), ...pairs(stores ? stores.slice(7) : "-").map((pair) => "s" + pair[0])]);
+  return [...new Set(conditions.join(" ").match(/[ds]\d+/g) || [])].filter((name) => !have.has(name));
+};
+const unmetWords = (entry, element) => {
+  const missing = withoutValue(element.c, entry.p + "." + entry.i);
+  if (missing.length) return "no value in " + missing.join(" and ");
+  return (element.k === "xorSplit" ? element.c[entry.b] : element.c[0]) + " is not true";
+};
 const reasonWords = (entry) => {
   const element = pools.get(entry.p).els[entry.e], name = nameOf(entry.p, entry.e, entry.b);
   if (entry.r === 0) return "waits for " + messageName(entry.m) + ", none is queued";
   if (entry.r === 12 && element.k === "andJoin") return name + ": waits for its other entries";
   if (entry.r === 14) return name + ": " + withValues(entry.m, entry.v) + " is queued and is not for it (14)";
-  if (entry.r === 13 && element.k === "xorSplit") return name + ": " + undefinedIn(element.c[entry.b]) + " (13)";
-  if (entry.r === 13 && element.c[0] && element.c[0] !== "true") return name + ": " + undefinedIn(element.c[0]) + " (13)";
+  if (entry.r === 13 && element.c.some((condition) => condition !== "true")) return name + ": " + unmetWords(entry, element) + " (13)";
   return name + ": " + words(entry.r) + " (" + entry.r + ")";
-};
-const undefinedIn = (condition) => {
-  const fields = condition === "default" ? [] : condition.match(/[ds]\d+/g) || [];
-  return fields.length ? condition + " is not true, as far as " + fields.join(" and ") + " has a value" : condition + " is not permitted";
 };
 const reasonsOf = new Map(), stuck = new Set();
 for (const entry of data.why) {
@@ -213,7 +220,7 @@ for (const entry of data.why) {
   if (STUCK.has(entry.r)) for (const edge of pools.get(entry.p).els[entry.e].i) stuck.add(id + "." + edge);
 }
 
-// --- lines and places on the drawing --------------------------------------------------------------------------------------------------------------
+// Lines and places on the drawing.
 
 const lengthOf = (points) => points.slice(1).reduce((sum, point, at) => sum + Math.hypot(point[0] - points[at][0], point[1] - points[at][1]), 0);
 const along = (points, distance) => {
@@ -244,7 +251,7 @@ const placeOn = (edge, at) => {
   return [x, y - row * SPACING];
 };
 
-// --- tokens, counts and queues --------------------------------------------------------------------------------------------------------------------
+// Tokens, counts and queues.
 
 const tokens = new Map(), counts = new Map(), mores = new Map();
 let chosen = "";
@@ -357,7 +364,7 @@ const showStations = (state, event) => {
   }
 };
 
-// --- rings, and the lines that a step used --------------------------------------------------------------------------------------------------------
+// Rings, and the lines that a step used.
 
 const ringOf = (key, kind) => {
   const [x, y, w, h] = data.nodes[key], room = 6, sign = document.querySelector('[data-node="' + key + '"] .sign') || document.querySelector('[data-node="' + shared(key) + '"] .sign');
@@ -413,36 +420,42 @@ const movedBy = (event, before, after) => {
   return found;
 };
 
-// --- cards ----------------------------------------------------------------------------------------------------------------------------------------
+// Cards.
 
 const cards = new Map(), FOLD = 6;
 const newCard = (instance) => {
-  const card = make("button", "card");
+  const card = make("button", "card"), where = make("span", "where"), chips = make("span", "chips"), reasons = make("span", "reasons"), words_ = make("span", "words");
   card.type = "button";
-  card.append(make("span", "disc " + colour(instance.instance), String(instance.instance)), make("span", "words"));
+  card.dataset.pool = instance.pool;
+  card.dataset.instance = instance.instance;
+  words_.append(where, chips, reasons);
+  card.append(make("span", "disc " + colour(instance.instance), String(instance.instance)), words_);
   card.addEventListener("click", () => choose(instance.id === chosen ? "" : instance.id));
-  return { card, said: "" };
+  return { card, where, chips, reasons, line: "", fields: "", end: false };
 };
-const fillCard = (kept_, instance, before, end) => {
-  const fields = new Map(before ? before.fields : []), inside = [make("span", "where", whereWords(instance))];
-  if (instance.fields.length) {
-    const chips = make("span", "chips");
-    for (const [field, value] of instance.fields) chips.append(make("span", fields.get(field) === value ? "chip" : "chip fresh", "d" + field + " = " + value));
-    inside.push(chips);
+const fillChips = (held, instance, was) => {
+  const before = new Map(was ? was.fields : []), said = instance.fields.map(([field, value]) => field + ":" + value + (before.get(field) === value ? "" : "!")).join(",");
+  if (held.fields === said) return;
+  held.fields = said;
+  held.chips.replaceChildren(...instance.fields.map(([field, value]) => make("span", before.get(field) === value ? "chip" : "chip fresh", "d" + field + " = " + value)));
+  held.card.dataset.fields = instance.fields.map((pair) => pair.join(":")).join(",") || "-";
+};
+const fillCard = (held, instance, was, end) => {
+  if (held.line !== instance.line) {
+    held.line = instance.line;
+    held.where.textContent = whereWords(instance);
+    if (!held.card.dataset.fields) held.card.dataset.fields = "-";
   }
-  for (const reason of end ? reasonsOf.get(instance.id) || [] : []) {
-    inside.push(make("br"), make("span", reason.bad ? "why bad" : "why", reason.said));
+  fillChips(held, instance, was);
+  if (held.end !== end) {
+    held.end = end;
+    held.reasons.replaceChildren(...(end ? reasonsOf.get(instance.id) || [] : []).map((reason) => make("span", reason.bad ? "why bad" : "why", reason.said)));
   }
-  kept_.card.lastChild.replaceChildren(...inside);
-  kept_.card.dataset.fields = instance.fields.map((pair) => pair.join(":")).join(",") || "-";
-  kept_.card.setAttribute("aria-label", poolName(instance.pool) + " " + instance.instance + ": " + kept_.card.lastChild.textContent);
 };
 const cardOf = (instance, before, event, end) => {
   if (!cards.has(instance.id)) cards.set(instance.id, newCard(instance));
-  const held = cards.get(instance.id), was = before && before.byId.get(instance.id), said = instance.line + "|" + (was ? was.line.slice(was.line.indexOf("fields")) : "") + "|" + end;
-  if (held.said !== said) { fillCard(held, instance, was, end); held.said = said; }
-  held.card.dataset.pool = instance.pool;
-  held.card.dataset.instance = instance.instance;
+  const held = cards.get(instance.id);
+  fillCard(held, instance, before && before.byId.get(instance.id), end);
   classIf(held.card, "now", Boolean(event) && event.sort === "step" && event.pool + "." + event.instance === instance.id);
   classIf(held.card, "other", chosen !== "" && chosen !== instance.id);
   classIf(held.card, "done", isDone(instance));
@@ -483,7 +496,7 @@ const showCards = (state, before, event, at) => {
 };
 const besideWords = (line) => line.startsWith("stores ") ? "Stores: " + line.slice(7).split(",").map((part) => "s" + part.replace(":", " = ")).join(", ") : line[0].toUpperCase() + line.slice(1);
 
-// --- the list of queues ---------------------------------------------------------------------------------------------------------------------------
+// The list of queues.
 
 const queueRows = new Map(), SHOWN = 8;
 const showQueues = (state) => {
@@ -510,7 +523,7 @@ const showQueues = (state) => {
   if (rows.length !== list.children.length) list.replaceChildren(...rows);
 };
 
-// --- the list of events ---------------------------------------------------------------------------------------------------------------------------
+// The list of events.
 
 const rowsBox = byId("rows"), rowsInner = byId("rows-inner"), rowPool = new Map();
 let shownEvents = [], rowsHigh = 200, rowsTop = 0;
@@ -560,7 +573,7 @@ const followRow = (at) => {
   setIf(rowsBox, "aria-activedescendant", at ? "event-" + at : "");
 };
 
-// --- lanes ----------------------------------------------------------------------------------------------------------------------------------------
+// Lanes.
 
 let lanesWide = 600;
 const drawLanes = () => {
@@ -591,7 +604,7 @@ const showPlace = (at) => {
   byId("place").textContent = "step " + at + " of " + last;
 };
 
-// --- showing a step -------------------------------------------------------------------------------------------------------------------------------
+// Showing a step.
 
 let shown = 0, playing = false, speed = 1, move = null;
 const speak = (parts) => {
@@ -629,7 +642,7 @@ const tell = () => {
   speak(parts);
 };
 
-// --- moving ---------------------------------------------------------------------------------------------------------------------------------------
+// Moving.
 
 const letter = () => {
   const found = draw("g", { class: "letter" });
@@ -705,7 +718,7 @@ const endMove = () => {
   empty(byId("movers"));
 };
 
-// --- playing --------------------------------------------------------------------------------------------------------------------------------------
+// Playing.
 
 let timer = 0;
 const neighbour = (from, step) => {
@@ -741,7 +754,7 @@ const play = () => {
   further();
 };
 const toggle = () => playing ? pause() : play();
-const stepOn = () => { const was = move; pause(); if (was) return; goOn(null); };
+const stepOn = () => { pause(); goOn(null); };
 const stepBack = () => { pause(); show(neighbour(shown, -1)); };
 const jump = (at) => { pause(); show(at); };
 const setSpeed = (value) => {
@@ -750,7 +763,7 @@ const setSpeed = (value) => {
 };
 const faster = (by) => setSpeed(SPEEDS[Math.max(0, Math.min(SPEEDS.length - 1, SPEEDS.indexOf(speed) + by))]);
 
-// --- one instance alone, numbers, theme, address --------------------------------------------------------------------------------------------------
+// One instance alone, numbers, theme, address.
 
 const choose = (id) => {
   chosen = id;
@@ -793,7 +806,7 @@ const takeAddress = () => {
   show(Number.isInteger(at) ? at : 0);
 };
 
-// --- zoom and pan ---------------------------------------------------------------------------------------------------------------------------------
+// Zoom and pan.
 
 const stage = byId("stage"), drawing = byId("drawing");
 let size = [800, 600], view = null, fitted = true;
@@ -828,7 +841,7 @@ stage.addEventListener("pointermove", (event) => {
 });
 for (const name of ["pointerup", "pointercancel"]) stage.addEventListener(name, () => { dragged = null; stage.classList.remove("dragged"); });
 
-// --- keys, buttons, sizes -------------------------------------------------------------------------------------------------------------------------
+// Keys, buttons, sizes.
 
 const KEYS = {
   " ": toggle, ArrowRight: stepOn, ArrowLeft: stepBack, Home: () => jump(0), End: () => jump(last), "[": () => faster(-1), "]": () => faster(1),
