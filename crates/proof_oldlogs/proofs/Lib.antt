@@ -7,4 +7,5 @@ pub mod Cases
 pub mod Steps
 pub mod Beginnings
 pub mod Theorems
+pub mod Drawn
 pub mod PointsHold
