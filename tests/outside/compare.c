@@ -4,8 +4,10 @@
    compare drawing CASE                  prints the drawing of a case
    compare logs CASES SEED               the same for logs, four for each model, and a beginning of each
    compare repairs CASES SEED            the same for logs that ended in the middle
+   compare journals CASES SEED           the same for logs written call by call: replayed, cut, repaired, resumed behind a checkpoint
    compare nestings CASES SEED           the same for nested models and models that nearly are, and what is promised of nested ones
    compare accounts CASES SEED           the same from fresh states; for each name and tuple what was posted and sent is what is queued and was consumed
+   compare journal CASE                  prints the journal of a case, closed
    compare cuts FILE                     a log cut off at every byte, judged and repaired
    compare worst                         drawings, logs and texts that hold as much of one thing as fits, and models that loop: compared, and timed, a line each
    compare worst counts                  the same, the engine's calls alone, for who counts their instructions (bench/count.h)
@@ -47,7 +49,7 @@ static char text[DRAWING_ROOM];
 static uint8_t *lent_text; /* ends where no page can be read */
 static size_t text_length;
 static uint64_t calls, seed_of_case;
-static unsigned given[32], owned[32], known, readings[32], nestings[32];
+static unsigned given[32], owned[32], known, readings[32], nestings[32], resumed[32], journaled;
 static struct account totals;
 
 static void differ(const char *call, const char *what, unsigned engine, unsigned reference) {
@@ -176,6 +178,28 @@ static ref_judged judge_both(word version, log_due due) {
     return b;
 }
 
+/* The log replayed, and resumed from the state that is there: the state is the log's or stays. */
+static void replay_both(word version) {
+    const uint8_t *log = lent();
+    ref_judged b = ref_replay(theirs.table, version, log, text_length, theirs.state);
+    cv_judged a = cv_replay(TABLE, version, log, text_length, STATE);
+    same("replay", "number", a.number, b.number);
+    same("replay", "beside", a.beside, b.beside);
+    same("replay", "own", a.own, b.own);
+    same_blocks("replay");
+}
+
+static void resume_both(void) {
+    const uint8_t *log = lent();
+    ref_judged b = ref_resume(theirs.table, theirs.state, log, text_length);
+    cv_judged a = cv_resume(TABLE, STATE, log, text_length);
+    same("resume", "number", a.number, b.number);
+    same("resume", "beside", a.beside, b.beside);
+    same("resume", "own", a.own, b.own);
+    same_blocks("resume");
+    resumed[b.number]++;
+}
+
 /* A beginning of a text up to where it is at fault, or of one that is not, is 23 at its own end, or a log itself. */
 static void judge_beginning(struct random *r, word version, ref_judged whole) {
     size_t right = whole.number == 23 ? whole.beside : text_length;
@@ -270,7 +294,7 @@ static void agreed(const char *call, unsigned number, const ref_record *before, 
     }
 }
 
-static void step_both(ref_name n) {
+static ref_answer step_both(ref_name n) {
     ref_record before[RECORDS];
     memcpy(before, ours.records, sizeof before);
     cv_answer a = cv_step(TABLE, STATE, OUR_RECORDS, (cv_name){n.pool, n.instance, n.element, n.phase, n.branch, as_ours(n.given)});
@@ -282,11 +306,14 @@ static void step_both(ref_name n) {
     same_tuple("step", a.tuple, b.tuple);
     same_blocks("step");
     given[b.number]++;
+    return b;
 }
 
-static void post_both(unsigned name, ref_tuple g) {
-    same("post", "number", cv_post(TABLE, STATE, name, as_ours(g)), ref_post(theirs.table, theirs.state, name, g));
+static unsigned post_both(unsigned name, ref_tuple g) {
+    unsigned number = ref_post(theirs.table, theirs.state, name, g);
+    same("post", "number", cv_post(TABLE, STATE, name, as_ours(g)), number);
     same_blocks("post");
+    return number;
 }
 
 static void list_both(size_t k) {
@@ -358,7 +385,16 @@ static void wrong_lengths(struct random *r) {
     same("judge", "wrong length", cv_judge(ours.table, n, CV_VERSION_10, (const uint8_t *)text, text_length).number, 10);
     same("judge", "no table, and another version", cv_judge(NULL, 0, 15, NULL, 0).number, 10);
     same("judge", "no log", cv_judge(TABLE, CV_VERSION_20, NULL, 0).number, ref_judge(theirs.table, REF_VERSION_20, NULL, 0).number);
-    calls += 29;
+    same("replay", "wrong length", cv_replay(ours.table, n, CV_VERSION_20, NULL, 0, STATE).number, 10);
+    same("replay", "wrong state", cv_replay(TABLE, CV_VERSION_20, NULL, 0, ours.state, n).number, 10);
+    same("replay", "no state, and another version", cv_replay(TABLE, 15, NULL, 0, NULL, 0).number, 10);
+    same("resume", "wrong length", cv_resume(ours.table, n, STATE, NULL, 0).number, 10);
+    same("resume", "wrong state", cv_resume(TABLE, ours.state, n, NULL, 0).number, 10);
+    same("log_begin", "no buffer", cv_log_begin(NULL, 0).number, 5);
+    same("log_step", "no buffer", cv_log_step(name, (cv_answer){0}, 1, NULL, 0).number, 5);
+    same("log_post", "no buffer", cv_log_post(0, none, 1, NULL, 0).number, 5);
+    same("log_end", "no buffer", cv_log_end(NULL, 0).number, 5);
+    calls += 38;
     same_blocks("a call with a wrong length or none");
 }
 
@@ -621,11 +657,16 @@ static void log_case(struct random *r) {
         ref_judged b = judge_both(version, due);
         if (chance(r, 30)) judge_another(some_version(r), due);
         if (version == CV_VERSION_10 && b.number == 0) judge_both(CV_VERSION_20, (log_due){0, 0, 0}); /* 10 only refuses more */
+        replay_both(chance(r, 90) ? version : some_version(r));
+        resume_both();
         judge_beginning(r, version, b);
+        resume_both();
     }
-    if (chance(r, 95)) return;
-    damage_both(r, true);
+    if (chance(r, 90)) return;
+    damage_both(r, chance(r, 50));
     judge_both(some_version(r), (log_due){-1, 0, 0});
+    replay_both(some_version(r));
+    resume_both();
 }
 
 static int compare_logs(uint64_t cases, uint64_t seed) {
@@ -637,6 +678,156 @@ static int compare_logs(uint64_t cases, uint64_t seed) {
     printf("%llu logs, no difference; the answer of %u was known; ", (unsigned long long)calls, known);
     print_numbers("numbers:", given);
     print_numbers("; of 24's events:", owned);
+    print_numbers("; resumed:", resumed);
+    putchar('\n');
+    return 0;
+}
+
+/* A JOURNAL: calls from a fresh state on, with an event for each that is accepted; the state behind each, and where its event ends. */
+enum { JOURNALED = 60 };
+static struct { unsigned count; word states[JOURNALED + 1][REF_STATE_WORDS]; size_t ends[JOURNALED + 1]; } journal;
+
+/* buffers that end where no page can be read, now and then too short for the piece */
+#define OUR_ROOM ours.buffer + TEXT_ROOM - room, room
+#define THEIR_ROOM theirs.buffer + TEXT_ROOM - room, room
+
+static size_t some_room(struct random *r) {
+    size_t room = chance(r, 10) ? draw(r, 500) : 500 + draw(r, 50);
+    memset(ours.buffer + TEXT_ROOM - room, 0x5a, room);
+    memset(theirs.buffer + TEXT_ROOM - room, 0x5a, room);
+    return room;
+}
+
+/* a piece of both, which goes behind the text where it is whole */
+static bool same_piece(const char *call, size_t room, cv_written a, ref_written b) {
+    const uint8_t *mine = ours.buffer + TEXT_ROOM - room, *other = theirs.buffer + TEXT_ROOM - room;
+    same(call, "number", a.number, b.number);
+    same(call, "length", a.length, b.length);
+    if (memcmp(mine, other, room)) differ(call, "buffer", 0, 0);
+    memcpy(text + text_length, other, b.length);
+    text_length += b.length;
+    calls++;
+    return b.number == 0;
+}
+
+static bool begin_both(size_t room) { return same_piece("log_begin", room, cv_log_begin(OUR_ROOM), ref_log_begin(THEIR_ROOM)); }
+
+static bool end_both(size_t room) { return same_piece("log_end", room, cv_log_end(OUR_ROOM), ref_log_end(THEIR_ROOM)); }
+
+/* ends of days, years, leap years and of the calendar, and none */
+static uint64_t some_moment(struct random *r) {
+    static const uint64_t ends[] = {0, 1, 86399999, 86400000, 951782400000, 951868799999, 951868800000, 4107542399999, 4107542400000, 1798761600000, 253402300799999, 253402300800000, UINT64_MAX};
+    if (chance(r, 30)) return ends[draw(r, sizeof ends / sizeof *ends)];
+    return chance(r, 80) ? (uint64_t)any_word(r) * 59000 + draw(r, 59000) : (uint64_t)any_word(r) << 32 | any_word(r);
+}
+
+static bool post_piece(size_t room, unsigned name, ref_tuple g, uint64_t moment) {
+    return same_piece("log_post", room, cv_log_post(name, as_ours(g), moment, OUR_ROOM), ref_log_post(name, g, moment, THEIR_ROOM));
+}
+
+static bool step_piece(size_t room, ref_name n, ref_answer a, uint64_t moment) {
+    cv_name name = {n.pool, n.instance, n.element, n.phase, n.branch, as_ours(n.given)};
+    cv_answer answer = {a.number, a.traffic, a.name, as_ours(a.tuple)};
+    return same_piece("log_step", room, cv_log_step(name, answer, moment, OUR_ROOM), ref_log_step(n, a, moment, THEIR_ROOM));
+}
+
+/* a call of both, and its event where it is accepted; of a refused one the pieces are compared too */
+static void journal_call(struct random *r) {
+    size_t before = text_length;
+    uint64_t moment = some_moment(r);
+    unsigned number;
+    if (chance(r, 40)) {
+        ref_tuple g;
+        unsigned name = likely_post(r, &g);
+        number = post_both(name, g);
+        while (!post_piece(some_room(r), name, g, moment)) {}
+    } else {
+        ref_name n = some_name(r, theirs.table, theirs.state);
+        ref_answer a = step_both(n);
+        number = a.number;
+        while (!step_piece(some_room(r), n, a, moment)) {}
+    }
+    if (number) text_length = before;
+    else journal.count++;
+    journal.ends[journal.count] = text_length;
+    memcpy(journal.states[journal.count], theirs.state, sizeof *journal.states);
+}
+
+/* the events from one to another as a log of their own */
+static void journal_of(struct random *r, const char *events, unsigned from, unsigned to) {
+    text_length = 0;
+    while (!begin_both(some_room(r))) {}
+    memcpy(text + text_length, events + journal.ends[from], journal.ends[to] - journal.ends[from]);
+    text_length += journal.ends[to] - journal.ends[from];
+    while (!end_both(some_room(r))) {}
+}
+
+static void is_state(const char *call, unsigned k) { same_words(call, "state of the calls", ours.state, journal.states[k], REF_STATE_WORDS); }
+
+/* cut off at a byte: no event is lost that was whole, none comes that was not */
+static void cut_journal(struct random *r, word version) {
+    static uint8_t out[REF_TEXT_MOST];
+    unsigned whole = 0;
+    text_length = draw(r, text_length + 1);
+    ref_repaired b = repair_into(TEXT_ROOM);
+    if (b.number == 27) {
+        same("repair", "27 before the trace is open", text_length < journal.ends[0], 1);
+        return;
+    }
+    while (whole < journal.count && journal.ends[whole + 1] <= text_length + 1) whole++;
+    same("repair", "the events kept", b.kept, whole);
+    ref_repair((const uint8_t *)text, text_length, out, sizeof out);
+    memcpy(text, out, text_length = b.length);
+    replay_both(version);
+    is_state("replay", whole);
+}
+
+static void journal_case(struct random *r) {
+    static char events[DRAWING_ROOM];
+    word version = chance(r, 50) ? CV_VERSION_10 : CV_VERSION_20;
+    text_length = model_text(r, text);
+    if (read_both()) return;
+    pools = theirs.table[0];
+    fresh_both(version);
+    figures_both();
+    journal.count = 0, text_length = 0;
+    while (!begin_both(some_room(r))) {}
+    journal.ends[0] = text_length;
+    memcpy(journal.states[0], theirs.state, sizeof *journal.states);
+    for (unsigned k = 0; k < 80 && journal.count < JOURNALED; k++) journal_call(r);
+    memcpy(events, text, text_length);
+    journaled += journal.count;
+    journal_of(r, events, 0, journal.count);
+    replay_both(version);
+    is_state("replay", journal.count);
+    cut_journal(r, version);
+    unsigned half = draw(r, journal.count + 1);
+    journal_of(r, events, 0, half);
+    replay_both(version);
+    is_state("replay", half);
+    journal_of(r, events, half, journal.count);
+    resume_both();
+    is_state("resume", journal.count);
+    resume_both();
+    journal_of(r, events, 0, journal.count);
+}
+
+/* a journal, for those who ask whether it is XES */
+static int print_journal(uint64_t of_case) {
+    struct random r = {of_case};
+    while (journal.count == 0) journal_case(&r);
+    fwrite(text, 1, text_length, stdout);
+    return 0;
+}
+
+static int compare_journals(uint64_t cases, uint64_t seed) {
+    for (uint64_t k = 0; k < cases; k++) {
+        seed_of_case = seed + k;
+        struct random r = {seed_of_case};
+        journal_case(&r);
+    }
+    printf("%llu calls in journals, no difference; %u events", (unsigned long long)calls, journaled);
+    print_numbers("; resumed:", resumed);
     putchar('\n');
     return 0;
 }
@@ -1010,18 +1201,24 @@ static void print_batch(const word *w, size_t count) {
     }
 }
 
-/* A log to judge or to repair; the state, where there is no model for one. */
+/* A log to judge, to replay, to resume with or to repair; the state, where there is no model for one. */
 static void print_log(struct random *r) {
     static char log[DRAWING_ROOM];
     size_t n = 0;
-    bool repaired = chance(r, 40);
+    bool repaired = chance(r, 30);
     log_due due;
     word version = chance(r, 50) ? REF_VERSION_10 : REF_VERSION_20;
     if (ref_check(theirs.table).number == 0) n = log_text(r, theirs.table, version, false, log, sizeof log, &due);
     for (size_t k = 0; k < n; k++)
         if (log[k] == '\n') log[k] = ' ';
     if (repaired && n) printf("repair %.*s\n", (int)(chance(r, 30) ? n : draw(r, n + 1)), log);
-    if (n && !repaired) printf("judge %u %.*s\n", chance(r, 80) ? version : some_version(r) % 65536, (int)n, log);
+    if (n && !repaired) {
+        word asked = chance(r, 80) ? version : some_version(r) % 65536;
+        unsigned which = draw(r, 3);
+        if (which == 0) printf("judge %u %.*s\n", asked, (int)n, log);
+        if (which == 1) printf("replay %u %.*s\n", asked, (int)n, log), ref_replay(theirs.table, asked, (const uint8_t *)log, n, theirs.state);
+        if (which == 2) printf("resume %.*s\n", (int)n, log), ref_resume(theirs.table, theirs.state, (const uint8_t *)log, n);
+    }
     if (!n) puts("state");
 }
 
@@ -1071,7 +1268,7 @@ static void session_line(struct random *r) {
         if (version == REF_VERSION_20 && chance(r, 50)) puts("fresh");
         else printf("fresh %u\n", version);
         ref_fresh(theirs.table, version, theirs.state);
-    } else puts(chance(r, 30) ? "list 1 " : chance(r, 50) ? "stap" : chance(r, 50) ? "fresh 010" : "judge <log><trace/></log>");
+    } else puts(chance(r, 30) ? "list 1 " : chance(r, 50) ? "stap" : chance(r, 50) ? "fresh 010" : chance(r, 50) ? "judge <log><trace/></log>" : "replay <log><trace/></log>");
 }
 
 /* A line that reads a model: a text or, now and then, a drawing. */
@@ -1178,14 +1375,16 @@ int main(int count, char **words) {
     if (count == 4 && !strcmp(words[1], "drawings")) return compare_drawings(number(words[2]), seeded(words[3]));
     if (count == 4 && !strcmp(words[1], "logs")) return compare_logs(number(words[2]), seeded(words[3]));
     if (count == 4 && !strcmp(words[1], "repairs")) return compare_repairs(number(words[2]), seeded(words[3]));
+    if (count == 4 && !strcmp(words[1], "journals")) return compare_journals(number(words[2]), seeded(words[3]));
     if (count == 4 && !strcmp(words[1], "nestings")) return compare_nestings(number(words[2]), seeded(words[3]));
     if (count == 4 && !strcmp(words[1], "accounts")) return compare_accounts(number(words[2]), seeded(words[3]));
     if (count == 3 && !strcmp(words[1], "cuts")) return compare_cuts(words[2]);
+    if (count == 3 && !strcmp(words[1], "journal")) return print_journal(number(words[2]));
     if (count == 3 && !strcmp(words[1], "drawing")) return print_drawing(number(words[2]));
     if (count == 2 && !strcmp(words[1], "worst")) return time_worst();
     if (count == 3 && !strcmp(words[1], "worst") && !strcmp(words[2], "counts")) return count_worst();
     if (count != 5 || strcmp(words[1], "sessions")) {
-        fprintf(stderr, "usage: compare calls CASES SEED, compare drawings CASES SEED, compare drawing CASE, compare logs CASES SEED, compare repairs CASES SEED, compare nestings CASES SEED, compare accounts CASES SEED, compare cuts FILE, compare worst [counts], or compare sessions FIRST COUNT SEED\n");
+        fprintf(stderr, "usage: compare calls CASES SEED, compare drawings CASES SEED, compare drawing CASE, compare logs CASES SEED, compare repairs CASES SEED, compare journals CASES SEED, compare journal CASE, compare nestings CASES SEED, compare accounts CASES SEED, compare cuts FILE, compare worst [counts], or compare sessions FIRST COUNT SEED\n");
         return 2;
     }
     for (uint64_t k = number(words[2]), last = k + number(words[3]); k < last; k++) {

@@ -166,20 +166,34 @@ static void do_read(const char *text, size_t n, bool drawing) {
     print_done(make_fresh(REF_VERSION_20));
 }
 
-static void do_judge(word version, const char *text, size_t n) {
-    ref_judged j = ref_judge(table, version, (const uint8_t *)text, n);
+static void print_judged(ref_judged j) {
     if (!j.number) puts("lawful");
     else if (j.number == 23) printf("refused 23 %zu\n", j.beside);
     else if (j.number == 24) printf("refused 24 %zu %u\n", j.beside, j.own);
     else print_done(j.number);
 }
 
+static void do_judge(word version, const char *text, size_t n) { print_judged(ref_judge(table, version, (const uint8_t *)text, n)); }
+
+/* the records are counted anew where the state is another */
+static void do_replay(word version, const char *text, size_t n) {
+    ref_judged j = ref_replay(table, version, (const uint8_t *)text, n, state);
+    print_judged(j);
+    if (!j.number) hold();
+}
+
+static void do_resume(const char *text, size_t n) {
+    ref_judged j = ref_resume(table, state, (const uint8_t *)text, n);
+    print_judged(j);
+    if (!j.number) hold();
+}
+
 /* the version, a blank, and the log: every byte behind it */
-static bool judge_line(const char *s, size_t n) {
+static bool judge_line(const char *s, size_t n, void (*done)(word version, const char *text, size_t n)) {
     word version;
     const char *blank = memchr(s, ' ', n);
     if (!blank || !number_of((struct text){s, blank - s}, &version)) return false;
-    loaded ? do_judge(version, blank + 1, s + n - blank - 1) : (void)puts("no model");
+    loaded ? done(version, blank + 1, s + n - blank - 1) : (void)puts("no model");
     return true;
 }
 
@@ -385,7 +399,15 @@ static void do_line(const char *s, size_t n) {
         return;
     }
     if (n >= 6 && memcmp(s, "judge ", 6) == 0) {
-        if (!judge_line(s + 6, n - 6)) puts("bad line");
+        if (!judge_line(s + 6, n - 6, do_judge)) puts("bad line");
+        return;
+    }
+    if (n >= 7 && memcmp(s, "replay ", 7) == 0) {
+        if (!judge_line(s + 7, n - 7, do_replay)) puts("bad line");
+        return;
+    }
+    if (n >= 7 && memcmp(s, "resume ", 7) == 0) {
+        loaded ? do_resume(s + 7, n - 7) : (void)puts("no model");
         return;
     }
     if (n >= 7 && memcmp(s, "repair ", 7) == 0) {

@@ -200,20 +200,42 @@ static bool done(const word *t, word *z, const struct line *l, unsigned *own) {
     return !a.number && is_true(l, &a);
 }
 
-ref_judged ref_judge(const word *t, word version, const uint8_t *text, size_t length) {
+/* a log's events, one by one, from a state on */
+static ref_judged judged_on(const word *t, word *z, const uint8_t *text, size_t length) {
     static struct log g;
-    static word state[REF_STATE_WORDS];
-    unsigned number = ref_fresh(t, version, state);
-    if (number) return (ref_judged){number, 0, 0};
     if (length > XML_MOST) return (ref_judged){23, 0, 0};
     if (!is_log(&g, text, length)) return (ref_judged){23, g.xml.place, 0};
     for (unsigned k = 0; k < g.events; k++) {
         struct line line;
         unsigned own;
         is_line(text + g.lines[k].from, g.lines[k].to - g.lines[k].from, &line);
-        if (!done(t, state, &line, &own)) return (ref_judged){24, k, own};
+        if (!done(t, z, &line, &own)) return (ref_judged){24, k, own};
     }
     return (ref_judged){0, 0, 0};
+}
+
+/* REPLAYED, from the fresh state of a version; judged, with nothing kept; resumed, from the state that is lent. */
+ref_judged ref_replay(const word *t, word version, const uint8_t *text, size_t length, word *z) {
+    static word state[REF_STATE_WORDS];
+    unsigned number = ref_fresh(t, version, state);
+    ref_judged j = number ? (ref_judged){number, 0, 0} : judged_on(t, state, text, length);
+    if (!j.number) memcpy(z, state, sizeof state);
+    return j;
+}
+
+ref_judged ref_judge(const word *t, word version, const uint8_t *text, size_t length) {
+    static word state[REF_STATE_WORDS];
+    return ref_replay(t, version, text, length, state);
+}
+
+ref_judged ref_resume(const word *t, word *z, const uint8_t *text, size_t length) {
+    static word state[REF_STATE_WORDS];
+    unsigned number = lent_number(t, z);
+    if (number) return (ref_judged){number, 0, 0};
+    memcpy(state, z, sizeof state);
+    ref_judged j = judged_on(t, state, text, length);
+    if (!j.number) memcpy(z, state, sizeof state);
+    return j;
 }
 
 /* REPAIRED. */

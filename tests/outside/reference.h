@@ -44,6 +44,14 @@ ref_written ref_write(const ref_word *table, uint8_t *buffer, size_t length);
 ref_polled ref_poll(const ref_word *table, ref_word *state, ref_record *records, size_t pools, const ref_word *items, size_t count);
 /* document 02's fourth request: the text is a log, judged from the fresh state of a version */
 ref_judged ref_judge(const ref_word *table, ref_word version, const uint8_t *text, size_t length);
+/* the same, and the state of the log's run; from the state that is lent */
+ref_judged ref_replay(const ref_word *table, ref_word version, const uint8_t *text, size_t length, ref_word *state);
+ref_judged ref_resume(const ref_word *table, ref_word *state, const uint8_t *text, size_t length);
+/* a log written as it happens: what stands before the events, the event of a step or a post, at a moment in milliseconds since 1970 or, for 0, at none, and what stands behind them */
+ref_written ref_log_begin(uint8_t *buffer, size_t length);
+ref_written ref_log_step(ref_name name, ref_answer answer, uint64_t moment, uint8_t *buffer, size_t length);
+ref_written ref_log_post(ref_word name, ref_tuple values, uint64_t moment, uint8_t *buffer, size_t length);
+ref_written ref_log_end(uint8_t *buffer, size_t length);
 /* document 02's tenth request: a log that ended in the middle, as far as it goes */
 ref_repaired ref_repair(const uint8_t *text, size_t length, uint8_t *out, size_t room);
 /* document 02's twelfth request: 29 with the number of the first pool that is not nested */

@@ -33,6 +33,7 @@ use base_table::places::TABLE_WORDS;
 use base_words::Word;
 use base_words::counts::TEXT_MOST;
 use engine::Written;
+use log_judge::Judged;
 use meaning::Answer;
 use meaning::Name;
 use state_figures::RECORD_WORDS;
@@ -173,14 +174,11 @@ fn do_run(
     }
 }
 
-// judge
+// judge, replay, resume
 
-// The bytes of `judge` and its blank.
-const JUDGE: usize = 6;
-
-// The version, a number, stands before the log.
-fn is_judge(line: &[u8]) -> bool {
-    if !same(piece(line, 0, JUDGE), b"judge ") {
+// A word and its blank; the version, a number, stands before the log.
+fn is_judging(line: &[u8], word: &[u8]) -> bool {
+    if !same(piece(line, 0, word.len()), word) {
         return false;
     }
     is_number_before(line, 1)
@@ -193,6 +191,60 @@ fn do_judge(line: &[u8], loaded: bool, t: &[Word; TABLE_WORDS]) {
     }
     let log = piece(line, start_of(line, 2), line.len());
     tell_judged(engine::judge(t, number_at(line, 1) as Word, log));
+}
+
+// The records are counted anew where the state is the log's.
+fn hold_judged(
+    r: Judged,
+    h: Held,
+    t: &[Word; TABLE_WORDS],
+    z: &[Word; STATE_WORDS],
+    rs: &mut [[Word; RECORD_WORDS]],
+) -> Held {
+    let number = r.number;
+    tell_judged(r);
+    if number != 0 {
+        return h;
+    }
+    hold(t, z, rs)
+}
+
+fn do_replay(
+    line: &[u8],
+    h: Held,
+    t: &[Word; TABLE_WORDS],
+    z: &mut [Word; STATE_WORDS],
+    rs: &mut [[Word; RECORD_WORDS]],
+) -> Held {
+    if !h.loaded {
+        no_model();
+        return h;
+    }
+    let log = piece(line, start_of(line, 2), line.len());
+    let r = engine::replay(t, number_at(line, 1) as Word, log, z);
+    hold_judged(r, h, t, z, rs)
+}
+
+// The bytes of `resume` and its blank.
+const RESUME: usize = 7;
+
+fn is_resume(line: &[u8]) -> bool {
+    same(piece(line, 0, RESUME), b"resume ")
+}
+
+fn do_resume(
+    line: &[u8],
+    h: Held,
+    t: &[Word; TABLE_WORDS],
+    z: &mut [Word; STATE_WORDS],
+    rs: &mut [[Word; RECORD_WORDS]],
+) -> Held {
+    if !h.loaded {
+        no_model();
+        return h;
+    }
+    let r = engine::resume(t, z, piece(line, RESUME, line.len()));
+    hold_judged(r, h, t, z, rs)
 }
 
 // repair
@@ -334,7 +386,7 @@ fn on_model(
         do_batch(line, loaded, t, z, rs);
         return;
     }
-    if is_judge(line) {
+    if is_judging(line, b"judge ") {
         do_judge(line, loaded, t);
         return;
     }
@@ -371,6 +423,12 @@ fn on_records(
     }
     if is_command(line, b"fresh", b"n") {
         return do_fresh(number_at(line, 1) as Word, h, t, z, rs);
+    }
+    if is_judging(line, b"replay ") {
+        return do_replay(line, h, t, z, rs);
+    }
+    if is_resume(line) {
+        return do_resume(line, h, t, z, rs);
     }
     if is_record(line) {
         do_record(line, h.loaded, rs);
