@@ -3,3 +3,4 @@ pub mod Exactly
 pub mod OwnState
 pub mod Resumed
 pub mod Cuts
+pub mod Firm
