@@ -6,7 +6,8 @@ enum { MOST = 65536, PIECE = 2048, PAIRS = 12, GRID = 40 };
 
 /* A part for each number from 0, as many as fit, then a part again for each of them; behind them, the number is how many. In a part, by their places:
    1$x and 2$x the number and the next; 3$s four letters, whose last three and last two are no other number's below 3,224; 4$s and 5$s these;
-   6$s letters with the hash of 31, and 7$s with the sum, of all other numbers; 8$u and 9$u a pair below GRID; 10$s letters, one less for each number. */
+   6$s letters with the hash of 31, and 7$s with the sum, of all other numbers; 8$u and 9$u a pair below GRID; 10$s letters, one less for each number; 11$s nine bytes whose number, as a
+   reader may make it, is that of hundreds of others. */
 struct shape { const char *name, *before, *each, *between, *again, *after; };
 
 #define BEGIN "<definitions><process id=\"p\">"
@@ -29,6 +30,8 @@ static const struct shape drawings[] = {
     {"attributes, equal but in the middle", "<definitions", " a%1$04xz=\"\"", "", "", "/>"},
     {"attributes of equal hashes", "<definitions", " %6$s=\"\"", "", "", "/>"},
     {"attributes of equal sums", "<definitions", " %7$s=\"\"", "", "", "/>"},
+    {"attributes of equal numbers", "<definitions", " %11$s=\"\"", "", "", "/>"},
+    {"attributes of equal numbers, and suffixes", "<definitions", " %11$s=\"\" %3$s=\"\"", "", TWO_LAYERS, "/>"},
     {"attributes that begin alike", "<definitions", " " LONG_NAME "%1$x=\"\"", "", "", "/>"},
     {"attributes with long values", "<definitions", " a%1$x=\"" LONG_NAME LONG_NAME "\"", "", "", "/>"},
     {"attributes like values of others", "<definitions", " a%1$x=\"'b%1$x='\"", "", " b%1$x=\"\"", "/>"},
@@ -44,6 +47,7 @@ static const struct shape drawings[] = {
     {"ids that differ at their beginning", BEGIN, "<task id=\"%1$04x" LONG_NAME "\"/>", "", "", END_OF_ALL},
     {"ids, equal but in the middle", BEGIN, "<task id=\"a%1$04xz\"/>", "", "", END_OF_ALL},
     {"ids of equal hashes", BEGIN, "<task id=\"%6$s\"/>", "", "", END_OF_ALL},
+    {"ids of equal numbers", BEGIN, "<task id=\"%11$s\"/>", "", "", END_OF_ALL},
     {"ids of equal sums", BEGIN, "<task id=\"%7$s\"/>", "", "", END_OF_ALL},
     {"ids behind other attributes", BEGIN, "<task a=\"\" b=\"\" c=\"\" d=\"\" e=\"\" f=\"\" g=\"\" id=\"%1$x\"/>", "", "", END_OF_ALL},
     {"ids, the last one twice", BEGIN, "<task id=\"%1$x\"/>", "", "", "<task id=\"0\"/>" END_OF_ALL},
@@ -121,6 +125,7 @@ static const struct shape logs[] = {
     {"attributes of an event's name", TRACE POST_OF "\"", " a%1$x=\"\"", "", "", "/></event>" END_OF_LOG},
     {"string: attributes, suffixes of others", TRACE POST_OF "\"", " %3$s=\"\"", "", TWO_LAYERS, "/></event>" END_OF_LOG},
     {"string: attributes of equal hashes", TRACE POST_OF "\"", " %6$s=\"\"", "", "", "/></event>" END_OF_LOG},
+    {"string: attributes of equal numbers", TRACE POST_OF "\"", " %11$s=\"\"", "", "", "/></event>" END_OF_LOG},
     {"string: attributes before key and value", TRACE "<event><string", " %3$s=\"\"", "", TWO_LAYERS, " key=\"concept:name\" value=\"post 0:\"/></event>" END_OF_LOG},
     {"events with long tags", TRACE, "<event a=\"" LONG_NAME LONG_NAME LONG_NAME LONG_NAME "\"><string a=\"" LONG_NAME LONG_NAME LONG_NAME LONG_NAME "\" key=\"concept:name\" value=\"1 0 0 0 0 -\"/></event>", "", "", END_OF_LOG},
     {"strings in an event", TRACE POST_OF "\"/>", "<string key=\"concept:nam\"/>", "", "", "</event>" END_OF_LOG},
@@ -180,6 +185,43 @@ static void letters_of(unsigned k, char *four) {
     sprintf(four, "%c%c%c%c", 'A' + k % 26, first[high % firsts], first[k / lasts % firsts], last[k % lasts]);
 }
 
+/* Names of nine bytes that have one number where a name's number is, from the ninth byte on, k mod 2^31 - 1 squared and k / 2^20 and the byte: for a number, each of its
+   possible roots and last bytes leaves one k at most, and of these those that a name may be made of. */
+enum { NINE = 9, LIKENESSES = 6000 };
+
+static char equals[LIKENESSES][NINE + 1];
+
+static bool begins_name(unsigned b) { return b >= 128 || b == '_' || (b >= 'A' && b <= 'Z') || (b >= 'a' && b <= 'z'); }
+
+static bool spell_name(uint64_t k, unsigned last, char *name) {
+    for (unsigned j = 0; j < 8; j++) {
+        unsigned b = k >> (56 - 8 * j) & 255;
+        if (!begins_name(b)) return false;
+        name[j] = b;
+    }
+    name[8] = last, name[9] = 0;
+    return true;
+}
+
+static unsigned put_equals(uint64_t number, unsigned count) {
+    const uint64_t prime = 2147483647, least = (uint64_t)'A' << 36;
+    uint64_t root = 0;
+    for (unsigned bit = 31; bit--;)
+        if ((root + ((uint64_t)1 << bit)) * (root + ((uint64_t)1 << bit)) <= number - least) root += (uint64_t)1 << bit;
+    for (uint64_t low = root; low * low + ((uint64_t)1 << 44) > number; low--)
+        for (unsigned last = 'A'; last < 256 && count < LIKENESSES; last++) {
+            uint64_t high = number - last - low * low, rest = (low + prime - (high % prime << 20) % prime) % prime;
+            if (begins_name(last) && high >= least && high < (uint64_t)1 << 44 && rest < 1 << 20 && spell_name((high << 20) + rest, last, equals[count])) count++;
+        }
+    return count;
+}
+
+static const char *equal_of(unsigned k) {
+    static unsigned count;
+    for (uint64_t number = (uint64_t)1 << 60; !equals[LIKENESSES - 1][0]; number += ((uint64_t)1 << 50) + 12345) count = put_equals(number, count);
+    return equals[k % LIKENESSES];
+}
+
 /* a name by the bits of a number: two letters for 0 and two for 1 */
 static void pairs_of(unsigned k, const char *none, const char *one, char *name) {
     *name = 0;
@@ -195,7 +237,7 @@ static size_t print(char *at, size_t room, const char *form, unsigned k) {
     for (unsigned j = 0; j < WORD; j++) word[j] = 'a' + j * j % 23;
     word[WORD] = 0;
     sprintf(other, "Z%u", k);
-    return snprintf(at, room, form, k, k + 1, four, four + 1, four + 2, hash, sum, k / GRID % GRID, k % GRID, k < WORD ? word + k : other);
+    return snprintf(at, room, form, k, k + 1, four, four + 1, four + 2, hash, sum, k / GRID % GRID, k % GRID, k < WORD ? word + k : other, equal_of(k));
 }
 
 static const char *filled(const struct shape *shape, char *text, size_t *length) {
