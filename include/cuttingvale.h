@@ -48,7 +48,7 @@ extern "C" {
 #define CV_POLL_WORDS 704
 
 /* TIME, measured and not proved: to read a text, a drawing or a log, accepted or refused, takes at most CV_INSTRUCTIONS_MOST instructions for each of CV_TEXT_MOST bytes in the
-   dearest that tests/outside/run --worst makes; an ordinary one takes some 100 for each of its own. */
+   dearest that tests/outside/run --worst makes; ordinary ones take far fewer (docs/SPEED.md). */
 #define CV_INSTRUCTIONS_MOST 3000
 
 /* WHICH LIBRARY. CV_ABI counts the layouts that table, state and what crosses in a call have had. The library has a function whose name ends in its number, which gives it;
