@@ -30,7 +30,7 @@ use Rattle.engine.specs.Calls.{Act, aStep, did, allAccepted, after, Valid}
 use Rattle.proof_demands.specs.Promises.{Lists, RunsOn}
 use Rattle.proof_demands.specs.Demands.{among, listNumbers, runNumbers, acceptedSteps, runSteps, runLeft, ranGiven}
 use Rattle.proof_demands.proofs.StatesLeft.{step-number}
-use Rattle.proof_demands.proofs.RunSteps.{listed-is, listed-accepts, run-accepted, run-is-steps}
+use Rattle.proof_demands.proofs.RunSteps.{listed-is, listed-accepts, run-accepted, run-is-steps, steps-again}
 
 -- what a listing gives: a step, or 6 and a blank name
 chosen-or : (P : Listed → Type 0) → ((n : Name) → P (record { number = 0; name = n })) → P (record { number = 6; name = blank }) → (ns : List Name) (k : ℕ) → P (chosen ns k)
@@ -137,3 +137,7 @@ module _ (t z : List ℕ) (limit : ℕ) (r : Ran) (y : List ℕ) (promise : Runs
           ap (λ (o : RanTo). o .left) run-exactly ∙ ap (runLeft t) (sym state),
           run-accepted t limit z v,
         )
+
+    -- so that who takes the first listed step as often as the run says takes the run's own steps
+    pub run-again : runSteps t (r .steps) z ≡ acts
+    run-again = ap (λ (k : ℕ). runSteps t k z) (run-steps .0) ∙ steps-again t limit z

@@ -1,7 +1,7 @@
 -- The run is the first listed step, taken by the public step, again and again: from a valid state. Assumes nothing.
 use Prim.Native.Nat.{ℕ, zero, suc, _+_}
 use mathlib.Core.Path.{_≡_, refl, sym, _∙_, ap, ap₂}
-use mathlib.Core.Bool.{true}
+use mathlib.Core.Bool.{true, false}
 use mathlib.Core.List.{List, [], _∷_, _++_}
 use native.Mathlib.Omega.{arith}
 use lib.Dec.{eqb}
@@ -15,7 +15,7 @@ use Rattle.base_state.specs.Instances.{instancesOf, queuesOf}
 use Rattle.meaning.specs.declared.Name.{Name}
 use Rattle.meaning.specs.Refusals.{firstRefusal}
 use Rattle.meaning.specs.Step.{siteOf, queuesAfter, refusals, step}
-use Rattle.proof_steps.proofs.Choices.{by-choice, chosen as picked}
+use Rattle.proof_steps.proofs.Choices.{by-test, by-choice, chosen as picked, passed}
 use Rattle.proof_steps.proofs.Independence.{accepted-instances}
 use Rattle.step_list.specs.declared.Listed.{Listed}
 use Rattle.step_names.specs.Names.{blank, accepted}
@@ -150,3 +150,30 @@ module _ (t : List ℕ) where
           ∙ ended-step (ran t limit (step t (instancesOf z) (queuesOf z) n .instances) (step t (instancesOf z) (queuesOf z) n .queues))
           ∙ ap oneMore (ap₂ (λ (x y : List ℕ). ended (ran t limit x y)) (sym (left-instances z v n a)) (sym (left-queues z v n a)) ∙ next n)
           ∙ sym (given-step limit z n f)
+
+-- as many steps again as a run took, each the first listed one, are the run's
+module _ (t : List ℕ) where
+  abbrev next : List ℕ → Act
+  next z = aStep (listedAt t z 0 .name)
+
+  going : (limit : ℕ) (z : List ℕ) → eqb (listedAt t z 0 .number) 0 ≡ true → runSteps t (suc limit) z ≡ next z ∷ runSteps t limit (did t (next z) z .state)
+  unfolding runSteps
+  going limit z e = picked (eqb (listedAt t z 0 .number) 0) (next z ∷ runSteps t limit (did t (next z) z .state)) [] e
+
+  stuck : (limit : ℕ) (z : List ℕ) → eqb (listedAt t z 0 .number) 0 ≡ false → runSteps t (suc limit) z ≡ []
+  unfolding runSteps
+  stuck limit z e = passed (eqb (listedAt t z 0 .number) 0) (next z ∷ runSteps t limit (did t (next z) z .state)) [] e
+
+  pub steps-again : (limit : ℕ) (z : List ℕ) → runSteps t (length (runSteps t limit z)) z ≡ runSteps t limit z
+  unfolding runSteps
+  steps-again zero z = refl
+  steps-again (suc limit) z =
+      by-test (eqb (listedAt t z 0 .number) 0)
+      (λ e.
+      let w = going limit z e in
+      let y : List ℕ = did t (next z) z .state in
+      ap (λ (acts : List Act). runSteps t (length acts) z) w
+      ∙ going (length (runSteps t limit y)) z e
+      ∙ ap (λ (acts : List Act). next z ∷ acts) (steps-again limit y)
+      ∙ sym w)
+      (λ e. let w = stuck limit z e in ap (λ (acts : List Act). runSteps t (length acts) z) w ∙ sym w)
