@@ -1,6 +1,8 @@
 // What people do with drawings and logs, a command each: the first argument names it, standard input has what it works on.
 //
 //   drawing    a drawing: its text in the notation
+//   map        a drawing: which node is which number, and where it stands
+//   diagnose   a drawing: its number, the rule or check that is broken, and the place of what breaks it
 //   judge V    a model's text and a log: lawful, or what the log is refused with, under version V
 //   accounts V the same, and of a lawful log for each message a line with its four numbers
 //   repair     a log that ended in the middle: what is kept, and the repaired log
@@ -13,16 +15,20 @@ use text_lexer::piece;
 use text_numerals::same;
 
 mod accounts;
+mod diagnose;
 mod drawing;
 mod judge;
 mod log;
+mod map;
 mod nested;
 mod repair;
 
+use diagnose::do_diagnose;
 use drawing::do_drawing;
 use judge::do_accounts;
 use judge::do_judge;
 use log::do_log;
+use map::do_map;
 use nested::do_nested;
 use repair::do_repair;
 
@@ -47,6 +53,14 @@ fn tell_unknown(name: &[u8]) {
 fn do_command(name: &[u8]) {
     if same(name, b"drawing") {
         do_drawing();
+        return;
+    }
+    if same(name, b"map") {
+        do_map();
+        return;
+    }
+    if same(name, b"diagnose") {
+        do_diagnose();
         return;
     }
     if same(name, b"judge") {

@@ -1,0 +1,3 @@
+pub mod PutLaws
+pub mod PointsHold
+pub mod MapLaws
