@@ -6,20 +6,45 @@ is_drawing() { # FILE
     [ "$(head -c 65537 "$1" | LC_ALL=C tr -d '\357\273\277 \t\r\n\0' | head -c 1)" = '<' ]
 }
 
-# The text of the drawing in FILE, put into TEXT; a refusal is printed and said in words, and the status is 1. NAME is what people call the file.
-read_drawing() { # FILE NAME TEXT
+# The file that a drawing stands in: the one that is named, or a copy of what is read, which ends where it is more than the longest drawing.
+keep_drawing() { # FILE
+    drawing=$1
+    [ ! -f "$drawing" ] || return 0
+    [ -n "$1" ] || [ ! -t 0 ] || echo "$0: the drawing is read from the terminal, up to Ctrl-D" >&2
+    head -c 131072 "${1:-/dev/stdin}" >"$room/drawing" || exit 2
+    drawing=$room/drawing
+}
+
+# What a command of the proved program says of the drawing in FILE, put into ANSWER; a refusal is printed and said in words, and the status is 1. NAME is what people call the file.
+ask_of_drawing() { # COMMAND FILE NAME ANSWER
     local word number beside
     build tool
-    start tool drawing <"$1" >"$3" || exit 2
-    read -r word number beside <"$3"
+    start tool "$1" <"$2" >"$4" || exit 2
+    read -r word number beside <"$4"
     [ "$word" = refused ] || return 0
-    cat "$3"
-    explain_drawing "$number" "$beside" "$1" "$2" >&2
+    cat "$4"
+    explain_drawing "$number" "$beside" "$2" "$3" >&2
     return 1
 }
 
+# What a planner may not have meant in a drawing that is read: a line each, on standard error.
+tell_notes() { # FILE NAME
+    local place words
+    tr '\0\n\t\r\001' '?   ?' <"$1" | LC_ALL=C awk -f "$root/bin/tags.awk" -f "$root/bin/notes.awk" | while IFS=$'\t' read -r place words; do
+        echo "$2, line $(($(head -c "$place" "$1" | wc -l) + 1)): note: $words"
+    done >&2
+}
+
+# The text of the drawing in FILE, and its map.
+read_drawing() { # FILE NAME TEXT
+    ask_of_drawing drawing "$@" && tell_notes "$1" "$2"
+}
+
+map_drawing() { # FILE NAME MAP
+    ask_of_drawing map "$@"
+}
+
 explain_drawing() { # NUMBER BESIDE FILE NAME
-    local found
     case $1 in
     1) echo "$4: drawing above 65,536 bytes (1)" ;;
     3 | 20)
@@ -27,13 +52,7 @@ explain_drawing() { # NUMBER BESIDE FILE NAME
         tr '\r' ' ' <"$3" >"$room/plain"
         at_place "$2" "$room/plain" "$4" "$(meaning "$1") ($1)$(standing_in "$2" "$room/plain")"
         ;;
-    4)
-        found=$(tr '\0' '?' <"$3" | LC_ALL=C awk -v "check=$2" -f "$root/bin/suspects.awk")
-        [ -z "$found" ] || found=", $found"
-        echo "$4${found:-: $(meaning 4)} (4): check $2 wants that $(model_check "$2")"
-        ;;
-    28) explain_room "$4" "$(tr '\0' '?' <"$3" | LC_ALL=C awk -v room=1 -f "$root/bin/suspects.awk")" ;;
-    21) echo "$4: $(suspected "$3")" ;;
+    4 | 21 | 28) explain_fault "$1" "$3" "$4" ;;
     *) echo "$4: $(meaning "$1") ($1)" ;;
     esac
     [ "$1" != 3 ] || echo "the ranges: $ranges"
@@ -56,13 +75,20 @@ standing_in() { # PLACE FILE
         }'
 }
 
-# What is perhaps at fault in a drawing that is refused with 21: a look by other means than the proved program, at the first thing it finds.
-suspected() { # FILE
-    local found
-    found=$(tr '\0' '?' <"$1" | LC_ALL=C awk -f "$root/bin/suspects.awk")
-    if [ -n "$found" ]; then
-        echo "what is drawn is not run (21); perhaps $found"
-    else
-        echo "$(meaning 21) (21)"
-    fi
+fault_words() { # NUMBER RULE
+    case $1 in
+    4) echo "$(meaning 4) (4): check $2" ;;
+    21) echo "what is drawn is not run (21)" ;;
+    *) echo "$(meaning "$1") ($1)" ;;
+    esac
+}
+
+# A drawing that is refused with 4, 21 or 28: the place and the rule are the proved program's, the words beside them tell what would do.
+explain_fault() { # NUMBER FILE NAME
+    local number rule place
+    read -r number rule place < <(start tool diagnose <"$2")
+    # a carriage return is a line end here, and nothing to be shown
+    tr '\r' ' ' <"$2" >"$room/plain"
+    at_place "$place" "$room/plain" "$3" "$(fault_words "$1" "$rule")"
+    tr '\0\n\t\r\001' '?   ?' <"$2" | LC_ALL=C awk -v number="$number" -v rule="$rule" -v place="$place" -f "$root/bin/tags.awk" -f "$root/bin/faults.awk"
 }
