@@ -1,0 +1,104 @@
+-- A TEXT DIAGNOSED: the number told is the one that `draw` gives, and with 21 there is a rule. Assumes nothing.
+use Prim.Native.Nat.{ℕ, _<_}
+use mathlib.Core.Path.{_≡_, refl, sym, _∙_}
+use mathlib.Core.Bool.{Bool, true, false, not, false≢true}
+use mathlib.Core.List.{List}
+use native.Mathlib.Decide.{ℕ-discrete}
+use native.Mathlib.Omega.{arith}
+use lib.Dec.{eqb, ltb}
+use lib.ListN.{length}
+use borrow.Author.Tests.{eq-eqb}
+use Rattle.base_words.specs.Each.{each}
+use Rattle.base_words.specs.Pick.{if_then_else_}
+use Rattle.base_words.proofs.PickLaws.{pick-yes}
+use Rattle.check_model.specs.Checks.{Pool, lowest}
+use Rattle.text_readers.specs.Reading.{excessive}
+use Rattle.text_read.specs.declared.Reading.{Reading}
+use Rattle.text_read.specs.Notation.{hasRoom, answerFor}
+use Rattle.xml_skip.specs.declared.Skipped.{Skipped}
+use Rattle.xml_skip.specs.declared.Skipped.the-variants.{Past, Fault}
+use Rattle.draw_things.specs.Things.{place}
+use Rattle.draw_walk.specs.Walk.{Walk}
+use Rattle.draw_faults.specs.Amiss.{isDrawing}
+use Rattle.draw_limits.specs.Excess.{firstBeyond, beyondAt}
+use Rattle.draw_model.specs.Content.{content, firstUnfit}
+use Rattle.draw_read.specs.Drawings.{notRun, answer, checkedAs, fittedBy, meantBy, walked, thingsOf, judged, answered}
+use Rattle.draw_diagnose.specs.declared.Broken.{Broken}
+use Rattle.draw_diagnose.specs.declared.Diagnosis.{Diagnosis}
+use Rattle.draw_diagnose.specs.Rules.{brokenIn}
+use Rattle.draw_diagnose.specs.Diagnosis.{told, diagnosedBy, diagnosed}
+use Rattle.proof_diagnose.proofs.Causes.{no-rule-drawn}
+
+choice : {A : Type 0} (P : A → Type 0) (b : Bool) (x y : A) → P x → P y → P (if b then x else y)
+unfolding if_then_else_
+choice P true x y p q = p
+choice P false x y p q = q
+
+module _ (a : Reading) (t w : List ℕ) (n : ℕ) where
+  abbrev Same : Diagnosis → Type 0
+  Same d = d .number ≡ a .number
+
+  same-number : diagnosedBy a t w n .number ≡ a .number
+  unfolding diagnosedBy
+  same-number = choice Same _ _ _ refl (choice Same _ _ _ refl (choice Same _ _ _ refl refl))
+
+  rule-of-21 : a .number ≡ notRun → diagnosedBy a t w n .rule ≡ brokenIn t w n .rule
+  unfolding diagnosedBy if_then_else_
+  rule-of-21 e = rw (eq-eqb (a .number) notRun e) refl
+
+pub diagnosed-number : (text : List ℕ) → diagnosed text .number ≡ answered text .number
+unfolding diagnosed
+diagnosed-number text = same-number (answered text) text (thingsOf text) (walked text .count)
+
+-- an answer that is not 21
+abbrev Other : Reading → Type 0
+Other r = r .number ≡ notRun → ⊥
+
+abbrev Another : ℕ → Type 0
+Another m = m ≡ notRun → ⊥
+
+model-other : (ps : List Pool) → Other (checkedAs ps)
+unfolding checkedAs answerFor
+model-other ps =
+    choice Another (eqb (lowest ps) 0) (if each hasRoom ps then 0 else 28) 4
+    (choice Another (each hasRoom ps) 0 28 (λ e. omega (arith, e)) (λ e. omega (arith, e))) (λ e. omega (arith, e))
+
+module _ (t w : List ℕ) (n : ℕ) where
+  fitted-other : Other (fittedBy t w n)
+  unfolding fittedBy
+  fitted-other = choice Other _ _ _ (λ e. omega (arith, e)) (model-other (content t w n))
+
+  drawn-other : isDrawing t w n ≡ true → Other (meantBy t w n)
+  unfolding meantBy if_then_else_
+  drawn-other d = go (isDrawing t w n) d (ltb (firstBeyond t w n) n)
+    where
+      go : (a : Bool) → a ≡ true → (b : Bool) → Other (if not a then answer notRun 0 else if b then answer excessive (beyondAt t w (firstBeyond t w n)) else fittedBy t w n)
+      go true d true = λ e. omega (arith, e)
+      go true d false = fitted-other
+      go false d b = absurd (false≢true d)
+
+module _ (text : List ℕ) where
+  abbrev things : List ℕ
+  things = thingsOf text
+
+  abbrev n : ℕ
+  n = walked text .count
+
+  not-21 : isDrawing text things n ≡ true → Other (answered text)
+  unfolding answered judged
+  not-21 d = choice Other _ _ _ (λ e. omega (arith, e)) (go (walked text .end))
+    where
+      go : (s : Skipped) → Other (judged s (meantBy text things n))
+      go (Past q) = drawn-other text things n d
+      go (Fault q) = λ e. omega (arith, e)
+
+  pub why-21 : diagnosed text .number ≡ notRun → 0 < diagnosed text .rule
+  unfolding diagnosed
+  why-21 e =
+      let a : answered text .number ≡ notRun = sym (diagnosed-number text) ∙ e in
+      let r : diagnosedBy (answered text) text things n .rule ≡ brokenIn text things n .rule = rule-of-21 (answered text) text things n a in
+      some (ℕ-discrete (brokenIn text things n .rule) 0) r a
+    where
+      some : Dec (brokenIn text things n .rule ≡ 0) → diagnosedBy (answered text) text things n .rule ≡ brokenIn text things n .rule → answered text .number ≡ notRun → 0 < diagnosedBy (answered text) text things n .rule
+      some (yes z) r a = absurd (not-21 (no-rule-drawn text things n z) a)
+      some (no m) r a = omega (arith, m, r)
