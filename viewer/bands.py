@@ -130,8 +130,10 @@ class Stacking:
             gaps = [half[0] + half[1] + width(self.sign_name(one)) for (_, one) in row[:-1]]
             found = layers.apart([want for want, _ in row], [1.0] * len(row), gaps)
             beyond = max(0.0, found[-1] + half[1] + width(self.sign_name(row[-1][1])) - self.width)
+            # where they take more room than the bands, they stand out on the right
+            left = max(0.0, 30 - found[0] + beyond)
             for (_, message), x in zip(row, found):
-                self.plan.stations[message] = (max(30, round((x - beyond) / 10) * 10), self.middle_of_channel(channel))
+                self.plan.stations[message] = (round((x - beyond + left) / 10) * 10, self.middle_of_channel(channel))
 
     def sign_name(self, message):
         flow = self.sketch.flows[message]

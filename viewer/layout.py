@@ -48,7 +48,9 @@ def size_of(node):
 
 def label_lines(node):
     if len(node.label) == 1:
-        return wrapped(node.label[0], {"box": LABEL - 4, "diamond": LABEL - 36, "round": LABEL}[node.form])
+        # what a text says has no blanks to be broken at, and is at most this wide
+        room = LABEL + 40 if " " not in node.label[0] else {"box": LABEL - 4, "diamond": LABEL - 36, "round": LABEL}[node.form]
+        return wrapped(node.label[0], room)
     return [line for part in node.label for line in wrapped(part, LABEL + 30, 2)]
 
 

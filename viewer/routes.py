@@ -5,7 +5,7 @@ from dataclasses import dataclass
 
 MARGIN = 9
 BEND, CROSSING, ALONG = 6, 3, 60
-PATIENCE = 15000
+PATIENCE, EFFORT = 15000, 250000
 SIDES = {"right": (1, 0), "foot": (0, 1), "left": (-1, 0), "top": (0, -1)}
 
 
@@ -95,7 +95,7 @@ class Goals:
 class Router:
     def __init__(self, xs, ys):
         self.xs, self.ys = xs, ys
-        self.blocked, self.soft, self.used = set(), {}, {}
+        self.blocked, self.soft, self.used, self.effort = set(), {}, {}, EFFORT
 
     def cells(self, box, margin=0.0):
         columns = range(bisect.bisect_right(self.xs, box.x - margin), bisect.bisect_left(self.xs, box.x + box.w + margin))
@@ -150,9 +150,10 @@ class Router:
                 cost = port.cost + self.entry_cost(port.cell, port.way)
                 heapq.heappush(heap, (cost + goals.rest(port.cell), count, cost, port.cell, port.way, (port, None)))
                 count += 1
-        while heap and count < PATIENCE:
+        while heap and count < min(PATIENCE, self.effort):
             _, _, cost, cell, way, trail = heapq.heappop(heap)
             if cell is None:
+                self.effort -= count
                 return self.traced(trail)
             if best.get((cell, way), cost) < cost:
                 continue
@@ -161,6 +162,7 @@ class Router:
                     count += 1
                     best[step[0], step[1]] = total
                     heapq.heappush(heap, (guess, count, total, *step))
+        self.effort -= count
         return []
 
     def steps(self, cell, way, cost, trail, goals):
