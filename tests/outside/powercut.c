@@ -141,7 +141,9 @@ static void happened(void) {
 }
 
 /* a request, and its answer */
-static void ask(void) {
+enum answer { DONE, NOT_DONE, FULL };
+
+static enum answer ask(void) {
     char line[200], answer[200], due[200];
     unsigned number;
     some_request(line, &number);
@@ -149,12 +151,14 @@ static void ask(void) {
     listen(answer, sizeof answer);
     if (!strcmp(answer, "full\n") && !number) {
         full++;
-        return;
+        return FULL;
     }
     if (number) sprintf(due, "refused %u\n", number);
     else sprintf(due, "ok %llu\n", answered + 1);
     if (strcmp(answer, due)) failed(answer);
-    if (!number) happened();
+    if (number) return NOT_DONE;
+    happened();
+    return DONE;
 }
 
 /* a request that is not answered before the cabinet is killed */
@@ -183,11 +187,13 @@ static void one_kill(const char *name) {
     listen(line, sizeof line);
     sprintf(due, "at %llu\n", answered);
     if (strcmp(line, due)) failed(line);
-    for (unsigned k = draw(15); k; k--) ask();
+    /* an event that fits behind one that did not is the last: what was left of the other would show */
+    enum answer was = DONE, is = DONE;
+    for (unsigned k = draw(15); k && !(was == FULL && is == DONE); k--) was = is, is = ask();
     uint64_t last;
     n = journal_is(name, file, &last);
     rotated += last != number;
-    unplug(draw(10) ? leave() : IDLE);
+    unplug(draw(10) && !(was == FULL && is == DONE) ? leave() : IDLE);
     if (under_way) tear(name, last, n);
 }
 
