@@ -8,7 +8,7 @@ use borrow.Author.Tests.{eq-eqb, ne-eqb}
 use Rattle.base_words.specs.Pick.{if_then_else_}
 use Rattle.xml_markup.specs.Spans.{nameAt, bytesOf, localOf}
 use Rattle.draw_things.specs.Things.{nothing, process, stranger}
-use Rattle.draw_things.specs.Names.{rowNamed, rowOf, drawsAnother, family, namedIn, namedAt, sortIn}
+use Rattle.draw_things.specs.Names.{rowNamed, rowOf, drawsAnother, family, namedIn, namedAt, drawnAs}
 
 module _ (parent : ℕ) (t : List ℕ) (p i : ℕ) (ei : i ≡ rowNamed (localOf (bytesOf t (nameAt t p)))) (s : ℕ) (es : s ≡ rowOf i .sort) where
   pub named-nothing : s ≡ nothing → nothing ≡ namedAt parent t p
@@ -24,16 +24,16 @@ module _ (parent : ℕ) (t : List ℕ) (p i : ℕ) (ei : i ≡ rowNamed (localOf
     unfolding namedAt namedIn if_then_else_
     named-here k = rw (← ei, ← es, ← eq, ← ef, ne-eqb s nothing h, eq-eqb q f k)
 
-module _ (parent : ℕ) (t : List ℕ) (p : ℕ) where
-  pub sort-elsewhere : (parent ≡ process → ⊥) → (r : ℕ) → r ≡ namedAt parent t p → r ≡ sortIn parent t p
-  unfolding sortIn if_then_else_
-  sort-elsewhere o r e = rw (ne-eqb parent process o) e
+module _ (s parent : ℕ) (t : List ℕ) (p : ℕ) where
+  pub drawn-elsewhere : (parent ≡ process → ⊥) → s ≡ drawnAs s parent t p
+  unfolding drawnAs if_then_else_
+  drawn-elsewhere o = rw (ne-eqb parent process o)
 
   module _ (o : parent ≡ process) (b : Bool) (eb : b ≡ drawsAnother t p) where
-    pub sort-another : b ≡ true → stranger ≡ sortIn parent t p
-    unfolding sortIn if_then_else_
-    sort-another e = rw (eq-eqb parent process o, ← eb, e)
+    pub drawn-another : b ≡ true → stranger ≡ drawnAs s parent t p
+    unfolding drawnAs if_then_else_
+    drawn-another e = rw (eq-eqb parent process o, ← eb, e)
 
-    pub sort-plain : b ≡ false → (r : ℕ) → r ≡ namedAt parent t p → r ≡ sortIn parent t p
-    unfolding sortIn if_then_else_
-    sort-plain e r k = rw (eq-eqb parent process o, ← eb, e) k
+    pub drawn-plain : b ≡ false → s ≡ drawnAs s parent t p
+    unfolding drawnAs if_then_else_
+    drawn-plain e = rw (eq-eqb parent process o, ← eb, e)

@@ -141,9 +141,9 @@ namedIn r parent = if eqb (r .sort) nothing then nothing else if not (eqb (r .pa
 unfoldable pub namedAt : ℕ → List ℕ → ℕ → ℕ
 namedAt parent t p = namedIn (rowOf (rowNamed (localOf (bytesOf t (nameAt t p))))) parent
 
--- the element whose tag is at p; a process's child may draw another one, a collection too
-unfoldable pub sortIn : ℕ → List ℕ → ℕ → ℕ
-sortIn parent t p =
-    if not (eqb parent process) then namedAt parent t p
+-- what is drawn by the element whose tag is at p and whose name draws s: a process's child may draw another one, a collection too
+unfoldable pub drawnAs : ℕ → ℕ → List ℕ → ℕ → ℕ
+drawnAs s parent t p =
+    if not (eqb parent process) then s
     else if drawsAnother t p then stranger
-    else namedAt parent t p
+    else s

@@ -2,7 +2,7 @@
 ghost use mathlib.Core.Path.{_≡_};
 ghost use Prim.Native.Nat.{_<_};
 ghost use Rattle.text_numerals.specs.Numerals.{sameBytes};
-ghost use Rattle.draw_things.specs.Names.{rowCount, padded, rowNamed, rowOf, isFalse, isOne, differs, valueBytes, valueBehind, differsAt, drawsAnother, isEvent, family, namedAt, sortIn};
+ghost use Rattle.draw_things.specs.Names.{rowCount, padded, rowNamed, rowOf, isFalse, isOne, differs, valueBytes, valueBehind, differsAt, drawsAnother, isEvent, family, namedAt, drawnAs};
 ghost use Rattle.xml_markup.specs.Spans.{nameAt, bytesOf, localOf};
 use super::things::INTERMEDIATE_THROW_EVENT;
 use super::things::NOTHING;
@@ -264,7 +264,8 @@ fn row_at(text: &[u8], p: usize) -> usize
     row_named(local_of(bytes_of(text, name_at(text, p))))
 }
 
-fn named_at(parent: Word, text: &[u8], p: usize) -> Word
+// The sort that the element at a place has by its name, inside a thing of the sort `parent`.
+pub fn named_at(parent: Word, text: &[u8], p: usize) -> Word
     ensures { λ r. ⌜ r ≡ namedAt parent (now (text .entry)) p ⌝ }
 {
     let i = row_at(text, p);
@@ -278,15 +279,15 @@ fn named_at(parent: Word, text: &[u8], p: usize) -> Word
     s
 }
 
-// The sort of the element whose tag is at a place, inside a thing of the sort `parent`.
-pub fn sort_in(parent: Word, text: &[u8], p: usize) -> Word
-    ensures { λ r. ⌜ r ≡ sortIn parent (now (text .entry)) p ⌝ }
+// What is drawn by the element at a place whose name draws s, inside a thing of the sort `parent`.
+pub fn drawn_as(s: Word, parent: Word, text: &[u8], p: usize) -> Word
+    ensures { λ r. ⌜ r ≡ drawnAs s parent (now (text .entry)) p ⌝ }
 {
     if parent != PROCESS {
-        return named_at(parent, text, p);
+        return s;
     }
     if draws_another(text, p) {
         return STRANGER;
     }
-    named_at(parent, text, p)
+    s
 }

@@ -25,7 +25,7 @@ use Rattle.xml_skip.specs.Skipping.{partAt, tagOf, skipped}
 use Rattle.xml_skip.proofs.Laws.{Further, Onward, Behind, Within, part-onward, tag-behind, tag-within, skipped-further}
 use Rattle.xml_document.specs.Around.{rootAt, lastFrom}
 use Rattle.draw_things.specs.Things.{definitions}
-use Rattle.draw_things.specs.Names.{sortIn}
+use Rattle.draw_things.specs.Names.{namedAt, drawnAs}
 use Rattle.draw_walk.specs.declared.Walked.{Walked}
 use Rattle.draw_walk.specs.declared.Outer.{Outer}
 use Rattle.draw_walk.specs.Walk.{Walk, told, walked, isNumber, judged, multiplicityBy, multiplicity, isPassed, passed, tagFrom, entered, noted, counted, outer, Content, byTag, thingBy, byEnd, behind, byPart, contentBy, contentIn, contentAt, thingAt, walk}
@@ -85,9 +85,9 @@ module _ (C : Content) (on : (o : Outer) (q : ℕ) (w : List ℕ) (n : ℕ) → 
   by-tag o (Empty q) v m h = h
   by-tag o (TagFault q) v m h = tt
 
-  thing-on : (s k : ℕ) → Further p (thingBy C s t k p w n .end)
+  thing-on : (s d k : ℕ) → Further p (thingBy C s d t k p w n .end)
   unfolding thingBy
-  thing-on s k = by-tag (outer s n p) (entered s t p) (noted s p k w n) (counted s n) (entered-on s t p)
+  thing-on s d k = by-tag (outer s n p) (entered s t p) (noted d p k w n) (counted d n) (entered-on s t p)
 
   behind-on : (o : Outer) (r : Walk) (e : Skipped) → r .end ≡ e → Further p e → Further p (byEnd e (λ q. C o q (r .words) (r .count)) r .end)
   unfolding byEnd
@@ -106,11 +106,11 @@ module _ (C : Content) (on : (o : Outer) (q : ℕ) (w : List ℕ) (n : ℕ) → 
   content-on o = go (leb (length t) p)
     where
       r : Walk
-      r = thingBy C (sortIn (o .sort) t p) t (o .thing) p w n
+      r = thingBy C (namedAt (o .sort) t p) (drawnAs (namedAt (o .sort) t p) (o .sort) t p) t (o .thing) p w n
 
       go : (b : Bool) → Further p ((if b then told (walked (Fault (length t)) n) w else byPart (partAt t (o .tag) p) r (C o) w n) .end)
       go true = unfold if_then_else_ told in tt
-      go false = unfold if_then_else_ in by-part o (partAt t (o .tag) p) r (thing-on (sortIn (o .sort) t p) (o .thing)) (part-onward t (o .tag) p)
+      go false = unfold if_then_else_ in by-part o (partAt t (o .tag) p) r (thing-on (namedAt (o .sort) t p) (drawnAs (namedAt (o .sort) t p) (o .sort) t p) (o .thing)) (part-onward t (o .tag) p)
 
 in-on : (m : ℕ) (t : List ℕ) (o : Outer) (p : ℕ) (w : List ℕ) (n : ℕ) → Further p (contentIn m t o p w n .end)
 unfolding contentIn told
@@ -125,9 +125,9 @@ module _ (C D : Content) (on : (o : Outer) (q : ℕ) (w : List ℕ) (n : ℕ) �
   tag-same o (Empty q) v m h = refl
   tag-same o (TagFault q) v m h = refl
 
-  thing-same : (s k : ℕ) → thingBy C s t k p w n ≡ thingBy D s t k p w n
+  thing-same : (s d k : ℕ) → thingBy C s d t k p w n ≡ thingBy D s d t k p w n
   unfolding thingBy
-  thing-same s k = tag-same (outer s n p) (entered s t p) (noted s p k w n) (counted s n) (entered-on s t p)
+  thing-same s d k = tag-same (outer s n p) (entered s t p) (noted d p k w n) (counted d n) (entered-on s t p)
 
   behind-same : (o : Outer) (r : Walk) (e : Skipped) → Further p e → byEnd e (λ q. C o q (r .words) (r .count)) r ≡ byEnd e (λ q. D o q (r .words) (r .count)) r
   unfolding byEnd
@@ -144,8 +144,9 @@ module _ (C D : Content) (on : (o : Outer) (q : ℕ) (w : List ℕ) (n : ℕ) �
   content-same : (o : Outer) → contentBy C t o p w n ≡ contentBy D t o p w n
   unfolding contentBy
   content-same o =
-      let s = sortIn (o .sort) t p in
-      rw (thing-same s (o .thing), part-same o (partAt t (o .tag) p) (thingBy D s t (o .thing) p w n) (thing-on D on t p w n s (o .thing)) (part-onward t (o .tag) p))
+      let s = namedAt (o .sort) t p in
+      let d = drawnAs s (o .sort) t p in
+      rw (thing-same s d (o .thing), part-same o (partAt t (o .tag) p) (thingBy D s d t (o .thing) p w n) (thing-on D on t p w n s d (o .thing)) (part-onward t (o .tag) p))
 
 -- any two numbers of steps that are enough give the same
 stable : (m l : ℕ) (t : List ℕ) (o : Outer) (p : ℕ) (w : List ℕ) (n : ℕ) → length t ≤ p + m → length t ≤ p + l → contentIn m t o p w n ≡ contentIn l t o p w n
@@ -169,7 +170,7 @@ pub part-past : (t : List ℕ) (tag p : ℕ) (g : Part) → g ≡ partAt t tag p
 part-past t tag p g eg q e = rw (← eg, e) at (part-onward t tag p)
 
 module _ (t : List ℕ) (o : Outer) (p : ℕ) (w : List ℕ) (n : ℕ) (in-text : p < length t) (g : Part) (eg : g ≡ partAt t (o .tag) p) where
-  content-part : contentAt t o p w n ≡ byPart g (thingAt (sortIn (o .sort) t p) t (o .thing) p w n) (contentAt t o) w n
+  content-part : contentAt t o p w n ≡ byPart g (thingAt (namedAt (o .sort) t p) (drawnAs (namedAt (o .sort) t p) (o .sort) t p) t (o .thing) p w n) (contentAt t o) w n
   unfolding contentBy thingAt if_then_else_
   content-part = content-is t o p w n ∙ rw (lt-leb (length t) p in-text, ← eg)
 
@@ -185,10 +186,10 @@ module _ (t : List ℕ) (o : Outer) (p : ℕ) (w : List ℕ) (n : ℕ) (in-text 
   unfolding byPart
   content-onward q e = content-part ∙ rw e
 
-  module _ (k : g ≡ Element) (s : ℕ) (es : s ≡ sortIn (o .sort) t p) (r : Walked) (v : List ℕ) (er : told r v ≡ thingAt s t (o .thing) p w n) where
+  module _ (k : g ≡ Element) (s : ℕ) (es : s ≡ namedAt (o .sort) t p) (d : ℕ) (ed : d ≡ drawnAs s (o .sort) t p) (r : Walked) (v : List ℕ) (er : told r v ≡ thingAt s d t (o .thing) p w n) where
     content-thing : contentAt t o p w n ≡ behind (told r v) (contentAt t o)
     unfolding byPart
-    content-thing = content-part ∙ rw (k, ← es, er)
+    content-thing = content-part ∙ rw (k, ← es, ← ed, er)
 
     pub content-past : (q : ℕ) → r .end ≡ Past q → contentAt t o p w n ≡ contentAt t o q v (r .count)
     unfolding behind byEnd told
@@ -199,26 +200,26 @@ module _ (t : List ℕ) (o : Outer) (p : ℕ) (w : List ℕ) (n : ℕ) (in-text 
     content-refused q e = content-thing ∙ rw e
 
 -- a thing at p
-pub thing-past : (s : ℕ) (t : List ℕ) (k p : ℕ) (w : List ℕ) (n : ℕ) (r : Walked) (v : List ℕ) → told r v ≡ thingAt s t k p w n → (q : ℕ) → r .end ≡ Past q → p < q
+pub thing-past : (s d : ℕ) (t : List ℕ) (k p : ℕ) (w : List ℕ) (n : ℕ) (r : Walked) (v : List ℕ) → told r v ≡ thingAt s d t k p w n → (q : ℕ) → r .end ≡ Past q → p < q
 unfolding thingAt contentAt told
-thing-past s t k p w n r v er q e =
-    let d : r .end ≡ thingBy (contentAt t) s t k p w n .end = ap (λ (x : Walk). x .end) er in
-    rw (← d, e) at (thing-on (contentAt t) (in-on (length t) t) t p w n s k)
+thing-past s d t k p w n r v er q e =
+    let f : r .end ≡ thingBy (contentAt t) s d t k p w n .end = ap (λ (x : Walk). x .end) er in
+    rw (← f, e) at (thing-on (contentAt t) (in-on (length t) t) t p w n s d k)
 
-module _ (s : ℕ) (t : List ℕ) (k p : ℕ) (w : List ℕ) (n : ℕ) (v : List ℕ) (ev : v ≡ noted s p k w n) (m : ℕ) (em : m ≡ counted s n) (g : Tag) (eg : g ≡ entered s t p) where
-  thing-tag : thingAt s t k p w n ≡ byTag g (λ q. contentAt t (outer s n p) q v m) v m
+module _ (s d : ℕ) (t : List ℕ) (k p : ℕ) (w : List ℕ) (n : ℕ) (v : List ℕ) (ev : v ≡ noted d p k w n) (m : ℕ) (em : m ≡ counted d n) (g : Tag) (eg : g ≡ entered s t p) where
+  thing-tag : thingAt s d t k p w n ≡ byTag g (λ q. contentAt t (outer s n p) q v m) v m
   unfolding thingAt thingBy
   thing-tag = rw (← eg, ← ev, ← em)
 
-  pub thing-open : (q : ℕ) → g ≡ Open q → thingAt s t k p w n ≡ contentAt t (outer s n p) q v m
+  pub thing-open : (q : ℕ) → g ≡ Open q → thingAt s d t k p w n ≡ contentAt t (outer s n p) q v m
   unfolding byTag
   thing-open q e = thing-tag ∙ rw e
 
-  pub thing-empty : (q : ℕ) → g ≡ Empty q → thingAt s t k p w n ≡ told (walked (Past q) m) v
+  pub thing-empty : (q : ℕ) → g ≡ Empty q → thingAt s d t k p w n ≡ told (walked (Past q) m) v
   unfolding byTag
   thing-empty q e = thing-tag ∙ rw e
 
-  pub thing-fault : (q : ℕ) → g ≡ TagFault q → thingAt s t k p w n ≡ told (walked (Fault q) m) v
+  pub thing-fault : (q : ℕ) → g ≡ TagFault q → thingAt s d t k p w n ≡ told (walked (Fault q) m) v
   unfolding byTag
   thing-fault q e = thing-tag ∙ rw e
 
@@ -238,7 +239,7 @@ module _ (t w : List ℕ) (root : Skipped) (er : root ≡ rootAt (bytes "definit
   unfolding walk byEnd
   walk-rootless q e = rw (← er, e)
 
-  module _ (p : ℕ) (e : root ≡ Past p) (r : Walked) (v : List ℕ) (ew : told r v ≡ thingAt definitions t 0 p w 0) where
+  module _ (p : ℕ) (e : root ≡ Past p) (r : Walked) (v : List ℕ) (ew : told r v ≡ thingAt definitions definitions t 0 p w 0) where
     walk-root : walk t w ≡ behind (told r v) (λ q u n. told (walked (lastFrom t q) n) u)
     unfolding walk byEnd
     walk-root = rw (← er, e, ← ew)

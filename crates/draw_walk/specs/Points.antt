@@ -92,6 +92,8 @@ drawings =
     drawing "nor a definition in a task, nor a maximum elsewhere" (inProcess "<task><messageEventDefinition/></task><participantMultiplicity maximum='x'/>") 5
     (thing definitions 0 0 ++ (thing process 13 0 ++ (thing task 22 1 ++ (thing stranger 28 2 ++ thing stranger 60 1)))) ∷
     drawing "16 deep in extensionElements" (bytes "<definitions><extensionElements>" ++ (times 15 (bytes "<a>") ++ (times 15 (bytes "</a>") ++ bytes "</extensionElements></definitions>"))) 1 (thing definitions 0 0) ∷
+    drawing "16 deep in extensionElements too, where the element they stand in draws another one by its attributes" (bytes "<definitions><process><task isForCompensation=\"true\"><extensionElements>" ++ (times 15 (bytes "<a>") ++ (times 15 (bytes "</a>") ++ bytes "</extensionElements></task></process></definitions>"))) 3
+    (thing definitions 0 0 ++ (thing process 13 0 ++ thing stranger 22 1)) ∷
     drawing "more things than there is room for: counted" (inProcess "<task/><task/>") 4 (thing definitions 0 0 ++ (thing process 13 0 ++ thing task 22 1)) ∷
     one "another value draws another element" "<task isForCompensation='true'/>" stranger ∷
     one "the default is none" "<task a='1' isForCompensation=\"false\"/>" task ∷

@@ -23,7 +23,7 @@ use Rattle.xml_skip.specs.declared.Tag.the-variants.{Open, Empty, Fault as TagF
 use Rattle.xml_skip.specs.Skipping.{partAt, tagOf, skipped}
 use Rattle.xml_document.specs.Around.{rootAt, lastFrom}
 use Rattle.draw_things.specs.Things.{nothing, definitions, participantMultiplicity, conditionExpression, stranger, oneMore, added}
-use Rattle.draw_things.specs.Names.{sortIn}
+use Rattle.draw_things.specs.Names.{namedAt, drawnAs}
 use Rattle.draw_walk.specs.declared.Walked.{Walked}
 use Rattle.draw_walk.specs.declared.Outer.{Outer}
 
@@ -96,8 +96,9 @@ byTag (Open q) content w n = content q
 byTag (Empty q) content w n = told (walked (Past q) n) w
 byTag (TagFault q) content w n = told (walked (Fault q) n) w
 
-unfoldable pub thingBy : Content → ℕ → List ℕ → ℕ → ℕ → List ℕ → ℕ → Walk
-thingBy content s t k p w n = byTag (entered s t p) (λ q. content (outer s n p) q (noted s p k w n) (counted s n)) (noted s p k w n) (counted s n)
+-- How an element is walked depends on its name and where it stands, s, not on its attributes: by them it may draw another one, d, and that is noted. (RULES: skipping)
+unfoldable pub thingBy : Content → ℕ → ℕ → List ℕ → ℕ → ℕ → List ℕ → ℕ → Walk
+thingBy content s d t k p w n = byTag (entered s t p) (λ q. content (outer s n p) q (noted d p k w n) (counted d n)) (noted d p k w n) (counted d n)
 
 -- goes on from the place that was reached; a fault stays
 unfoldable pub byEnd : {A : Type 0} → Skipped → (ℕ → A) → A → A
@@ -117,7 +118,7 @@ byPart (PartFault q) element content w n = told (walked (Fault q) n) w
 unfoldable pub contentBy : Content → List ℕ → Outer → ℕ → List ℕ → ℕ → Walk
 contentBy content t o p w n =
     if leb (length t) p then told (walked (Fault (length t)) n) w
-    else byPart (partAt t (o .tag) p) (thingBy content (sortIn (o .sort) t p) t (o .thing) p w n) (content o) w n
+    else byPart (partAt t (o .tag) p) (thingBy content (namedAt (o .sort) t p) (drawnAs (namedAt (o .sort) t p) (o .sort) t p) t (o .thing) p w n) (content o) w n
 
 -- the same, in m steps at most
 unfoldable pub contentIn : ℕ → List ℕ → Content
@@ -128,11 +129,11 @@ contentIn (suc m) t o p w n = contentBy (contentIn m t) t o p w n
 unfoldable pub contentAt : List ℕ → Content
 contentAt t o p w n = contentIn (length t) t o p w n
 
-unfoldable pub thingAt : ℕ → List ℕ → ℕ → ℕ → List ℕ → ℕ → Walk
-thingAt s t k p w n = thingBy (contentAt t) s t k p w n
+unfoldable pub thingAt : ℕ → ℕ → List ℕ → ℕ → ℕ → List ℕ → ℕ → Walk
+thingAt s d t k p w n = thingBy (contentAt t) s d t k p w n
 
 unfoldable pub walk : List ℕ → List ℕ → Walk
 walk t w =
     byEnd (rootAt (bytes "definitions") t)
-    (λ p. behind (thingAt definitions t 0 p w 0) (λ q v n. told (walked (lastFrom t q) n) v))
+    (λ p. behind (thingAt definitions definitions t 0 p w 0) (λ q v n. told (walked (lastFrom t q) n) v))
     (told (walked (rootAt (bytes "definitions") t) 0) w)

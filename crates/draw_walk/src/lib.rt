@@ -2,7 +2,8 @@
 ghost use mathlib.Core.Path.{_≡_};
 ghost use Rattle.draw_walk.specs.Walk.{told, tagFrom, noted, counted, entered, contentAt, thingAt, walk};
 use base_words::Word;
-use draw_things::names::sort_in;
+use draw_things::names::drawn_as;
+use draw_things::names::named_at;
 use draw_things::things::DEFINITIONS;
 use draw_things::things::NOTHING;
 use draw_things::things::add_thing;
@@ -71,12 +72,20 @@ fn counted(s: Word, n: Word) -> Word
     if s == NOTHING { n } else { one_more(n) }
 }
 
-// An element of a sort at a place, within thing k, after n things.
-pub fn walk_thing(s: Word, text: &[u8], k: Word, p: usize, w: &mut [Word], n: Word) -> Walked
-    ensures { λ r. ⌜ told r (now (w .exit)) ≡ thingAt s (now (text .entry)) k p (now (w .entry)) n ⌝ }
+// An element at a place, walked as a sort and drawing d, within thing k, after n things.
+pub fn walk_thing(
+    s: Word,
+    d: Word,
+    text: &[u8],
+    k: Word,
+    p: usize,
+    w: &mut [Word],
+    n: Word,
+) -> Walked
+    ensures { λ r. ⌜ told r (now (w .exit)) ≡ thingAt s d (now (text .entry)) k p (now (w .entry)) n ⌝ }
 {
-    note(s, p, k, w, n);
-    let count = counted(s, n);
+    note(d, p, k, w, n);
+    let count = counted(d, n);
     let t = enter(s, text, p);
     match t {
         Tag::Open(q) => {
@@ -108,8 +117,9 @@ pub fn walk_content(text: &[u8], o: Outer, p: usize, w: &mut [Word], n: Word) ->
         let part = part_at(text, o.tag, at);
         match part {
             Part::Element => {
-                let s = sort_in(o.sort, text, at);
-                let e = walk_thing(s, text, o.thing, at, w, count);
+                let s = named_at(o.sort, text, at);
+                let d = drawn_as(s, o.sort, text, at);
+                let e = walk_thing(s, d, text, o.thing, at, w, count);
                 let end = e.end;
                 let Skipped::Past(q) = end else {
                     return e;
@@ -151,7 +161,7 @@ pub fn walk(text: &[u8], w: &mut [Word]) -> Walked
             count: 0,
         };
     };
-    let e = walk_thing(DEFINITIONS, text, 0, p, w, 0);
+    let e = walk_thing(DEFINITIONS, DEFINITIONS, text, 0, p, w, 0);
     let end = e.end;
     let Skipped::Past(q) = end else {
         return e;

@@ -8,7 +8,7 @@ use native.Mathlib.Omega.{arith}
 use lib.Dec.{eqb, ltb}
 use lib.ListN.{length, getD, set, replicate, length-set, length-replicate, List·getD-eq-default}
 use lib.Seq.{getD-set-same, getD-set-other}
-use borrow.Author.Tests.{eqb-true, eq-eqb, ltb-true, ltb-false}
+use borrow.Author.Tests.{eqb-true, eq-eqb, ne-eqb, ltb-true, ltb-false}
 use Rattle.base_words.specs.Each.{each}
 use Rattle.base_words.specs.Pick.{if_then_else_}
 use Rattle.base_words.specs.Text.{bytes}
@@ -23,8 +23,8 @@ use Rattle.xml_skip.specs.declared.Tag.{Tag}
 use Rattle.xml_skip.specs.declared.Tag.the-variants.{Open, Empty, Fault as TagFault}
 use Rattle.xml_skip.specs.Skipping.{partAt}
 use Rattle.xml_document.specs.Around.{rootAt, lastFrom}
-use Rattle.draw_things.specs.Things.{nothing, definitions, participant, participantMultiplicity, process, stranger, room, blockWords, sortPlace, placePlace, withinPlace, sourcePlace, targetPlace, sort, within, narrow, oneMore, added}
-use Rattle.draw_things.specs.Names.{Row, rows, unknown, rowOf, isEvent, family, namedIn, namedAt, drawsAnother, sortIn}
+use Rattle.draw_things.specs.Things.{nothing, definitions, collaboration, participant, participantMultiplicity, process, stranger, room, blockWords, sortPlace, placePlace, withinPlace, sourcePlace, targetPlace, sort, within, narrow, oneMore, added}
+use Rattle.draw_things.specs.Names.{Row, rows, unknown, rowOf, isEvent, family, namedIn, namedAt, drawsAnother, drawnAs}
 use Rattle.draw_walk.specs.declared.Outer.{Outer}
 use Rattle.draw_walk.specs.Walk.{Walk, told, walked, entered, noted, counted, outer, Content, byTag, thingBy, byEnd, behind, byPart, contentBy, contentIn, contentAt, thingAt, walk}
 use Rattle.draw_links.specs.Links.{joined, owned, linked, links}
@@ -37,56 +37,69 @@ use Rattle.proof_drawings.proofs.ContentModel.{Placed}
 apart : (a b : ℕ) → eqb a b ≡ false → a ≡ b → ⊥
 apart a b e q = false≢true (sym e ∙ eq-eqb a b q)
 
--- NAMES
-abbrev rightRow : Row → Bool
-rightRow r = not (eqb (r .sort) participantMultiplicity) || eqb (r .parent) participant
+-- NAMES. What draws x stands in a y
+abbrev rightRow : ℕ → ℕ → Row → Bool
+rightRow x y r = not (eqb (r .sort) x) || eqb (r .parent) y
 
-each-at : (xs : List Row) (i : ℕ) → each rightRow xs ≡ true → rightRow (getD xs i unknown) ≡ true
-unfolding each
-each-at [] i e = refl
-each-at (x ∷ xs) zero e = and-left (rightRow x) (each rightRow xs) e
-each-at (x ∷ xs) (suc i) e = each-at xs i (and-right (rightRow x) (each rightRow xs) e)
+module _ (x y : ℕ) (some : eqb nothing x ≡ false) (known : eqb stranger x ≡ false) (one : eqb 12 y ≡ false) where
+  each-at : (xs : List Row) (i : ℕ) → each (rightRow x y) xs ≡ true → rightRow x y unknown ≡ true → rightRow x y (getD xs i unknown) ≡ true
+  unfolding each
+  each-at [] i e u = u
+  each-at (r ∷ rs) zero e u = and-left (rightRow x y r) (each (rightRow x y) rs) e
+  each-at (r ∷ rs) (suc i) e u = each-at rs i (and-right (rightRow x y r) (each (rightRow x y) rs) e) u
 
-rows-right : each rightRow rows ≡ true
+  row-parent : (r : Row) → rightRow x y r ≡ true → r .sort ≡ x → r .parent ≡ y
+  row-parent r h e = go (eqb (r .sort) x) (eq-eqb (r .sort) x e) h
+    where
+      go : (b : Bool) → b ≡ true → not b || eqb (r .parent) y ≡ true → r .parent ≡ y
+      go true q h = eqb-true (r .parent) y h
+      go false q h = absurd (false≢true q)
+
+  family-is : (s : ℕ) → family s ≡ y → s ≡ y
+  unfolding family
+  family-is s = go (isEvent s)
+    where
+      go : (b : Bool) → (if b then 12 else s) ≡ y → s ≡ y
+      go true e = absurd (apart 12 y one (unfold if_then_else_ in e))
+      go false e = unfold if_then_else_ in e
+
+  named-in : (r : Row) (s : ℕ) → rightRow x y r ≡ true → namedIn r s ≡ x → s ≡ y
+  unfolding namedIn
+  named-in r s h = go (eqb (r .sort) nothing) (eqb (r .parent) (family s)) refl
+    where
+      go : (a b : Bool) → eqb (r .parent) (family s) ≡ b → (if a then nothing else if not b then stranger else r .sort) ≡ x → s ≡ y
+      go true b q e = absurd (apart nothing x some (unfold if_then_else_ in e))
+      go false false q e = absurd (apart stranger x known (unfold if_then_else_ in e))
+      go false true q e = family-is s (sym (eqb-true (r .parent) (family s) q) ∙ row-parent r h (unfold if_then_else_ in e))
+
+  named-at : each (rightRow x y) rows ≡ true → rightRow x y unknown ≡ true → (s : ℕ) (t : List ℕ) (p : ℕ) → namedAt s t p ≡ x → s ≡ y
+  unfolding namedAt rowOf
+  named-at h u s t p e = named-in _ s (each-at rows _ h u) e
+
+rows-right : each (rightRow participantMultiplicity participant) rows ≡ true
 unfolding each rows
 rows-right = refl
 
-row-parent : (r : Row) → rightRow r ≡ true → r .sort ≡ participantMultiplicity → r .parent ≡ participant
-row-parent r h e = go (eqb (r .sort) participantMultiplicity) (eq-eqb (r .sort) participantMultiplicity e) h
-  where
-    go : (b : Bool) → b ≡ true → not b || eqb (r .parent) participant ≡ true → r .parent ≡ participant
-    go true q h = eqb-true (r .parent) participant h
-    go false q h = absurd (false≢true q)
+participants-right : each (rightRow participant collaboration) rows ≡ true
+unfolding each rows
+participants-right = refl
 
-family-is : (s : ℕ) → family s ≡ participant → s ≡ participant
-unfolding family
-family-is s = go (isEvent s)
+drawn-as : (s : ℕ) (t : List ℕ) (p : ℕ) → drawnAs (namedAt s t p) s t p ≡ participantMultiplicity → s ≡ participant
+unfolding drawnAs
+drawn-as s t p = go (eqb s process) (drawsAnother t p)
   where
-    go : (b : Bool) → (if b then 12 else s) ≡ participant → s ≡ participant
-    go true e = absurd (apart 12 participant refl (unfold if_then_else_ in e))
-    go false e = unfold if_then_else_ in e
+    named : namedAt s t p ≡ participantMultiplicity → s ≡ participant
+    named = named-at participantMultiplicity participant refl refl refl rows-right refl s t p
 
-named-in : (r : Row) (s : ℕ) → rightRow r ≡ true → namedIn r s ≡ participantMultiplicity → s ≡ participant
-unfolding namedIn
-named-in r s h = go (eqb (r .sort) nothing) (eqb (r .parent) (family s)) refl
-  where
-    go : (a b : Bool) → eqb (r .parent) (family s) ≡ b → (if a then nothing else if not b then stranger else r .sort) ≡ participantMultiplicity → s ≡ participant
-    go true b q e = absurd (apart nothing participantMultiplicity refl (unfold if_then_else_ in e))
-    go false false q e = absurd (apart stranger participantMultiplicity refl (unfold if_then_else_ in e))
-    go false true q e = family-is s (sym (eqb-true (r .parent) (family s) q) ∙ row-parent r h (unfold if_then_else_ in e))
-
-named-at : (s : ℕ) (t : List ℕ) (p : ℕ) → namedAt s t p ≡ participantMultiplicity → s ≡ participant
-unfolding namedAt rowOf
-named-at s t p e = named-in _ s (each-at rows _ rows-right) e
-
-sort-in : (s : ℕ) (t : List ℕ) (p : ℕ) → sortIn s t p ≡ participantMultiplicity → s ≡ participant
-unfolding sortIn
-sort-in s t p = go (eqb s process) (drawsAnother t p)
-  where
     go : (a b : Bool) → (if not a then namedAt s t p else if b then stranger else namedAt s t p) ≡ participantMultiplicity → s ≡ participant
-    go false b e = named-at s t p (unfold if_then_else_ in e)
-    go true false e = named-at s t p (unfold if_then_else_ in e)
+    go false b e = named (unfold if_then_else_ in e)
+    go true false e = named (unfold if_then_else_ in e)
     go true true e = absurd (apart stranger participantMultiplicity refl (unfold if_then_else_ in e))
+
+-- a participant stands in no process, and draws none but itself
+drawn-participant : (s : ℕ) (t : List ℕ) (p : ℕ) → namedAt s t p ≡ participant → drawnAs (namedAt s t p) s t p ≡ participant
+unfolding drawnAs if_then_else_
+drawn-participant s t p e = rw (ne-eqb s process (λ q. apart collaboration process refl (sym (named-at participant collaboration refl refl refl participants-right refl s t p e) ∙ q))) e
 
 -- THE THINGS SO FAR: n of them, in the words w
 record Sound (w : List ℕ) (n : ℕ) : Type 0 where
@@ -252,11 +265,11 @@ module _ (t : List ℕ) (C : Content) (on : (o : Outer) (q : ℕ) (w : List ℕ)
   by-tag (Empty q) o w n v m s g h = record { sound = s; grown = g }
   by-tag (TagFault q) o w n v m s g h = record { sound = s; grown = g }
 
-  thing-kept : (s k p : ℕ) (w : List ℕ) (n : ℕ) → Sound w n → (s ≡ participantMultiplicity → Stands k w n) → Kept w n (thingBy C s t k p w n)
+  thing-kept : (s d k p : ℕ) (w : List ℕ) (n : ℕ) → Sound w n → (d ≡ participantMultiplicity → Stands k w n) → (s ≡ participant → d ≡ participant) → Kept w n (thingBy C s d t k p w n)
   unfolding thingBy
-  thing-kept s k p w n sound h =
-      let d = noted-kept s p k w n sound h in
-      by-tag (entered s t p) (outer s n p) w n (noted s p k w n) (counted s n) (d .sound-now) (d .grown-now) (d .stands-now)
+  thing-kept s d k p w n sound h q =
+      let x = noted-kept d p k w n sound h in
+      by-tag (entered s t p) (outer s n p) w n (noted d p k w n) (counted d n) (x .sound-now) (x .grown-now) (λ e. x .stands-now (q e))
 
   behind-kept : (o : Outer) (w : List ℕ) (n : ℕ) (r : Walk) → Kept w n r → (o .sort ≡ participant → Stands (o .thing) w n) → Kept w n (behind r (C o))
   unfolding behind
@@ -277,7 +290,7 @@ module _ (t : List ℕ) (C : Content) (on : (o : Outer) (q : ℕ) (w : List ℕ)
   unfolding contentBy told
   content-kept o p w n s h =
       either (Kept w n) _ _ _ (still w n _ s refl refl)
-      (by-part (partAt t (o .tag) p) (thingBy C (sortIn (o .sort) t p) t (o .thing) p w n) o w n s (thing-kept (sortIn (o .sort) t p) (o .thing) p w n s (λ e. h (sort-in (o .sort) t p e))) h)
+      (by-part (partAt t (o .tag) p) (thingBy C (namedAt (o .sort) t p) (drawnAs (namedAt (o .sort) t p) (o .sort) t p) t (o .thing) p w n) o w n s (thing-kept (namedAt (o .sort) t p) (drawnAs (namedAt (o .sort) t p) (o .sort) t p) (o .thing) p w n s (λ e. h (drawn-as (o .sort) t p e)) (drawn-participant (o .sort) t p)) h)
 
 in-kept : (m : ℕ) (t : List ℕ) (o : Outer) (p : ℕ) (w : List ℕ) (n : ℕ) → Sound w n → (o .sort ≡ participant → Stands (o .thing) w n) → Kept w n (contentIn m t o p w n)
 unfolding contentIn told
@@ -287,9 +300,9 @@ in-kept (suc m) t o p w n s h = content-kept t (contentIn m t) (in-kept m t) o p
 empty-sound : Sound (replicate blockWords 0) 0
 empty-sound = record { long = length-replicate {A = ℕ} blockWords 0; few = omega arith; inside = λ k e. absurd (apart 0 participantMultiplicity refl (sym (zero-word blockWords (sortPlace k)) ∙ e)) }
 
-root-kept : (t : List ℕ) (p : ℕ) (w : List ℕ) → Sound w 0 → Kept w 0 (thingAt definitions t 0 p w 0)
+root-kept : (t : List ℕ) (p : ℕ) (w : List ℕ) → Sound w 0 → Kept w 0 (thingAt definitions definitions t 0 p w 0)
 unfolding thingAt contentAt
-root-kept t p w s = thing-kept t (contentIn (length t) t) (in-kept (length t) t) definitions 0 p w 0 s (λ e. absurd (apart definitions participantMultiplicity refl e))
+root-kept t p w s = thing-kept t (contentIn (length t) t) (in-kept (length t) t) definitions definitions 0 p w 0 s (λ e. absurd (apart definitions participantMultiplicity refl e)) (λ e. absurd (apart definitions participant refl e))
 
 walk-sound : (t w : List ℕ) → Sound w 0 → Sound (walk t w .words) (walk t w .count)
 unfolding walk told
@@ -299,8 +312,8 @@ walk-sound t w s = go (rootAt (bytes "definitions") t)
     last r (Past q) k = unfold byEnd in k
     last r (Fault q) k = unfold byEnd in k
 
-    go : (e : Skipped) → Sound (byEnd e (λ p. behind (thingAt definitions t 0 p w 0) (λ q v n. told (walked (lastFrom t q) n) v)) (told (walked (rootAt (bytes "definitions") t) 0) w) .words) (byEnd e (λ p. behind (thingAt definitions t 0 p w 0) (λ q v n. told (walked (lastFrom t q) n) v)) (told (walked (rootAt (bytes "definitions") t) 0) w) .count)
-    go (Past p) = unfold byEnd behind in last (thingAt definitions t 0 p w 0) (thingAt definitions t 0 p w 0 .end) (root-kept t p w s .sound)
+    go : (e : Skipped) → Sound (byEnd e (λ p. behind (thingAt definitions definitions t 0 p w 0) (λ q v n. told (walked (lastFrom t q) n) v)) (told (walked (rootAt (bytes "definitions") t) 0) w) .words) (byEnd e (λ p. behind (thingAt definitions definitions t 0 p w 0) (λ q v n. told (walked (lastFrom t q) n) v)) (told (walked (rootAt (bytes "definitions") t) 0) w) .count)
+    go (Past p) = unfold byEnd behind in last (thingAt definitions definitions t 0 p w 0) (thingAt definitions definitions t 0 p w 0 .end) (root-kept t p w s .sound)
     go (Fault q) = unfold byEnd in s
 
 -- ENDS AND KINDS are stored elsewhere

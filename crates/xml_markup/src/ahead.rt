@@ -30,7 +30,7 @@ use text_lexer::piece;
 use xml_characters::is_control;
 
 // The most names that are looked at together.
-pub const NAMES: usize = 256;
+pub const NAMES: usize = 512;
 
 fn is_faulty_else(w: Whole, text: &[u8], start: usize, mark: usize) -> bool
     ensures { λ r. ⌜ r ≡ isFaultyElse w (now (text .entry)) start mark ⌝ }

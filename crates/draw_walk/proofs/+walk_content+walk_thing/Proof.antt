@@ -16,7 +16,8 @@ use Rattle.draw_walk.proofs.+walk_content+walk_thing.Lts-walk_content a
 use Rattle.draw_walk.proofs.walk_thing.Reads as walk-thing
 use Rattle.draw_walk.proofs.walk_thing.Kinds as walk-thing-kinds
 use Rattle.draw_walk.proofs.+walk_content+walk_thing.Lts-walk_thing as walk-thing-lts
-use Rattle.draw_things.proofs.names.sort_in.Reads as sort-in-reads
+use Rattle.draw_things.proofs.names.drawn_as.Reads as drawn-as-reads
+use Rattle.draw_things.proofs.names.named_at.Reads as named-at-reads
 use Rattle.xml_skip.proofs.part_at.Reads as part-at-reads
 use Rattle.draw_walk.proofs.counted.Reads as counted-reads
 use Rattle.draw_walk.proofs.enter.Reads as enter-reads
@@ -28,7 +29,7 @@ abbrev μ-walk-content : Measures 2 walk-content-kinds.ps ℕ
 μ-walk-content κs a = 2 * (length (a .0 .now) - a .1 .1 .0) + 1
 
 abbrev μ-walk-thing : Measures 2 walk-thing-kinds.ps ℕ
-μ-walk-thing κs a = 2 * (length (a .1 .0 .now) - a .1 .1 .1 .0)
+μ-walk-thing κs a = 2 * (length (a .1 .1 .0 .now) - a .1 .1 .1 .1 .0)
 
 -- what each is given at the measure t, and what a call of it asks below t
 abbrev walk-content-at : ℕ → In 2 walk-content-kinds.ps
@@ -52,18 +53,19 @@ abbrev μ-loop : walk-content-lts.MeasureT-loop
 pub +walk-content+walk-thing-spec : {M : Type 1} → statement M
 +walk-content+walk-thing-spec =
     close μ-walk-content μ-walk-thing
-    (λ t. walk-content-lts.spec (part-at-reads.Asked, part-at-reads.Learnt, sort-in-reads.Asked, sort-in-reads.Learnt, walk-thing-below t, walk-thing.Post) (walk-content-at t) walk-content.Post Inv μ-loop
+    (λ t. walk-content-lts.spec (part-at-reads.Asked, part-at-reads.Learnt, named-at-reads.Asked, named-at-reads.Learnt, drawn-as-reads.Asked, drawn-as-reads.Learnt, walk-thing-below t, walk-thing.Post) (walk-content-at t) walk-content.Post Inv μ-loop
     (λ c. (search needs, refl, refl))
     (λ c κs. search needs)
     (λ c. search needs)
     (λ c κs. search needs)
     (λ c κs. search needs)
+    (λ c κs. search needs)
     (λ c. search needs)
     (λ c. search needs)
     (λ c. search needs)
-    (λ c. sym (content-refused _ _ _ _ _ (c .before .before .before .before .before .before .before .before .before .before .loop-test .taken) _ (c .before .before .before .before .before .before .before .before .before .part-at .ensures) (c .before .before .before .before .before .before .before .enum-told .given .1) _ (c .before .before .before .before .before .before .sort-in .ensures) _ _ (c .before .before .before .before .walk-thing .ensures) _ (c .enum-told2 .given .1)) ∙ c .before .before .before .before .before .before .before .before .before .before .before .loop .inv .2)
-    (λ c. omega (arith, thing-past _ _ _ _ _ _ _ _ (c .before .before .before .before .before .walk-thing .ensures) _ (c .before .end .given .1)))
-    (λ c. (omega (arith, thing-past _ _ _ _ _ _ _ _ (c .before .before .before .before .before .walk-thing .ensures) _ (c .before .end .given .1)), search needs, sym (content-past _ _ _ _ _ (c .before .before .before .before .before .before .before .before .before .before .before .loop-test .taken) _ (c .before .before .before .before .before .before .before .before .before .before .part-at .ensures) (c .before .before .before .before .before .before .before .before .enum-told .given .1) _ (c .before .before .before .before .before .before .before .sort-in .ensures) _ _ (c .before .before .before .before .before .walk-thing .ensures) _ (c .before .end .given .1)) ∙ c .before .before .before .before .before .before .before .before .before .before .before .before .loop .inv .2))
+    (λ c. sym (content-refused _ _ _ _ _ (c .before .before .before .before .before .before .before .before .before .before .before .loop-test .taken) _ (c .before .before .before .before .before .before .before .before .before .before .part-at .ensures) (c .before .before .before .before .before .before .before .before .enum-told .given .1) _ (c .before .before .before .before .before .before .before .named-at .ensures) _ (c .before .before .before .before .before .before .drawn-as .ensures) _ _ (c .before .before .before .before .walk-thing .ensures) _ (c .enum-told2 .given .1)) ∙ c .before .before .before .before .before .before .before .before .before .before .before .before .loop .inv .2)
+    (λ c. omega (arith, thing-past _ _ _ _ _ _ _ _ _ (c .before .before .before .before .before .walk-thing .ensures) _ (c .before .end .given .1)))
+    (λ c. (omega (arith, thing-past _ _ _ _ _ _ _ _ _ (c .before .before .before .before .before .walk-thing .ensures) _ (c .before .end .given .1)), search needs, sym (content-past _ _ _ _ _ (c .before .before .before .before .before .before .before .before .before .before .before .before .loop-test .taken) _ (c .before .before .before .before .before .before .before .before .before .before .before .part-at .ensures) (c .before .before .before .before .before .before .before .before .before .enum-told .given .1) _ (c .before .before .before .before .before .before .before .before .named-at .ensures) _ (c .before .before .before .before .before .before .before .drawn-as .ensures) _ _ (c .before .before .before .before .before .walk-thing .ensures) _ (c .before .end .given .1)) ∙ c .before .before .before .before .before .before .before .before .before .before .before .before .before .loop .inv .2))
     (λ c. search needs)
     (λ c. search needs)
     (λ c. sym (content-close _ _ _ _ _ (c .before .before .before .before .loop-test .taken) _ (c .before .before .before .part-at .ensures) _ (c .before .part .given .1)) ∙ c .before .before .before .before .before .loop .inv .2)
@@ -84,8 +86,8 @@ pub +walk-content+walk-thing-spec : {M : Type 1} → statement M
     (λ c. search needs)
     (λ c. search needs)
     (λ c. search needs)
-    (λ c. c .before .before .walk-content .ensures ∙ sym (thing-open _ _ _ _ _ _ _ (c .before .before .before .before .before .before .before .before .before .before .before .note .ensures) _ (c .before .before .before .before .before .before .before .before .counted .ensures) _ (c .before .before .before .before .before .before .before .enter .ensures) _ (c .before .before .before .before .before .t .given .1)))
+    (λ c. c .before .before .walk-content .ensures ∙ sym (thing-open _ _ _ _ _ _ _ _ (c .before .before .before .before .before .before .before .before .before .before .before .note .ensures) _ (c .before .before .before .before .before .before .before .before .counted .ensures) _ (c .before .before .before .before .before .before .before .enter .ensures) _ (c .before .before .before .before .before .t .given .1)))
     (λ c. search needs)
-    (λ c. sym (thing-empty _ _ _ _ _ _ _ (c .before .before .before .before .before .before .before .note .ensures) _ (c .before .before .before .before .counted .ensures) _ (c .before .before .before .enter .ensures) _ (c .before .t2 .given .1)))
+    (λ c. sym (thing-empty _ _ _ _ _ _ _ _ (c .before .before .before .before .before .before .before .note .ensures) _ (c .before .before .before .before .counted .ensures) _ (c .before .before .before .enter .ensures) _ (c .before .t2 .given .1)))
     (λ c. search needs)
-    (λ c. sym (thing-fault _ _ _ _ _ _ _ (c .before .before .before .before .before .before .before .note .ensures) _ (c .before .before .before .before .counted .ensures) _ (c .before .before .before .enter .ensures) _ (c .before .t3 .given .1))))
+    (λ c. sym (thing-fault _ _ _ _ _ _ _ _ (c .before .before .before .before .before .before .before .note .ensures) _ (c .before .before .before .before .counted .ensures) _ (c .before .before .before .enter .ensures) _ (c .before .t3 .given .1))))
