@@ -130,9 +130,12 @@ enum cv_stack {
     CV_STACK_DRAW = 137152,
     CV_STACK_WRITE = 1536,
     CV_STACK_POLL = 2752,
-    CV_STACK_JUDGE = 54976,
+    CV_STACK_JUDGE = 55040,
     CV_STACK_REPAIR = 4800,
-    CV_STACK_NESTED = 1792
+    CV_STACK_NESTED = 1792,
+    CV_STACK_REPLAY = 55040,
+    CV_STACK_RESUME = 55040,
+    CV_STACK_LOG = 640
 };
 
 /* The numbers given back, in the words of documents 01 and 02. */

@@ -1088,6 +1088,17 @@ static void time_log(const char *name) {
     same("judge", "own", a.own, b.own);
 }
 
+static void time_replay(const char *name) {
+    clock_t start = clock();
+    ref_judged b = ref_replay(theirs.table, REF_VERSION_20, (const uint8_t *)text, text_length, theirs.state);
+    double reference = since(start);
+    start = clock();
+    cv_judged a = cv_replay(TABLE, CV_VERSION_20, (const uint8_t *)text, text_length, STATE);
+    told("replay", name, a.number, reference, since(start));
+    same("replay", "number", a.number, b.number);
+    same("replay", "beside", a.beside, b.beside);
+}
+
 static void time_repair(const char *name) {
     clock_t start = clock();
     ref_repaired b = ref_repair((const uint8_t *)text, text_length, theirs.buffer, TEXT_ROOM);
@@ -1141,6 +1152,12 @@ static void count_log(const char *name) {
     counted("judge", name, a.number);
 }
 
+static void count_replay(const char *name) {
+    count_from();
+    cv_judged a = cv_replay(TABLE, CV_VERSION_20, (const uint8_t *)text, text_length, STATE);
+    counted("replay", name, a.number);
+}
+
 static void count_repair(const char *name) {
     count_from();
     cv_repaired a = cv_repair((const uint8_t *)text, text_length, ours.buffer, TEXT_ROOM);
@@ -1148,7 +1165,7 @@ static void count_repair(const char *name) {
 }
 
 /* the texts that hold as much of one thing as fits, each in the calls that read it; repairs of the logs as they are, and without their last bytes */
-static void each_worst(void (*drawing)(const char *), void (*log)(const char *), void (*repair)(const char *), void (*notation)(const char *)) {
+static void each_worst(void (*drawing)(const char *), void (*log)(const char *), void (*replay)(const char *), void (*repair)(const char *), void (*notation)(const char *)) {
     const char *name;
     for (unsigned k = 0; (name = worst_text(k, text, &text_length)); k++) drawing(name);
     ref_read((const uint8_t *)worst_model, strlen(worst_model), theirs.table);
@@ -1156,19 +1173,19 @@ static void each_worst(void (*drawing)(const char *), void (*log)(const char *),
     for (unsigned k = 0; (name = worst_log(k, text, &text_length)); k++) {
         char cut[80];
         snprintf(cut, sizeof cut, "%s, cut off", name);
-        log(name), repair(name), text_length -= 3, repair(cut);
+        log(name), replay(name), repair(name), text_length -= 3, repair(cut);
     }
     for (unsigned k = 0; (name = worst_notation(k, text, &text_length)); k++) notation(name);
 }
 
 static int time_worst(void) {
-    each_worst(time_drawing, time_log, time_repair, time_text);
+    each_worst(time_drawing, time_log, time_replay, time_repair, time_text);
     for (unsigned branches = 2; branches < BRANCHES; branches++) time_nesting(branches);
     return 0;
 }
 
 static int count_worst(void) {
-    each_worst(count_drawing, count_log, count_repair, count_text);
+    each_worst(count_drawing, count_log, count_replay, count_repair, count_text);
     return 0;
 }
 

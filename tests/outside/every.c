@@ -158,6 +158,38 @@ static void a_log(void) {
     is("it is a log", cv_judge(TABLE, CV_VERSION_20, buffer, r.length).number, CV_ACCEPTED);
 }
 
+/* a log that is written piece by piece, replayed, and gone on with from a checkpoint */
+static size_t put(size_t at, cv_written w) {
+    is("a piece", w.number, CV_ACCEPTED), is("it is short", w.length <= CV_PIECE_MOST, 1);
+    return at + w.length;
+}
+
+#define REST(at) buffer + (at), sizeof buffer - (at)
+
+static void a_journal(void) {
+    cv_name first = step_of(1, 0, message(0, 0, 0));
+    cv_answer a;
+    is("fresh", cv_fresh(TABLE, CV_VERSION_20, STATE), CV_ACCEPTED), is("figures", cv_figures(TABLE, STATE, DESK), CV_ACCEPTED);
+    memcpy(kept, state, sizeof kept);
+    a = cv_step(TABLE, STATE, DESK, first);
+    is("log, no room", cv_log_begin(NULL, 0).number + cv_log_step(first, a, 0, NULL, 0).number + cv_log_post(3, message(1, 5, 0), 0, NULL, 0).number + cv_log_end(NULL, 0).number, 4 * CV_TOO_SHORT);
+    size_t n = put(0, cv_log_begin(REST(0)));
+    n = put(n, cv_log_step(first, a, 1760000000000u, REST(n)));
+    n = put(n, cv_log_end(REST(n)));
+    memcpy(state, kept, sizeof state);
+    is("replay, no state", cv_replay(TABLE, CV_VERSION_20, buffer, n, NULL, 0).number, CV_BAD);
+    is("replay, version 30", cv_replay(TABLE, 30, buffer, n, STATE).number, CV_OTHER_VERSION);
+    is("replay, no text", cv_replay(TABLE, CV_VERSION_20, NULL, 0, STATE).number, CV_NOT_A_LOG), stays("its state");
+    is("replay", cv_replay(TABLE, CV_VERSION_20, buffer, n, STATE).number, CV_ACCEPTED), is("its token", state[CV_INSTANCE(0, 0) + 1], 1);
+    cv_judged j = cv_resume(TABLE, STATE, buffer, n);
+    is("resume, the same again", j.number, CV_AT_FAULT), is("the event", j.beside, 0), is("its own number", j.own, CV_NOT_PERMITTED);
+    is("resume, no state", cv_resume(TABLE, NULL, 0, buffer, n).number, CV_BAD);
+    n = put(0, cv_log_begin(REST(0)));
+    n = put(n, cv_log_post(3, message(1, 5, 0), 0, REST(n)));
+    n = put(n, cv_log_end(REST(n)));
+    is("resume", cv_resume(TABLE, STATE, buffer, n).number, CV_ACCEPTED), is("queued", state[CV_QUEUE(3)], 1);
+}
+
 int main(void) {
     is("the number of the layouts", CV_NUMBERED(cv_abi_, CV_ABI)(), CV_ABI);
 #ifdef CV_VERSION_MAJOR
@@ -169,6 +201,7 @@ int main(void) {
     steps();
     polls_and_runs();
     a_log();
+    a_journal();
     printf("every call of the header, %u answers, as it says\n", answers);
     return 0;
 }

@@ -20,6 +20,7 @@ static char text[REF_TEXT_MOST + 64];
 static uint8_t buffer[REF_TEXT_MOST];
 static size_t length, ordinal;
 static cv_name name;
+static cv_answer answer = {0, CV_SENT, 15, {4, {4294967295, 4294967295, 4294967295, 4294967295}}};
 
 #define TABLE table, CV_TABLE_WORDS
 #define STATE state, CV_STATE_WORDS
@@ -40,13 +41,20 @@ static void poll(void) { cv_poll(TABLE, STATE, DESK, items, CV_POLL_WORDS, CV_IT
 static void judge(void) { cv_judge(TABLE, CV_VERSION_20, TEXT); }
 static void repair(void) { cv_repair(TEXT, buffer, sizeof buffer); }
 static void nested(void) { cv_nested(TABLE); }
+static void replay(void) { cv_replay(TABLE, CV_VERSION_20, TEXT, STATE); }
+static void resume(void) { cv_resume(TABLE, STATE, TEXT); }
+static void log_begin(void) { cv_log_begin(buffer, sizeof buffer); }
+static void log_step(void) { cv_log_step(name, answer, 253402300799999u, buffer, sizeof buffer); }
+static void log_post(void) { cv_log_post(15, answer.tuple, 253402300799999u, buffer, sizeof buffer); }
+static void log_end(void) { cv_log_end(buffer, sizeof buffer); }
 
 /* the most that each has needed, and what the header says */
 static struct { const char *call; void (*ask)(void); size_t says, most; } calls[] = {
     {"check", check, CV_STACK_CHECK, 0}, {"fresh", fresh, CV_STACK_FRESH, 0}, {"step", step, CV_STACK_STEP, 0}, {"post", post, CV_STACK_POST, 0},
     {"list", list, CV_STACK_LIST, 0}, {"run", run, CV_STACK_RUN, 0}, {"figures", figures, CV_STACK_FIGURES, 0}, {"read", read_text, CV_STACK_READ, 0},
     {"draw", draw_text, CV_STACK_DRAW, 0}, {"write", write_text, CV_STACK_WRITE, 0}, {"poll", poll, CV_STACK_POLL, 0}, {"judge", judge, CV_STACK_JUDGE, 0},
-    {"repair", repair, CV_STACK_REPAIR, 0}, {"nested", nested, CV_STACK_NESTED, 0},
+    {"repair", repair, CV_STACK_REPAIR, 0}, {"nested", nested, CV_STACK_NESTED, 0}, {"replay", replay, CV_STACK_REPLAY, 0}, {"resume", resume, CV_STACK_RESUME, 0},
+    {"log_begin", log_begin, CV_STACK_LOG, 0}, {"log_step", log_step, CV_STACK_LOG, 0}, {"log_post", log_post, CV_STACK_LOG, 0}, {"log_end", log_end, CV_STACK_LOG, 0},
 };
 enum { CALLS = sizeof calls / sizeof *calls };
 
@@ -108,11 +116,15 @@ int main(void) {
     for (unsigned k = 0; (of = worst_notation(k, text, &length)); k++) measure(read_text);
     for (unsigned k = 0; (of = worst_text(k, text, &length)); k++) measure(draw_text);
     cv_read((const uint8_t *)worst_model, strlen(worst_model), TABLE);
-    for (unsigned k = 0; (of = worst_log(k, text, &length)); k++) measure(judge), measure(repair), length -= 3, measure(repair);
+    for (unsigned k = 0; (of = worst_log(k, text, &length)); k++) {
+        measure(judge), measure(replay), measure(repair), cv_fresh(TABLE, CV_VERSION_20, STATE), measure(resume);
+        length -= 3, measure(repair);
+    }
+    measure(log_begin), measure(log_step), measure(log_post), measure(log_end);
     for (unsigned branches = 2; branches < 8; branches++) length = worst_nesting(branches, text), cv_read(TEXT, TABLE), measure(nested);
     bool wrong = false;
     for (unsigned c = 0; c < CALLS; c++) {
-        printf("%-8s %7zu bytes of stack, the header says %7zu\n", calls[c].call, calls[c].most, calls[c].says);
+        printf("%-9s %7zu bytes of stack, the header says %7zu\n", calls[c].call, calls[c].most, calls[c].says);
         wrong = wrong || calls[c].most > calls[c].says;
     }
     if (wrong) printf("a call needs more of the stack than include/cuttingvale.h says\n");
