@@ -6,6 +6,7 @@ use Prim.Native.Nat.{ℕ, _-_, _<_}
 use Prim.Native.String.{String}
 use lib.Dec.{eqb}
 use lib.ListN.{length, getD, take, replicate}
+use Rattle.base_words.specs.Blocks.{Bytes}
 use Rattle.base_words.specs.Pick.{if_then_else_}
 use Rattle.base_words.specs.Text.{bytes}
 use Rattle.base_kinds.specs.declared.Kind.{Kind}
@@ -47,7 +48,7 @@ abbrev sends : ℕ → Cell
 sends n = sendsColumn holding n
 
 -- the bytes of a text, blanks behind them up to n
-abbrev pub padded : ℕ → String → List ℕ
+abbrev pub padded : ℕ → String → Bytes
 padded n w = bytes w ++ replicate (n - length (bytes w)) 32
 
 abbrev kind : String → String → ℕ → ℕ → List Cell → Kind
@@ -146,7 +147,7 @@ pub record RowOf (k row : ℕ) : Type 0 where
   pub same : kindOf row ≡ kindOf k
 
 -- its keyword
-abbrev pub keywordOf : ℕ → List ℕ
+abbrev pub keywordOf : ℕ → Bytes
 keywordOf k = take (kindOf k .letters) (kindOf k .keyword)
 
 -- how many there are of what a cell says: none, one, or the n of a list

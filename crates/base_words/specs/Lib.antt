@@ -1,3 +1,4 @@
+pub mod Blocks
 pub mod All
 pub mod Sum
 pub mod Each

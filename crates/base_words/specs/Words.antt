@@ -2,6 +2,7 @@
 use mathlib.Core.List.{List, _++_}
 use Prim.Native.Nat.{ℕ, _-_}
 use lib.ListN.{getD, take, drop}
+use Rattle.base_words.specs.Blocks.{Block}
 
 -- the greatest value of a word
 abbrev pub greatest : ℕ
@@ -12,12 +13,12 @@ abbrev pub digits : ℕ
 digits = 10
 
 -- the word at place i
-abbrev pub at : List ℕ → ℕ → ℕ
+abbrev pub at : Block → ℕ → ℕ
 at s i = getD s i 0
 
 -- a part of a block, and the block with that part changed to p, as a part is lent and given back
-abbrev pub part : List ℕ → ℕ → ℕ → List ℕ
+abbrev pub part : Block → ℕ → ℕ → Block
 part s from to = take (to - from) (drop from s)
 
-abbrev pub patch : List ℕ → ℕ → ℕ → List ℕ → List ℕ
+abbrev pub patch : Block → ℕ → ℕ → Block → Block
 patch s from to p = take from s ++ (p ++ drop (to - from) (drop from s))

@@ -3,6 +3,7 @@ use mathlib.Core.Bool.{Bool, true, not, _&&_}
 use mathlib.Core.List.{List}
 use Prim.Native.Nat.{ℕ, _+_}
 use lib.Dec.{eqb, ltb}
+use Rattle.base_words.specs.Blocks.{Tally}
 use Rattle.base_words.specs.All.{all}
 use Rattle.base_words.specs.Pick.{if_then_else_}
 use Rattle.base_words.specs.Words.{at}
@@ -12,38 +13,38 @@ use Rattle.check_tally.specs.Tally.{onceIn}
 use Rattle.check_summary.specs.Summary.{exitsFrom, entriesFrom, firstsFrom, tasksFrom, startsFrom, receivedFrom, sentFrom, defaultsFrom, bindsFrom}
 use Rattle.check_model.specs.Checks.{edgeRight, oneStart, startReceives, edgesMeet, tasksDiffer, namesApart, oneDefault, bindsDiffer}
 
-unfoldable pub oneStartBy : List ℕ → Bool
+unfoldable pub oneStartBy : Tally → Bool
 oneStartBy s = eqb (at s (startsFrom + start) + at s (startsFrom + startRcv)) 1
 
-unfoldable pub startReceivesBy : ℕ → List ℕ → Bool
+unfoldable pub startReceivesBy : ℕ → Tally → Bool
 startReceivesBy limit s = if eqb limit 0 then true else eqb (at s (startsFrom + start)) 0
 
-unfoldable pub edgeBy : List ℕ → ℕ → Bool
+unfoldable pub edgeBy : Tally → ℕ → Bool
 edgeBy s k = edgeRight (at s (exitsFrom + (k + 1))) (at s (entriesFrom + (k + 1))) (at s (firstsFrom + (k + 1)))
 
-unfoldable pub edgesMeetBy : List ℕ → Bool
+unfoldable pub edgesMeetBy : Tally → Bool
 edgesMeetBy s = all (edgeBy s) edges
 
-unfoldable pub tasksDifferBy : List ℕ → Bool
+unfoldable pub tasksDifferBy : Tally → Bool
 tasksDifferBy s = onceIn s tasksFrom tasks
 
-unfoldable pub receivesBy : List ℕ → ℕ → Bool
+unfoldable pub receivesBy : Tally → ℕ → Bool
 receivesBy s m = ltb 0 (at s (receivedFrom + (m + 1)))
 
-unfoldable pub sendsBy : List ℕ → ℕ → Bool
+unfoldable pub sendsBy : Tally → ℕ → Bool
 sendsBy s m = ltb 0 (at s (sentFrom + (m + 1)))
 
-unfoldable pub notSentThereBy : List ℕ → Bool
+unfoldable pub notSentThereBy : Tally → Bool
 notSentThereBy s = all (λ m. not (receivesBy s m && sendsBy s m)) names
 
-unfoldable pub oneDefaultBy : List ℕ → Bool
+unfoldable pub oneDefaultBy : Tally → Bool
 oneDefaultBy s = eqb (at s (defaultsFrom + 1)) 0
 
-unfoldable pub bindsDifferBy : List ℕ → Bool
+unfoldable pub bindsDifferBy : Tally → Bool
 bindsDifferBy s = eqb (at s (bindsFrom + 1)) 0
 
 -- whether a pool keeps check k by itself
-unfoldable pub keptBy : ℕ → List ℕ → ℕ → Bool
+unfoldable pub keptBy : ℕ → Tally → ℕ → Bool
 keptBy limit s k =
     if eqb k oneStart then oneStartBy s else
     if eqb k startReceives then startReceivesBy limit s else

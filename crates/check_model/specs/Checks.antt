@@ -4,6 +4,7 @@ use mathlib.Core.Bool.{Bool, true, not, _&&_}
 use mathlib.Core.List.{List}
 use Prim.Native.Nat.{ℕ, _+_}
 use lib.Dec.{eqb, leb, ltb}
+use Rattle.base_words.specs.Blocks.{Element}
 use Rattle.base_words.specs.All.{all}
 use Rattle.base_words.specs.Each.{total, each}
 use Rattle.base_words.specs.Pick.{if_then_else_}
@@ -15,7 +16,7 @@ use Rattle.check_occurrences.specs.Occurrences.{ofKind, asExit, asEntry, asFirs
 pub record Pool : Type 0 where
   pub number : ℕ
   pub limit : ℕ
-  pub elements : List (List ℕ)
+  pub elements : List Element
 
 -- 1. Pool numbers differ.
 abbrev pub numbersDiffer : ℕ

@@ -6,31 +6,32 @@ use mathlib.Core.Path.{_≡_}
 use mathlib.Core.Bool.{Bool, true, _&&_, _||_}
 use mathlib.Core.List.{List, [], _∷_, _++_}
 use lib.Dec.{eqb}
+use Rattle.base_words.specs.Blocks.{Element}
 use Rattle.base_words.specs.Each.{total, tab}
 use Rattle.base_words.specs.Sum.{hit}
 use Rattle.base_kinds.specs.Kinds.{start, startRcv, end, interRcv, interSnd, eventBased, andSplit, andJoin, xorJoin, xorSplit, task, taskRcv, taskSnd}
 use Rattle.base_table.specs.Table.{kindIn, entryCount, exitCount, entryAt, exitAt}
 
 -- "one start or startRcv"; an element of a sequence; "andSplit closed by andJoin, or xorSplit or eventBased closed by xorJoin" (RULES: nested)
-unfoldable pub starts : List ℕ → Bool
+unfoldable pub starts : Element → Bool
 starts el = eqb (kindIn el) start || eqb (kindIn el) startRcv
 
-unfoldable pub passes : List ℕ → Bool
+unfoldable pub passes : Element → Bool
 passes el = eqb (kindIn el) interRcv || (eqb (kindIn el) interSnd || (eqb (kindIn el) task || (eqb (kindIn el) taskRcv || eqb (kindIn el) taskSnd)))
 
-unfoldable pub closesAll : List ℕ → List ℕ → Bool
+unfoldable pub closesAll : Element → Element → Bool
 closesAll el join = eqb (kindIn el) andSplit && eqb (kindIn join) andJoin
 
-unfoldable pub closesOne : List ℕ → List ℕ → Bool
+unfoldable pub closesOne : Element → Element → Bool
 closesOne el join = (eqb (kindIn el) xorSplit || eqb (kindIn el) eventBased) && eqb (kindIn join) xorJoin
 
-unfoldable pub closes : List ℕ → List ℕ → Bool
+unfoldable pub closes : Element → Element → Bool
 closes el join = closesAll el join || closesOne el join
 
-abbrev pub exitsOf : List ℕ → List ℕ
+abbrev pub exitsOf : Element → List ℕ
 exitsOf el = tab (exitAt el) (exitCount el)
 
-abbrev pub entriesOf : List ℕ → List ℕ
+abbrev pub entriesOf : Element → List ℕ
 entriesOf el = tab (entryAt el) (entryCount el)
 
 -- how often a number stands in a list; the same numbers, each as often

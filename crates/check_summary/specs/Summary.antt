@@ -4,6 +4,7 @@ use mathlib.Core.Bool.{not}
 use mathlib.Core.List.{List, [], _∷_, _++_}
 use Prim.Native.Nat.{ℕ, _+_}
 use lib.Dec.{eqb}
+use Rattle.base_words.specs.Blocks.{Element, Tally}
 use Rattle.base_words.specs.Counts.{edges, tasks, names}
 use Rattle.base_words.specs.Sum.{oneIf}
 use Rattle.base_words.specs.Words.{at}
@@ -46,35 +47,35 @@ abbrev pub summaryWords : ℕ
 summaryWords = bindsFrom + 1 + 1
 
 -- n edges of the list at a place; n message names
-unfoldable pub edgeRegion : ℕ → List ℕ → ℕ → ℕ → Region
+unfoldable pub edgeRegion : ℕ → Element → ℕ → ℕ → Region
 edgeRegion from el list n = record { from = from; most = edges; number = λ j. at el (edgePlace list j); many = n }
 
-unfoldable pub nameRegion : ℕ → List ℕ → ℕ → Region
+unfoldable pub nameRegion : ℕ → Element → ℕ → Region
 nameRegion from el n = record { from = from; most = names; number = λ j. messageName el j + 1; many = n }
 
 -- the entry of a `start` is a first edge
-unfoldable pub firstCount : List ℕ → ℕ
+unfoldable pub firstCount : Element → ℕ
 firstCount el = oneIf (eqb (kindIn el) start)
 
 -- what an element marks
-unfoldable pub edgeRegions : List ℕ → List Region
+unfoldable pub edgeRegions : Element → List Region
 edgeRegions el =
     edgeRegion exitsFrom el exitsPlace (exitCount el) ∷
     edgeRegion entriesFrom el entriesPlace (entryCount el) ∷
     edgeRegion firstsFrom el entriesPlace (firstCount el) ∷ []
 
-unfoldable pub headRegions : List ℕ → List Region
+unfoldable pub headRegions : Element → List Region
 headRegions el = oneRegion tasksFrom tasks (taskIn el) ∷ oneRegion startsFrom startRcv (kindIn el) ∷ []
 
-unfoldable pub nameRegions : List ℕ → List Region
+unfoldable pub nameRegions : Element → List Region
 nameRegions el = nameRegion receivedFrom el (receivedCount el) ∷ nameRegion sentFrom el (sentCount el) ∷ []
 
-unfoldable pub flagRegions : List ℕ → List Region
+unfoldable pub flagRegions : Element → List Region
 flagRegions el = oneRegion defaultsFrom 1 (oneIf (not (defaultOnce el))) ∷ oneRegion bindsFrom 1 (oneIf (not (boundOnce el))) ∷ []
 
-unfoldable pub regions : List ℕ → List Region
+unfoldable pub regions : Element → List Region
 regions el = edgeRegions el ++ (headRegions el ++ (nameRegions el ++ flagRegions el))
 
 -- the summary of the elements of a pool
-unfoldable pub summary : List (List ℕ) → List ℕ
+unfoldable pub summary : List Element → Tally
 summary els = tallied summaryWords regions els

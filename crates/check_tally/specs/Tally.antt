@@ -5,6 +5,7 @@ use mathlib.Core.List.{List, [], _∷_, _++_}
 use Prim.Native.Nat.{ℕ, zero, suc, _+_}
 use lib.Dec.{leb, ltb}
 use lib.ListN.{set, replicate}
+use Rattle.base_words.specs.Blocks.{Tally}
 use Rattle.base_words.specs.All.{all}
 use Rattle.base_words.specs.Each.{total, tab}
 use Rattle.base_words.specs.Pick.{if_then_else_}
@@ -18,11 +19,11 @@ several = 2
 unfoldable pub more : ℕ → ℕ
 more x = if ltb x several then x + 1 else x
 
-unfoldable pub marked : List ℕ → ℕ → List ℕ
+unfoldable pub marked : Tally → ℕ → Tally
 marked s k = set s k (more (at s k))
 
 -- the places ks marked, one after the other
-unfoldable pub tally : List ℕ → List ℕ → List ℕ
+unfoldable pub tally : Tally → List ℕ → Tally
 tally s [] = s
 tally s (k ∷ ks) = tally (marked s k) ks
 
@@ -61,11 +62,11 @@ allMarks f [] = []
 allMarks f (x ∷ xs) = marksOf (f x) ++ allMarks f xs
 
 -- the tally, of `size` words, of all things of a list
-unfoldable pub tallied : {A : Type 0} → ℕ → (A → List Region) → List A → List ℕ
+unfoldable pub tallied : {A : Type 0} → ℕ → (A → List Region) → List A → Tally
 tallied size f xs = tally (replicate size 0) (allMarks f xs)
 
 -- no number of a region was marked twice
-unfoldable pub onceIn : List ℕ → ℕ → ℕ → Bool
+unfoldable pub onceIn : Tally → ℕ → ℕ → Bool
 onceIn s from most = all (λ k. leb (at s (from + (k + 1))) 1) most
 
 -- how often k is among the marks

@@ -3,6 +3,7 @@ use mathlib.Core.Bool.{Bool, not, _&&_}
 use mathlib.Core.List.{List, [], _∷_}
 use Prim.Native.Nat.{ℕ, _+_}
 use lib.Dec.{eqb}
+use Rattle.base_words.specs.Blocks.{Tally}
 use Rattle.base_words.specs.Pick.{if_then_else_}
 use Rattle.base_words.specs.Words.{at}
 use Rattle.base_words.specs.Counts.{poolNumbers, names}
@@ -24,39 +25,39 @@ brokenFrom = namesFrom + 1 + names
 abbrev pub modelWords : ℕ
 modelWords = brokenFrom + 1 + checks
 
-unfoldable pub nameIf : List ℕ → ℕ → ℕ
+unfoldable pub nameIf : Tally → ℕ → ℕ
 nameIf s m = if receivesBy s m then m + 1 else 0
 
-unfoldable pub namesRegion : List ℕ → Region
+unfoldable pub namesRegion : Tally → Region
 namesRegion s = record { from = namesFrom; most = names; number = λ m. nameIf s m; many = names }
 
-unfoldable pub brokenIf : ℕ → List ℕ → ℕ → ℕ
+unfoldable pub brokenIf : ℕ → Tally → ℕ → ℕ
 brokenIf limit s k = if not (keptBy limit s k) then k else 0
 
-unfoldable pub brokenRegion : ℕ → List ℕ → Region
+unfoldable pub brokenRegion : ℕ → Tally → Region
 brokenRegion limit s = record { from = brokenFrom; most = checks; number = λ k. brokenIf limit s (k + 1); many = checks }
 
 -- what a pool marks
-unfoldable pub summaryRegions : ℕ → ℕ → List ℕ → List Region
+unfoldable pub summaryRegions : ℕ → ℕ → Tally → List Region
 summaryRegions number limit s = oneRegion numbersFrom poolNumbers number ∷ namesRegion s ∷ brokenRegion limit s ∷ []
 
 unfoldable pub poolRegions : Pool → List Region
 poolRegions p = summaryRegions (p .number) (p .limit) (summary (p .elements))
 
-unfoldable pub modelTally : List Pool → List ℕ
+unfoldable pub modelTally : List Pool → Tally
 modelTally ps = tallied modelWords poolRegions ps
 
 -- the checks of a model, by its tally t
-unfoldable pub numbersDifferIn : List ℕ → Bool
+unfoldable pub numbersDifferIn : Tally → Bool
 numbersDifferIn t = onceIn t numbersFrom poolNumbers
 
-unfoldable pub keptIn : List ℕ → ℕ → Bool
+unfoldable pub keptIn : Tally → ℕ → Bool
 keptIn t k = eqb (at t (brokenFrom + k)) 0
 
-unfoldable pub namesApartIn : List ℕ → Bool
+unfoldable pub namesApartIn : Tally → Bool
 namesApartIn t = onceIn t namesFrom names && keptIn t namesApart
 
-unfoldable pub lowestIn : List ℕ → ℕ
+unfoldable pub lowestIn : Tally → ℕ
 lowestIn t =
     if not (numbersDifferIn t) then numbersDiffer else
     if not (keptIn t oneStart) then oneStart else

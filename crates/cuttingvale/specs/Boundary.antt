@@ -3,6 +3,7 @@ use Prim.Native.Nat.{ℕ, _*_}
 use mathlib.Core.Bool.{Bool, _&&_}
 use mathlib.Core.List.{List}
 use lib.Dec.{eqb, ltb}
+use Rattle.base_words.specs.Blocks.{Records, Block, Bytes, Table, State}
 use Rattle.base_words.specs.Pick.{if_then_else_}
 use Rattle.base_table.specs.Places.{tableWords}
 use Rattle.base_state.specs.Places.{stateWords}
@@ -32,10 +33,10 @@ use Rattle.cuttingvale.specs.declared.Taken.{Taken}
 unfoldable pub areWhole : ℕ → ℕ → Bool
 areWhole n m = eqb n tableWords && eqb m stateWords
 
-unfoldable pub checkedBy : List ℕ → ℕ → Verdict
+unfoldable pub checkedBy : Table → ℕ → Verdict
 checkedBy t n = if eqb n tableWords then verdictOf t else record { number = 10; beside = 0 }
 
-unfoldable pub freshenedBy : List ℕ → ℕ → ℕ → List ℕ → ℕ → Left
+unfoldable pub freshenedBy : Table → ℕ → ℕ → State → ℕ → Left
 freshenedBy t n v z m = if areWhole n m then freshened t v z else record { number = 10; state = z }
 
 -- what a step did to the queues, as a number
@@ -47,7 +48,7 @@ trafficNumber Sent = 2
 -- an answer given back, and the state that is left
 pub record TakenTo : Type 0 where
   pub answer : Taken
-  pub state : List ℕ
+  pub state : State
 
 unfoldable pub told : Stepped → TakenTo
 told s =
@@ -60,31 +61,31 @@ unfoldable pub toldAt : AtDesk Stepped → AtDesk TakenTo
 toldAt s = record { done = told (s .done); records = s .records }
 
 -- the pool records rs come with their number, which the call itself looks at
-unfoldable pub steppedBy : List ℕ → ℕ → List ℕ → ℕ → List (List ℕ) → Name → AtDesk TakenTo
+unfoldable pub steppedBy : Table → ℕ → State → ℕ → Records → Name → AtDesk TakenTo
 steppedBy t n z m rs name =
     if areWhole n m then toldAt (steppedAt t z rs name)
     else record { done = record { answer = record { number = 10; traffic = 0; name = 0; tuple = empty }; state = z }; records = rs }
 
-unfoldable pub postedBy : List ℕ → ℕ → List ℕ → ℕ → ℕ → Tuple → Left
+unfoldable pub postedBy : Table → ℕ → State → ℕ → ℕ → Tuple → Left
 postedBy t n z m name g = if areWhole n m then postedTo t z name g else record { number = 10; state = z }
 
-unfoldable pub listedBy : List ℕ → ℕ → List ℕ → ℕ → ℕ → Listed
+unfoldable pub listedBy : Table → ℕ → State → ℕ → ℕ → Listed
 listedBy t n z m k = if areWhole n m then listedAt t z k else record { number = 10; name = blank }
 
-unfoldable pub ranBy : List ℕ → ℕ → List ℕ → ℕ → List (List ℕ) → ℕ → AtDesk RanTo
+unfoldable pub ranBy : Table → ℕ → State → ℕ → Records → ℕ → AtDesk RanTo
 ranBy t n z m rs limit =
     if areWhole n m then ranAt t z rs limit else record { done = record { number = 10; steps = 0; left = 0; state = z }; records = rs }
 
-unfoldable pub figuredBy : List ℕ → ℕ → List ℕ → ℕ → List (List ℕ) → Figured
+unfoldable pub figuredBy : Table → ℕ → State → ℕ → Records → Figured
 figuredBy t n z m rs = if areWhole n m then figuredTo t z rs else record { number = 10; records = rs }
 
-unfoldable pub readBy : List ℕ → List ℕ → ℕ → ReadInto
+unfoldable pub readBy : Bytes → Table → ℕ → ReadInto
 readBy text t n = if eqb n tableWords then readInto text t else record { number = 10; beside = 0; table = t }
 
-unfoldable pub drawnBy : List ℕ → List ℕ → ℕ → ReadInto
+unfoldable pub drawnBy : Bytes → Table → ℕ → ReadInto
 drawnBy text t n = if eqb n tableWords then drawInto text t else record { number = 10; beside = 0; table = t }
 
-unfoldable pub writtenBy : List ℕ → ℕ → List ℕ → WrittenTo
+unfoldable pub writtenBy : Table → ℕ → Bytes → WrittenTo
 writtenBy t n out = if eqb n tableWords then writtenTo t out else record { number = 10; length = 0; buffer = out }
 
 abbrev pub pollWords : ℕ
@@ -97,17 +98,17 @@ areLent n m k = eqb k pollWords && areWhole n m
 unfoldable pub lentWrong : ℕ → ℕ
 lentWrong count = if ltb itemsMost count then 22 else 10
 
-unfoldable pub polledBy : List ℕ → ℕ → List ℕ → ℕ → List (List ℕ) → List ℕ → ℕ → ℕ → AtDesk Polling
+unfoldable pub polledBy : Table → ℕ → State → ℕ → Records → Block → ℕ → ℕ → AtDesk Polling
 polledBy t n z m rs w k count =
     if areLent n m k then polledAt t z rs w count else record { done = record { number = lentWrong count; accepted = 0; state = z }; records = rs }
 
-unfoldable pub judgedBy : List ℕ → ℕ → ℕ → List ℕ → Judged
+unfoldable pub judgedBy : Table → ℕ → ℕ → Bytes → Judged
 judgedBy t n v log = if eqb n tableWords then judgedTo t v log else record { number = 10; beside = 0; own = 0 }
 
-unfoldable pub replayedBy : List ℕ → ℕ → ℕ → List ℕ → List ℕ → ℕ → Replayed
+unfoldable pub replayedBy : Table → ℕ → ℕ → Bytes → State → ℕ → Replayed
 replayedBy t n v log z m = if areWhole n m then replayedTo t v log z else record { answer = record { number = 10; beside = 0; own = 0 }; state = z }
 
-unfoldable pub resumedBy : List ℕ → ℕ → List ℕ → ℕ → List ℕ → Replayed
+unfoldable pub resumedBy : Table → ℕ → State → ℕ → Bytes → Replayed
 resumedBy t n z m log = if areWhole n m then resumedTo t z log else record { answer = record { number = 10; beside = 0; own = 0 }; state = z }
 
 -- a step's answer as C has it, back: another number than 1 and 2 is nothing
@@ -117,5 +118,5 @@ trafficBy n = if eqb n 1 then Consumed else if eqb n 2 then Sent else Nothing
 unfoldable pub answerBy : Taken → Answer
 answerBy a = record { number = a .number; traffic = trafficBy (a .traffic); name = a .name; tuple = a .tuple }
 
-unfoldable pub nestedBy : List ℕ → ℕ → Verdict
+unfoldable pub nestedBy : Table → ℕ → Verdict
 nestedBy t n = if eqb n tableWords then nestedOf t else record { number = 10; beside = 0 }

@@ -4,6 +4,7 @@ use Prim.Native.Nat.{ℕ}
 use mathlib.Core.Bool.{Bool, not}
 use mathlib.Core.List.{List, [], _∷_}
 use lib.Dec.{eqb}
+use Rattle.base_words.specs.Blocks.{Bytes}
 use Rattle.base_words.specs.Pick.{if_then_else_}
 use Rattle.base_words.specs.Text.{bytes}
 use Rattle.base_table.specs.Places.{always, default, equals, below}
@@ -64,5 +65,5 @@ conditionOf s =
     else compared s
 
 -- the condition that the element whose tag is at p says
-unfoldable pub conditionAt : List ℕ → ℕ → Condition
+unfoldable pub conditionAt : Bytes → ℕ → Condition
 conditionAt t p = conditionOf (behind Blanks (saidAt t p))

@@ -6,6 +6,7 @@ use mathlib.Core.Bool.{Bool, true, false}
 use mathlib.Core.List.{List, [], _∷_}
 use lib.Dec.{leb, eqb}
 use lib.ListN.{length}
+use Rattle.base_words.specs.Blocks.{Bytes}
 use Rattle.base_words.specs.Pick.{if_then_else_}
 use Rattle.base_words.specs.Text.{bytes}
 use Rattle.base_words.specs.Words.{at}
@@ -33,15 +34,15 @@ abbrev pub spot : Bool → ℕ → Spot
 spot section i = record { section = section; at = i }
 
 -- n bytes on, in the text
-unfoldable pub forward : List ℕ → ℕ → ℕ → ℕ
+unfoldable pub forward : Bytes → ℕ → ℕ → ℕ
 forward t i n = min (i + n) (length t)
 
 -- a byte that stands for itself
-unfoldable pub plainStep : List ℕ → Bool → ℕ → Step
+unfoldable pub plainStep : Bytes → Bool → ℕ → Step
 plainStep t section i = Byte (plainAt t i .byte) i (spot section (plainAt t i .next))
 
 -- a markup at i, with q behind it; a section's text begins behind `<![CDATA[`
-unfoldable pub stepBy : Sort → List ℕ → ℕ → ℕ → Step
+unfoldable pub stepBy : Sort → Bytes → ℕ → ℕ → Step
 stepBy StartTag t i q = Byte 0 i (spot false q)
 stepBy EmptyTag t i q = Byte 0 i (spot false q)
 stepBy EndTag t i q = End
@@ -53,20 +54,20 @@ stepBy Instruction t i q = On (spot false q)
 stepBy TheEnd t i q = End
 stepBy Fault t i q = End
 
-unfoldable pub markupStep : List ℕ → ℕ → Step
+unfoldable pub markupStep : Bytes → ℕ → Step
 markupStep t i = stepBy (markup t i .sort) t i (markup t i .next)
 
-unfoldable pub textStep : List ℕ → ℕ → Step
+unfoldable pub textStep : Bytes → ℕ → Step
 textStep t i =
     if eqb (at t i) (code "<") then markupStep t i
     else if eqb (at t i) (code "&") then markupStep t i
     else plainStep t false i
 
 -- a section goes up to `]]>`
-unfoldable pub sectionStep : List ℕ → ℕ → Step
+unfoldable pub sectionStep : Bytes → ℕ → Step
 sectionStep t i = if beginsAt t i (bytes "]]>") then On (spot false (forward t i 3)) else plainStep t true i
 
-unfoldable pub stepAt : List ℕ → Spot → Step
+unfoldable pub stepAt : Bytes → Spot → Step
 stepAt t s =
     if leb (length t) (s .at) then End
     else if s .section then sectionStep t (s .at)
@@ -78,20 +79,20 @@ further (On s) on = on s
 further End on = []
 
 -- from s on, in n steps at most; each passes a byte, so the text's length is enough
-unfoldable pub saidIn : ℕ → List ℕ → Spot → List Said
+unfoldable pub saidIn : ℕ → Bytes → Spot → List Said
 saidIn zero t s = []
 saidIn (suc n) t s = further (stepAt t s) (saidIn n t)
 
-unfoldable pub said : List ℕ → Spot → List Said
+unfoldable pub said : Bytes → Spot → List Said
 said t s = saidIn (length t) t s
 
 -- the next byte that is said, and all behind it
-unfoldable pub seen : List ℕ → View → List Said
+unfoldable pub seen : Bytes → View → List Said
 seen t (Seen b i s) = says b i ∷ said t s
 seen t Over = []
 
 -- what the element whose tag is at p says; an empty tag says nothing
-unfoldable pub saidBy : Sort → List ℕ → ℕ → List Said
+unfoldable pub saidBy : Sort → Bytes → ℕ → List Said
 saidBy StartTag t q = said t (spot false q)
 saidBy EmptyTag t q = []
 saidBy EndTag t q = []
@@ -103,5 +104,5 @@ saidBy Instruction t q = []
 saidBy TheEnd t q = []
 saidBy Fault t q = []
 
-unfoldable pub saidAt : List ℕ → ℕ → List Said
+unfoldable pub saidAt : Bytes → ℕ → List Said
 saidAt t p = saidBy (markup t p .sort) t (markup t p .next)

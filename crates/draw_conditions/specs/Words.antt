@@ -4,6 +4,7 @@ use Prim.Native.Nat.{ℕ, _+_, _-_, _*_}
 use mathlib.Core.Bool.{Bool, true, false}
 use mathlib.Core.List.{List, [], _∷_}
 use lib.Dec.{leb}
+use Rattle.base_words.specs.Blocks.{Bytes}
 use Rattle.base_words.specs.Pick.{if_then_else_}
 use Rattle.base_words.specs.Words.{greatest}
 use Rattle.text_lexer.specs.Lexer.{isBlank, isWord}
@@ -29,12 +30,12 @@ behind class [] = []
 behind class (x ∷ s) = if isOf class (x .byte) then behind class s else x ∷ s
 
 -- the word that comes first; no byte where none does
-unfoldable pub letters : List Said → List ℕ
+unfoldable pub letters : List Said → Bytes
 letters [] = []
 letters (x ∷ s) = if isWord (x .byte) then x .byte ∷ letters s else []
 
 -- the same by the view of the next byte, where it is of a word
-unfoldable pub spelt : List ℕ → View → List ℕ
+unfoldable pub spelt : Bytes → View → Bytes
 spelt t (Seen b i s) = b ∷ letters (said t s)
 spelt t Over = []
 

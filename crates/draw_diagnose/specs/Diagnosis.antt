@@ -2,6 +2,7 @@
 use Prim.Native.Nat.{ℕ}
 use mathlib.Core.List.{List}
 use lib.Dec.{eqb}
+use Rattle.base_words.specs.Blocks.{Bytes, Drawing}
 use Rattle.base_words.specs.Pick.{if_then_else_}
 use Rattle.text_read.specs.declared.Reading.{Reading}
 use Rattle.draw_walk.specs.Walk.{Walk}
@@ -20,12 +21,12 @@ noneFree = 28
 abbrev pub told : ℕ → ℕ → ℕ → Diagnosis
 told number rule at = record { number = number; rule = rule; place = at }
 
-unfoldable pub diagnosedBy : Reading → List ℕ → List ℕ → ℕ → Diagnosis
+unfoldable pub diagnosedBy : Reading → Bytes → Drawing → ℕ → Diagnosis
 diagnosedBy a t w n =
     if eqb (a .number) notRun then told (a .number) (brokenIn t w n .rule) (brokenIn t w n .place)
     else if eqb (a .number) checkBroken then told (a .number) (a .beside) (seatAt (a .beside) t w n)
     else if eqb (a .number) noneFree then told (a .number) 0 (seatAt 0 t w n)
     else told (a .number) 0 (a .beside)
 
-unfoldable pub diagnosed : List ℕ → Diagnosis
+unfoldable pub diagnosed : Bytes → Diagnosis
 diagnosed text = diagnosedBy (answered text) text (thingsOf text) (walked text .count)

@@ -4,6 +4,7 @@ use Prim.Native.Nat.{ℕ, _+_}
 use mathlib.Core.Bool.{Bool, _&&_, _||_}
 use mathlib.Core.List.{List}
 use lib.Dec.{eqb, ltb}
+use Rattle.base_words.specs.Blocks.{Bytes, Drawing}
 use Rattle.base_words.specs.Pick.{if_then_else_}
 use Rattle.base_words.specs.Seek.{seek}
 use Rattle.draw_things.specs.Things.{room, place, source, target}
@@ -11,7 +12,7 @@ use Rattle.draw_diagnose.specs.declared.Broken.{Broken}
 use Rattle.draw_faults.specs.Amiss.{isStrange, isRepeated, isSecondCollaboration, isLost, isUnowned, isSecondMultiplicity, isLoose, isOfNoKind, hasWrongDefault, isWrongMessage, isUnheard, isUntold, isWrongBranch, isSecondCondition, isWrongCondition, hasParticipants, hasPool}
 
 -- a message flow that is wrong because one of its references names nothing: such a one is looked for before the kinds of what others join
-unfoldable pub isAdrift : List ℕ → List ℕ → ℕ → Bool
+unfoldable pub isAdrift : Bytes → Drawing → ℕ → Bool
 isAdrift t w k = isWrongMessage t w k && (eqb (source w k) 0 || eqb (target w k) 0)
 
 abbrev pub strange : ℕ
@@ -73,7 +74,7 @@ abbrev pub tooMany : ℕ
 tooMany = 18
 
 -- THING k BREAKS A RULE
-unfoldable pub breaksPools : ℕ → List ℕ → List ℕ → ℕ → ℕ → Bool
+unfoldable pub breaksPools : ℕ → Bytes → Drawing → ℕ → ℕ → Bool
 breaksPools rule t w n k =
     if eqb rule strange then isStrange w k
     else if eqb rule repeated then isRepeated t w k
@@ -82,7 +83,7 @@ breaksPools rule t w n k =
     else if eqb rule unowned then isUnowned w n k
     else isSecondMultiplicity w k
 
-unfoldable pub breaksNodes : ℕ → List ℕ → List ℕ → ℕ → ℕ → Bool
+unfoldable pub breaksNodes : ℕ → Bytes → Drawing → ℕ → ℕ → Bool
 breaksNodes rule t w n k =
     if eqb rule loose then isLoose w k
     else if eqb rule adrift then isAdrift t w k
@@ -90,7 +91,7 @@ breaksNodes rule t w n k =
     else if eqb rule wrongDefault then hasWrongDefault t w n k
     else isWrongMessage t w k
 
-unfoldable pub breaksFlows : ℕ → List ℕ → List ℕ → ℕ → ℕ → Bool
+unfoldable pub breaksFlows : ℕ → Bytes → Drawing → ℕ → ℕ → Bool
 breaksFlows rule t w n k =
     if eqb rule unheard then isUnheard w n k
     else if eqb rule untold then isUntold w n k
@@ -98,30 +99,30 @@ breaksFlows rule t w n k =
     else if eqb rule secondCondition then isSecondCondition w k
     else isWrongCondition t w k
 
-unfoldable pub breaks : ℕ → List ℕ → List ℕ → ℕ → ℕ → Bool
+unfoldable pub breaks : ℕ → Bytes → Drawing → ℕ → ℕ → Bool
 breaks rule t w n k =
     if ltb rule loose then breaksPools rule t w n k
     else if ltb rule unheard then breaksNodes rule t w n k
     else breaksFlows rule t w n k
 
 -- the first thing that breaks a rule, n where none does; the first rule that is broken
-unfoldable pub firstBreaking : ℕ → List ℕ → List ℕ → ℕ → ℕ
+unfoldable pub firstBreaking : ℕ → Bytes → Drawing → ℕ → ℕ
 firstBreaking rule t w n = seek (breaks rule t w n) n
 
-unfoldable pub isBroken : List ℕ → List ℕ → ℕ → ℕ → Bool
+unfoldable pub isBroken : Bytes → Drawing → ℕ → ℕ → Bool
 isBroken t w n r = ltb (firstBreaking (r + 1) t w n) n
 
-unfoldable pub firstBroken : List ℕ → List ℕ → ℕ → ℕ
+unfoldable pub firstBroken : Bytes → Drawing → ℕ → ℕ
 firstBroken t w n = seek (isBroken t w n) rulesOfThings
 
 -- THE RULE and the place of the `<` of the first thing that breaks it; of a whole drawing the root's; 0 and 0 where none is broken
-unfoldable pub brokenByAll : List ℕ → ℕ → Broken
+unfoldable pub brokenByAll : Drawing → ℕ → Broken
 brokenByAll w n =
     if hasPool (hasParticipants w n) w n then
     (if ltb room n then record { rule = tooMany; place = place w 0 } else record { rule = 0; place = 0 })
     else record { rule = noPool; place = place w 0 }
 
-unfoldable pub brokenIn : List ℕ → List ℕ → ℕ → Broken
+unfoldable pub brokenIn : Bytes → Drawing → ℕ → Broken
 brokenIn t w n =
     if ltb (firstBroken t w n) rulesOfThings then record { rule = firstBroken t w n + 1; place = place w (firstBreaking (firstBroken t w n + 1) t w n) }
     else brokenByAll w n

@@ -4,6 +4,7 @@ use Prim.Native.Nat.{ℕ}
 use mathlib.Core.Bool.{Bool, true, false, not, _&&_, _||_}
 use mathlib.Core.List.{List}
 use lib.Dec.{eqb, leb, ltb}
+use Rattle.base_words.specs.Blocks.{Bytes, Drawing}
 use Rattle.base_words.specs.All.{all}
 use Rattle.base_words.specs.Pick.{if_then_else_}
 use Rattle.base_words.specs.Seek.{seek}
@@ -17,65 +18,65 @@ use Rattle.draw_kinds.specs.Counting.{sourceIn, targetIn, withinIn, ofSort, cou
 use Rattle.draw_conditions.specs.Conditions.{conditionAt, absent, foreign}
 
 -- an attribute of thing k is there
-unfoldable pub has : List ℕ → List ℕ → List ℕ → ℕ → Bool
+unfoldable pub has : Bytes → Bytes → Drawing → ℕ → Bool
 has t name w k = ifIs (attribute t (place w k) name) (λ from to. true) false
 
 -- thing k is not the first of its sort in the thing that it stands in
-unfoldable pub isSecond : ℕ → List ℕ → ℕ → Bool
+unfoldable pub isSecond : ℕ → Drawing → ℕ → Bool
 isSecond s w k = ofSort s w k && ltb 0 (countWith s withinIn (within w k) w k)
 
 -- ANYWHERE: "a child that is none of these here is 'an element we don't run'" (R12, R14) (RULES: drawn)
-unfoldable pub isStrange : List ℕ → ℕ → Bool
+unfoldable pub isStrange : Drawing → ℕ → Bool
 isStrange w k = ofSort stranger w k
 
 -- "Two of the elements read (participants, message flows, processes, nodes, sequence flows) with the same id: 21" (R17): one before thing k has its id (RULES: drawn)
 unfoldable pub isReadSort : ℕ → Bool
 isReadSort s = isNode s || (eqb s participant || (eqb s messageFlow || (eqb s process || eqb s sequenceFlow)))
 
-unfoldable pub isRead : List ℕ → ℕ → Bool
+unfoldable pub isRead : Drawing → ℕ → Bool
 isRead w j = isReadSort (sort w j)
 
-unfoldable pub isTaken : List ℕ → List ℕ → List ℕ → ℕ → Bool
+unfoldable pub isTaken : Bytes → Bytes → Drawing → ℕ → Bool
 isTaken t v w k = ltb (seek (λ j. isRead w j && hasId t v w j) k) k
 
-unfoldable pub isRepeated : List ℕ → List ℕ → ℕ → Bool
+unfoldable pub isRepeated : Bytes → Drawing → ℕ → Bool
 isRepeated t w k = isRead w k && ifIs (attribute t (place w k) (bytes "id")) (λ from to. isTaken t (part t from to) w k) false
 
 -- POOLS: "the participants with a processRef, in their order" (R18) or, with no participant, each process (R19) (RULES: drawn)
-unfoldable pub hasParticipants : List ℕ → ℕ → Bool
+unfoldable pub hasParticipants : Drawing → ℕ → Bool
 hasParticipants w n = ltb (seek (ofSort participant w) n) n
 
-unfoldable pub isPool : Bool → List ℕ → ℕ → Bool
+unfoldable pub isPool : Bool → Drawing → ℕ → Bool
 isPool owned w k = if owned then ofSort participant w k && not (eqb (source w k) 0) else ofSort process w k
 
 -- "At most one collaboration" (R18) (RULES: drawn)
-unfoldable pub isSecondCollaboration : List ℕ → ℕ → Bool
+unfoldable pub isSecondCollaboration : Drawing → ℕ → Bool
 isSecondCollaboration w k = ofSort collaboration w k && ltb 0 (countSort collaboration w k)
 
 -- a processRef that names no process (R17) (RULES: drawn)
-unfoldable pub isLost : List ℕ → List ℕ → ℕ → Bool
+unfoldable pub isLost : Bytes → Drawing → ℕ → Bool
 isLost t w k = ofSort participant w k && (has t (bytes "processRef") w k && eqb (source w k) 0)
 
 -- "Each process belongs to exactly one of them, else 21 (an unused process too)" (R18) (RULES: drawn)
-unfoldable pub isUnowned : List ℕ → ℕ → ℕ → Bool
+unfoldable pub isUnowned : Drawing → ℕ → ℕ → Bool
 isUnowned w n k = ofSort process w k && (hasParticipants w n && not (eqb (countWith participant sourceIn k w n) 1))
 
 -- "participantMultiplicity makes a miPool .. two of them: 21" (R20) (RULES: drawn)
-unfoldable pub isSecondMultiplicity : List ℕ → ℕ → Bool
+unfoldable pub isSecondMultiplicity : Drawing → ℕ → Bool
 isSecondMultiplicity w k = isSecond participantMultiplicity w k
 
 -- NODES: one that is of no kind, by its definitions, its entries and exits (R15, R16) (RULES: nodes)
-unfoldable pub isOfKind : ℕ → List ℕ → ℕ → Bool
+unfoldable pub isOfKind : ℕ → Drawing → ℕ → Bool
 isOfKind c w j = isNode (sort w j) && eqb (kind w j) c
 
-unfoldable pub isOfNoKind : List ℕ → ℕ → Bool
+unfoldable pub isOfNoKind : Drawing → ℕ → Bool
 isOfNoKind w k = isOfKind 0 w k
 
 -- "`default` of an exclusive split names one of its own outgoing flows, else 21; on any other element it is ignored" (R22) (RULES: flows)
-unfoldable pub isSplit : List ℕ → ℕ → Bool
+unfoldable pub isSplit : Drawing → ℕ → Bool
 isSplit w k = isOfKind kinds.xorSplit w k
 
-unfoldable pub hasWrongDefault : List ℕ → List ℕ → ℕ → ℕ → Bool
+unfoldable pub hasWrongDefault : Bytes → Drawing → ℕ → ℕ → Bool
 hasWrongDefault t w n k = isSplit w k && (has t (bytes "default") w k && eqb (named t w n k (bytes "default")) 0)
 
 -- "a sender (sendTask, message throw or end)", "a receiver (receiveTask, message start or catch)" (R24) (RULES: flows)
@@ -85,70 +86,70 @@ sends c = eqb c kinds.taskSnd || (eqb c kinds.interSnd || eqb c kinds.endSnd)
 unfoldable pub receives : ℕ → Bool
 receives c = eqb c kinds.taskRcv || (eqb c kinds.startRcv || (eqb c kinds.interRcv || eqb c branch))
 
-unfoldable pub isSender : List ℕ → ℕ → Bool
+unfoldable pub isSender : Drawing → ℕ → Bool
 isSender w j = isNode (sort w j) && sends (kind w j)
 
-unfoldable pub isReceiver : List ℕ → ℕ → Bool
+unfoldable pub isReceiver : Drawing → ℕ → Bool
 isReceiver w j = isNode (sort w j) && receives (kind w j)
 
 -- "Each sender is the source and each receiver the target of exactly one" message flow (R24) (RULES: flows)
-unfoldable pub isUnheard : List ℕ → ℕ → ℕ → Bool
+unfoldable pub isUnheard : Drawing → ℕ → ℕ → Bool
 isUnheard w n k = isSender w k && not (eqb (countWith messageFlow sourceIn k w n) 1)
 
-unfoldable pub isUntold : List ℕ → ℕ → ℕ → Bool
+unfoldable pub isUntold : Drawing → ℕ → ℕ → Bool
 isUntold w n k = isReceiver w k && not (eqb (countWith messageFlow targetIn k w n) 1)
 
 -- FLOWS: "A sequence flow joins two nodes of its own process" (R17) (RULES: drawn)
-unfoldable pub isLoose : List ℕ → ℕ → Bool
+unfoldable pub isLoose : Drawing → ℕ → Bool
 isLoose w k = ofSort sequenceFlow w k && (eqb (source w k) 0 || eqb (target w k) 0)
 
 -- "Behind an event gateway only a message intermediateCatchEvent, with its one entry from the gateway and one exit" (R23) (RULES: flows)
-unfoldable pub isWrongBranch : List ℕ → ℕ → Bool
+unfoldable pub isWrongBranch : Drawing → ℕ → Bool
 isWrongBranch w k = ofSort sequenceFlow w k && (isOfKind kinds.eventBased w (source w k) && not (isOfKind branch w (target w k)))
 
 -- "A condition is the text of the conditionExpression" (R21): a flow has one (RULES: flows)
-unfoldable pub isSecondCondition : List ℕ → ℕ → Bool
+unfoldable pub isSecondCondition : Drawing → ℕ → Bool
 isSecondCondition w k = isSecond conditionExpression w k
 
 -- "Blank text is no condition"; "'in our notation': 01's C of an xorSplit"; "a condition on a flow that doesn't leave an exclusive split: 21, also `true`" (R21) (RULES: flows)
-unfoldable pub isWrongForm : ℕ → List ℕ → ℕ → Bool
+unfoldable pub isWrongForm : ℕ → Drawing → ℕ → Bool
 isWrongForm form w k = not (eqb form absent) && (eqb form foreign || not (isSplit w (source w (within w k))))
 
-unfoldable pub isWrongCondition : List ℕ → List ℕ → ℕ → Bool
+unfoldable pub isWrongCondition : Bytes → Drawing → ℕ → Bool
 isWrongCondition t w k = ofSort conditionExpression w k && isWrongForm (conditionAt t (place w k) .form) w k
 
 -- "Message flow: source a sender or an outside participant, target a receiver or an outside participant; else 21" (R24); "a participant without processRef is outside" (R18) (RULES: flows)
-unfoldable pub isOutside : List ℕ → List ℕ → ℕ → Bool
+unfoldable pub isOutside : Bytes → Drawing → ℕ → Bool
 isOutside t w j = ofSort participant w j && not (has t (bytes "processRef") w j)
 
-unfoldable pub maySend : List ℕ → List ℕ → ℕ → Bool
+unfoldable pub maySend : Bytes → Drawing → ℕ → Bool
 maySend t w j = isSender w j || isOutside t w j
 
-unfoldable pub mayReceive : List ℕ → List ℕ → ℕ → Bool
+unfoldable pub mayReceive : Bytes → Drawing → ℕ → Bool
 mayReceive t w j = isReceiver w j || isOutside t w j
 
-unfoldable pub isWrongMessage : List ℕ → List ℕ → ℕ → Bool
+unfoldable pub isWrongMessage : Bytes → Drawing → ℕ → Bool
 isWrongMessage t w k = ofSort messageFlow w k && not (maySend t w (source w k) && mayReceive t w (target w k))
 
 -- THE LIST
-unfoldable pub amissAsFlow : List ℕ → List ℕ → ℕ → Bool
+unfoldable pub amissAsFlow : Bytes → Drawing → ℕ → Bool
 amissAsFlow t w k = isLoose w k || (isWrongBranch w k || (isSecondCondition w k || (isWrongCondition t w k || isWrongMessage t w k)))
 
-unfoldable pub amissAsNode : List ℕ → List ℕ → ℕ → ℕ → Bool
+unfoldable pub amissAsNode : Bytes → Drawing → ℕ → ℕ → Bool
 amissAsNode t w n k = isOfNoKind w k || (hasWrongDefault t w n k || (isUnheard w n k || isUntold w n k))
 
-unfoldable pub amissAsPool : List ℕ → List ℕ → ℕ → ℕ → Bool
+unfoldable pub amissAsPool : Bytes → Drawing → ℕ → ℕ → Bool
 amissAsPool t w n k = isSecondCollaboration w k || (isLost t w k || (isUnowned w n k || isSecondMultiplicity w k))
 
-unfoldable pub isAmiss : List ℕ → List ℕ → ℕ → ℕ → Bool
+unfoldable pub isAmiss : Bytes → Drawing → ℕ → ℕ → Bool
 isAmiss t w n k = isStrange w k || (amissAsFlow t w k || (amissAsNode t w n k || (amissAsPool t w n k || isRepeated t w k)))
 
-unfoldable pub isRight : List ℕ → List ℕ → ℕ → ℕ → Bool
+unfoldable pub isRight : Bytes → Drawing → ℕ → ℕ → Bool
 isRight t w n k = not (isAmiss t w n k)
 
 -- "Neither: 21" (R19): no pool at all. More things than there is room for are always amiss: the shortest that is right is `<process/>`. (RULES: drawn)
-unfoldable pub hasPool : Bool → List ℕ → ℕ → Bool
+unfoldable pub hasPool : Bool → Drawing → ℕ → Bool
 hasPool owned w n = ltb (seek (isPool owned w) n) n
 
-unfoldable pub isDrawing : List ℕ → List ℕ → ℕ → Bool
+unfoldable pub isDrawing : Bytes → Drawing → ℕ → Bool
 isDrawing t w n = leb n room && (hasPool (hasParticipants w n) w n && all (isRight t w n) n)

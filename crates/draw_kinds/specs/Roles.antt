@@ -3,6 +3,7 @@ use Prim.Native.Nat.{ℕ}
 use mathlib.Core.Bool.{Bool, _&&_}
 use mathlib.Core.List.{List}
 use lib.Dec.{eqb, leb}
+use Rattle.base_words.specs.Blocks.{Drawing}
 use Rattle.base_words.specs.Iter.{iter}
 use Rattle.base_words.specs.Pick.{if_then_else_}
 use Rattle.base_kinds.specs.Kinds as kinds
@@ -11,21 +12,21 @@ use Rattle.draw_kinds.specs.declared.Shape.{Shape}
 use Rattle.draw_kinds.specs.Counting.{sourceIn, targetIn, withinIn, countWith, firstWith}
 
 -- "A flow counts once for each end, also from a node to itself." (RULES: nodes)
-unfoldable pub flowsIn : List ℕ → ℕ → ℕ → ℕ
+unfoldable pub flowsIn : Drawing → ℕ → ℕ → ℕ
 flowsIn w n k = countWith sequenceFlow targetIn k w n
 
-unfoldable pub flowsOut : List ℕ → ℕ → ℕ → ℕ
+unfoldable pub flowsOut : Drawing → ℕ → ℕ → ℕ
 flowsOut w n k = countWith sequenceFlow sourceIn k w n
 
 -- an event's definitions
-unfoldable pub messagesOf : List ℕ → ℕ → ℕ → ℕ
+unfoldable pub messagesOf : Drawing → ℕ → ℕ → ℕ
 messagesOf w n k = countWith messageEventDefinition withinIn k w n
 
-unfoldable pub terminatesOf : List ℕ → ℕ → ℕ → ℕ
+unfoldable pub terminatesOf : Drawing → ℕ → ℕ → ℕ
 terminatesOf w n k = countWith terminateEventDefinition withinIn k w n
 
 -- What is drawn round a node.
-unfoldable pub shapeOf : List ℕ → ℕ → ℕ → Shape
+unfoldable pub shapeOf : Drawing → ℕ → ℕ → Shape
 shapeOf w n k = record { ins = flowsIn w n k; outs = flowsOut w n k; messages = messagesOf w n k; terminates = terminatesOf w n k }
 
 -- "A start has 0 flows in and 1 out, an end 1 and 0, the others 1 and 1." (RULES: nodes)
@@ -80,15 +81,15 @@ kindBy s caught d =
     else gateway kinds.eventBased 0 d
 
 -- "A catch event behind an event gateway becomes its branch": the first flow into it comes from one (RULES: nodes)
-unfoldable pub caughtAs : List ℕ → ℕ → ℕ → ℕ
+unfoldable pub caughtAs : Drawing → ℕ → ℕ → ℕ
 caughtAs w n k = if eqb (sort w (source w (firstWith sequenceFlow targetIn k w n))) eventBasedGateway then branch else kinds.interRcv
 
-unfoldable pub kindDrawn : List ℕ → ℕ → ℕ → ℕ
+unfoldable pub kindDrawn : Drawing → ℕ → ℕ → ℕ
 kindDrawn w n k = kindBy (sort w k) (caughtAs w n k) (shapeOf w n k)
 
 -- THE KINDS of nodes, stored in the things
-unfoldable pub settled : ℕ → ℕ → List ℕ → List ℕ
+unfoldable pub settled : ℕ → ℕ → Drawing → Drawing
 settled n k w = if isNode (sort w k) then withSource w k (kindDrawn w n k) else w
 
-unfoldable pub roles : ℕ → List ℕ → List ℕ
+unfoldable pub roles : ℕ → Drawing → Drawing
 roles n w = iter (settled n) w n

@@ -4,6 +4,7 @@ use Prim.Native.Nat.{ℕ}
 use mathlib.Core.Bool.{Bool, false, _&&_, _||_}
 use mathlib.Core.List.{List}
 use lib.Dec.{eqb, ltb}
+use Rattle.base_words.specs.Blocks.{Bytes, Drawing}
 use Rattle.base_words.specs.Iter.{iter}
 use Rattle.base_words.specs.Pick.{if_then_else_}
 use Rattle.base_words.specs.Seek.{seek}
@@ -20,11 +21,11 @@ ifIs (Is from to) f a = f from to
 ifIs Absent f a = a
 
 -- thing j has the id v
-unfoldable pub hasId : List ℕ → List ℕ → List ℕ → ℕ → Bool
+unfoldable pub hasId : Bytes → Bytes → Drawing → ℕ → Bool
 hasId t v w j = ifIs (attribute t (place w j) (bytes "id")) (λ from to. sameBytes (part t from to) v) false
 
 -- "A sequence flow joins two nodes of its own process" (R17); a message flow's ends are nodes or participants (R24); a participant's process (R18); "`default` names one of its own outgoing flows" (R22) (RULES: drawn)
-unfoldable pub mayName : List ℕ → ℕ → ℕ → Bool
+unfoldable pub mayName : Drawing → ℕ → ℕ → Bool
 mayName w k j =
     if eqb (sort w k) sequenceFlow then isNode (sort w j) && eqb (within w j) (within w k)
     else if eqb (sort w k) messageFlow then isNode (sort w j) || eqb (sort w j) participant
@@ -35,26 +36,26 @@ unfoldable pub orNone : ℕ → ℕ → ℕ
 orNone n j = if ltb j n then j else 0
 
 -- the thing that is meant by the bytes v in thing k
-unfoldable pub meant : List ℕ → List ℕ → ℕ → ℕ → List ℕ → ℕ
+unfoldable pub meant : Bytes → Drawing → ℕ → ℕ → Bytes → ℕ
 meant t w n k v = orNone n (seek (λ j. mayName w k j && hasId t v w j) n)
 
 -- the thing that an attribute of thing k names
-unfoldable pub named : List ℕ → List ℕ → ℕ → ℕ → List ℕ → ℕ
+unfoldable pub named : Bytes → Drawing → ℕ → ℕ → Bytes → ℕ
 named t w n k name = ifIs (attribute t (place w k) name) (λ from to. meant t w n k (localOf (part t from to))) 0
 
 -- THE ENDS of flows, and the processes of participants, stored in the things
-unfoldable pub joined : List ℕ → ℕ → ℕ → List ℕ → List ℕ
+unfoldable pub joined : Bytes → ℕ → ℕ → Drawing → Drawing
 joined t n k w =
     withTarget (withSource w k (named t w n k (bytes "sourceRef"))) k (named t w n k (bytes "targetRef"))
 
-unfoldable pub owned : List ℕ → ℕ → ℕ → List ℕ → List ℕ
+unfoldable pub owned : Bytes → ℕ → ℕ → Drawing → Drawing
 owned t n k w = withSource w k (named t w n k (bytes "processRef"))
 
-unfoldable pub linked : List ℕ → ℕ → ℕ → List ℕ → List ℕ
+unfoldable pub linked : Bytes → ℕ → ℕ → Drawing → Drawing
 linked t n k w =
     if eqb (sort w k) sequenceFlow || eqb (sort w k) messageFlow then joined t n k w
     else if eqb (sort w k) participant then owned t n k w
     else w
 
-unfoldable pub links : List ℕ → ℕ → List ℕ → List ℕ
+unfoldable pub links : Bytes → ℕ → Drawing → Drawing
 links t n w = iter (linked t n) w n

@@ -4,6 +4,7 @@ use Prim.Native.Nat.{ℕ}
 use mathlib.Core.Bool.{Bool, not, _&&_}
 use mathlib.Core.List.{List, [], _∷_}
 use lib.Dec.{ltb}
+use Rattle.base_words.specs.Blocks.{Bytes, Element, Drawing}
 use Rattle.base_words.specs.Each.{joined}
 use Rattle.base_words.specs.Pick.{if_then_else_}
 use Rattle.base_words.specs.Seek.{seek}
@@ -15,35 +16,35 @@ use Rattle.draw_faults.specs.Amiss.{hasParticipants, isPool}
 use Rattle.draw_limits.specs.Numbers.{countBefore, isElement, maximumOf}
 use Rattle.draw_model.specs.Drawn.{elementDrawn}
 
-unfoldable pub elementIf : List ℕ → List ℕ → ℕ → ℕ → ℕ → List (List ℕ)
+unfoldable pub elementIf : Bytes → Drawing → ℕ → ℕ → ℕ → List Element
 elementIf t w n p k = if isElement p w k then elementDrawn t w n k ∷ [] else []
 
-unfoldable pub elementsOf : List ℕ → List ℕ → ℕ → ℕ → List (List ℕ)
+unfoldable pub elementsOf : Bytes → Drawing → ℕ → ℕ → List Element
 elementsOf t w n p = joined (elementIf t w n p) n
 
 -- "participantMultiplicity makes a miPool, n its maximum; none makes a `pool`" (R20) (RULES: drawn)
-unfoldable pub limitOf : List ℕ → List ℕ → ℕ → ℕ → ℕ
+unfoldable pub limitOf : Bytes → Drawing → ℕ → ℕ → ℕ
 limitOf t w n k =
     if ltb (firstWith participantMultiplicity withinIn k w n) n then maximumOf t w (firstWith participantMultiplicity withinIn k w n) else 0
 
-unfoldable pub processOf : Bool → List ℕ → ℕ → ℕ
+unfoldable pub processOf : Bool → Drawing → ℕ → ℕ
 processOf owned w k = if owned then source w k else k
 
-unfoldable pub numberOf : Bool → List ℕ → ℕ → ℕ
+unfoldable pub numberOf : Bool → Drawing → ℕ → ℕ
 numberOf owned w k = oneMore (countBefore (isPool owned w) k)
 
-unfoldable pub poolDrawn : Bool → List ℕ → List ℕ → ℕ → ℕ → Pool
+unfoldable pub poolDrawn : Bool → Bytes → Drawing → ℕ → ℕ → Pool
 poolDrawn owned t w n k = record { number = numberOf owned w k; limit = limitOf t w n k; elements = elementsOf t w n (processOf owned w k) }
 
-unfoldable pub poolIf : Bool → List ℕ → List ℕ → ℕ → ℕ → List Pool
+unfoldable pub poolIf : Bool → Bytes → Drawing → ℕ → ℕ → List Pool
 poolIf owned t w n k = if isPool owned w k then poolDrawn owned t w n k ∷ [] else []
 
-unfoldable pub content : List ℕ → List ℕ → ℕ → List Pool
+unfoldable pub content : Bytes → Drawing → ℕ → List Pool
 content t w n = joined (poolIf (hasParticipants w n) t w n) n
 
 -- A node whose element is not within the limits: a case that should not come up where nothing is amiss or beyond, and that is refused if it does.
-unfoldable pub isUnfit : List ℕ → List ℕ → ℕ → ℕ → Bool
+unfoldable pub isUnfit : Bytes → Drawing → ℕ → ℕ → Bool
 isUnfit t w n k = isElement (within w k) w k && not (elementFits (elementDrawn t w n k))
 
-unfoldable pub firstUnfit : List ℕ → List ℕ → ℕ → ℕ
+unfoldable pub firstUnfit : Bytes → Drawing → ℕ → ℕ
 firstUnfit t w n = seek (isUnfit t w n) n

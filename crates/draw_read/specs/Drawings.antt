@@ -5,6 +5,7 @@ use mathlib.Core.Bool.{not}
 use mathlib.Core.List.{List, map}
 use lib.Dec.{eqb, ltb}
 use lib.ListN.{length, replicate}
+use Rattle.base_words.specs.Blocks.{Bytes, Table, Drawing}
 use Rattle.base_words.specs.Each.{each}
 use Rattle.base_words.specs.Pick.{if_then_else_}
 use Rattle.check_model.specs.Checks.{Pool, lowest}
@@ -44,26 +45,26 @@ unfoldable pub checkedAs : List Pool → Reading
 checkedAs ps = answerFor (lowest ps) (each hasRoom ps)
 
 -- 3 at a node whose element is not within the limits: a case that should not come up where nothing is beyond them, and that is refused if it does
-unfoldable pub fittedBy : List ℕ → List ℕ → ℕ → Reading
+unfoldable pub fittedBy : Bytes → Drawing → ℕ → Reading
 fittedBy text w n =
     if ltb (firstUnfit text w n) n then answer excessive (place w (firstUnfit text w n))
     else checkedAs (content text w n)
 
 -- 21 beside 0; "no 21": 3 at the first thing that is beyond the limits
-unfoldable pub meantBy : List ℕ → List ℕ → ℕ → Reading
+unfoldable pub meantBy : Bytes → Drawing → ℕ → Reading
 meantBy text w n =
     if not (isDrawing text w n) then answer notRun 0
     else if ltb (firstBeyond text w n) n then answer excessive (beyondAt text w (firstBeyond text w n))
     else fittedBy text w n
 
 -- what the walk meets, then with the ends of flows and the kinds of nodes
-unfoldable pub walked : List ℕ → Walk
+unfoldable pub walked : Bytes → Walk
 walked text = walk text (replicate blockWords 0)
 
-unfoldable pub settledBy : List ℕ → ℕ → List ℕ → List ℕ
+unfoldable pub settledBy : Bytes → ℕ → Drawing → Drawing
 settledBy text n w = roles n (links text n w)
 
-unfoldable pub thingsOf : List ℕ → List ℕ
+unfoldable pub thingsOf : Bytes → Drawing
 thingsOf text = settledBy text (walked text .count) (walked text .words)
 
 -- 20 where the walk stops
@@ -71,14 +72,14 @@ unfoldable pub judged : Skipped → Reading → Reading
 judged (Past q) a = a
 judged (Fault q) a = answer notXml q
 
-unfoldable pub answered : List ℕ → Reading
+unfoldable pub answered : Bytes → Reading
 answered text =
     if ltb drawingMost (length text) then answer tooLong 0
     else judged (walked text .end) (meantBy text (thingsOf text) (walked text .count))
 
 -- a refusal leaves the table; else every word of it is the model's
-unfoldable pub filledBy : Reading → List Pool → List ℕ → ReadInto
+unfoldable pub filledBy : Reading → List Pool → Table → ReadInto
 filledBy a ps t = record { number = a .number; beside = a .beside; table = if eqb (a .number) 0 then tableOf (map rewritten ps) else t }
 
-unfoldable pub drawInto : List ℕ → List ℕ → ReadInto
+unfoldable pub drawInto : Bytes → Table → ReadInto
 drawInto text t = filledBy (answered text) (content text (thingsOf text) (walked text .count)) t

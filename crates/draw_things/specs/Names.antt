@@ -5,6 +5,7 @@ use mathlib.Core.Bool.{Bool, true, false, not, _&&_}
 use mathlib.Core.List.{List, [], _∷_, _++_, map}
 use lib.Dec.{eqb, leb}
 use lib.ListN.{length, getD, drop, replicate}
+use Rattle.base_words.specs.Blocks.{Bytes}
 use Rattle.base_words.specs.Pick.{if_then_else_}
 use Rattle.base_words.specs.Text.{bytes}
 use Rattle.base_words.specs.Words.{at, part}
@@ -76,56 +77,56 @@ abbrev pub unknown : Row
 unknown = record { name = []; sort = stranger; parent = nothing }
 
 -- the row of a name, of those from row i on; behind them all where there is none
-unfoldable pub rowFrom : List ℕ → List Row → ℕ → ℕ
+unfoldable pub rowFrom : Bytes → List Row → ℕ → ℕ
 rowFrom name [] i = i
 rowFrom name (r ∷ rs) i = if sameBytes name (r .name) then i else rowFrom name rs (i + 1)
 
-unfoldable pub rowNamed : List ℕ → ℕ
+unfoldable pub rowNamed : Bytes → ℕ
 rowNamed name = rowFrom name rows 0
 
 unfoldable pub rowOf : ℕ → Row
 rowOf i = getD rows i unknown
 
 -- a name with blanks behind it, as the code keeps it
-abbrev pub padded : List ℕ → List ℕ
+abbrev pub padded : Bytes → Bytes
 padded name = name ++ replicate (24 - length name) 32
 
 -- "On a process's children the attributes instantiate, isForCompensation, isCollection (`false`), eventGatewayType (`Exclusive`), startQuantity, completionQuantity (`1`) may only have that value:
 -- another one draws another element. All other attributes are ignored" (R14) (RULES: drawn)
-unfoldable pub isFalse : List ℕ → Bool
+unfoldable pub isFalse : Bytes → Bool
 isFalse name =
     if sameBytes name (bytes "instantiate") then true
     else if sameBytes name (bytes "isForCompensation") then true
     else sameBytes name (bytes "isCollection")
 
-unfoldable pub isOne : List ℕ → Bool
+unfoldable pub isOne : Bytes → Bool
 isOne name = if sameBytes name (bytes "startQuantity") then true else sameBytes name (bytes "completionQuantity")
 
-unfoldable pub differs : List ℕ → List ℕ → Bool
+unfoldable pub differs : Bytes → Bytes → Bool
 differs name value =
     if isFalse name then not (sameBytes value (bytes "false"))
     else if isOne name then not (sameBytes value (bytes "1"))
     else if sameBytes name (bytes "eventGatewayType") then not (sameBytes value (bytes "Exclusive"))
     else false
 
-unfoldable pub valueBytes : List ℕ → Attribute → List ℕ
+unfoldable pub valueBytes : Bytes → Attribute → Bytes
 valueBytes t (Is from to) = part t from to
 valueBytes t Absent = []
 
 -- the value of the attribute whose name ends at i
-unfoldable pub valueBehind : List ℕ → ℕ → List ℕ
+unfoldable pub valueBehind : Bytes → ℕ → Bytes
 valueBehind t i = valueBytes t (valueAt t (quoteAt t i))
 
 -- the byte at i shows an attribute's name to be whole, and it has another value
-unfoldable pub differsAt : List ℕ → Cursor → ℕ → Bool
+unfoldable pub differsAt : Bytes → Cursor → ℕ → Bool
 differsAt t c i = ifAttribute (whole (c .state) (at t i)) (differs (part t (c .mark) i) (valueBehind t i)) false
 
 -- in the tag that is read so far, with the bytes s from the place i on
-unfoldable pub differsFrom : List ℕ → Cursor → List ℕ → ℕ → Bool
+unfoldable pub differsFrom : Bytes → Cursor → List ℕ → ℕ → Bool
 differsFrom t c [] i = false
 differsFrom t c (b ∷ s) i = if differsAt t c i then true else ifOn (moved c (at t i) i (i + 1)) (λ next. differsFrom t next s (i + 1)) false
 
-unfoldable pub drawsAnother : List ℕ → ℕ → Bool
+unfoldable pub drawsAnother : Bytes → ℕ → Bool
 drawsAnother t p = differsFrom t (begun p) (drop p t) p
 
 unfoldable pub isEvent : ℕ → Bool
@@ -138,11 +139,11 @@ family s = if isEvent s then event else s
 unfoldable pub namedIn : Row → ℕ → ℕ
 namedIn r parent = if eqb (r .sort) nothing then nothing else if not (eqb (r .parent) (family parent)) then stranger else r .sort
 
-unfoldable pub namedAt : ℕ → List ℕ → ℕ → ℕ
+unfoldable pub namedAt : ℕ → Bytes → ℕ → ℕ
 namedAt parent t p = namedIn (rowOf (rowNamed (localOf (bytesOf t (nameAt t p))))) parent
 
 -- what is drawn by the element whose tag is at p and whose name draws s: a process's child may draw another one, a collection too
-unfoldable pub drawnAs : ℕ → ℕ → List ℕ → ℕ → ℕ
+unfoldable pub drawnAs : ℕ → ℕ → Bytes → ℕ → ℕ
 drawnAs s parent t p =
     if not (eqb parent process) then s
     else if drawsAnother t p then stranger

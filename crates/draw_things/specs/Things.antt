@@ -4,6 +4,7 @@ use mathlib.Core.Bool.{Bool, _&&_}
 use mathlib.Core.List.{List}
 use lib.Dec.{leb, ltb}
 use lib.ListN.{set}
+use Rattle.base_words.specs.Blocks.{Drawing}
 use Rattle.base_words.specs.Pick.{if_then_else_}
 use Rattle.base_words.specs.Words.{at, greatest}
 
@@ -107,34 +108,34 @@ abbrev pub targetPlace : ℕ → ℕ
 targetPlace k = thingWords * k + 4
 
 -- its sort; the place of its `<`; the thing that it stands in
-abbrev pub sort : List ℕ → ℕ → ℕ
+abbrev pub sort : Drawing → ℕ → ℕ
 sort w k = at w (sortPlace k)
 
-abbrev pub place : List ℕ → ℕ → ℕ
+abbrev pub place : Drawing → ℕ → ℕ
 place w k = at w (placePlace k)
 
-abbrev pub within : List ℕ → ℕ → ℕ
+abbrev pub within : Drawing → ℕ → ℕ
 within w k = at w (withinPlace k)
 
 -- the things that a flow joins; a participant's process is its source; 0 for none
-abbrev pub source : List ℕ → ℕ → ℕ
+abbrev pub source : Drawing → ℕ → ℕ
 source w k = at w (sourcePlace k)
 
-abbrev pub target : List ℕ → ℕ → ℕ
+abbrev pub target : Drawing → ℕ → ℕ
 target w k = at w (targetPlace k)
 
 -- what a node is: 0 for none of ours, 1 to 15 a kind, or `branch`, a catch event behind an event gateway
-abbrev pub kind : List ℕ → ℕ → ℕ
+abbrev pub kind : Drawing → ℕ → ℕ
 kind w k = source w k
 
 abbrev pub branch : ℕ
 branch = 16
 
 -- the block with another source or target of thing k
-abbrev pub withSource : List ℕ → ℕ → ℕ → List ℕ
+abbrev pub withSource : Drawing → ℕ → ℕ → Drawing
 withSource w k v = set w (sourcePlace k) v
 
-abbrev pub withTarget : List ℕ → ℕ → ℕ → List ℕ
+abbrev pub withTarget : Drawing → ℕ → ℕ → Drawing
 withTarget w k v = set w (targetPlace k) v
 
 -- A place as a word; the greatest word stands for those above it, which no text of 65,536 bytes has.
@@ -146,5 +147,5 @@ unfoldable pub oneMore : ℕ → ℕ
 oneMore n = if ltb n greatest then n + 1 else greatest
 
 -- thing n added: of a sort, at a place, within a thing, with no source and no target yet
-unfoldable pub added : ℕ → ℕ → ℕ → List ℕ → ℕ → List ℕ
+unfoldable pub added : ℕ → ℕ → ℕ → Drawing → ℕ → Drawing
 added s p k w n = set (set (set (set (set w (sortPlace n) s) (placePlace n) (narrow p)) (withinPlace n) k) (sourcePlace n) 0) (targetPlace n) 0

@@ -4,6 +4,7 @@ use mathlib.Core.Bool.{Bool, true, false, _&&_}
 use mathlib.Core.List.{List}
 use lib.Dec.{ltb, leb, eqb}
 use lib.ListN.{length}
+use Rattle.base_words.specs.Blocks.{Bytes, Drawing}
 use Rattle.base_words.specs.Pick.{if_then_else_}
 use Rattle.base_words.specs.Text.{bytes}
 use Rattle.base_words.specs.Words.{part}
@@ -33,7 +34,7 @@ pub record Walk : Type 0 where
   pub count : ℕ
   pub words : List ℕ
 
-unfoldable pub told : Walked → List ℕ → Walk
+unfoldable pub told : Walked → Drawing → Walk
 told r w = record { end = r .end; count = r .count; words = w }
 
 abbrev pub walked : Skipped → ℕ → Walked
@@ -46,24 +47,24 @@ isNumber (Value v) = true
 isNumber TooLarge = true
 isNumber NotANumber = false
 
-unfoldable pub judged : List ℕ → ℕ → ℕ → ℕ → Skipped
+unfoldable pub judged : Bytes → ℕ → ℕ → ℕ → Skipped
 judged t p from to =
     if isNumber (numberOf (part t from to)) then skipped t p
     else if leb (markup t p .next) to then skipped t p
     else Fault from
 
-unfoldable pub multiplicityBy : Attribute → List ℕ → ℕ → Skipped
+unfoldable pub multiplicityBy : Attribute → Bytes → ℕ → Skipped
 multiplicityBy (Is from to) t p = judged t p from to
 multiplicityBy Absent t p = skipped t p
 
-unfoldable pub multiplicity : List ℕ → ℕ → Skipped
+unfoldable pub multiplicity : Bytes → ℕ → Skipped
 multiplicity t p = multiplicityBy (attribute t p (bytes "maximum")) t p
 
 -- "The same holds for elements of 21 and for the four read from their tag or text alone (participantMultiplicity, the two event definitions, conditionExpression)" (R11a) (RULES: skipping)
 unfoldable pub isPassed : ℕ → Bool
 isPassed s = if eqb s participantMultiplicity then true else leb conditionExpression s && leb s stranger
 
-unfoldable pub passed : ℕ → List ℕ → ℕ → Skipped
+unfoldable pub passed : ℕ → Bytes → ℕ → Skipped
 passed s t p = if eqb s participantMultiplicity then multiplicity t p else skipped t p
 
 unfoldable pub tagFrom : Skipped → Tag
@@ -71,14 +72,14 @@ tagFrom (Past q) = Empty q
 tagFrom (Fault q) = TagFault q
 
 -- an element of the sort s at p: where its content begins, or the place behind it
-unfoldable pub entered : ℕ → List ℕ → ℕ → Tag
+unfoldable pub entered : ℕ → Bytes → ℕ → Tag
 entered s t p =
     if eqb s nothing then tagFrom (skipped t p)
     else if isPassed s then tagFrom (passed s t p)
     else tagOf (markup t p) p
 
 -- it is noted where it is a thing: at p, within thing k, after n things
-unfoldable pub noted : ℕ → ℕ → ℕ → List ℕ → ℕ → List ℕ
+unfoldable pub noted : ℕ → ℕ → ℕ → Drawing → ℕ → Drawing
 noted s p k w n = if eqb s nothing then w else added s p k w n
 
 unfoldable pub counted : ℕ → ℕ → ℕ
@@ -91,13 +92,13 @@ outer s k p = record { sort = s; thing = k; tag = p }
 abbrev pub Content : Type 0
 Content = Outer → ℕ → List ℕ → ℕ → Walk
 
-unfoldable pub byTag : Tag → (ℕ → Walk) → List ℕ → ℕ → Walk
+unfoldable pub byTag : Tag → (ℕ → Walk) → Drawing → ℕ → Walk
 byTag (Open q) content w n = content q
 byTag (Empty q) content w n = told (walked (Past q) n) w
 byTag (TagFault q) content w n = told (walked (Fault q) n) w
 
 -- How an element is walked depends on its name and where it stands, s, not on its attributes: by them it may draw another one, d, and that is noted. (RULES: skipping)
-unfoldable pub thingBy : Content → ℕ → ℕ → List ℕ → ℕ → ℕ → List ℕ → ℕ → Walk
+unfoldable pub thingBy : Content → ℕ → ℕ → Bytes → ℕ → ℕ → Drawing → ℕ → Walk
 thingBy content s d t k p w n = byTag (entered s t p) (λ q. content (outer s n p) q (noted d p k w n) (counted d n)) (noted d p k w n) (counted d n)
 
 -- goes on from the place that was reached; a fault stays
@@ -105,34 +106,34 @@ unfoldable pub byEnd : {A : Type 0} → Skipped → (ℕ → A) → A → A
 byEnd (Past q) on r = on q
 byEnd (Fault q) on r = r
 
-unfoldable pub behind : Walk → (ℕ → List ℕ → ℕ → Walk) → Walk
+unfoldable pub behind : Walk → (ℕ → Drawing → ℕ → Walk) → Walk
 behind r on = byEnd (r .end) (λ q. on q (r .words) (r .count)) r
 
-unfoldable pub byPart : Part → Walk → (ℕ → List ℕ → ℕ → Walk) → List ℕ → ℕ → Walk
+unfoldable pub byPart : Part → Walk → (ℕ → Drawing → ℕ → Walk) → Drawing → ℕ → Walk
 byPart Element element content w n = behind element content
 byPart (Close q) element content w n = told (walked (Past q) n) w
 byPart (On q) element content w n = content q w n
 byPart (PartFault q) element content w n = told (walked (Fault q) n) w
 
 -- content of the element o, from p on
-unfoldable pub contentBy : Content → List ℕ → Outer → ℕ → List ℕ → ℕ → Walk
+unfoldable pub contentBy : Content → Bytes → Outer → ℕ → Drawing → ℕ → Walk
 contentBy content t o p w n =
     if leb (length t) p then told (walked (Fault (length t)) n) w
     else byPart (partAt t (o .tag) p) (thingBy content (namedAt (o .sort) t p) (drawnAs (namedAt (o .sort) t p) (o .sort) t p) t (o .thing) p w n) (content o) w n
 
 -- the same, in m steps at most
-unfoldable pub contentIn : ℕ → List ℕ → Content
+unfoldable pub contentIn : ℕ → Bytes → Content
 contentIn zero t o p w n = told (walked (Fault (length t)) n) w
 contentIn (suc m) t o p w n = contentBy (contentIn m t) t o p w n
 
 -- each step passes a byte, so the text's length is enough steps
-unfoldable pub contentAt : List ℕ → Content
+unfoldable pub contentAt : Bytes → Content
 contentAt t o p w n = contentIn (length t) t o p w n
 
-unfoldable pub thingAt : ℕ → ℕ → List ℕ → ℕ → ℕ → List ℕ → ℕ → Walk
+unfoldable pub thingAt : ℕ → ℕ → Bytes → ℕ → ℕ → Drawing → ℕ → Walk
 thingAt s d t k p w n = thingBy (contentAt t) s d t k p w n
 
-unfoldable pub walk : List ℕ → List ℕ → Walk
+unfoldable pub walk : Bytes → Drawing → Walk
 walk t w =
     byEnd (rootAt (bytes "definitions") t)
     (λ p. behind (thingAt definitions definitions t 0 p w 0) (λ q v n. told (walked (lastFrom t q) n) v))

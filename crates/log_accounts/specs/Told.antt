@@ -2,6 +2,7 @@
 use Prim.Native.Nat.{ℕ, _+_, _-_}
 use mathlib.Core.List.{List, [], _∷_, map}
 use lib.ListN.{length, take}
+use Rattle.base_words.specs.Blocks.{Bytes, State}
 use Rattle.base_words.specs.Pick.{if_then_else_}
 use Rattle.meaning.specs.declared.Name.{Name}
 use Rattle.meaning.specs.declared.Tuple.{Tuple}
@@ -16,17 +17,17 @@ use Rattle.log_accounts.specs.declared.Telling.{Telling}
 use Rattle.log_accounts.specs.declared.Told.{Told}
 
 -- the step or post that a line names
-unfoldable pub actOf : List ℕ → Act
+unfoldable pub actOf : Bytes → Act
 actOf w = if entryOf w .posts then aPost (entryOf w .name .pool) (entryOf w .name .given) else aStep (entryOf w .name)
 
 -- THE HISTORY of the first `most` events, and the state that they leave
-abbrev pub actsOf : List (List ℕ) → ℕ → List Act
+abbrev pub actsOf : List Bytes → ℕ → List Act
 actsOf lines most = take most (map actOf lines)
 
-unfoldable pub historyIn : (List ℕ → Name → Stepped) → (List ℕ → ℕ → Tuple → Left) → List ℕ → ℕ → List ℕ → List Entry
+unfoldable pub historyIn : (State → Name → Stepped) → (State → ℕ → Tuple → Left) → Bytes → ℕ → State → List Entry
 historyIn step post log most z = toldBy step post (actsOf (linesOf log) most) z
 
-unfoldable pub stateIn : (List ℕ → Name → Stepped) → (List ℕ → ℕ → Tuple → Left) → List ℕ → ℕ → List ℕ → List ℕ
+unfoldable pub stateIn : (State → Name → Stepped) → (State → ℕ → Tuple → Left) → Bytes → ℕ → State → State
 stateIn step post log most z = leftBy step post (actsOf (linesOf log) most) z
 
 -- what the last entry moved; d where there is none
@@ -53,8 +54,8 @@ unfoldable pub andNoted : Telling → Noted → Telling
 andNoted b n = record { posted = b .posted + n .posted; sent = b .sent + n .sent; consumed = b .consumed + n .consumed; room = b .room - 1; moved = n .moved }
 
 -- ALL OF IT: the four numbers, and how many events fewer there are than were asked for
-unfoldable pub told : ℕ → Tuple → ℕ → List Entry → List ℕ → Told
+unfoldable pub told : ℕ → Tuple → ℕ → List Entry → State → Told
 told m g most h y = record { accounts = accountsOf m g h y; room = most - length h; moved = lastMoved nothingMoved h }
 
-unfoldable pub toldIn : (List ℕ → Name → Stepped) → (List ℕ → ℕ → Tuple → Left) → List ℕ → ℕ → ℕ → Tuple → List ℕ → Told
+unfoldable pub toldIn : (State → Name → Stepped) → (State → ℕ → Tuple → Left) → Bytes → ℕ → ℕ → Tuple → State → Told
 toldIn step post log most m g z = told m g most (historyIn step post log most z) (stateIn step post log most z)

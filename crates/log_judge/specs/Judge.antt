@@ -4,6 +4,7 @@ use Prim.Native.Nat.{ℕ, _+_}
 use mathlib.Core.Bool.{Bool, true}
 use mathlib.Core.List.{List, [], _∷_}
 use lib.Dec.{eqb}
+use Rattle.base_words.specs.Blocks.{Bytes, State}
 use Rattle.base_words.specs.Pick.{if_then_else_}
 use Rattle.meaning.specs.declared.Name.{Name}
 use Rattle.meaning.specs.declared.Tuple.{Tuple}
@@ -21,17 +22,17 @@ use Rattle.log_judge.specs.declared.Judged.{Judged}
 pub record Taking : Type 0 where
   pub number : ℕ
   pub right : Bool
-  pub state : List ℕ
+  pub state : State
 
 -- "a post is posted", and its line says no more; a step's line says "what was sent or consumed (sign, name, values)" (RULES: lawful)
-unfoldable pub takenBy : (List ℕ → Name → Stepped) → (List ℕ → ℕ → Tuple → Left) → Entry → List ℕ → List ℕ → Taking
+unfoldable pub takenBy : (State → Name → Stepped) → (State → ℕ → Tuple → Left) → Entry → Bytes → State → Taking
 takenBy step post e w z =
     if e .posts then
     record { number = post z (e .name .pool) (e .name .given) .number; right = true; state = post z (e .name .pool) (e .name .given) .state }
     else
     record { number = step z (e .name) .answer .number; right = sameBytes (stepLine (e .name) (step z (e .name) .answer)) w; state = step z (e .name) .state }
 
-unfoldable pub taken : (List ℕ → Name → Stepped) → (List ℕ → ℕ → Tuple → Left) → List ℕ → List ℕ → Taking
+unfoldable pub taken : (State → Name → Stepped) → (State → ℕ → Tuple → Left) → Bytes → State → Taking
 taken step post w z = takenBy step post (entryOf w) w z
 
 abbrev pub answered : ℕ → ℕ → ℕ → Judged
@@ -41,7 +42,7 @@ abbrev pub lawful : Judged
 lawful = answered 0 0 0
 
 -- "24 event at fault, with its ordinal from 0 and the step's own number, or 0 where only the text is untrue"; k events are before these (RULES: lawful)
-unfoldable pub judgedBy : (List ℕ → List ℕ → Taking) → List (List ℕ) → ℕ → List ℕ → Judged
+unfoldable pub judgedBy : (Bytes → State → Taking) → List (List ℕ) → ℕ → State → Judged
 judgedBy take [] k z = lawful
 judgedBy take (w ∷ rest) k z =
     if eqb (take w z .number) 0 then
@@ -49,7 +50,7 @@ judgedBy take (w ∷ rest) k z =
     else answered 24 k (take w z .number)
 
 -- the state that the lines leave, one after the other
-unfoldable pub leftBy : (List ℕ → List ℕ → Taking) → List (List ℕ) → List ℕ → List ℕ
+unfoldable pub leftBy : (Bytes → State → Taking) → List (List ℕ) → State → State
 leftBy take [] z = z
 leftBy take (w ∷ rest) z = leftBy take rest (take w z .state)
 
@@ -58,5 +59,5 @@ unfoldable pub judgedEnd : Skipped → Judged → Judged
 judgedEnd (Past q) j = j
 judgedEnd (Fault q) j = answered 23 q 0
 
-unfoldable pub judgedFrom : (List ℕ → List ℕ → Taking) → List ℕ → List ℕ → Judged
+unfoldable pub judgedFrom : (Bytes → State → Taking) → Bytes → State → Judged
 judgedFrom take text z = judgedEnd (scan text .end) (judgedBy take (linesOf text) 0 z)

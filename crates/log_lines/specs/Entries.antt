@@ -5,6 +5,7 @@ use mathlib.Core.Bool.{Bool, true, false, _&&_}
 use mathlib.Core.List.{List}
 use lib.Dec.{leb, ltb, eqb}
 use lib.ListN.{length, set}
+use Rattle.base_words.specs.Blocks.{Bytes}
 use Rattle.base_words.specs.Pick.{if_then_else_}
 use Rattle.base_words.specs.Text.{bytes}
 use Rattle.base_words.specs.Words.{at, part, greatest}
@@ -28,7 +29,7 @@ abbrev pub numberMost : ℕ
 numberMost = 65535
 
 -- the piece from p up to the byte c, or to the end, as a number
-unfoldable pub numberUpTo : ℕ → List ℕ → ℕ → Number
+unfoldable pub numberUpTo : ℕ → Bytes → ℕ → Number
 numberUpTo c w p = numberOf (part w p (run (NotByte c) w p))
 
 unfoldable pub isSmall : Number → Bool
@@ -42,7 +43,7 @@ valueIn TooLarge = 0
 valueIn NotANumber = 0
 
 -- a number with the byte c behind it, and the place behind that
-unfoldable pub numbered : ℕ → List ℕ → ℕ → Numbered
+unfoldable pub numbered : ℕ → Bytes → ℕ → Numbered
 numbered c w p =
     record {
       right = isSmall (numberUpTo c w p) && ltb (run (NotByte c) w p) (length w);
@@ -61,7 +62,7 @@ unfoldable pub added : Tuple → ℕ → Tuple
 added g v = record { length = oneMore (g .length); values = set (g .values) (g .length) v }
 
 -- "values joined by commas", from p on, behind those of g, in n steps at most (RULES: entries)
-unfoldable pub valuesIn : ℕ → List ℕ → ℕ → Tuple → Given
+unfoldable pub valuesIn : ℕ → Bytes → ℕ → Tuple → Given
 valuesIn zero w p g = given false empty
 valuesIn (suc n) w p g =
     ifValue (numberUpTo (code ",") w p)
@@ -69,11 +70,11 @@ valuesIn (suc n) w p g =
     (given false empty)
 
 -- "possibly none"; each value passes a byte, so the entry's length is enough steps
-unfoldable pub valuesFrom : List ℕ → ℕ → Given
+unfoldable pub valuesFrom : Bytes → ℕ → Given
 valuesFrom w p = if leb (length w) p then given true empty else valuesIn (length w) w p empty
 
 -- "M:V"
-unfoldable pub messageFrom : List ℕ → ℕ → Message
+unfoldable pub messageFrom : Bytes → ℕ → Message
 messageFrom w p =
     record {
       right = numbered (code ":") w p .right && valuesFrom w (numbered (code ":") w p .next) .right;
@@ -82,7 +83,7 @@ messageFrom w p =
     }
 
 -- T from p on, and the values that the step is named with: "a line with `?M:V` is the step with the values V; any other is the step without values" (RULES: entries)
-unfoldable pub trafficFrom : List ℕ → ℕ → Given
+unfoldable pub trafficFrom : Bytes → ℕ → Given
 trafficFrom w p =
     if sameBytes (part w p (length w)) (bytes "-") then given true empty
     else if eqb (at w p) (code "!") then given (messageFrom w (after w p) .right) empty
@@ -90,15 +91,15 @@ trafficFrom w p =
     else given false empty
 
 -- where the k-th of the numbers stands, and the number
-unfoldable pub numberPlace : List ℕ → ℕ → ℕ
+unfoldable pub numberPlace : Bytes → ℕ → ℕ
 numberPlace w zero = 0
 numberPlace w (suc k) = numbered (code " ") w (numberPlace w k) .next
 
-unfoldable pub numberAt : List ℕ → ℕ → Numbered
+unfoldable pub numberAt : Bytes → ℕ → Numbered
 numberAt w k = numbered (code " ") w (numberPlace w k)
 
 -- the five numbers of a step, whether they are numbers, and the step's name
-unfoldable pub placed : List ℕ → Placed
+unfoldable pub placed : Bytes → Placed
 placed w = record { pool = numberAt w 0; instance = numberAt w 1; element = numberAt w 2; phase = numberAt w 3; branch = numberAt w 4 }
 
 unfoldable pub allRight : Placed → Bool
@@ -119,7 +120,7 @@ nameOf n g =
 abbrev pub noEntry : Entry
 noEntry = record { right = false; posts = false; name = record { pool = 0; instance = 0; element = 0; phase = 0; branch = 0; given = empty } }
 
-unfoldable pub stepEntry : List ℕ → Entry
+unfoldable pub stepEntry : Bytes → Entry
 stepEntry w =
     if allRight (placed w) && trafficFrom w (numberPlace w 5) .right then
     record { right = true; posts = false; name = nameOf (placed w) (trafficFrom w (numberPlace w 5) .tuple) }
@@ -129,8 +130,8 @@ stepEntry w =
 abbrev pub postName : Message → Name
 postName m = record { pool = m .name; instance = 0; element = 0; phase = 0; branch = 0; given = m .tuple }
 
-unfoldable pub postEntry : List ℕ → Entry
+unfoldable pub postEntry : Bytes → Entry
 postEntry w = if messageFrom w 5 .right then record { right = true; posts = true; name = postName (messageFrom w 5) } else noEntry
 
-unfoldable pub entryOf : List ℕ → Entry
+unfoldable pub entryOf : Bytes → Entry
 entryOf w = if beginsAt w 0 (bytes "post ") then postEntry w else stepEntry w

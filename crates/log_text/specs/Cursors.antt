@@ -8,6 +8,7 @@ use Rattle.xml_markup.specs.Spans.{after}
 use Rattle.log_text.specs.declared.Level.{Level}
 use Rattle.log_text.specs.declared.Level.the-variants.{Log, Trace, Event}
 use Rattle.log_text.specs.declared.Cursor.{Cursor}
+use Rattle.base_words.specs.Blocks.{Bytes}
 
 -- before the root
 abbrev pub nowhere : Cursor
@@ -71,7 +72,7 @@ named c from to q =
     }
 
 -- behind the event; there are fewer events than bytes
-abbrev pub behindEvent : List ℕ → Cursor → ℕ → Cursor
+abbrev pub behindEvent : Bytes → Cursor → ℕ → Cursor
 behindEvent t c q =
     record {
       level = Trace;

@@ -3,6 +3,7 @@ use Prim.Native.Nat.{ℕ}
 use mathlib.Core.Bool.{Bool, true, false}
 use mathlib.Core.List.{List}
 use lib.ListN.{length}
+use Rattle.base_words.specs.Blocks.{Bytes}
 use Rattle.base_words.specs.Pick.{if_then_else_}
 use Rattle.xml_markup.specs.declared.Opener.{Opener}
 use Rattle.xml_markup.specs.declared.Opener.the-variants.{Start, End, Other}
@@ -35,7 +36,7 @@ between Nothing e = Fault e
 between (OutsideFault q) e = Fault q
 
 -- at p, no blank first, in the element whose tag is at `outer`; "an event or a log that ends without what it needs: the `<` of its end tag" (RULES: logs)
-unfoldable pub insideAt : Bool → List ℕ → ℕ → ℕ → Inside
+unfoldable pub insideAt : Bool → Bytes → ℕ → ℕ → Inside
 insideAt lacking t outer p =
     if endsAt (opener t p) then (if lacking then Fault p else closing (partAt t outer p) p)
     else between (outsideAt t p) (length t)

@@ -3,6 +3,7 @@
 use Prim.Native.Nat.{ℕ, _+_, _*_, _-_, _/_, _%_}
 use mathlib.Core.List.{List, [], _∷_, _++_}
 use lib.Dec.{ltb, leb, eqb}
+use Rattle.base_words.specs.Blocks.{Bytes}
 use Rattle.base_words.specs.Pick.{if_then_else_}
 use Rattle.base_words.specs.Text.{bytes}
 use Rattle.write_decimals.specs.Decimals.{digit}
@@ -41,31 +42,31 @@ dayOf moment =
     dayIn (100 * (quarters moment / 146097) + inCentury (quarters moment) / 1461) (fifths (inCentury (quarters moment)))
 
 -- the last two digits of a number, and a sign before them
-unfoldable pub two : ℕ → List ℕ
+unfoldable pub two : ℕ → Bytes
 two n = (digit (n / 10 % 10) ∷ []) ++ (digit (n % 10) ∷ [])
 
-unfoldable pub field : ℕ → ℕ → List ℕ
+unfoldable pub field : ℕ → ℕ → Bytes
 field sign n = (sign ∷ []) ++ two n
 
 -- "2026-11-16"
-unfoldable pub dayText : Day → List ℕ
+unfoldable pub dayText : Day → Bytes
 dayText d = two (d .year / 100) ++ two (d .year) ++ field 45 (d .month) ++ field 45 (d .day)
 
 -- "T12:00:00", ".000"
-unfoldable pub clockText : ℕ → List ℕ
+unfoldable pub clockText : ℕ → Bytes
 clockText moment = field 84 (moment / 3600000 % 24) ++ field 58 (moment / 60000 % 60) ++ field 58 (moment / 1000 % 60)
 
-unfoldable pub millisText : ℕ → List ℕ
+unfoldable pub millisText : ℕ → Bytes
 millisText moment = (46 ∷ []) ++ (digit (moment / 100 % 10) ∷ []) ++ two moment
 
-unfoldable pub momentText : ℕ → List ℕ
+unfoldable pub momentText : ℕ → Bytes
 momentText moment = dayText (dayOf moment) ++ clockText moment ++ millisText moment ++ bytes "+00:00"
 
-unfoldable pub dateOpening : List ℕ
+unfoldable pub dateOpening : Bytes
 dateOpening = bytes "<date key=\"time:timestamp\" value=\""
 
 -- a `date` of an event; 0 is no moment, and behind the year 9999 there is none that is written
-unfoldable pub stampText : ℕ → List ℕ
+unfoldable pub stampText : ℕ → Bytes
 stampText moment =
     if eqb moment 0 then []
     else if ltb moment momentsEnd then dateOpening ++ momentText moment ++ bytes "\"/>"

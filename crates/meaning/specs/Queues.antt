@@ -4,6 +4,7 @@ use mathlib.Core.Path.{_≡_}
 use mathlib.Core.List.{List, [], _∷_}
 use lib.Dec.{eqb, ltb}
 use lib.ListN.{length}
+use Rattle.base_words.specs.Blocks.{Queues}
 use Rattle.base_words.specs.Each.{tab}
 use Rattle.base_words.specs.Pick.{if_then_else_}
 use Rattle.base_words.specs.Words.{at}
@@ -15,16 +16,16 @@ use Rattle.base_state.specs.Places.{valuesIn, slotsIn, slotWords, queueWords, q
 use Rattle.meaning.specs.Messages.{appended, without}
 
 -- READING: how many messages the queue of a name holds; message k, oldest first; all of them
-abbrev pub messageCount : List ℕ → ℕ → ℕ
+abbrev pub messageCount : Queues → ℕ → ℕ
 messageCount q name = at q (queuePlace name)
 
-abbrev pub valueAt : List ℕ → ℕ → ℕ → ℕ → ℕ
+abbrev pub valueAt : Queues → ℕ → ℕ → ℕ → ℕ
 valueAt q name k j = at q (slotPlace name k + valuesIn + j)
 
-abbrev pub messageAt : List ℕ → ℕ → ℕ → Tuple
+abbrev pub messageAt : Queues → ℕ → ℕ → Tuple
 messageAt q name k = record { length = at q (slotPlace name k); values = valueAt q name k 0 ∷ valueAt q name k 1 ∷ valueAt q name k 2 ∷ valueAt q name k 3 ∷ [] }
 
-unfoldable pub messagesOf : List ℕ → ℕ → List Tuple
+unfoldable pub messagesOf : Queues → ℕ → List Tuple
 messagesOf q name = tab (messageAt q name) (messageCount q name)
 
 -- WRITING: word i of a message, of messages one behind the other, of a queue; what is not in use is 0
@@ -39,14 +40,14 @@ unfoldable pub queueWord : List Tuple → ℕ → ℕ
 queueWord ms i = if eqb i 0 then length ms else messagesWord ms (i - slotsIn)
 
 -- the queues with these messages in the queue of a name
-unfoldable pub withMessages : List ℕ → ℕ → List Tuple → List ℕ
+unfoldable pub withMessages : Queues → ℕ → List Tuple → Queues
 withMessages q name ms = writes (queueWord ms) q (queuePlace name) queueWords
 
 -- THE TWO OPERATIONS
-abbrev pub sending : List ℕ → ℕ → Tuple → List ℕ
+abbrev pub sending : Queues → ℕ → Tuple → Queues
 sending q name g = withMessages q name (appended (messagesOf q name) g)
 
-abbrev pub consuming : List ℕ → ℕ → Tuple → List ℕ
+abbrev pub consuming : Queues → ℕ → Tuple → Queues
 consuming q name g = withMessages q name (without g (messagesOf q name))
 
 -- WHAT IS NOT IN USE: a message with 0 behind its length, as it is read back; a queue whose words are those of its messages, at most 64

@@ -4,6 +4,7 @@ use mathlib.Core.Bool.{Bool, true, not, _&&_, _||_}
 use mathlib.Core.List.{List, [], _∷_, _++_}
 use lib.Dec.{eqb, ltb}
 use lib.ListN.{length, replicate}
+use Rattle.base_words.specs.Blocks.{Block, Table, Element, Instances, Queues, Instance}
 use Rattle.base_words.specs.Each.{tab}
 use Rattle.base_words.specs.Pick.{if_then_else_}
 use Rattle.base_words.specs.Words.{at}
@@ -29,35 +30,35 @@ use Rattle.meaning.specs.Refusals.{Refusal, _unless_, firstRefusal}
 
 -- WHERE. What a name finds: the place of its pool, the element's words, the move of the element's kind and mode in this phase, how many
 -- instances the pool has made and may make, and the words that it sees. "startRcv: its template sees only undefined fields", and the stores.
-abbrev pub poolNamed : List ℕ → Name → ℕ
+abbrev pub poolNamed : Table → Name → ℕ
 poolNamed t n = poolOf t (n .pool)
 
-unfoldable pub elementNamed : List ℕ → Name → List ℕ
+unfoldable pub elementNamed : Table → Name → Element
 elementNamed t n = elementAt t (poolNamed t n) (n .element)
 
-unfoldable pub moveNamed : List ℕ → Name → Move
+unfoldable pub moveNamed : Table → Name → Move
 moveNamed t n = moveOf (kindIn (elementNamed t n)) (modeIn (elementNamed t n)) (n .phase)
 
-unfoldable pub instanceOf : List ℕ → ℕ → ℕ → List ℕ
+unfoldable pub instanceOf : Instances → ℕ → ℕ → Instance
 instanceOf s p i = tab (λ k. at s (instancePlace p i + k)) instanceWords
 
-unfoldable pub sharedOf : List ℕ → List ℕ
+unfoldable pub sharedOf : Instances → Block
 sharedOf s = tab (λ k. at s (sharedPlace + k)) sharedWords
 
 -- what a step sees: the words of its instance, own, and behind them those that all share
-unfoldable pub before : Move → List ℕ → List ℕ → List ℕ
+unfoldable pub before : Move → Instance → Block → Instance
 before m own shared = (if eqb (m .also) making then replicate instanceWords 0 else own) ++ shared
 
 pub record Site : Type 0 where
-  pub element : List ℕ
+  pub element : Element
   pub move : Move
   pub branch : ℕ
   pub given : Tuple
   pub made : ℕ
   pub limit : ℕ
-  pub instance : List ℕ
+  pub instance : Instance
 
-unfoldable pub siteOf : List ℕ → List ℕ → Name → Site
+unfoldable pub siteOf : Table → Instances → Name → Site
 siteOf t s n =
     record {
       element = elementNamed t n;
@@ -70,7 +71,7 @@ siteOf t s n =
     }
 
 -- 11: there is such a pool, element, phase, branch and instance
-unfoldable pub exists : List ℕ → List ℕ → Name → Bool
+unfoldable pub exists : Table → Instances → Name → Bool
 exists t s n =
     ltb (poolNamed t n) (poolCount t)
     && ltb (n .element) (elementCount t (poolNamed t n))
@@ -103,7 +104,7 @@ unfoldable pub matches : Site → Bool
 matches x = sameTuple (template x .tuple) (x .given)
 
 -- the instance with its fields as they will be, after the taking
-unfoldable pub afterTaking : Site → List ℕ
+unfoldable pub afterTaking : Site → Instance
 afterTaking x = taken (x .element) (x .move) (x .branch) (work x .instance)
 
 -- the name of the message received or sent
@@ -111,15 +112,15 @@ abbrev pub messageNamed : Site → ℕ
 messageNamed x = messageName (x .element) (x .branch)
 
 -- THE QUEUES enter here, and only here: the message consumed is there, the queue sent to holds fewer than 64.
-unfoldable pub queued : Site → List ℕ → Bool
+unfoldable pub queued : Site → Queues → Bool
 queued x q = if receives x then has (x .given) (messagesOf q (messageNamed x)) else true
 
-unfoldable pub space : Site → List ℕ → Bool
+unfoldable pub space : Site → Queues → Bool
 space x q = if sends x then ltb (length (messagesOf q (messageNamed x))) messages else true
 
 -- THE REFUSALS, in the order they are looked at. "Checked in the order of the numbers", but "taskRcv looks for undefined assignments only when
 -- the values match: 14 goes before that 13, and that 13 before 15." (RULES: refusals)
-unfoldable pub refusalsAt : Site → List ℕ → List Refusal
+unfoldable pub refusalsAt : Site → Queues → List Refusal
 refusalsAt x q =
     12 unless countsPermit (x .element) (x .instance) (x .move) (x .branch) ∷  -- tokens or task counts don't permit the step
     13 unless granted (x .element) (x .instance) (x .move) (x .branch) ∷  -- condition not true
@@ -132,22 +133,22 @@ refusalsAt x q =
     17 unless space x q ∷  -- the queue sent to holds 64
     18 unless roomy (x .element) (afterTaking x) (x .move) (x .branch) ∷ []  -- an edge or task count, after the taking, would pass 255
 
-unfoldable pub refusals : List ℕ → List ℕ → List ℕ → Name → List Refusal
+unfoldable pub refusals : Table → Instances → Queues → Name → List Refusal
 refusals t s q n = 11 unless exists t s n ∷ refusalsAt (siteOf t s n) q  -- no such pool, instance, element, phase or branch
 
 -- THE STATE AFTER: the instance's words, the stores and the count of its pool; the message consumed or sent.
-unfoldable pub instanceAfter : Site → List ℕ
+unfoldable pub instanceAfter : Site → Instance
 instanceAfter x = moved (x .element) (x .move) (x .branch) (afterTaking x)
 
 unfoldable pub madeAfter : Site → ℕ
 madeAfter x = if eqb (x .move .also) making then more (x .made) else x .made
 
-unfoldable pub instancesAfter : List ℕ → List ℕ → Name → List ℕ
+unfoldable pub instancesAfter : Table → Instances → Name → Instances
 instancesAfter t s n =
     withMade (withStores (withInstance s (poolNamed t n) (n .instance) (instanceAfter (siteOf t s n))) (instanceAfter (siteOf t s n))) (poolNamed t n)
     (madeAfter (siteOf t s n))
 
-unfoldable pub queuesAfter : Site → List ℕ → List ℕ
+unfoldable pub queuesAfter : Site → Queues → Queues
 queuesAfter x q =
     if receives x then consuming q (messageNamed x) (x .given)
     else if sends x then sending q (messageNamed x) (sent x .tuple)
@@ -162,14 +163,14 @@ traffic x =
 
 pub record Outcome : Type 0 where
   pub answer : Answer
-  pub instances : List ℕ
-  pub queues : List ℕ
+  pub instances : Instances
+  pub queues : Queues
 
 -- a refusal says its number and nothing else, and changes nothing
-abbrev pub refused : ℕ → List ℕ → List ℕ → Outcome
+abbrev pub refused : ℕ → Instances → Queues → Outcome
 refused number s q = record { answer = record { number = number; traffic = Nothing; name = 0; tuple = empty }; instances = s; queues = q }
 
-unfoldable pub step : List ℕ → List ℕ → List ℕ → Name → Outcome
+unfoldable pub step : Table → Instances → Queues → Name → Outcome
 step t s q n =
     if eqb (firstRefusal (refusals t s q n)) 0 then
     record { answer = traffic (siteOf t s n); instances = instancesAfter t s n; queues = queuesAfter (siteOf t s n) q }

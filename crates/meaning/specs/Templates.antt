@@ -4,6 +4,7 @@ use Prim.Native.Nat.{ℕ, _+_}
 use mathlib.Core.Bool.{Bool, _&&_}
 use mathlib.Core.List.{List, [], _∷_}
 use lib.Dec.{eqb, ltb, leb}
+use Rattle.base_words.specs.Blocks.{Element, Instance}
 use Rattle.base_words.specs.Iter.{iter}
 use Rattle.base_words.specs.Pick.{if_then_else_}
 use Rattle.base_words.specs.Words.{at}
@@ -20,10 +21,10 @@ use Rattle.meaning.specs.declared.Evaluated.{Evaluated}
 use Rattle.meaning.specs.Expressions.{expressionOf}
 
 -- item j binds a field
-unfoldable pub binds : List ℕ → ℕ → ℕ → Bool
+unfoldable pub binds : Element → ℕ → ℕ → Bool
 binds el b j = ltb j (messageLength el b) && eqb (at (itemAt el b j) formPlace) binding
 
-unfoldable pub itemValue : List ℕ → ℕ → List ℕ → Tuple → ℕ → Value
+unfoldable pub itemValue : Element → ℕ → Instance → Tuple → ℕ → Value
 itemValue el b h g j =
     if leb (messageLength el b) j then Number 0
     else if binds el b j then Number (valueOf g j)
@@ -37,12 +38,12 @@ gathered length u v w x =
       tuple = record { length = length; values = numberIn u ∷ numberIn v ∷ numberIn w ∷ numberIn x ∷ [] };
     }
 
-unfoldable pub evaluated : List ℕ → ℕ → List ℕ → Tuple → Evaluated
+unfoldable pub evaluated : Element → ℕ → Instance → Tuple → Evaluated
 evaluated el b h g = gathered (messageLength el b) (itemValue el b h g 0) (itemValue el b h g 1) (itemValue el b h g 2) (itemValue el b h g 3)
 
 -- the instance after the binds of branch b's template
-unfoldable pub bindOne : List ℕ → ℕ → Tuple → ℕ → List ℕ → List ℕ
+unfoldable pub bindOne : Element → ℕ → Tuple → ℕ → Instance → Instance
 bindOne el b g j h = if binds el b j then withField h (at (itemAt el b j) (leftPlace + operandNumber)) (valueOf g j) else h
 
-unfoldable pub bound : List ℕ → ℕ → Tuple → List ℕ → List ℕ
+unfoldable pub bound : Element → ℕ → Tuple → Instance → Instance
 bound el b g h = iter (bindOne el b g) h values

@@ -3,6 +3,7 @@ use Prim.Native.Nat.{ℕ}
 use mathlib.Core.Bool.{Bool}
 use mathlib.Core.List.{List}
 use lib.Dec.{eqb, leb, ltb}
+use Rattle.base_words.specs.Blocks.{Queues, Instance}
 use Rattle.base_words.specs.Counts.{countMost}
 use Rattle.base_words.specs.Pick.{if_then_else_}
 use Rattle.base_words.specs.Words.{at}
@@ -12,9 +13,9 @@ use Rattle.meaning.specs.Queues.{valueAt}
 unfoldable pub excessOf : ℕ → ℕ → ℕ
 excessOf u n = if eqb u 1 then (if leb n countMost then 0 else 1) else n
 
-abbrev pub excessAt : List ℕ → List ℕ → ℕ → ℕ
+abbrev pub excessAt : List ℕ → Instance → ℕ → ℕ
 excessAt u h k = excessOf (at u k) (at h k)
 
 -- value j is 0 where it stands behind the first n
-unfoldable pub shownBy : List ℕ → ℕ → ℕ → ℕ → ℕ → Bool
+unfoldable pub shownBy : Queues → ℕ → ℕ → ℕ → ℕ → Bool
 shownBy q m k n j = eqb (valueAt q m k j) (if ltb j n then valueAt q m k j else 0)

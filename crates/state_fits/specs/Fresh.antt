@@ -3,6 +3,7 @@
 use Prim.Native.Nat.{ℕ, _+_}
 use mathlib.Core.List.{List}
 use lib.ListN.{set, replicate}
+use Rattle.base_words.specs.Blocks.{Table, State}
 use Rattle.base_words.specs.Iter.{iter}
 use Rattle.base_words.specs.Pick.{if_then_else_}
 use Rattle.base_table.specs.Table.{poolCount, elementAt, entryAt}
@@ -10,13 +11,13 @@ use Rattle.base_state.specs.Places.{tokenPlace, madePlace, instancePlace, versi
 use Rattle.state_fits.specs.Fits.{startPlace, hasStart}
 
 -- the first edge of the pool's start
-unfoldable pub firstEdge : List ℕ → ℕ → ℕ
+unfoldable pub firstEdge : Table → ℕ → ℕ
 firstEdge t p = entryAt (elementAt t p (startPlace t p)) 0
 
 -- pool p of a state z that holds 0 for it
-unfoldable pub begun : List ℕ → ℕ → List ℕ → List ℕ
+unfoldable pub begun : Table → ℕ → State → State
 begun t p z = if hasStart t p then set (set z (madePlace p) 1) (instancePlace p 0 + tokenPlace (firstEdge t p)) 1 else z
 
 -- the fresh state for version v
-unfoldable pub fresh : List ℕ → ℕ → List ℕ
+unfoldable pub fresh : Table → ℕ → State
 fresh t v = set (iter (begun t) (replicate stateWords 0) (poolCount t)) versionAt v

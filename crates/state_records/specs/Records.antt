@@ -3,6 +3,7 @@ use Prim.Native.Nat.{ℕ}
 use mathlib.Core.List.{List, [], _∷_, _++_, map}
 use lib.Dec.{ltb}
 use lib.ListN.{length, getD, set, take, drop}
+use Rattle.base_words.specs.Blocks.{Block}
 use Rattle.base_words.specs.Pick.{if_then_else_}
 use Rattle.base_words.specs.Words.{at}
 use Rattle.state_figures.specs.Figures.{recordAt}
@@ -38,7 +39,7 @@ abbrev pub lentWords : Four → List (List ℕ)
 lentWords f = take (lentCount f) (wordsOf f)
 
 -- and the records of those words, the lent ones being ws now
-abbrev pub structOf : List ℕ → Record
+abbrev pub structOf : Block → Record
 structOf w = record { made = at w 0; unfinished = at w 1; finished = at w 2 }
 
 unfoldable pub fourFrom : List (List ℕ) → ℕ → Four

@@ -3,6 +3,7 @@ use Prim.Native.Nat.{ℕ, _+_}
 use mathlib.Core.List.{List}
 use lib.Dec.{eqb}
 use lib.ListN.{set}
+use Rattle.base_words.specs.Blocks.{Instances, Queues, Instance}
 use Rattle.base_words.specs.Pick.{if_then_else_}
 use Rattle.base_words.specs.Words.{at}
 use Rattle.base_words.specs.Writes.{writes}
@@ -17,7 +18,7 @@ use Rattle.meaning.specs.Changes.{more}
 use Rattle.step_queues.specs.Changes.{oldest, extended, removed}
 
 -- the instances with the words h that a step leaves, of an instance and of the stores, and another count of made ones
-abbrev pub storedIn : List ℕ → ℕ → ℕ → List ℕ → ℕ → List ℕ
+abbrev pub storedIn : Instances → ℕ → ℕ → Instance → ℕ → Instances
 storedIn s p i h made =
     set (writes (λ k. at h (instanceWords + k)) (writes (at h) s (instancePlace p i) instanceWords) sharedPlace storeWords) (madePlace p) made
 
@@ -25,7 +26,7 @@ unfoldable pub madeBy : Move → ℕ → ℕ
 madeBy m made = if eqb (m .also) making then more made else made
 
 -- the queues after a move, and its answer
-unfoldable pub deliveredBy : Move → ℕ → Tuple → Tuple → List ℕ → List ℕ
+unfoldable pub deliveredBy : Move → ℕ → Tuple → Tuple → Queues → Queues
 deliveredBy m name g sent q =
     if eqb (m .receives) on then removed q name (oldest q name g)
     else if eqb (m .sends) on then extended q name sent

@@ -5,6 +5,7 @@ use mathlib.Core.Path.{_≡_}
 use mathlib.Core.Bool.{Bool, true, false, _&&_}
 use mathlib.Core.List.{List, [], _∷_}
 use lib.Dec.{eqb}
+use Rattle.base_words.specs.Blocks.{State}
 use Rattle.base_words.specs.Each.{total}
 use Rattle.base_words.specs.Pick.{if_then_else_}
 use Rattle.base_words.specs.Sum.{oneIf}
@@ -29,26 +30,26 @@ pub data Entry : Type 0 where
   postGave : ℕ → Tuple → ℕ → Entry
 
 -- WHO GAVE IT: by a way to do one step and one post, each call from the state that the earlier ones left; y is the last state
-unfoldable pub GivenBy : (List ℕ → Name → Stepped) → (List ℕ → ℕ → Tuple → Left) → List ℕ → List Entry → List ℕ → Type 0
+unfoldable pub GivenBy : (State → Name → Stepped) → (State → ℕ → Tuple → Left) → State → List Entry → State → Type 0
 GivenBy step post z [] y = y ≡ z
 GivenBy step post z (stepGave n a ∷ h) y = (a ≡ step z n .answer) × GivenBy step post (step z n .state) h y
 GivenBy step post z (postGave m g k ∷ h) y = (k ≡ post z m g .number) × GivenBy step post (post z m g .state) h y
 
 -- one call and its answer, and the state that it leaves
-unfoldable pub entryBy : (List ℕ → Name → Stepped) → (List ℕ → ℕ → Tuple → Left) → Act → List ℕ → Entry
+unfoldable pub entryBy : (State → Name → Stepped) → (State → ℕ → Tuple → Left) → Act → State → Entry
 entryBy step post (aStep n) z = stepGave n (step z n .answer)
 entryBy step post (aPost m g) z = postGave m g (post z m g .number)
 
-unfoldable pub stateBy : (List ℕ → Name → Stepped) → (List ℕ → ℕ → Tuple → Left) → Act → List ℕ → List ℕ
+unfoldable pub stateBy : (State → Name → Stepped) → (State → ℕ → Tuple → Left) → Act → State → State
 stateBy step post (aStep n) z = step z n .state
 stateBy step post (aPost m g) z = post z m g .state
 
 -- the history of calls in turn, and the state that they leave
-unfoldable pub toldBy : (List ℕ → Name → Stepped) → (List ℕ → ℕ → Tuple → Left) → List Act → List ℕ → List Entry
+unfoldable pub toldBy : (State → Name → Stepped) → (State → ℕ → Tuple → Left) → List Act → State → List Entry
 toldBy step post [] z = []
 toldBy step post (a ∷ rest) z = entryBy step post a z ∷ toldBy step post rest (stateBy step post a z)
 
-unfoldable pub leftBy : (List ℕ → Name → Stepped) → (List ℕ → ℕ → Tuple → Left) → List Act → List ℕ → List ℕ
+unfoldable pub leftBy : (State → Name → Stepped) → (State → ℕ → Tuple → Left) → List Act → State → State
 leftBy step post [] z = z
 leftBy step post (a ∷ rest) z = leftBy step post rest (stateBy step post a z)
 
@@ -113,10 +114,10 @@ noted m g e = record { posted = oneIf (posts m g e); sent = oneIf (sends m g e);
 unfoldable pub counted : (Entry → Bool) → List Entry → ℕ
 counted f h = total (λ e. oneIf (f e)) h
 
-unfoldable pub queued : ℕ → Tuple → List ℕ → ℕ
+unfoldable pub queued : ℕ → Tuple → State → ℕ
 queued m g z = times g (messagesOf (queuesOf z) m)
 
-unfoldable pub accountsOf : ℕ → Tuple → List Entry → List ℕ → Accounts
+unfoldable pub accountsOf : ℕ → Tuple → List Entry → State → Accounts
 accountsOf m g h z = record { posted = counted (posts m g) h; sent = counted (sends m g) h; consumed = counted (consumes m g) h; queued = queued m g z }
 
 -- "posted + sent = queued + consumed" (RULES: steps)

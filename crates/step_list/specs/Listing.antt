@@ -3,6 +3,7 @@
 use Prim.Native.Nat.{ℕ, zero, suc, _+_}
 use mathlib.Core.List.{List, [], _∷_}
 use lib.Dec.{eqb}
+use Rattle.base_words.specs.Blocks.{Table, Instances, Queues}
 use Rattle.base_words.specs.Each.{joined, those}
 use Rattle.base_words.specs.Pick.{if_then_else_}
 use Rattle.base_kinds.specs.declared.moves.Move.{Move}
@@ -18,39 +19,39 @@ use Rattle.step_names.specs.Names.{offered, stepName, namedBy, accepted, blank}
 use Rattle.step_list.specs.declared.Listed.{Listed}
 
 -- "The values are the message consumed, else empty": how many queue places a move looks at, and the values at place k (RULES: list)
-unfoldable pub places : Move → List ℕ → ℕ → ℕ
+unfoldable pub places : Move → Queues → ℕ → ℕ
 places m q name = if eqb (m .receives) on then messageCount q name else 1
 
-unfoldable pub valuesAt : Move → List ℕ → ℕ → ℕ → List Tuple
+unfoldable pub valuesAt : Move → Queues → ℕ → ℕ → List Tuple
 valuesAt m q name k = if eqb (m .receives) on then offered q name k else empty ∷ []
 
-abbrev pub moveAt : List ℕ → ℕ → ℕ → ℕ → Move
+abbrev pub moveAt : Table → ℕ → ℕ → ℕ → Move
 moveAt t p e f = moveOf (kindIn (elementAt t p e)) (modeIn (elementAt t p e)) f
 
 -- THE NAMES, from the inside out: by queue place, branch, phase, element, instance (the unmade one is the last), pool
-unfoldable pub byPlace : List ℕ → List ℕ → ℕ → ℕ → ℕ → ℕ → ℕ → ℕ → List Name
+unfoldable pub byPlace : Table → Queues → ℕ → ℕ → ℕ → ℕ → ℕ → ℕ → List Name
 byPlace t q p i e f b k = namedBy (stepName t p i e f b) (valuesAt (moveAt t p e f) q (messageName (elementAt t p e) b) k)
 
-unfoldable pub byBranch : List ℕ → List ℕ → ℕ → ℕ → ℕ → ℕ → ℕ → List Name
+unfoldable pub byBranch : Table → Queues → ℕ → ℕ → ℕ → ℕ → ℕ → List Name
 byBranch t q p i e f b = joined (byPlace t q p i e f b) (places (moveAt t p e f) q (messageName (elementAt t p e) b))
 
-unfoldable pub byPhase : List ℕ → List ℕ → ℕ → ℕ → ℕ → ℕ → List Name
+unfoldable pub byPhase : Table → Queues → ℕ → ℕ → ℕ → ℕ → List Name
 byPhase t q p i e f = joined (byBranch t q p i e f) (branchCount (elementAt t p e) (moveAt t p e f))
 
-unfoldable pub byElement : List ℕ → List ℕ → ℕ → ℕ → ℕ → List Name
+unfoldable pub byElement : Table → Queues → ℕ → ℕ → ℕ → List Name
 byElement t q p i e = joined (byPhase t q p i e) phases
 
-unfoldable pub byInstance : List ℕ → List ℕ → ℕ → ℕ → List Name
+unfoldable pub byInstance : Table → Queues → ℕ → ℕ → List Name
 byInstance t q p i = joined (byElement t q p i) (elementCount t p)
 
-unfoldable pub byPool : List ℕ → List ℕ → List ℕ → ℕ → List Name
+unfoldable pub byPool : Table → Instances → Queues → ℕ → List Name
 byPool t s q p = joined (byInstance t q p) (madeCount s p + 1)
 
-unfoldable pub stepNames : List ℕ → List ℕ → List ℕ → List Name
+unfoldable pub stepNames : Table → Instances → Queues → List Name
 stepNames t s q = joined (byPool t s q) (poolCount t)
 
 -- THE ACCEPTED ONES
-unfoldable pub listed : List ℕ → List ℕ → List ℕ → List Name
+unfoldable pub listed : Table → Instances → Queues → List Name
 listed t s q = those (accepted t s q) (stepNames t s q)
 
 -- "The listing gives the k-th accepted step, k from 0"; "6: no accepted step with that ordinal". A refusal has a blank name beside it. (RULES: list)

@@ -3,6 +3,7 @@ use Prim.Native.Nat.{ℕ}
 use mathlib.Core.Bool.{Bool}
 use mathlib.Core.List.{List, [], _∷_}
 use lib.Dec.{eqb}
+use Rattle.base_words.specs.Blocks.{Table, Instances, Queues}
 use Rattle.base_words.specs.Each.{tab}
 use Rattle.base_words.specs.Pick.{if_then_else_}
 use Rattle.base_words.specs.Words.{at}
@@ -16,7 +17,7 @@ use Rattle.meaning.specs.Refusals.{firstRefusal}
 use Rattle.meaning.specs.Step.{refusals}
 
 -- the name of a step of element e of the pool at place p; a pool is named by its number
-unfoldable pub stepName : List ℕ → ℕ → ℕ → ℕ → ℕ → ℕ → Tuple → Name
+unfoldable pub stepName : Table → ℕ → ℕ → ℕ → ℕ → ℕ → Tuple → Name
 stepName t p i e f b g = record { pool = at t (poolPlace p); instance = i; element = e; phase = f; branch = b; given = g }
 
 -- a list of at most one tuple, as a name
@@ -25,11 +26,11 @@ namedBy f [] = []
 namedBy f (g ∷ gs) = f g ∷ namedBy f gs
 
 -- "equal messages appear once, at the oldest": message k of the queue of a name, where no older one is equal to it (RULES: list)
-unfoldable pub offered : List ℕ → ℕ → ℕ → List Tuple
+unfoldable pub offered : Queues → ℕ → ℕ → List Tuple
 offered q name k = if has (messageAt q name k) (tab (messageAt q name) k) then [] else messageAt q name k ∷ []
 
 -- accepted: nothing refuses the step
-unfoldable pub accepted : List ℕ → List ℕ → List ℕ → Name → Bool
+unfoldable pub accepted : Table → Instances → Queues → Name → Bool
 accepted t s q n = eqb (firstRefusal (refusals t s q n)) 0
 
 -- beside a refusal

@@ -3,6 +3,7 @@ use Prim.Native.Nat.{ℕ, zero, suc}
 use mathlib.Core.Bool.{Bool, true, false}
 use mathlib.Core.List.{List, [], _∷_}
 use lib.Dec.{eqb}
+use Rattle.base_words.specs.Blocks.{Table, State, Instances, Queues, Instance}
 use Rattle.base_words.specs.Each.{those}
 use Rattle.base_table.specs.Table.{limitOf}
 use Rattle.base_state.specs.Instances.{instancesOf, queuesOf, madeCount}
@@ -18,28 +19,28 @@ use Rattle.step_names.specs.declared.Scan.{Scan}
 use Rattle.step_names.specs.Names.{offered, namedBy, accepted, blank}
 
 -- of some names the accepted ones
-abbrev pub acceptedOn : List ℕ → List ℕ → List Name → List Name
+abbrev pub acceptedOn : Table → State → List Name → List Name
 acceptedOn t z ns = those (accepted t (instancesOf z) (queuesOf z)) ns
 
 -- a name with other values; the names by message k of the queue of a name
 unfoldable pub withValues : Name → Tuple → Name
 withValues n g = record { pool = n .pool; instance = n .instance; element = n .element; phase = n .phase; branch = n .branch; given = g }
 
-unfoldable pub byMessage : List ℕ → Name → ℕ → ℕ → List Name
+unfoldable pub byMessage : Queues → Name → ℕ → ℕ → List Name
 byMessage q n name k = namedBy (withValues n) (offered q name k)
 
 -- What a name finds whatever its values: the words h of its instance before the step; whether 16, and 12 or 13 of the guard, let it pass; what is
 -- expected where no values are given.
-unfoldable pub instanceFor : List ℕ → List ℕ → Name → List ℕ
+unfoldable pub instanceFor : Table → Instances → Name → Instance
 instanceFor t s n = before (moveNamed t n) (instanceOf s (poolNamed t n) (n .instance)) (sharedOf s)
 
-unfoldable pub belowFor : List ℕ → List ℕ → Name → Bool
+unfoldable pub belowFor : Table → Instances → Name → Bool
 belowFor t s n = belowLimit (moveNamed t n) (madeCount s (poolNamed t n)) (limitOf t (poolNamed t n))
 
-unfoldable pub readyFor : List ℕ → List ℕ → Name → Bool
+unfoldable pub readyFor : Table → Instance → Name → Bool
 readyFor t h n = eqb (firstRefusal (beforeFields (elementNamed t n) h (moveNamed t n) (n .branch))) 0
 
-unfoldable pub workedFor : List ℕ → List ℕ → Name → Tuple
+unfoldable pub workedFor : Table → Instance → Name → Tuple
 workedFor t h n = expected (elementNamed t n) h (moveNamed t n) (n .branch) empty .tuple
 
 -- the k-th of a list, or what is left of k behind it

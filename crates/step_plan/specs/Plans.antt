@@ -4,6 +4,7 @@ use mathlib.Core.Path.{_≡_}
 use mathlib.Core.List.{List, []}
 use lib.Dec.{eqb}
 use lib.ListN.{take}
+use Rattle.base_words.specs.Blocks.{Element, Instance}
 use Rattle.base_words.specs.Pick.{if_then_else_}
 use Rattle.base_kinds.specs.declared.moves.Move.{Move}
 use Rattle.meaning.specs.declared.Tuple.{Tuple}
@@ -14,7 +15,7 @@ use Rattle.step_refusals.specs.Chain.{ofFields}
 use Rattle.step_plan.specs.declared.Plan.{Plan}
 
 -- what a name finds, put together
-abbrev pub siteAt : List ℕ → List ℕ → Move → ℕ → Tuple → ℕ → ℕ → Site
+abbrev pub siteAt : Element → Instance → Move → ℕ → Tuple → ℕ → ℕ → Site
 siteAt el h m b g made limit = record { element = el; move = m; branch = b; given = g; made = made; limit = limit; instance = h }
 
 -- 12 to 14, which the instance alone decides, whatever the queues hold
@@ -25,7 +26,7 @@ ofInstance x = take 6 (refusalsAt x [])
 unfoldable pub ofGuard : Site → List Refusal
 ofGuard x = take 3 (refusalsAt x [])
 
-unfoldable pub copyAfter : Site → List ℕ
+unfoldable pub copyAfter : Site → Instance
 copyAfter x = if eqb (firstRefusal (ofGuard x)) 0 then afterTaking x else x .instance
 
 abbrev pub refusedPlan : ℕ → Plan

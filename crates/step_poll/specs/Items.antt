@@ -4,6 +4,7 @@ use Prim.Native.Nat.{ℕ, zero, suc}
 use mathlib.Core.List.{List, [], _∷_}
 use lib.Dec.{eqb}
 use lib.ListN.{drop}
+use Rattle.base_words.specs.Blocks.{Block}
 use Rattle.base_words.specs.Pick.{if_then_else_}
 use Rattle.base_words.specs.Words.{at}
 use Rattle.meaning.specs.declared.Name.{Name}
@@ -21,16 +22,16 @@ itemWords = 11
 abbrev pub itemsMost : ℕ
 itemsMost = 64
 
-abbrev pub givenIn : List ℕ → Tuple
+abbrev pub givenIn : Block → Tuple
 givenIn w = record { length = at w 6; values = at w 7 ∷ at w 8 ∷ at w 9 ∷ at w 10 ∷ [] }
 
-abbrev pub nameIn : List ℕ → Name
+abbrev pub nameIn : Block → Name
 nameIn w = record { pool = at w 1; instance = at w 2; element = at w 3; phase = at w 4; branch = at w 5; given = givenIn w }
 
-unfoldable pub actIn : List ℕ → Act
+unfoldable pub actIn : Block → Act
 actIn w = if eqb (at w 0) 1 then aPost (at w 1) (givenIn w) else aStep (nameIn w)
 
 -- the first n items; what stands behind them is ignored
-unfoldable pub actsIn : List ℕ → ℕ → List Act
+unfoldable pub actsIn : Block → ℕ → List Act
 actsIn w zero = []
 actsIn w (suc n) = actIn w ∷ actsIn (drop itemWords w) n

@@ -5,6 +5,7 @@ use mathlib.Core.Bool.{Bool}
 use mathlib.Core.List.{List}
 use lib.Dec.{ltb}
 use lib.ListN.{set}
+use Rattle.base_words.specs.Blocks.{Queues}
 use Rattle.base_words.specs.Pick.{if_then_else_}
 use Rattle.base_words.specs.Seek.{seek}
 use Rattle.base_words.specs.Words.{at}
@@ -16,26 +17,26 @@ use Rattle.base_state.specs.Places.{valuesIn, slotWords, queuePlace, slotPlace}
 use Rattle.meaning.specs.Queues.{messageCount, messageAt}
 
 -- message k is equal to g; the place of the oldest that is, the count where none is
-unfoldable pub messageIs : List ℕ → ℕ → Tuple → ℕ → Bool
+unfoldable pub messageIs : Queues → ℕ → Tuple → ℕ → Bool
 messageIs q m g k = sameTuple (messageAt q m k) g
 
-unfoldable pub oldest : List ℕ → ℕ → Tuple → ℕ
+unfoldable pub oldest : Queues → ℕ → Tuple → ℕ
 oldest q m g = seek (messageIs q m g) (messageCount q m)
 
 -- g stored as message k
-unfoldable pub stored : List ℕ → ℕ → ℕ → Tuple → List ℕ
+unfoldable pub stored : Queues → ℕ → ℕ → Tuple → Queues
 stored q m k g = writes (valueOf g) (set q (slotPlace m k) (g .length)) (slotPlace m k + valuesIn) values
 
 -- a queue holds at most 64
 unfoldable pub oneMore : ℕ → ℕ
 oneMore n = if ltb n messages then n + 1 else n
 
-unfoldable pub extended : List ℕ → ℕ → Tuple → List ℕ
+unfoldable pub extended : Queues → ℕ → Tuple → Queues
 extended q m g = set (stored q m (messageCount q m) g) (queuePlace m) (oneMore (messageCount q m))
 
 -- the messages behind message k, one slot up
-unfoldable pub closedUp : List ℕ → ℕ → ℕ → List ℕ
+unfoldable pub closedUp : Queues → ℕ → ℕ → Queues
 closedUp q m k = writes (λ i. at q (slotPlace m k + i + slotWords)) q (slotPlace m k) (slotWords * (messageCount q m - 1 - k))
 
-unfoldable pub removed : List ℕ → ℕ → ℕ → List ℕ
+unfoldable pub removed : Queues → ℕ → ℕ → Queues
 removed q m k = set (stored (closedUp q m k) m (messageCount q m - 1) empty) (queuePlace m) (messageCount q m - 1)

@@ -5,12 +5,13 @@ use mathlib.Core.List.{List, [], _∷_}
 use Rattle.meaning.specs.declared.Name.{Name}
 use Rattle.meaning.specs.Step.{Outcome, step}
 use Rattle.step_list.specs.Listing.{listed}
+use Rattle.base_words.specs.Blocks.{Table, Instances, Queues}
 
 pub record Run : Type 0 where
   pub steps : ℕ
   pub left : ℕ
-  pub instances : List ℕ
-  pub queues : List ℕ
+  pub instances : Instances
+  pub queues : Queues
 
 -- 1 or 0 for whether there is one
 unfoldable pub whether : List Name → ℕ
@@ -22,7 +23,7 @@ unfoldable pub oneStep : Run → Run
 oneStep r = record { steps = r .steps + 1; left = r .left; instances = r .instances; queues = r .queues }
 
 -- by a way to list the steps of a state and a way to take one; by cases on the listing: nothing is listed, or the first one is taken before the rest
-unfoldable pub ranBy : (List ℕ → List ℕ → List Name) → (List ℕ → List ℕ → Name → Outcome) → ℕ → List ℕ → List ℕ → Run
+unfoldable pub ranBy : (Instances → Queues → List Name) → (Instances → Queues → Name → Outcome) → ℕ → Instances → Queues → Run
 ranBy list take zero s q = record { steps = 0; left = whether (list s q); instances = s; queues = q }
 ranBy list take (suc limit) s q =
     elim (list s q) [
@@ -30,5 +31,5 @@ ranBy list take (suc limit) s q =
       | n ∷ ns ↦ oneStep (ranBy list take limit (take s q n .instances) (take s q n .queues))
     ]
 
-unfoldable pub ran : List ℕ → ℕ → List ℕ → List ℕ → Run
+unfoldable pub ran : Table → ℕ → Instances → Queues → Run
 ran t limit s q = ranBy (listed t) (step t) limit s q

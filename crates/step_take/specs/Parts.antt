@@ -3,6 +3,7 @@ use Prim.Native.Nat.{ℕ}
 use mathlib.Core.Path.{_≡_}
 use mathlib.Core.List.{List, _++_}
 use lib.Dec.{eqb}
+use Rattle.base_words.specs.Blocks.{Instances, Queues}
 use Rattle.base_words.specs.Pick.{if_then_else_}
 use Rattle.base_kinds.specs.declared.moves.Move.{Move}
 use Rattle.base_state.specs.Instances.{instancesOf, queuesOf}
@@ -21,7 +22,7 @@ pub record Applied (el h z : List ℕ) (m : Move) (p : ℕ) (n : Name) (made : �
   pub state : after ≡ storedIn (instancesOf z) p (n .instance) h (madeBy m made) ++ deliveredBy m (messageName el (n .branch)) (n .given) (plan .sent) (queuesOf z)
 
 -- a step whose name finds x, instance i of pool p
-unfoldable pub settledAt : Site → ℕ → ℕ → List ℕ → List ℕ → Outcome
+unfoldable pub settledAt : Site → ℕ → ℕ → Instances → Queues → Outcome
 settledAt x p i s q =
     if eqb (firstRefusal (refusalsAt x q)) 0 then
     record { answer = traffic x; instances = storedIn s p i (instanceAfter x) (madeAfter x); queues = queuesChanged x q }

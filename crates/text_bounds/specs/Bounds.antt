@@ -5,6 +5,7 @@ use mathlib.Core.Bool.{Bool, _||_}
 use mathlib.Core.List.{List}
 use lib.Dec.{eqb, ltb}
 use lib.ListN.{set}
+use Rattle.base_words.specs.Blocks.{Block, Bytes}
 use Rattle.base_words.specs.Pick.{if_then_else_}
 use Rattle.text_readers.specs.declared.Read.{Read}
 use Rattle.text_readers.specs.declared.Read.the-variants.{Refused}
@@ -27,11 +28,11 @@ abbrev pub aGuardedBranch : ℕ
 aGuardedBranch = code "G"
 
 -- what an expression starts with
-abbrev pub startsOperand : List ℕ → ℕ → Bool
+abbrev pub startsOperand : Bytes → ℕ → Bool
 startsOperand text at = startsField text at || startsNumber text at
 
 -- what an item starts with
-unfoldable pub starts : ℕ → List ℕ → ℕ → Bool
+unfoldable pub starts : ℕ → Bytes → ℕ → Bool
 starts item text at =
     if eqb item anEdge then startsNumber text at
     else if eqb item aTemplateItem then startsSign (code "?") text at || startsOperand text at
@@ -43,7 +44,7 @@ starts item text at =
 unfoldable pub oneTooMany : Bool → ℕ → Read
 oneTooMany item p = Refused (if item then excessive else misplaced) p
 
-unfoldable pub tooMany : Bool → ℕ → List ℕ → Parsed
+unfoldable pub tooMany : Bool → ℕ → Block → Parsed
 tooMany item p x = refused (if item then excessive else misplaced) p x
 
 -- the count stored behind k items; "a list that closes too early is 2 at the closing sign" (RULES: places)

@@ -5,6 +5,7 @@ use mathlib.Core.Bool.{Bool, true, false, not}
 use mathlib.Core.List.{List, [], _∷_}
 use lib.Dec.{eqb, ltb}
 use lib.ListN.{length, set, replicate}
+use Rattle.base_words.specs.Blocks.{Block, Bytes}
 use Rattle.base_words.specs.Pick.{if_then_else_}
 use Rattle.base_words.specs.Seek.{seek}
 use Rattle.base_kinds.specs.declared.Kind.{Kind}
@@ -20,14 +21,14 @@ abbrev pub kindCount : ℕ
 kindCount = 15
 
 -- "A keyword is compared whole, as fixed bytes, letter case included": the kind whose keyword a word is, 0 where there is none (RULES: reading)
-unfoldable pub isKeyword : List ℕ → ℕ → Bool
+unfoldable pub isKeyword : Bytes → ℕ → Bool
 isKeyword w j = sameBytes w (keywordOf (j + 1))
 
-unfoldable pub kindNamed : List ℕ → ℕ
+unfoldable pub kindNamed : Bytes → ℕ
 kindNamed w = if ltb (seek (isKeyword w) kindCount) kindCount then seek (isKeyword w) kindCount + 1 else 0
 
 -- the words of an element of kind k with nothing else stored
-unfoldable pub blank : ℕ → List ℕ → List ℕ
+unfoldable pub blank : ℕ → Block → Block
 blank k x = set (replicate (length x) 0) kindPlace k
 
 -- parts behind a sign, then commas; a blank stands behind the last part of a row
@@ -49,5 +50,5 @@ element text at x =
     (refused misplaced (placeOf text at) (blank 0 x))
 
 -- what can start one more element: one of the fifteen keywords
-unfoldable pub startsElement : List ℕ → ℕ → Bool
+unfoldable pub startsElement : Bytes → ℕ → Bool
 startsElement text at = ifWord (tokenAt text at .form) (not (eqb (kindNamed (letters text at)) 0)) false

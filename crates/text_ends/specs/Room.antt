@@ -4,6 +4,7 @@ use mathlib.Core.Bool.{Bool, _&&_}
 use mathlib.Core.List.{List}
 use lib.Dec.{eqb, leb, ltb}
 use lib.ListN.{set}
+use Rattle.base_words.specs.Blocks.{Element, Tally}
 use Rattle.base_words.specs.Counts.{elements, branches, edges}
 use Rattle.base_words.specs.Pick.{if_then_else_}
 use Rattle.base_words.specs.Sum.{sum, oneIf}
@@ -38,23 +39,23 @@ judgedWords = roomIn + 1
 unfoldable pub oneMore : ℕ → ℕ
 oneMore n = if ltb n greatest then n + 1 else n
 
-unfoldable pub endsWith : List ℕ → List ℕ → ℕ
+unfoldable pub endsWith : Element → Tally → ℕ
 endsWith el s = if isEndSnd el then oneMore (at s endsIn) else at s endsIn
 
-unfoldable pub counted : ℕ → List ℕ → List ℕ → List ℕ
+unfoldable pub counted : ℕ → Element → Tally → Tally
 counted count el s = set (set s countIn count) endsIn (endsWith el s)
 
 -- an element, the count-th
-unfoldable pub noted : ℕ → List ℕ → List ℕ → List ℕ
+unfoldable pub noted : ℕ → Element → Tally → Tally
 noted count el s =
     tally (tally (counted count el s) (regionMarks (edgeRegion usedFrom el entriesPlace branches))) (regionMarks (edgeRegion usedFrom el exitsPlace branches))
 
 -- a pool behind its elements
-unfoldable pub freeBy : List ℕ → ℕ
+unfoldable pub freeBy : Tally → ℕ
 freeBy s = sum (λ k. oneIf (eqb (at s (usedFrom + (k + 1))) 0)) edges
 
-unfoldable pub roomBy : List ℕ → Bool
+unfoldable pub roomBy : Tally → Bool
 roomBy s = leb (at s endsIn) (freeBy s) && leb (at s countIn + at s endsIn) elements
 
-unfoldable pub roomNoted : List ℕ → List ℕ → List ℕ
+unfoldable pub roomNoted : Tally → Tally → Tally
 roomNoted s w = if roomBy s then w else set w roomIn 1

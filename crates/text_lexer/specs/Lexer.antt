@@ -6,6 +6,7 @@ use mathlib.Core.Bool.{Bool, false, not, _||_, _&&_}
 use mathlib.Core.List.{List, [], _∷_}
 use lib.Dec.{leb, eqb}
 use lib.ListN.{drop}
+use Rattle.base_words.specs.Blocks.{Bytes}
 use Rattle.base_words.specs.Pick.{if_then_else_}
 use Rattle.base_words.specs.Text.{bytes}
 use Rattle.base_words.specs.Words.{at}
@@ -22,10 +23,10 @@ unfoldable pub between : ℕ → ℕ → ℕ → Bool
 between low high b = leb low b && leb b high
 
 -- the classes of bytes; all others start no token
-abbrev pub blanks : List ℕ
+abbrev pub blanks : Bytes
 blanks = bytes " \t\n"
 
-abbrev pub signs : List ℕ
+abbrev pub signs : Bytes
 signs = bytes "|(){},<>?+-="
 
 unfoldable pub isBlank : ℕ → Bool
@@ -52,7 +53,7 @@ abbrev pub placed : Form → ℕ → ℕ → Token
 placed form p q = record { form = form; at = p; next = q }
 
 -- the token that the byte b at the place p begins, with the bytes s behind it
-unfoldable pub tokenOf : ℕ → List ℕ → ℕ → Token
+unfoldable pub tokenOf : ℕ → Bytes → ℕ → Token
 tokenOf b s p =
     if isWord b then placed Word p (past isWord s (p + 1))
     else if isSign b then placed (Sign b) p (p + 1)
@@ -66,7 +67,7 @@ tokenHere [] p = placed End p p
 tokenHere (b ∷ s) p = tokenOf b s p
 
 -- the next token at or after a place of the text; beyond the text it is the end, at that place
-unfoldable pub tokenAt : List ℕ → ℕ → Token
+unfoldable pub tokenAt : Bytes → ℕ → Token
 tokenAt text from = let p = past isBlank (drop from text) from in tokenHere (drop p text) p
 
 -- by the token's form: one choice for each pattern that a reader takes a token apart with
@@ -99,5 +100,5 @@ ifEnd End a b = a
 ifEnd Other a b = b
 
 -- the place behind a given sign, where it is the token that the bytes left begin with; else the place itself
-unfoldable pub signBehind : ℕ → List ℕ → ℕ → ℕ
+unfoldable pub signBehind : ℕ → Bytes → ℕ → ℕ
 signBehind s left p = ifSign (tokenHere left p .form) (λ b. if eqb b s then p + 1 else p) p

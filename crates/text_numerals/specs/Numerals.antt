@@ -6,6 +6,7 @@ use mathlib.Core.Bool.{Bool, true, false, _&&_, _||_}
 use mathlib.Core.List.{List, [], _∷_}
 use lib.Dec.{ltb, leb, eqb}
 use lib.ListN.{length, drop}
+use Rattle.base_words.specs.Blocks.{Bytes}
 use Rattle.base_words.specs.Counts.{fields, stores}
 use Rattle.base_words.specs.Pick.{if_then_else_}
 use Rattle.base_words.specs.Words.{at, part, greatest}
@@ -23,11 +24,11 @@ unfoldable pub valueFrom : ℕ → List ℕ → Number
 valueFrom v [] = if leb v greatest then Value v else TooLarge
 valueFrom v (d ∷ word) = if isDigit d then valueFrom (v * 10 + (d - code "0")) word else NotANumber
 
-unfoldable pub leadingZero : List ℕ → Bool
+unfoldable pub leadingZero : Bytes → Bool
 leadingZero word = ltb 1 (length word) && eqb (at word 0) (code "0")
 
 -- a word as a number
-unfoldable pub numberOf : List ℕ → Number
+unfoldable pub numberOf : Bytes → Number
 numberOf word = if eqb (length word) 0 then NotANumber else if leadingZero word then NotANumber else valueFrom 0 word
 
 -- two words are the same, byte by byte
@@ -52,7 +53,7 @@ fieldFrom letter n =
     else if eqb letter (code "s") then fieldBehind fields stores n
     else NotANumber
 
-unfoldable pub fieldOf : List ℕ → Number
+unfoldable pub fieldOf : Bytes → Number
 fieldOf word = fieldFrom (at word 0) (numberOf (drop 1 word))
 
 -- a word as an operand
@@ -66,7 +67,7 @@ asField (Value d) = Field d
 asField TooLarge = OutOfRange
 asField NotANumber = NotAnOperand
 
-unfoldable pub operandOf : List ℕ → Operand
+unfoldable pub operandOf : Bytes → Operand
 operandOf word = if isFieldLetter (at word 0) then asField (fieldOf word) else asNumber (numberOf word)
 
 -- THE SAME FROM A PLACE OF A TEXT ON, in one go: v and then the digits of s, which starts at the place p; above the greatest word a value grows no more
@@ -78,17 +79,17 @@ digitsFrom v [] p = record { value = v; end = p }
 digitsFrom v (d ∷ s) p = if isDigit d then digitsFrom (grown v d) s (p + 1) else record { value = v; end = p }
 
 -- a word of digits alone, which come to v
-unfoldable pub numberBy : ℕ → List ℕ → Number
+unfoldable pub numberBy : ℕ → Bytes → Number
 numberBy v word = if eqb (length word) 0 then NotANumber else if leadingZero word then NotANumber else valueFrom v []
 
 -- the word at a place of a text, and the place behind it
-abbrev pub wordEnd : List ℕ → ℕ → ℕ
+abbrev pub wordEnd : Bytes → ℕ → ℕ
 wordEnd text p = past isWord (drop p text) p
 
-unfoldable pub numeralAt : List ℕ → ℕ → Numeral
+unfoldable pub numeralAt : Bytes → ℕ → Numeral
 numeralAt text p = record { number = numberOf (part text p (wordEnd text p)); next = wordEnd text p }
 
-unfoldable pub operandAt : List ℕ → ℕ → Term
+unfoldable pub operandAt : Bytes → ℕ → Term
 operandAt text p = record { operand = operandOf (part text p (wordEnd text p)); next = wordEnd text p }
 
 -- one choice for each pattern that a reader takes an answer apart with

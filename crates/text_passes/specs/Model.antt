@@ -5,6 +5,7 @@ use mathlib.Core.Bool.{Bool, true, false, not}
 use mathlib.Core.List.{List, [], _∷_, _++_, map}
 use lib.Dec.{eqb}
 use lib.ListN.{length, replicate}
+use Rattle.base_words.specs.Blocks.{Block, Bytes, Table, Element}
 use Rattle.base_words.specs.Pick.{if_then_else_}
 use Rattle.base_words.specs.Text.{bytes}
 use Rattle.base_words.specs.Words.{at}
@@ -40,7 +41,7 @@ barred thing starting (suc n) text at =
     (record { end = thing text at .end; value = [] })
 
 -- an element by itself, and the 1 to 32 of a pool
-unfoldable pub elementAlone : List ℕ → ℕ → Got (List ℕ)
+unfoldable pub elementAlone : Bytes → ℕ → Got (List ℕ)
 elementAlone text at = record { end = element text at (replicate elementWords 0) .end; value = element text at (replicate elementWords 0) .words }
 
 unfoldable pub elementsAt : List ℕ → ℕ → Got (List (List ℕ))
@@ -53,7 +54,7 @@ plain = 1
 abbrev pub multiple : ℕ
 multiple = 2
 
-unfoldable pub poolWord : List ℕ → ℕ
+unfoldable pub poolWord : Bytes → ℕ
 poolWord w = if sameBytes w (bytes "pool") then plain else if sameBytes w (bytes "miPool") then multiple else 0
 
 -- p, and n, stored as the first words of a pool
@@ -69,44 +70,44 @@ noPool = record { number = 0; limit = 0; elements = [] }
 abbrev pub unread : Read → Got Pool
 unread end = record { end = end; value = noPool }
 
-unfoldable pub closed : Parsed → List (List ℕ) → Got Pool
+unfoldable pub closed : Parsed → List Element → Got Pool
 closed r els = record { end = r .end; value = record { number = at (r .words) 0; limit = at (r .words) limitIn; elements = els } }
 
-unfoldable pub insidePool : ℕ → List ℕ → Parsed → Got Pool
+unfoldable pub insidePool : ℕ → Bytes → Parsed → Got Pool
 insidePool k text h =
     ifAt (h .end)
     (λ a. ifAt (elementsAt text a .end) (λ c. closed (closing k text c (h .words)) (elementsAt text a .value)) (unread (elementsAt text a .end)))
     (unread (h .end))
 
-unfoldable pub poolOfWord : ℕ → List ℕ → ℕ → ℕ → Got Pool
+unfoldable pub poolOfWord : ℕ → Bytes → ℕ → ℕ → Got Pool
 poolOfWord k text p q = if eqb k 0 then unread (Refused misplaced p) else insidePool k text (opening text q (0 ∷ 0 ∷ []))
 
-unfoldable pub pool : List ℕ → ℕ → Got Pool
+unfoldable pub pool : Bytes → ℕ → Got Pool
 pool text at =
     ifWord (tokenAt text at .form)
     (poolOfWord (poolWord (letters text at)) text (placeOf text at) (behind text at))
     (unread (Refused misplaced (placeOf text at)))
 
-unfoldable pub startsPool : List ℕ → ℕ → Bool
+unfoldable pub startsPool : Bytes → ℕ → Bool
 startsPool text at = ifWord (tokenAt text at .form) (not (eqb (poolWord (letters text at)) 0)) false
 
 -- a text: 1 to 4 pools, and its end
 unfoldable pub poolsAt : List ℕ → ℕ → Got (List Pool)
 poolsAt = barred pool startsPool pools
 
-unfoldable pub model : List ℕ → Got (List Pool)
+unfoldable pub model : Bytes → Got (List Pool)
 model text = record { end = ifAt (poolsAt text 0 .end) (endAt text) (poolsAt text 0 .end); value = poolsAt text 0 .value }
 
 -- THE TABLE of a model: the count of its pools; of each its number, its limit, the count of its elements, and their words; 0 behind them
-unfoldable pub flat : List (List ℕ) → List ℕ
+unfoldable pub flat : List (List ℕ) → Block
 flat [] = []
 flat (x ∷ xs) = x ++ flat xs
 
-unfoldable pub filled : ℕ → List ℕ → List ℕ
+unfoldable pub filled : ℕ → Element → Block
 filled n x = x ++ replicate (n - length x) 0
 
-unfoldable pub poolTable : Pool → List ℕ
+unfoldable pub poolTable : Pool → Block
 poolTable p = p .number ∷ p .limit ∷ length (p .elements) ∷ filled (elementWords * elements) (flat (p .elements))
 
-unfoldable pub tableOf : List Pool → List ℕ
+unfoldable pub tableOf : List Pool → Table
 tableOf ps = length ps ∷ filled (poolWords * pools) (flat (map poolTable ps))

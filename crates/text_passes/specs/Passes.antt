@@ -5,6 +5,7 @@ use mathlib.Core.Path.{_≡_}
 use mathlib.Core.Bool.{Bool, true, false}
 use mathlib.Core.List.{List, [], _∷_}
 use lib.ListN.{set, take, replicate}
+use Rattle.base_words.specs.Blocks.{Block, Table, Element, Tally}
 use Rattle.base_words.specs.Pick.{if_then_else_}
 use Rattle.base_words.specs.Words.{at}
 use Rattle.base_words.specs.Writes.{writes}
@@ -19,45 +20,45 @@ use Rattle.text_readers.specs.declared.Read.the-variants.{At}
 use Rattle.text_passes.specs.Model.{Got}
 
 -- element n of pool i, stored in a table t, and counted
-abbrev pub storedAs : ℕ → ℕ → ℕ → List ℕ → List ℕ → List ℕ
+abbrev pub storedAs : ℕ → ℕ → ℕ → Element → Table → Table
 storedAs i n count x t = set (writes (λ j. at x j) t (elementPlace i n) elementWords) (elementsPlace i) count
 
-unfoldable pub stored : ℕ → ℕ → List ℕ → List ℕ → List ℕ
+unfoldable pub stored : ℕ → ℕ → Element → Table → Table
 stored i n x t = storedAs i n (n + 1) x t
 
 -- an element, the count-th, in the summary s of its pool and in the notes behind it
-unfoldable pub summedUp : ℕ → List ℕ → List ℕ → List ℕ
+unfoldable pub summedUp : ℕ → Element → Tally → Tally
 summedUp count x s = noted count x (tally s (marksOf (regions x)))
 
-unfoldable pub keptElement : Bool → ℕ → ℕ → List ℕ → List ℕ → List ℕ
+unfoldable pub keptElement : Bool → ℕ → ℕ → Element → Block → Block
 keptElement fills i n x w = if fills then stored i n x w else summedUp (n + 1) x w
 
 -- things one after the other, from thing n on
-unfoldable pub keptAll : {A : Type 0} → (ℕ → A → List ℕ → List ℕ) → ℕ → List A → List ℕ → List ℕ
+unfoldable pub keptAll : {A : Type 0} → (ℕ → A → List ℕ → List ℕ) → ℕ → List A → List ℕ → Block
 keptAll keep n [] w = w
 keptAll keep n (x ∷ xs) w = keptAll keep (n + 1) xs (keep n x w)
 
 -- the elements of pool i: marked in its summary s, or stored in the table w
-unfoldable pub summed : Bool → ℕ → List (List ℕ) → List ℕ → List ℕ
+unfoldable pub summed : Bool → ℕ → List Element → Tally → Tally
 summed fills i els s = if fills then s else keptAll (keptElement fills i) 0 els s
 
-unfoldable pub placed : Bool → ℕ → List (List ℕ) → List ℕ → List ℕ
+unfoldable pub placed : Bool → ℕ → List Element → Block → Block
 placed fills i els w = if fills then keptAll (keptElement fills i) 0 els w else w
 
 -- pool i behind its elements: its number, its limit, and the count of pools, stored; or marked with its summary s
-abbrev pub headedAs : ℕ → ℕ → ℕ → ℕ → List ℕ → List ℕ
+abbrev pub headedAs : ℕ → ℕ → ℕ → ℕ → Table → Table
 headedAs i count number limit t = set (set (set t (poolPlace i) number) (limitPlace i) limit) poolsPlace count
 
-unfoldable pub headed : ℕ → ℕ → ℕ → List ℕ → List ℕ
+unfoldable pub headed : ℕ → ℕ → ℕ → Table → Table
 headed i number limit t = headedAs i (i + 1) number limit t
 
-unfoldable pub judgedBy : ℕ → ℕ → List ℕ → List ℕ → List ℕ
+unfoldable pub judgedBy : ℕ → ℕ → Tally → Block → Block
 judgedBy number limit s w = roomNoted s (tally w (marksOf (summaryRegions number limit (take summaryWords s))))
 
-unfoldable pub keptHead : Bool → ℕ → ℕ → ℕ → List ℕ → List ℕ → List ℕ
+unfoldable pub keptHead : Bool → ℕ → ℕ → ℕ → Tally → Block → Block
 keptHead fills i number limit s w = if fills then headed i number limit w else judgedBy number limit s w
 
-unfoldable pub keptPool : Bool → ℕ → Pool → List ℕ → List ℕ
+unfoldable pub keptPool : Bool → ℕ → Pool → Block → Block
 keptPool fills i p w = keptHead fills i (p .number) (p .limit) (summed fills i (p .elements) (replicate notedWords 0)) (placed fills i (p .elements) w)
 
 -- WHAT A PASS PROMISES of reading g, where it ended at r and left v in the words w: where it ended; and what was kept, where it was not refused

@@ -4,6 +4,7 @@ use mathlib.Core.Bool.{Bool}
 use mathlib.Core.List.{List, map}
 use lib.Dec.{eqb, ltb}
 use lib.ListN.{length}
+use Rattle.base_words.specs.Blocks.{Bytes, Table}
 use Rattle.base_words.specs.Each.{each}
 use Rattle.base_words.specs.Pick.{if_then_else_}
 use Rattle.base_words.specs.Counts.{textMost}
@@ -21,9 +22,9 @@ unfoldable pub use Rattle.text_passes.specs.Model.{putBefore, barred, elementAl
 pub record ReadInto : Type 0 where
   pub number : ℕ
   pub beside : ℕ
-  pub table : List ℕ
+  pub table : Table
 
-unfoldable pub checked : ℕ → List Pool → List ℕ → ReadInto
+unfoldable pub checked : ℕ → List Pool → Table → ReadInto
 checked k ps t =
     if eqb k 0 then
     (if each hasRoom ps then record { number = 0; beside = 0; table = tableOf (map rewritten ps) } else record { number = 28; beside = 0; table = t })
@@ -33,11 +34,11 @@ checked k ps t =
 unfoldable pub answerFor : ℕ → Bool → Reading
 answerFor k room = record { number = if eqb k 0 then (if room then 0 else 28) else 4; beside = k }
 
-unfoldable pub judged : Read → List Pool → List ℕ → ReadInto
+unfoldable pub judged : Read → List Pool → Table → ReadInto
 judged (At q) ps t = checked (lowest ps) ps t
 judged (Refused n p) ps t = record { number = n; beside = p; table = t }
 
-unfoldable pub readInto : List ℕ → List ℕ → ReadInto
+unfoldable pub readInto : Bytes → Table → ReadInto
 readInto text t =
     if ltb textMost (length text) then record { number = 1; beside = 0; table = t }
     else judged (model text .end) (model text .value) t

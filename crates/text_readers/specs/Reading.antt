@@ -6,6 +6,7 @@ use mathlib.Core.Bool.{Bool, true, false, _&&_, _||_}
 use mathlib.Core.List.{List, [], _∷_}
 use lib.Dec.{eqb, leb, ltb}
 use lib.ListN.{set, drop}
+use Rattle.base_words.specs.Blocks.{Block, Bytes}
 use Rattle.base_words.specs.Pick.{if_then_else_}
 use Rattle.base_words.specs.Text.{bytes}
 use Rattle.base_words.specs.Words.{at as wordAt, part}
@@ -38,10 +39,10 @@ misplaced = 2
 abbrev pub excessive : ℕ
 excessive = 3
 
-abbrev pub passed : ℕ → List ℕ → Parsed
+abbrev pub passed : ℕ → Block → Parsed
 passed q x = record { end = At q; words = x }
 
-abbrev pub refused : ℕ → ℕ → List ℕ → Parsed
+abbrev pub refused : ℕ → ℕ → Block → Parsed
 refused n p x = record { end = Refused n p; words = x }
 
 unfoldable pub ifAt : {A : Type 0} → Read → (ℕ → A) → A → A
@@ -62,14 +63,14 @@ abbrev pub nothing : Reader
 nothing text at x = passed at x
 
 -- THE TOKENS. A place is the place of the token's first byte.
-abbrev pub placeOf : List ℕ → ℕ → ℕ
+abbrev pub placeOf : Bytes → ℕ → ℕ
 placeOf text at = tokenAt text at .at
 
-abbrev pub behind : List ℕ → ℕ → ℕ
+abbrev pub behind : Bytes → ℕ → ℕ
 behind text at = tokenAt text at .next
 
 -- the bytes of the token at a place
-abbrev pub letters : List ℕ → ℕ → List ℕ
+abbrev pub letters : Bytes → ℕ → Bytes
 letters text at = part text (placeOf text at) (behind text at)
 
 -- a token that is asked for at p and ends at q, if it stands there
@@ -77,14 +78,14 @@ unfoldable pub taken : ℕ → ℕ → Asked
 taken p q = if ltb p q then Behind q else Another
 
 -- a given sign; `:=`; the text's end
-unfoldable pub signAt : ℕ → List ℕ → ℕ → Read
+unfoldable pub signAt : ℕ → Bytes → ℕ → Read
 signAt s text at =
     ifSign (tokenAt text at .form) (λ b. if eqb b s then At (behind text at) else Refused misplaced (placeOf text at)) (Refused misplaced (placeOf text at))
 
-unfoldable pub assignAt : List ℕ → ℕ → Read
+unfoldable pub assignAt : Bytes → ℕ → Read
 assignAt text at = ifAssign (tokenAt text at .form) (At (behind text at)) (Refused misplaced (placeOf text at))
 
-unfoldable pub endAt : List ℕ → ℕ → Read
+unfoldable pub endAt : Bytes → ℕ → Read
 endAt text at = ifEnd (tokenAt text at .form) (At (behind text at)) (Refused misplaced (placeOf text at))
 
 -- as readers, which store nothing
@@ -95,7 +96,7 @@ abbrev pub assign : Reader
 assign text at x = record { end = assignAt text at; words = x }
 
 -- A WORD THAT IS A NUMBER from least to most, or a field `d0` to `d15`, `s0` to `s15`: stored at a place of x. p is where the word stands, q what is behind it.
-unfoldable pub keepNumber : Number → ℕ → ℕ → ℕ → ℕ → ℕ → List ℕ → Parsed
+unfoldable pub keepNumber : Number → ℕ → ℕ → ℕ → ℕ → ℕ → Block → Parsed
 keepNumber (Value v) least most place p q x = if leb least v && leb v most then passed q (set x place v) else refused excessive p x
 keepNumber TooLarge least most place p q x = refused excessive p x
 keepNumber NotANumber least most place p q x = refused misplaced p x
@@ -113,7 +114,7 @@ field place text at x =
     (refused misplaced (placeOf text at) x)
 
 -- "An operand is a number or a field": 0 and the number, or 1 and the field's number (RULES: reading)
-unfoldable pub keepOperand : Operand → ℕ → ℕ → ℕ → List ℕ → Parsed
+unfoldable pub keepOperand : Operand → ℕ → ℕ → ℕ → Block → Parsed
 keepOperand (OfNumber v) place p q x = passed q (set (set x place 0) (place + operandNumber) v)
 keepOperand (Field d) place p q x = passed q (set (set x place aField) (place + operandNumber) d)
 keepOperand OutOfRange place p q x = refused excessive p x
@@ -126,14 +127,14 @@ operand place text at x =
     (refused misplaced (placeOf text at) x)
 
 -- "k is `a`, `na_c` or `na_nc`"; 0 for any other word (RULES: reading)
-unfoldable pub modeNamed : List ℕ → ℕ
+unfoldable pub modeNamed : Bytes → ℕ
 modeNamed w =
     if sameBytes w (bytes "a") then a
     else if sameBytes w (bytes "na_c") then na-c
     else if sameBytes w (bytes "na_nc") then na-nc
     else 0
 
-unfoldable pub keepMode : ℕ → ℕ → ℕ → List ℕ → Parsed
+unfoldable pub keepMode : ℕ → ℕ → ℕ → Block → Parsed
 keepMode m p q x = if eqb m 0 then refused misplaced p x else passed q (set x modePlace m)
 
 unfoldable pub mode : Reader
@@ -148,11 +149,11 @@ isSpelled (Value v) = true
 isSpelled TooLarge = true
 isSpelled NotANumber = false
 
-unfoldable pub startsNumber : List ℕ → ℕ → Bool
+unfoldable pub startsNumber : Bytes → ℕ → Bool
 startsNumber text at = ifWord (tokenAt text at .form) (isSpelled (numberOf (letters text at))) false
 
-unfoldable pub startsField : List ℕ → ℕ → Bool
+unfoldable pub startsField : Bytes → ℕ → Bool
 startsField text at = ifWord (tokenAt text at .form) (isSpelled (fieldOf (letters text at))) false
 
-unfoldable pub startsSign : ℕ → List ℕ → ℕ → Bool
+unfoldable pub startsSign : ℕ → Bytes → ℕ → Bool
 startsSign s text at = ifSign (tokenAt text at .form) (λ b. eqb b s) false

@@ -4,6 +4,7 @@ use mathlib.Core.Bool.{Bool}
 use mathlib.Core.List.{List}
 use lib.Dec.{eqb}
 use lib.ListN.{set}
+use Rattle.base_words.specs.Blocks.{Table}
 use Rattle.base_words.specs.All.{all}
 use Rattle.base_words.specs.Counts.{edges}
 use Rattle.base_words.specs.Iter.{iter}
@@ -16,31 +17,31 @@ use Rattle.text_ends.specs.Rewriting.{isEndSnd, mentioned}
 use Rattle.text_ends.specs.Room.{oneMore}
 
 -- the edge e is not mentioned; the lowest such edge
-unfoldable pub absentIn : List ℕ → ℕ → ℕ → Bool
+unfoldable pub absentIn : Table → ℕ → ℕ → Bool
 absentIn t p e = all (λ j. eqb (mentioned e (elementAt t p j)) 0) (elementCount t p)
 
-unfoldable pub lowestIn : List ℕ → ℕ → ℕ
+unfoldable pub lowestIn : Table → ℕ → ℕ
 lowestIn t p = seek (λ k. absentIn t p (k + 1)) edges + 1
 
 -- the first endSnd
-unfoldable pub firstIn : List ℕ → ℕ → ℕ
+unfoldable pub firstIn : Table → ℕ → ℕ
 firstIn t p = seek (λ j. isEndSnd (elementAt t p j)) (elementCount t p)
 
 -- the element at a place is of a kind now, with the one edge f in a list
-unfoldable pub oneAt : ℕ → ℕ → ℕ → ℕ → List ℕ → List ℕ
+unfoldable pub oneAt : ℕ → ℕ → ℕ → ℕ → Table → Table
 oneAt place kind list f t = set (set (set t (place + kindPlace) kind) (place + list) 1) (place + (list + firstEdge)) f
 
-unfoldable pub treatedWith : ℕ → ℕ → ℕ → ℕ → List ℕ → List ℕ
+unfoldable pub treatedWith : ℕ → ℕ → ℕ → ℕ → Table → Table
 treatedWith p j n f t = set (oneAt (elementPlace p n) end entriesPlace f (oneAt (elementPlace p j) interSnd exitsPlace f t)) (elementsPlace p) (oneMore n)
 
-unfoldable pub treatedIn : ℕ → List ℕ → List ℕ
+unfoldable pub treatedIn : ℕ → Table → Table
 treatedIn p t = treatedWith p (firstIn t p) (elementCount t p) (lowestIn t p) t
 
-unfoldable pub endsIn : List ℕ → ℕ → ℕ
+unfoldable pub endsIn : Table → ℕ → ℕ
 endsIn t p = sum (λ j. oneIf (isEndSnd (elementAt t p j))) (elementCount t p)
 
-unfoldable pub poolIn : ℕ → List ℕ → List ℕ
+unfoldable pub poolIn : ℕ → Table → Table
 poolIn p t = iter (λ k. treatedIn p) t (endsIn t p)
 
-unfoldable pub rewrittenIn : List ℕ → List ℕ
+unfoldable pub rewrittenIn : Table → Table
 rewrittenIn t = iter poolIn t (poolCount t)

@@ -3,6 +3,7 @@ use Prim.Native.Char.{code}
 use Prim.Native.Nat.{ℕ, _+_}
 use mathlib.Core.Bool.{Bool, true, _&&_}
 use mathlib.Core.List.{List}
+use Rattle.base_words.specs.Blocks.{Bytes}
 use Rattle.base_words.specs.Pick.{if_then_else_}
 use Rattle.base_words.specs.Text.{bytes}
 use Rattle.base_table.specs.Places.{always, default, formPlace, leftPlace, rightPlace, conditionPlace}
@@ -22,7 +23,7 @@ abbrev pub compared : ℕ → Reader
 compared place = operand (place + leftPlace) then comparison place
 
 -- a condition that starts with a word
-abbrev pub isDefaultWord : Bool → List ℕ → ℕ → Bool
+abbrev pub isDefaultWord : Bool → Bytes → ℕ → Bool
 isDefaultWord defaults text at = defaults && sameBytes (letters text at) (bytes "default")
 
 abbrev pub keepForm : ℕ → ℕ → Reader

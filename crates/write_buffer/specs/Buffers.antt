@@ -4,10 +4,11 @@ use mathlib.Core.List.{List, [], _∷_}
 use Prim.Native.Nat.{ℕ, _+_, _≤_, min}
 use lib.Dec.{ltb}
 use lib.ListN.{length, set}
+use Rattle.base_words.specs.Blocks.{Bytes}
 use Rattle.base_words.specs.Pick.{if_then_else_}
 
 -- a text written at a buffer's start, as far as the buffer goes: the later bytes stay
-unfoldable pub over : List ℕ → List ℕ → List ℕ
+unfoldable pub over : List ℕ → Bytes → Bytes
 over [] out = out
 over (b ∷ w) [] = []
 over (b ∷ w) (o ∷ out) = b ∷ over w out
@@ -29,7 +30,7 @@ behind p [] = p
 behind p (b ∷ w) = behind (next p) w
 
 -- a text written from p on, byte after byte; a byte beyond the buffer's end is not written
-unfoldable pub overFrom : ℕ → List ℕ → List ℕ → List ℕ
+unfoldable pub overFrom : ℕ → List ℕ → Bytes → Bytes
 overFrom p [] out = out
 overFrom p (b ∷ w) out = overFrom (next p) w (set out p b)
 

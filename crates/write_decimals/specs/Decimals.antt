@@ -3,6 +3,7 @@ use Prim.Native.Nat.{ℕ, zero, suc, _+_, _*_, _-_, _/_, _%_}
 use mathlib.Core.List.{List, [], _∷_, _++_}
 use mathlib.Core.Bool.{Bool, _&&_}
 use lib.Dec.{ltb, leb}
+use Rattle.base_words.specs.Blocks.{Bytes}
 use Rattle.base_words.specs.Pick.{if_then_else_}
 use Rattle.base_words.specs.Words.{digits}
 
@@ -11,12 +12,12 @@ abbrev pub digit : ℕ → ℕ
 digit d = 48 + d
 
 -- the decimal digits of n, of which there are at most k
-unfoldable pub shownFrom : ℕ → ℕ → List ℕ
+unfoldable pub shownFrom : ℕ → ℕ → Bytes
 shownFrom zero n = []
 shownFrom (suc k) n = if ltb n 10 then digit n ∷ [] else shownFrom k (n / 10) ++ (digit (n % 10) ∷ [])
 
 -- the text of a word
-unfoldable pub shown : ℕ → List ℕ
+unfoldable pub shown : ℕ → Bytes
 shown n = shownFrom digits n
 
 -- whether a byte is a digit

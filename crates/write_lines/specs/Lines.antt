@@ -2,6 +2,7 @@
 use Prim.Native.Nat.{ℕ, _+_, _*_, _-_}
 use mathlib.Core.List.{List, [], _∷_, _++_}
 use lib.Dec.{eqb}
+use Rattle.base_words.specs.Blocks.{Bytes}
 use Rattle.base_words.specs.Counts.{values}
 use Rattle.base_words.specs.Pick.{if_then_else_}
 use Rattle.base_words.specs.Text.{bytes}
@@ -16,32 +17,32 @@ use Rattle.meaning.specs.declared.Traffic.{Traffic}
 use Rattle.meaning.specs.declared.Traffic.the-variants.{Nothing, Consumed, Sent}
 
 -- number x, the j-th of a row: a mark stands before each but the first
-unfoldable pub marked : List ℕ → ℕ → ℕ → List ℕ
+unfoldable pub marked : Bytes → ℕ → ℕ → Bytes
 marked mark j x = if eqb j 0 then shown x else mark ++ shown x
 
 -- the first n numbers of s, joined by a mark
-unfoldable pub row : List ℕ → List ℕ → ℕ → List ℕ
+unfoldable pub row : Bytes → List ℕ → ℕ → Bytes
 row mark s n = joined (λ j. marked mark j (at s j)) n
 
 -- "values joined by commas": what a tuple has behind its values is not written (RULES: lines)
-unfoldable pub valuesLine : Tuple → List ℕ
+unfoldable pub valuesLine : Tuple → Bytes
 valuesLine g = row (bytes ",") (g .values) (lesser (g .length) values)
 
 -- a tuple by itself
-unfoldable pub tupleLine : Tuple → List ℕ
+unfoldable pub tupleLine : Tuple → Bytes
 tupleLine g = if eqb (g .length) 0 then bytes "-" else valuesLine g
 
 -- "name, colon, values" (RULES: lines)
-unfoldable pub messageLine : Answer → List ℕ
+unfoldable pub messageLine : Answer → Bytes
 messageLine a = shown (a .name) ++ bytes ":" ++ valuesLine (a .tuple)
 
 -- "`!` sent or `?` consumed .., or `-`" (RULES: lines)
-unfoldable pub signed : Traffic → List ℕ → List ℕ
+unfoldable pub signed : Traffic → Bytes → Bytes
 signed Nothing m = bytes "-"
 signed Consumed m = bytes "?" ++ m
 signed Sent m = bytes "!" ++ m
 
-unfoldable pub trafficLine : Answer → List ℕ
+unfoldable pub trafficLine : Answer → Bytes
 trafficLine a = signed (a .traffic) (messageLine a)
 
 -- how many numbers stand before a step's traffic
@@ -49,15 +50,15 @@ abbrev pub placeNumbers : ℕ
 placeNumbers = 5
 
 -- "pool, instance, element, phase, branch" (RULES: lines)
-unfoldable pub placeLine : Name → List ℕ
+unfoldable pub placeLine : Name → Bytes
 placeLine n = row (bytes " ") (n .pool ∷ n .instance ∷ n .element ∷ n .phase ∷ n .branch ∷ []) placeNumbers
 
 -- a step as it was taken
-unfoldable pub stepLine : Name → Answer → List ℕ
+unfoldable pub stepLine : Name → Answer → Bytes
 stepLine n a = placeLine n ++ bytes " " ++ trafficLine a
 
 -- a step as it is named
-unfoldable pub nameLine : Name → List ℕ
+unfoldable pub nameLine : Name → Bytes
 nameLine n = placeLine n ++ bytes " " ++ tupleLine (n .given)
 
 -- the greatest length of each
@@ -80,7 +81,7 @@ abbrev pub nameMost : ℕ
 nameMost = placeMost + 1 + valuesMost
 
 -- "A refused text prints `refused`, the number and what stands beside it, on one line", its newline with it (RULES: lines)
-unfoldable pub unreadLine : ℕ → ℕ → List ℕ
+unfoldable pub unreadLine : ℕ → ℕ → Bytes
 unreadLine number beside = bytes "refused " ++ shown number ++ bytes " " ++ shown beside ++ bytes "\n"
 
 abbrev pub unreadMost : ℕ

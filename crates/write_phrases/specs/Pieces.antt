@@ -3,6 +3,7 @@ use Prim.Native.Char.{code}
 use Prim.Native.Nat.{ℕ}
 use mathlib.Core.Bool.{Bool}
 use mathlib.Core.List.{List, _∷_, _++_}
+use Rattle.base_words.specs.Blocks.{Bytes, Element}
 use Rattle.base_words.specs.Pick.{if_then_else_}
 use Rattle.base_words.specs.Words.{at}
 use Rattle.base_table.specs.Places.{edgePlace, exitsPlace}
@@ -11,33 +12,33 @@ use Rattle.write_decimals.specs.Decimals.{shown}
 use Rattle.write_shown.specs.Shown.{commas, between, shownItem, shownCondition, shownMessage, shownGuarded, shownReceiving, shownAssignment, shownAssignments}
 
 -- what stands between the signs of a tuple, of the list of edges at a place, of assignments
-abbrev pub items : List ℕ → ℕ → List ℕ
+abbrev pub items : Element → ℕ → Bytes
 items el b = commas (λ j. shownItem (itemAt el b j)) (messageLength el b)
 
-abbrev pub edges : List ℕ → ℕ → List ℕ
+abbrev pub edges : Element → ℕ → Bytes
 edges el list = commas (λ j. shown (at el (edgePlace list j))) (at el list)
 
-abbrev pub assigned : List ℕ → List ℕ
+abbrev pub assigned : Element → Bytes
 assigned el = commas (λ j. shownAssignment (assignmentAt el j)) (assignmentCount el)
 
 -- the list of edges at a place
-abbrev pub edgeList : List ℕ → ℕ → List ℕ
+abbrev pub edgeList : Element → ℕ → Bytes
 edgeList el list = between (code "{") (code "}") (edges el list)
 
 -- a branch that receives or has a condition, and all of them
-unfoldable pub branch : Bool → List ℕ → ℕ → List ℕ
+unfoldable pub branch : Bool → Element → ℕ → Bytes
 branch receives el b = if receives then shownReceiving el b else shownGuarded el b
 
-abbrev pub branches : Bool → List ℕ → List ℕ
+abbrev pub branches : Bool → Element → Bytes
 branches receives el = commas (branch receives el) (at el exitsPlace)
 
 -- what stands between the signs of a branch: `f,C` and `m:T,f`
-abbrev pub choice : List ℕ → ℕ → List ℕ
+abbrev pub choice : Element → ℕ → Bytes
 choice el b = shown (exitAt el b) ++ (code "," ∷ shownCondition (conditionAt el b))
 
-abbrev pub event : List ℕ → ℕ → List ℕ
+abbrev pub event : Element → ℕ → Bytes
 event el b = shownMessage el b ++ (code "," ∷ shown (exitAt el b))
 
 -- a task's `C,A`
-abbrev pub guarded : List ℕ → List ℕ
+abbrev pub guarded : Element → Bytes
 guarded el = shownCondition (conditionAt el 0) ++ (code "," ∷ shownAssignments el)

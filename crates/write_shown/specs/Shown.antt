@@ -6,6 +6,7 @@ use mathlib.Core.Bool.{Bool, true, false}
 use mathlib.Core.List.{List, [], _∷_, _++_}
 use lib.Dec.{eqb, ltb}
 use lib.ListN.{drop}
+use Rattle.base_words.specs.Blocks.{Block, Bytes, Table, Element}
 use Rattle.base_words.specs.Each.{joined}
 use Rattle.base_words.specs.Pick.{if_then_else_}
 use Rattle.base_words.specs.Text.{bytes}
@@ -19,39 +20,39 @@ use Rattle.base_table.specs.Table.{poolCount, elementCount, elementAt, kindIn, 
 use Rattle.write_decimals.specs.Decimals.{shown}
 
 -- n pieces with a sign between them
-unfoldable pub lead : ℕ → ℕ → List ℕ
+unfoldable pub lead : ℕ → ℕ → Bytes
 lead s k = if eqb k 0 then [] else s ∷ []
 
-unfoldable pub separated : ℕ → (ℕ → List ℕ) → ℕ → List ℕ
+unfoldable pub separated : ℕ → (ℕ → List ℕ) → ℕ → Bytes
 separated s f n = joined (λ k. lead s k ++ f k) n
 
-abbrev pub commas : (ℕ → List ℕ) → ℕ → List ℕ
+abbrev pub commas : (ℕ → List ℕ) → ℕ → Bytes
 commas f n = separated (code ",") f n
 
 -- a text between two signs
-abbrev pub between : ℕ → ℕ → List ℕ → List ℕ
+abbrev pub between : ℕ → ℕ → Bytes → Bytes
 between opener closer w = opener ∷ (w ++ (closer ∷ []))
 
 -- a field of an instance or a store; an operand, an expression, an item of a template, a condition
-unfoldable pub shownField : ℕ → List ℕ
+unfoldable pub shownField : ℕ → Bytes
 shownField d = if ltb d fields then code "d" ∷ shown d else code "s" ∷ shown (d - fields)
 
-unfoldable pub shownOperand : List ℕ → List ℕ
+unfoldable pub shownOperand : Block → Bytes
 shownOperand x = if eqb (at x 0) aField then shownField (at x operandNumber) else shown (at x operandNumber)
 
-unfoldable pub shownPair : ℕ → List ℕ → List ℕ
+unfoldable pub shownPair : ℕ → Block → Bytes
 shownPair s x = shownOperand (drop leftPlace x) ++ (s ∷ shownOperand (drop rightPlace x))
 
-unfoldable pub shownExpression : List ℕ → List ℕ
+unfoldable pub shownExpression : Block → Bytes
 shownExpression x =
     if eqb (at x formPlace) plus then shownPair (code "+") x
     else if eqb (at x formPlace) minus then shownPair (code "-") x
     else shownOperand (drop leftPlace x)
 
-unfoldable pub shownItem : List ℕ → List ℕ
+unfoldable pub shownItem : Block → Bytes
 shownItem x = if eqb (at x formPlace) binding then code "?" ∷ shownField (at x (leftPlace + operandNumber)) else shownExpression x
 
-unfoldable pub shownCondition : List ℕ → List ℕ
+unfoldable pub shownCondition : Block → Bytes
 shownCondition x =
     if eqb (at x formPlace) always then bytes "true"
     else if eqb (at x formPlace) default then bytes "default"
@@ -59,46 +60,46 @@ shownCondition x =
     else shownPair (code "<") x
 
 -- a message `m:<..>` of branch b; n edges `{e,f,..}` of a list
-unfoldable pub shownTuple : List ℕ → ℕ → List ℕ
+unfoldable pub shownTuple : Element → ℕ → Bytes
 shownTuple el b = between (code "<") (code ">") (commas (λ j. shownItem (itemAt el b j)) (messageLength el b))
 
-unfoldable pub shownMessage : List ℕ → ℕ → List ℕ
+unfoldable pub shownMessage : Element → ℕ → Bytes
 shownMessage el b = shown (messageName el b) ++ (code ":" ∷ shownTuple el b)
 
-unfoldable pub shownEntries : List ℕ → List ℕ
+unfoldable pub shownEntries : Element → Bytes
 shownEntries el = between (code "{") (code "}") (commas (λ j. shown (entryAt el j)) (at el entriesPlace))
 
-unfoldable pub shownExits : List ℕ → List ℕ
+unfoldable pub shownExits : Element → Bytes
 shownExits el = between (code "{") (code "}") (commas (λ j. shown (exitAt el j)) (at el exitsPlace))
 
 -- branches `(f,C)` and `(m:T,f)`
-unfoldable pub shownGuarded : List ℕ → ℕ → List ℕ
+unfoldable pub shownGuarded : Element → ℕ → Bytes
 shownGuarded el b = between (code "(") (code ")") (shown (exitAt el b) ++ (code "," ∷ shownCondition (conditionAt el b)))
 
-unfoldable pub shownGuardedList : List ℕ → List ℕ
+unfoldable pub shownGuardedList : Element → Bytes
 shownGuardedList el = between (code "{") (code "}") (commas (shownGuarded el) (at el exitsPlace))
 
-unfoldable pub shownReceiving : List ℕ → ℕ → List ℕ
+unfoldable pub shownReceiving : Element → ℕ → Bytes
 shownReceiving el b = between (code "(") (code ")") (shownMessage el b ++ (code "," ∷ shown (exitAt el b)))
 
-unfoldable pub shownReceivingList : List ℕ → List ℕ
+unfoldable pub shownReceivingList : Element → Bytes
 shownReceivingList el = commas (shownReceiving el) (at el exitsPlace)
 
 -- task number, mode, condition, assignments
-unfoldable pub shownMode : ℕ → List ℕ
+unfoldable pub shownMode : ℕ → Bytes
 shownMode m = if eqb m a then bytes "a" else if eqb m na-c then bytes "na_c" else bytes "na_nc"
 
-unfoldable pub shownAssignment : List ℕ → List ℕ
+unfoldable pub shownAssignment : Block → Bytes
 shownAssignment x = shownField (at x 0) ++ (code ":" ∷ code "=" ∷ shownExpression (drop assignedIn x))
 
-unfoldable pub shownAssignments : List ℕ → List ℕ
+unfoldable pub shownAssignments : Element → Bytes
 shownAssignments el = between (code "{") (code "}") (commas (λ j. shownAssignment (assignmentAt el j)) (assignmentCount el))
 
-unfoldable pub shownTask : List ℕ → List ℕ
+unfoldable pub shownTask : Element → Bytes
 shownTask el = shown (taskIn el) ++ (code "," ∷ (shownMode (modeIn el) ++ (code "," ∷ (shownCondition (conditionAt el 0) ++ (code "," ∷ shownAssignments el)))))
 
 -- the part with a code of the table of kinds; all parts behind a sign, then commas; an element
-unfoldable pub shownPart : ℕ → List ℕ → List ℕ
+unfoldable pub shownPart : ℕ → Element → Bytes
 shownPart c el =
     if eqb c (code "E") then shown (entryAt el 0)
     else if eqb c (code "X") then shown (exitAt el 0)
@@ -110,27 +111,27 @@ shownPart c el =
     else if eqb c (code "G") then shownGuardedList el
     else shownReceivingList el
 
-unfoldable pub shownParts : ℕ → List ℕ → List ℕ → List ℕ
+unfoldable pub shownParts : ℕ → List ℕ → Element → Bytes
 shownParts s [] el = []
 shownParts s (c ∷ cs) el = if eqb c (code " ") then [] else s ∷ (shownPart c el ++ shownParts (code ",") cs el)
 
-unfoldable pub shownElement : List ℕ → List ℕ
+unfoldable pub shownElement : Element → Bytes
 shownElement el = keywordOf (kindIn el) ++ (shownParts (code "(") (kindOf (kindIn el) .parts) el ++ (code ")" ∷ []))
 
 -- the pool at place p; the text: each pool that is in use, with bars between them, and a newline
-unfoldable pub shownElements : List ℕ → ℕ → List ℕ
+unfoldable pub shownElements : Table → ℕ → Bytes
 shownElements t p = separated (code "|") (λ e. shownElement (elementAt t p e)) (elementCount t p)
 
-unfoldable pub shownLimit : ℕ → List ℕ
+unfoldable pub shownLimit : ℕ → Bytes
 shownLimit n = if eqb n 0 then [] else code "," ∷ shown n
 
-unfoldable pub shownPool : List ℕ → ℕ → List ℕ
+unfoldable pub shownPool : Table → ℕ → Bytes
 shownPool t p =
     (if eqb (at t (limitPlace p)) 0 then bytes "pool" else bytes "miPool")
     ++ between (code "(") (code ")") (shown (at t (poolPlace p)) ++ (code "," ∷ (shownElements t p ++ shownLimit (at t (limitPlace p)))))
 
-unfoldable pub shownPools : List ℕ → List ℕ
+unfoldable pub shownPools : Table → Bytes
 shownPools t = joined (λ p. if ltb p (poolCount t) then lead (code "|") p ++ shownPool t p else []) pools
 
-unfoldable pub shownTable : List ℕ → List ℕ
+unfoldable pub shownTable : Table → Bytes
 shownTable t = shownPools t ++ (code "\n" ∷ [])

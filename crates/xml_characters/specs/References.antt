@@ -6,6 +6,7 @@ use mathlib.Core.Bool.{Bool, true, false}
 use mathlib.Core.List.{List, [], _∷_}
 use lib.Dec.{ltb, leb, eqb}
 use lib.ListN.{length}
+use Rattle.base_words.specs.Blocks.{Bytes}
 use Rattle.base_words.specs.Pick.{if_then_else_}
 use Rattle.base_words.specs.Text.{bytes}
 use Rattle.base_words.specs.Words.{at, part}
@@ -39,13 +40,13 @@ unfoldable pub numberFrom : Bool → ℕ → List ℕ → ℕ
 numberFrom hex v [] = v
 numberFrom hex v (b ∷ w) = if ltb (digit b) (base hex) then numberFrom hex (more hex v (digit b)) w else 0
 
-unfoldable pub numbered : List ℕ → ℕ
+unfoldable pub numbered : Bytes → ℕ
 numbered w =
     if eqb (at w 1) (code "#") then (if eqb (at w 2) (code "x") then numberFrom true 0 (part w 3 (length w)) else numberFrom false 0 (part w 2 (length w)))
     else 0
 
 -- the character that a reference says
-unfoldable pub characterOf : List ℕ → ℕ
+unfoldable pub characterOf : Bytes → ℕ
 characterOf w =
     if sameBytes w (bytes "&lt") then code "<"
     else if sameBytes w (bytes "&gt") then code ">"

@@ -2,6 +2,7 @@
 use Prim.Native.Nat.{ℕ}
 use mathlib.Core.List.{List}
 use lib.ListN.{length}
+use Rattle.base_words.specs.Blocks.{Bytes}
 use Rattle.base_words.specs.Pick.{if_then_else_}
 use Rattle.xml_markup.specs.Spans.{isCalled}
 use Rattle.xml_markup.specs.Tokens.{first}
@@ -11,20 +12,20 @@ use Rattle.xml_document.specs.declared.Outside.{Outside}
 use Rattle.xml_document.specs.declared.Outside.the-variants.{Element, On, Nothing, Fault as OutsideFault}
 use Rattle.xml_document.specs.Document.{outside}
 
-unfoldable pub rootBy : Outside → List ℕ → List ℕ → Skipped
+unfoldable pub rootBy : Outside → Bytes → Bytes → Skipped
 rootBy (Element p) name t = if isCalled t p name then Past p else Fault p
 rootBy (On q) name t = Fault q
 rootBy Nothing name t = Fault (length t)
 rootBy (OutsideFault q) name t = Fault q
 
-unfoldable pub rootAt : List ℕ → List ℕ → Skipped
+unfoldable pub rootAt : Bytes → Bytes → Skipped
 rootAt name t = rootBy (outside t (first t)) name t
 
-unfoldable pub lastBy : Outside → List ℕ → Skipped
+unfoldable pub lastBy : Outside → Bytes → Skipped
 lastBy (Element p) t = Fault p
 lastBy (On q) t = Fault q
 lastBy Nothing t = Past (length t)
 lastBy (OutsideFault q) t = Fault q
 
-unfoldable pub lastFrom : List ℕ → ℕ → Skipped
+unfoldable pub lastFrom : Bytes → ℕ → Skipped
 lastFrom t q = lastBy (outside t q) t

@@ -5,6 +5,7 @@ use mathlib.Core.Bool.{Bool}
 use mathlib.Core.List.{List}
 use lib.Dec.{leb, eqb}
 use lib.ListN.{length}
+use Rattle.base_words.specs.Blocks.{Bytes}
 use Rattle.base_words.specs.Pick.{if_then_else_}
 use Rattle.base_words.specs.Text.{bytes}
 use Rattle.base_words.specs.Words.{at}
@@ -35,19 +36,19 @@ otherBy AFault q p = Fault q
 unfoldable pub otherOf : Markup → ℕ → Outside
 otherOf m p = otherBy (m .sort) (m .next) p
 
-unfoldable pub opensData : List ℕ → ℕ → Bool
+unfoldable pub opensData : Bytes → ℕ → Bool
 opensData t p = beginsAt t p (bytes "<![CDATA[")
 
-unfoldable pub tagFor : Opener → List ℕ → ℕ → Outside
+unfoldable pub tagFor : Opener → Bytes → ℕ → Outside
 tagFor Start t p = Element p
 tagFor EndOpener t p = Fault p
 tagFor Other t p = if opensData t p then Fault p else otherOf (markup t p) p
 
-unfoldable pub tagAt : List ℕ → ℕ → Outside
+unfoldable pub tagAt : Bytes → ℕ → Outside
 tagAt t p = tagFor (opener t p) t p
 
 -- at p, no blank first
-unfoldable pub outsideAt : List ℕ → ℕ → Outside
+unfoldable pub outsideAt : Bytes → ℕ → Outside
 outsideAt t p =
     if leb (length t) p then Nothing
     else if eqb (at t p) (code "<") then tagAt t p
@@ -61,9 +62,9 @@ further Nothing on = Nothing
 further (Fault q) on = Fault q
 
 -- from p on, in n steps at most; each passes a byte, so the text's length is enough
-unfoldable pub outsideIn : ℕ → List ℕ → ℕ → Outside
+unfoldable pub outsideIn : ℕ → Bytes → ℕ → Outside
 outsideIn zero t p = Nothing
 outsideIn (suc n) t p = further (outsideAt t (run Blanks t p)) (outsideIn n t)
 
-unfoldable pub outside : List ℕ → ℕ → Outside
+unfoldable pub outside : Bytes → ℕ → Outside
 outside t p = outsideIn (length t) t p

@@ -6,6 +6,7 @@ use mathlib.Core.Bool.{Bool, false, not}
 use mathlib.Core.List.{List, [], _∷_}
 use lib.Dec.{leb, ltb}
 use lib.ListN.{length, drop}
+use Rattle.base_words.specs.Blocks.{Bytes}
 use Rattle.base_words.specs.Pick.{if_then_else_}
 use Rattle.base_words.specs.Words.{at, part}
 use Rattle.xml_characters.specs.Names.{isControl}
@@ -27,7 +28,7 @@ unfoldable pub numbered : List ℕ → ℕ → ℕ
 numbered [] k = k
 numbered (b ∷ w) k = numbered w (stirred k b)
 
-abbrev pub keyOf : List ℕ → ℕ
+abbrev pub keyOf : Bytes → ℕ
 keyOf name = numbered name 0
 
 -- the first n numbers of a block stand in order; a number is one of them
@@ -62,21 +63,21 @@ pub record With (k : ℕ) (v : List ℕ) (n : ℕ) (u : List ℕ) (m : ℕ) : Ty
   pub was : Kept v n k → ⊥
 
 -- no attribute of that name stands in the tag up to the place i
-abbrev pub New : List ℕ → ℕ → ℕ → List ℕ → Type 0
+abbrev pub New : Bytes → ℕ → ℕ → Bytes → Type 0
 New t start i name = found (part t 0 i) name start ≡ Nowhere
 
 -- a search that comes to the place i without finding the name stands at the cursor c there
-abbrev pub Reached : List ℕ → ℕ → Cursor → ℕ → Type 0
+abbrev pub Reached : Bytes → ℕ → Cursor → ℕ → Type 0
 Reached t start c i = (name : List ℕ) (m : ℕ) → i ≤ m → m ≤ length t → New t start i name → found (part t 0 m) name start ≡ foundFrom (part t 0 m) name c (drop i (part t 0 m)) i
 
 -- one byte, where an attribute's name is not judged
-unfoldable pub isFaultyElse : Whole → List ℕ → ℕ → ℕ → Bool
+unfoldable pub isFaultyElse : Whole → Bytes → ℕ → ℕ → Bool
 isFaultyElse Nothing u start mark = false
 isFaultyElse Attribute u start mark = false
 isFaultyElse Target u start mark = reserved u start mark
 isFaultyElse Reference u start mark = not (isCharacter (characterOf (part u mark (length u))))
 
-unfoldable pub tried : List ℕ → ℕ → Cursor → ℕ → Scan
+unfoldable pub tried : Bytes → ℕ → Cursor → ℕ → Scan
 tried t start c i =
     if leb (length t) i then Fault i
     else if isFaultyElse (whole (c .state) (at t i)) (part t 0 i) start (c .mark) then Fault (c .mark)

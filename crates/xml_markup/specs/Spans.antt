@@ -6,6 +6,7 @@ use mathlib.Core.Bool.{Bool, false, not, _||_}
 use mathlib.Core.List.{List, [], _∷_}
 use lib.Dec.{ltb, leb, eqb}
 use lib.ListN.{length, drop}
+use Rattle.base_words.specs.Blocks.{Bytes}
 use Rattle.base_words.specs.Pick.{if_then_else_}
 use Rattle.base_words.specs.Words.{at, part}
 use Rattle.text_lexer.specs.Lexer.{past}
@@ -28,36 +29,36 @@ isOf Blanks b = isBlank b
 isOf Name b = isName b
 isOf (Value q) b = not (eqb b q)
 
-unfoldable pub run : Class → List ℕ → ℕ → ℕ
+unfoldable pub run : Class → Bytes → ℕ → ℕ
 run class t from = past (isOf class) (drop from t) from
 
 -- one byte on; the end stays
-unfoldable pub after : List ℕ → ℕ → ℕ
+unfoldable pub after : Bytes → ℕ → ℕ
 after t i = if ltb i (length t) then i + 1 else length t
 
 -- the name of the tag or instruction at p: behind `<`, `</` or `<?`
 unfoldable pub hasSecond : ℕ → Bool
 hasSecond b = eqb b (code "/") || eqb b (code "?")
 
-unfoldable pub nameFrom : List ℕ → ℕ → ℕ
+unfoldable pub nameFrom : Bytes → ℕ → ℕ
 nameFrom t p = if hasSecond (at t (after t p)) then after t (after t p) else after t p
 
-unfoldable pub nameAt : List ℕ → ℕ → Span
+unfoldable pub nameAt : Bytes → ℕ → Span
 nameAt t p = record { from = nameFrom t p; to = run Name t (nameFrom t p) }
 
-unfoldable pub bytesOf : List ℕ → Span → List ℕ
+unfoldable pub bytesOf : Bytes → Span → Bytes
 bytesOf t s = part t (s .from) (s .to)
 
 -- a token `<`name or `</`name at p that is whole: the byte behind it stands in the text
-unfoldable pub opensName : List ℕ → ℕ → Bool
+unfoldable pub opensName : Bytes → ℕ → Bool
 opensName t p =
     if eqb (at t p) (code "<") then (if leb (length t) (nameAt t p .to) then false else beginsName (at t (nameAt t p .from)))
     else false
 
-unfoldable pub second : List ℕ → ℕ → ℕ
+unfoldable pub second : Bytes → ℕ → ℕ
 second t p = at t (after t p)
 
-unfoldable pub opener : List ℕ → ℕ → Opener
+unfoldable pub opener : Bytes → ℕ → Opener
 opener t p =
     if not (opensName t p) then Other
     else if eqb (second t p) (code "/") then End
@@ -72,27 +73,27 @@ unfoldable pub localFrom : List ℕ → ℕ → ℕ → ℕ
 localFrom [] i r = r
 localFrom (b ∷ w) i r = localFrom w (i + 1) (behindColon b (i + 1) r)
 
-unfoldable pub localOf : List ℕ → List ℕ
+unfoldable pub localOf : Bytes → Bytes
 localOf w = part w (localFrom w 0 0) (length w)
 
 -- the element whose tag is at p is called so
-unfoldable pub isCalled : List ℕ → ℕ → List ℕ → Bool
+unfoldable pub isCalled : Bytes → ℕ → Bytes → Bool
 isCalled t p name = sameBytes (localOf (bytesOf t (nameAt t p))) name
 
 -- the tags at p and at q have the same name
-unfoldable pub sameName : List ℕ → ℕ → ℕ → Bool
+unfoldable pub sameName : Bytes → ℕ → ℕ → Bool
 sameName t p q = sameBytes (bytesOf t (nameAt t p)) (bytesOf t (nameAt t q))
 
 -- the value whose attribute's name ends at i: behind `=` and the quote, up to the same quote
-unfoldable pub quoteAt : List ℕ → ℕ → ℕ
+unfoldable pub quoteAt : Bytes → ℕ → ℕ
 quoteAt t i = run Blanks t (after t (run Blanks t i))
 
-unfoldable pub valueAt : List ℕ → ℕ → Attribute
+unfoldable pub valueAt : Bytes → ℕ → Attribute
 valueAt t q = Is (after t q) (run (Value (at t q)) t (after t q))
 
-unfoldable pub valueOf : List ℕ → Found → Attribute
+unfoldable pub valueOf : Bytes → Found → Attribute
 valueOf t (Behind i) = valueAt t (quoteAt t i)
 valueOf t Nowhere = Absent
 
-unfoldable pub attribute : List ℕ → ℕ → List ℕ → Attribute
+unfoldable pub attribute : Bytes → ℕ → Bytes → Attribute
 attribute t p name = valueOf t (found t name p)

@@ -6,6 +6,7 @@ use mathlib.Core.Bool.{Bool, true, false, not, _&&_}
 use mathlib.Core.List.{List, [], _∷_}
 use lib.Dec.{ltb, leb, eqb}
 use lib.ListN.{length, drop}
+use Rattle.base_words.specs.Blocks.{Bytes}
 use Rattle.base_words.specs.Pick.{if_then_else_}
 use Rattle.base_words.specs.Text.{bytes}
 use Rattle.base_words.specs.Words.{at, part}
@@ -84,11 +85,11 @@ ifAttribute Target a b = b
 ifAttribute Reference a b = b
 
 -- the byte at i shows an attribute's name to be whole, and it is this one
-unfoldable pub isNamed : List ℕ → List ℕ → Cursor → ℕ → Bool
+unfoldable pub isNamed : Bytes → Bytes → Cursor → ℕ → Bool
 isNamed t name c i = ifAttribute (whole (c .state) (at t i)) (sameBytes (part t (c .mark) i) name) false
 
 -- the first attribute of that name, in the tag that is read so far, with the bytes s from the place i on
-unfoldable pub foundFrom : List ℕ → List ℕ → Cursor → List ℕ → ℕ → Found
+unfoldable pub foundFrom : Bytes → Bytes → Cursor → List ℕ → ℕ → Found
 foundFrom t name c [] i = Nowhere
 foundFrom t name c (b ∷ s) i =
     if isNamed t name c i then Behind i
@@ -97,7 +98,7 @@ foundFrom t name c (b ∷ s) i =
 abbrev pub begun : ℕ → Cursor
 begun p = record { state = Begin; mark = p }
 
-unfoldable pub found : List ℕ → List ℕ → ℕ → Found
+unfoldable pub found : Bytes → Bytes → ℕ → Found
 found t name start = foundFrom t name (begun start) (drop start t) start
 
 unfoldable pub isFound : Found → Bool
@@ -105,37 +106,37 @@ isFound (Behind i) = true
 isFound Nowhere = false
 
 -- "a second attribute of the same name (compared whole, with prefix): at its name" (R5) (RULES: xml)
-unfoldable pub twice : List ℕ → ℕ → ℕ → Bool
+unfoldable pub twice : Bytes → ℕ → ℕ → Bool
 twice u start mark = isFound (found (part u 0 mark) (part u mark (length u)) start)
 
 -- "a UTF-8 BOM may stand first" (R7); the end behind one that it cuts off (R4) (RULES: xml)
-abbrev pub byteOrderMark : List ℕ
+abbrev pub byteOrderMark : Bytes
 byteOrderMark = 239 ∷ 187 ∷ 191 ∷ []
 
-unfoldable pub first : List ℕ → ℕ
+unfoldable pub first : Bytes → ℕ
 first t = if sameBytes (part t 0 3) (part byteOrderMark 0 (length t)) then length (part t 0 3) else 0
 
 unfoldable pub lower : ℕ → ℕ
 lower b = if ltb b (code "a") then b + 32 else b
 
 -- `<?` and xml in any letter case
-unfoldable pub saysXml : List ℕ → Bool
+unfoldable pub saysXml : Bytes → Bool
 saysXml w =
     if eqb (length w) 5 then (if eqb (lower (at w 2)) (code "x") then (if eqb (lower (at w 3)) (code "m") then eqb (lower (at w 4)) (code "l") else false) else false)
     else false
 
 -- "`<?xml` (those letters) only at the first byte or behind the BOM .. any other instruction whose target is xml in any letter case is 20 at its `<`" (R8) (RULES: xml)
-unfoldable pub isDeclaration : List ℕ → Bool
+unfoldable pub isDeclaration : Bytes → Bool
 isDeclaration w = sameBytes w (bytes "<?xml")
 
-unfoldable pub reserved : List ℕ → ℕ → ℕ → Bool
+unfoldable pub reserved : Bytes → ℕ → ℕ → Bool
 reserved u start mark =
     if not (saysXml (part u mark (length u))) then false
     else if not (isDeclaration (part u mark (length u))) then true
     else not (eqb start (first u))
 
 -- a token that is whole, from mark to the end of u, is at fault
-unfoldable pub isFaulty : Whole → List ℕ → ℕ → ℕ → Bool
+unfoldable pub isFaulty : Whole → Bytes → ℕ → ℕ → Bool
 isFaulty Nothing u start mark = false
 isFaulty Attribute u start mark = twice u start mark
 isFaulty Target u start mark = reserved u start mark

@@ -4,6 +4,7 @@ use Prim.Native.Nat.{ℕ, zero, suc, _-_}
 use mathlib.Core.List.{List}
 use lib.Dec.{leb, eqb}
 use lib.ListN.{length}
+use Rattle.base_words.specs.Blocks.{Bytes}
 use Rattle.base_words.specs.Pick.{if_then_else_}
 use Rattle.xml_scanner.specs.declared.Sort.{Sort}
 use Rattle.xml_scanner.specs.declared.Sort.the-variants.{StartTag, EmptyTag, EndTag, Text, Reference, Comment, Data, Instruction, End, Fault as AFault}
@@ -40,12 +41,12 @@ unfoldable pub partOf : Markup → Part
 partOf m = partBy (m .sort) (m .next)
 
 -- at p, in the element whose tag is at `outer`: a whole `<`name is an element, whatever follows; a whole `</`name must be that element's name
-unfoldable pub partFor : Opener → List ℕ → ℕ → ℕ → Part
+unfoldable pub partFor : Opener → Bytes → ℕ → ℕ → Part
 partFor Start t outer p = Element
 partFor EndOpener t outer p = if sameName t outer p then partOf (markup t p) else PartFault p
 partFor Other t outer p = partOf (markup t p)
 
-unfoldable pub partAt : List ℕ → ℕ → ℕ → Part
+unfoldable pub partAt : Bytes → ℕ → ℕ → Part
 partAt t outer p = partFor (opener t p) t outer p
 
 -- the tag at p of an element
@@ -75,7 +76,7 @@ byTag (Empty q) content = Past q
 byTag (TagFault q) content = Fault q
 
 -- an element at p, where `content` skips the content of the element at a place, from a place on, at a depth
-unfoldable pub elementBy : (ℕ → ℕ → ℕ → Skipped) → List ℕ → ℕ → ℕ → Skipped
+unfoldable pub elementBy : (ℕ → ℕ → ℕ → Skipped) → Bytes → ℕ → ℕ → Skipped
 elementBy content t p d = if eqb d 0 then Fault p else byTag (tagOf (markup t p) p) (λ q. content p q (d - 1))
 
 unfoldable pub byPart : Part → Skipped → (ℕ → Skipped) → Skipped
@@ -85,22 +86,22 @@ byPart (On q) element content = content q
 byPart (PartFault q) element content = Fault q
 
 -- content from p on, of the element at `outer`
-unfoldable pub contentBy : (ℕ → ℕ → ℕ → Skipped) → List ℕ → ℕ → ℕ → ℕ → Skipped
+unfoldable pub contentBy : (ℕ → ℕ → ℕ → Skipped) → Bytes → ℕ → ℕ → ℕ → Skipped
 contentBy content t outer p d =
     if leb (length t) p then Fault (length t)
     else byPart (partAt t outer p) (elementBy content t p d) (λ q. content outer q d)
 
 -- the same, in n steps at most
-unfoldable pub contentIn : ℕ → List ℕ → ℕ → ℕ → ℕ → Skipped
+unfoldable pub contentIn : ℕ → Bytes → ℕ → ℕ → ℕ → Skipped
 contentIn zero t outer p d = Fault (length t)
 contentIn (suc n) t outer p d = contentBy (contentIn n t) t outer p d
 
 -- each step passes a byte, so the text's length is enough steps
-unfoldable pub contentAt : List ℕ → ℕ → ℕ → ℕ → Skipped
+unfoldable pub contentAt : Bytes → ℕ → ℕ → ℕ → Skipped
 contentAt t outer p d = contentIn (length t) t outer p d
 
-unfoldable pub elementAt : List ℕ → ℕ → ℕ → Skipped
+unfoldable pub elementAt : Bytes → ℕ → ℕ → Skipped
 elementAt t p d = elementBy (contentAt t) t p d
 
-unfoldable pub skipped : List ℕ → ℕ → Skipped
+unfoldable pub skipped : Bytes → ℕ → Skipped
 skipped t p = elementAt t p depth
