@@ -29,8 +29,10 @@ use text_lexer::byte;
 use text_lexer::piece;
 use xml_characters::is_control;
 
-// The most names that are looked at together.
-pub const NAMES: usize = 512;
+// The most names that are looked at together, and how many at first: few tags have more.
+const NAMES: usize = 512;
+
+pub const FEW: usize = 24;
 
 fn is_faulty_else(w: Whole, text: &[u8], start: usize, mark: usize) -> bool
     ensures { λ r. ⌜ r ≡ isFaultyElse w (now (text .entry)) start mark ⌝ }
@@ -153,7 +155,51 @@ fn read_ahead(text: &[u8], start: usize, c: Cursor, p: usize, most: usize, v: &m
     }
 }
 
-// Reads ahead up to `most` names of a tag from a place on where one is being read; nothing, and half as many next time, where one may not be new.
+// Reads ahead up to `most` names of a tag, their numbers kept in the words lent; nothing, and half as many next time, where one may not be new.
+fn read_with(text: &[u8], start: usize, c: Cursor, p: usize, most: usize, v: &mut [usize]) -> Reach
+    requires { ⌜ Reached (now text) start c p ⌝ }
+    ensures { λ r. ⌜ Sure (now (text .entry)) start c p (r .cursor) (r .place) ⌝ }
+{
+    let r = read_ahead(text, start, c, p, most, v);
+    if !is_clear(piece(text, 0, p), start, v, r.most) {
+        return Reach {
+            cursor: c,
+            place: p,
+            most: most / 2,
+        };
+    }
+    let d = r.cursor;
+    if r.most == FEW {
+        return Reach {
+            cursor: d,
+            place: r.place,
+            most: NAMES,
+        };
+    }
+    Reach {
+        cursor: d,
+        place: r.place,
+        most: most,
+    }
+}
+
+fn read_few(text: &[u8], start: usize, c: Cursor, p: usize, most: usize) -> Reach
+    requires { ⌜ Reached (now text) start c p ⌝ }
+    ensures { λ r. ⌜ Sure (now (text .entry)) start c p (r .cursor) (r .place) ⌝ }
+{
+    let mut v = [0; FEW];
+    read_with(text, start, c, p, most, &mut v)
+}
+
+fn read_many(text: &[u8], start: usize, c: Cursor, p: usize, most: usize) -> Reach
+    requires { ⌜ Reached (now text) start c p ⌝ }
+    ensures { λ r. ⌜ Sure (now (text .entry)) start c p (r .cursor) (r .place) ⌝ }
+{
+    let mut v = [0; NAMES];
+    read_with(text, start, c, p, most, &mut v)
+}
+
+// Reads ahead up to `most` names of a tag from a place on where one is being read; few of them need few words.
 fn read_some(text: &[u8], start: usize, c: Cursor, p: usize, most: usize) -> Reach
     requires { ⌜ Reached (now text) start c p ⌝ }
     ensures { λ r. ⌜ Sure (now (text .entry)) start c p (r .cursor) (r .place) ⌝ }
@@ -167,21 +213,10 @@ fn read_some(text: &[u8], start: usize, c: Cursor, p: usize, most: usize) -> Rea
             most: most,
         };
     };
-    let mut v = [0; NAMES];
-    let r = read_ahead(text, start, c, p, most, &mut v);
-    if is_clear(piece(text, 0, p), start, &v, r.most) {
-        let d = r.cursor;
-        return Reach {
-            cursor: d,
-            place: r.place,
-            most: most,
-        };
+    if most <= FEW {
+        return read_few(text, start, c, p, most);
     }
-    Reach {
-        cursor: c,
-        place: p,
-        most: most / 2,
-    }
+    read_many(text, start, c, p, most)
 }
 
 // Reads a tag ahead as far as its names are new.

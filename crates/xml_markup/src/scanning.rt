@@ -9,7 +9,7 @@ use super::Cursor;
 use super::Markup;
 use super::Scan;
 use super::Whole;
-use super::ahead::NAMES;
+use super::ahead::FEW;
 use super::ahead::read_new;
 use super::ahead::tried;
 use super::staying::stay;
@@ -52,7 +52,7 @@ fn scan(text: &[u8], p: usize) -> Scan
 {
     let mut c = begun(p);
     let mut i = p;
-    let mut most = NAMES;
+    let mut most = FEW;
     while i < text.len() {
         let a = advance(text, p, c, i);
         let Scan::On(next) = a else {
