@@ -17,6 +17,9 @@ use Rattle.engine.specs.declared.Ran.{Ran}
 use Rattle.engine.specs.declared.Written.{Written}
 use Rattle.engine.specs.Engine.{Left, RanTo, WrittenTo}
 use Rattle.engine.specs.Desk.{AtDesk}
+use Rattle.engine.specs.Replay.{Replayed}
+use Rattle.log_pieces.specs.declared.Piece.{Piece}
+use Rattle.log_pieces.specs.Pieces.{Pieced, pieceIn}
 use Rattle.log_repair.specs.Repair.{Repair}
 use Rattle.cuttingvale.specs.declared.Taken.{Taken}
 use Rattle.cuttingvale.specs.Boundary.{TakenTo}
@@ -32,9 +35,18 @@ use Rattle.cuttingvale.proofs.cv_draw.Reads as draw
 use Rattle.cuttingvale.proofs.cv_write.Reads as write
 use Rattle.cuttingvale.proofs.cv_poll.Reads as poll
 use Rattle.cuttingvale.proofs.cv_judge.Reads as judge
+use Rattle.cuttingvale.proofs.cv_replay.Reads as replay
+use Rattle.cuttingvale.proofs.cv_resume.Reads as resume
+use Rattle.cuttingvale.proofs.cv_log_begin.Reads as log-begin
+use Rattle.cuttingvale.proofs.cv_log_step.Reads as log-step
+use Rattle.cuttingvale.proofs.cv_log_post.Reads as log-post
+use Rattle.cuttingvale.proofs.cv_log_end.Reads as log-end
 use Rattle.cuttingvale.proofs.cv_repair.Reads as repair
 use Rattle.cuttingvale.proofs.cv_nested.Reads as nested
-use Rattle.proof_demands.proofs.Promises.{Lent, Desk, One, Two, Three, Four}
+use Rattle.cuttingvale.proofs.version.cv_version.Reads as version
+use Rattle.cuttingvale.proofs.version.cv_abi_4.Reads as abi
+use Rattle.proof_replay.proofs.Firm.{pieced}
+use Rattle.proof_demands.proofs.Promises.{Lent, Desk, None, One, Two, Three, Four}
 
 -- A TABLE
 module _ (κ : One) (t t₁ t₂ : Lent) (n n₁ n₂ : ℕ) (r₁ r₂ : Verdict) where
@@ -113,3 +125,41 @@ poll-firm κ t t₁ t₂ z z₁ z₂ w w₁ w₂ rs rs₁ rs₂ n n₁ n₂ m m�
       ap (λ (o : AtDesk Polling). o .done .state) p,
       ap (λ (o : AtDesk Polling). o .records) p,
     )
+
+-- A TABLE, A LOG AND A STATE
+module _ (κ : Three) (t t₁ t₂ log log₁ log₂ z z₁ z₂ : Lent) (n n₁ n₂ m m₁ m₂ : ℕ) (r₁ r₂ : Judged) where
+  pub replay-firm : (v v₁ v₂ : ℕ) → replay.Post κ (t, (n, (v, (log, (z, (m, tt)))))) r₁ (t₁, (n₁, (v₁, (log₁, (z₁, (m₁, tt))))))
+      → replay.Post κ (t, (n, (v, (log, (z, (m, tt)))))) r₂ (t₂, (n₂, (v₂, (log₂, (z₂, (m₂, tt))))))
+      → (r₁ ≡ r₂) × (now z₁ ≡ now z₂)
+  replay-firm v v₁ v₂ p₁ p₂ = let p = p₁ ∙ sym p₂ in (ap (λ (o : Replayed). o .answer) p, ap (λ (o : Replayed). o .state) p)
+
+  pub resume-firm : resume.Post κ (t, (n, (z, (m, (log, tt))))) r₁ (t₁, (n₁, (z₁, (m₁, (log₁, tt))))) → resume.Post κ (t, (n, (z, (m, (log, tt))))) r₂ (t₂, (n₂, (z₂, (m₂, (log₂, tt)))))
+      → (r₁ ≡ r₂) × (now z₁ ≡ now z₂)
+  resume-firm p₁ p₂ = let p = p₁ ∙ sym p₂ in (ap (λ (o : Replayed). o .answer) p, ap (λ (o : Replayed). o .state) p)
+
+-- A PIECE OF A LOG, in a buffer
+module _ (κ : One) (out out₁ out₂ : Lent) (r₁ r₂ : Piece) where
+  pub log-begin-firm : log-begin.Post κ (out, tt) r₁ (out₁, tt) → log-begin.Post κ (out, tt) r₂ (out₂, tt) → (r₁ ≡ r₂) × (now out₁ ≡ now out₂)
+  log-begin-firm p₁ p₂ = pieced r₁ r₂ (now out₁) (now out₂) _ p₁ p₂
+
+  pub log-end-firm : log-end.Post κ (out, tt) r₁ (out₁, tt) → log-end.Post κ (out, tt) r₂ (out₂, tt) → (r₁ ≡ r₂) × (now out₁ ≡ now out₂)
+  log-end-firm p₁ p₂ = pieced r₁ r₂ (now out₁) (now out₂) _ p₁ p₂
+
+  module _ (moment moment₁ moment₂ : ℕ) where
+    pub log-step-firm : (s s₁ s₂ : Name) (a a₁ a₂ : Taken) → log-step.Post κ (s, (a, (moment, (out, tt)))) r₁ (s₁, (a₁, (moment₁, (out₁, tt))))
+        → log-step.Post κ (s, (a, (moment, (out, tt)))) r₂ (s₂, (a₂, (moment₂, (out₂, tt))))
+        → (r₁ ≡ r₂) × (now out₁ ≡ now out₂)
+    log-step-firm s s₁ s₂ a a₁ a₂ p₁ p₂ = pieced r₁ r₂ (now out₁) (now out₂) _ p₁ p₂
+
+    pub log-post-firm : (name name₁ name₂ : ℕ) (g g₁ g₂ : Tuple) → log-post.Post κ (name, (g, (moment, (out, tt)))) r₁ (name₁, (g₁, (moment₁, (out₁, tt))))
+        → log-post.Post κ (name, (g, (moment, (out, tt)))) r₂ (name₂, (g₂, (moment₂, (out₂, tt))))
+        → (r₁ ≡ r₂) × (now out₁ ≡ now out₂)
+    log-post-firm name name₁ name₂ g g₁ g₂ p₁ p₂ = pieced r₁ r₂ (now out₁) (now out₂) _ p₁ p₂
+
+-- WHICH LIBRARY
+module _ (κ : None) (r₁ r₂ : ℕ) where
+  pub version-firm : version.Post κ tt r₁ tt → version.Post κ tt r₂ tt → r₁ ≡ r₂
+  version-firm p₁ p₂ = p₁ ∙ sym p₂
+
+  pub abi-firm : abi.Post κ tt r₁ tt → abi.Post κ tt r₂ tt → r₁ ≡ r₂
+  abi-firm p₁ p₂ = p₁ ∙ sym p₂

@@ -29,8 +29,9 @@ use Rattle.engine.specs.Engine.{verdictOf, Left, freshened, Stepped, postedTo, 
 use Rattle.engine.specs.Calls.{judgedTo}
 use Rattle.engine.specs.Desk.{AtDesk, steppedAt, ranAt, polledAt, figuredTo}
 use Rattle.engine.specs.Profile.{nestedOf}
+use Rattle.engine.specs.Replay.{Replayed, replayedTo, resumedTo}
 use Rattle.cuttingvale.specs.declared.Taken.{Taken}
-use Rattle.cuttingvale.specs.Boundary.{areWhole, TakenTo, trafficNumber, told, toldAt, pollWords, areLent, lentWrong, checkedBy, freshenedBy, steppedBy, postedBy, listedBy, ranBy, figuredBy, readBy, drawnBy, writtenBy, polledBy, judgedBy, nestedBy}
+use Rattle.cuttingvale.specs.Boundary.{areWhole, TakenTo, trafficNumber, told, toldAt, pollWords, areLent, lentWrong, checkedBy, freshenedBy, steppedBy, postedBy, listedBy, ranBy, figuredBy, readBy, drawnBy, writtenBy, polledBy, judgedBy, replayedBy, resumedBy, nestedBy}
 use Rattle.cuttingvale.proofs.cv_check.Reads as check
 use Rattle.cuttingvale.proofs.cv_fresh.Reads as fresh
 use Rattle.cuttingvale.proofs.cv_step.Reads as step
@@ -43,8 +44,10 @@ use Rattle.cuttingvale.proofs.cv_draw.Reads as draw
 use Rattle.cuttingvale.proofs.cv_write.Reads as write
 use Rattle.cuttingvale.proofs.cv_poll.Reads as poll
 use Rattle.cuttingvale.proofs.cv_judge.Reads as judge
+use Rattle.cuttingvale.proofs.cv_replay.Reads as replay
+use Rattle.cuttingvale.proofs.cv_resume.Reads as resume
 use Rattle.cuttingvale.proofs.cv_nested.Reads as nested
-use Rattle.proof_demands.specs.Promises.{Checks, Freshens, Steps, Posts, Lists, Runs, Reads, Draws, Writes, Polls, Figures, Judges, Nests}
+use Rattle.proof_demands.specs.Promises.{Checks, Freshens, Steps, Posts, Lists, Runs, Reads, Draws, Writes, Polls, Figures, Judges, Replays, Resumes, Nests}
 use Rattle.proof_demands.proofs.Promises.{Lent, Desk, One, Two, Three, Four}
 
 -- A TABLE
@@ -135,6 +138,30 @@ module _ (κ : Two) (t t₁ z z₁ : Lent) (n₁ m₁ : ℕ) where
     pub list-wrong : (k k₁ : ℕ) (r : Listed) → list.Post κ (t, (n, (z, (m, (k, tt))))) r (t₁, (n₁, (z₁, (m₁, (k₁, tt))))) → r ≡ record { number = 10; name = blank }
     unfolding listedBy
     list-wrong k k₁ r p = p ∙ passed (areWhole n m) (listedAt (now t) (now z) k) (record { number = 10; name = blank }) wrong
+
+-- A TABLE, A LOG AND A STATE
+module _ (κ : Three) (t t₁ log log₁ z z₁ : Lent) (n₁ m₁ : ℕ) (r : Judged) where
+  pub replay-whole : (v v₁ : ℕ) → replay.Post κ (t, (tableWords, (v, (log, (z, (stateWords, tt)))))) r (t₁, (n₁, (v₁, (log₁, (z₁, (m₁, tt)))))) ≡ Replays (now t) v (now log) (now z) r (now z₁)
+  unfolding replayedBy areWhole if_then_else_
+  replay-whole v v₁ = refl
+
+  pub resume-whole : resume.Post κ (t, (tableWords, (z, (stateWords, (log, tt))))) r (t₁, (n₁, (z₁, (m₁, (log₁, tt))))) ≡ Resumes (now t) (now z) (now log) r (now z₁)
+  unfolding resumedBy areWhole if_then_else_
+  resume-whole = refl
+
+  module _ (n m : ℕ) (wrong : areWhole n m ≡ false) where
+    abbrev untold : Replayed
+    untold = record { answer = record { number = 10; beside = 0; own = 0 }; state = now z }
+
+    pub replay-wrong : (v v₁ : ℕ) → replay.Post κ (t, (n, (v, (log, (z, (m, tt)))))) r (t₁, (n₁, (v₁, (log₁, (z₁, (m₁, tt)))))) → (r .number ≡ 10) × (now z₁ ≡ now z)
+    unfolding replayedBy
+    replay-wrong v v₁ p =
+        let o = p ∙ passed {A = Replayed} (areWhole n m) (replayedTo (now t) v (now log) (now z)) untold wrong in (ap (λ (d : Replayed). d .answer .number) o, ap (λ (d : Replayed). d .state) o)
+
+    pub resume-wrong : resume.Post κ (t, (n, (z, (m, (log, tt))))) r (t₁, (n₁, (z₁, (m₁, (log₁, tt))))) → (r .number ≡ 10) × (now z₁ ≡ now z)
+    unfolding resumedBy
+    resume-wrong p =
+        let o = p ∙ passed {A = Replayed} (areWhole n m) (resumedTo (now t) (now z) (now log)) untold wrong in (ap (λ (d : Replayed). d .answer .number) o, ap (λ (d : Replayed). d .state) o)
 
 -- AND THE DESK'S RECORDS
 module _ (κ : Three) (t t₁ z z₁ : Lent) (rs rs₁ : Desk) (n₁ m₁ : ℕ) where

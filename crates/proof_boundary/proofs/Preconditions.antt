@@ -46,6 +46,14 @@ use Rattle.cuttingvale.proofs.cv_poll as cv-poll
 use Rattle.cuttingvale.proofs.cv_judge as cv-judge
 use Rattle.cuttingvale.proofs.cv_repair as cv-repair
 use Rattle.cuttingvale.proofs.cv_nested as cv-nested
+use Rattle.cuttingvale.proofs.cv_replay as cv-replay
+use Rattle.cuttingvale.proofs.cv_resume as cv-resume
+use Rattle.cuttingvale.proofs.cv_log_begin as cv-log-begin
+use Rattle.cuttingvale.proofs.cv_log_step as cv-log-step
+use Rattle.cuttingvale.proofs.cv_log_post as cv-log-post
+use Rattle.cuttingvale.proofs.cv_log_end as cv-log-end
+use Rattle.cuttingvale.proofs.version.cv_version as cv-version
+use Rattle.cuttingvale.proofs.version.cv_abi_4 as cv-abi-4
 
 module _ {M : Type 1} (𝓤 : URA M) (H : Heap 𝓤) (A : Atoms 𝓤) (mem : Memory → SProp 𝓤) (run-of : Routine → Fun 𝓤) where
   -- a contract c, at whatever arguments a
@@ -115,7 +123,23 @@ module _ {M : Type 1} (𝓤 : URA M) (H : Heap 𝓤) (A : Atoms 𝓤) (mem : Mem
       × AsksNothing cv-judge.signature (cv-judge.spec 𝓤 H A mem run-of)
       × AsksNothing cv-repair.signature (cv-repair.spec 𝓤 H A mem run-of)
       × AsksNothing cv-nested.signature (cv-nested.spec 𝓤 H A mem run-of)
+      × AsksNothing cv-replay.signature (cv-replay.spec 𝓤 H A mem run-of)
+      × AsksNothing cv-resume.signature (cv-resume.spec 𝓤 H A mem run-of)
+      × AsksNothing cv-log-begin.signature (cv-log-begin.spec 𝓤 H A mem run-of)
+      × AsksNothing cv-log-step.signature (cv-log-step.spec 𝓤 H A mem run-of)
+      × AsksNothing cv-log-post.signature (cv-log-post.spec 𝓤 H A mem run-of)
+      × AsksNothing cv-log-end.signature (cv-log-end.spec 𝓤 H A mem run-of)
+      × AsksNothing cv-version.signature (cv-version.spec 𝓤 H A mem run-of)
+      × AsksNothing cv-abi-4.signature (cv-abi-4.spec 𝓤 H A mem run-of)
   boundary-asks-nothing = (
+    λ κs a. (refl, λ g. refl),
+    λ κs a. (refl, λ g. refl),
+    λ κs a. (refl, λ g. refl),
+    λ κs a. (refl, λ g. refl),
+    λ κs a. (refl, λ g. refl),
+    λ κs a. (refl, λ g. refl),
+    λ κs a. (refl, λ g. refl),
+    λ κs a. (refl, λ g. refl),
     λ κs a. (refl, λ g. refl),
     λ κs a. (refl, λ g. refl),
     λ κs a. (refl, λ g. refl),

@@ -2,6 +2,7 @@
 -- and m its length, rs are the desk's records; the last tuple is what they are afterwards. Assumes nothing.
 use Prim.Native.Nat.{ℕ}
 use mathlib.Core.Path.{_≡_, refl}
+use mathlib.Core.List.{List}
 use denote.Ref.{now}
 use Rattle.meaning.specs.declared.Name.{Name}
 use Rattle.meaning.specs.declared.Tuple.{Tuple}
@@ -18,8 +19,14 @@ use Rattle.engine.specs.declared.Ran.{Ran}
 use Rattle.engine.specs.declared.Written.{Written}
 use Rattle.engine.specs.Engine.{Left, RanTo, WrittenTo}
 use Rattle.engine.specs.Desk.{AtDesk}
+use Rattle.engine.specs.Replay.{Replayed}
+use Rattle.write_lines.specs.Lines.{stepLine}
+use Rattle.log_write.specs.Xes.{header, eventText, footer}
+use Rattle.log_pieces.specs.declared.Piece.{Piece}
+use Rattle.log_pieces.specs.Pieces.{Pieced, pieceIn, postLine}
 use Rattle.cuttingvale.specs.declared.Taken.{Taken}
-use Rattle.cuttingvale.specs.Boundary.{TakenTo, checkedBy, freshenedBy, steppedBy, postedBy, listedBy, ranBy, figuredBy, readBy, drawnBy, writtenBy, polledBy, judgedBy, nestedBy}
+use Rattle.cuttingvale.specs.Boundary.{TakenTo, checkedBy, freshenedBy, steppedBy, postedBy, listedBy, ranBy, figuredBy, readBy, drawnBy, writtenBy, polledBy, judgedBy, replayedBy, resumedBy, answerBy, nestedBy}
+use Rattle.cuttingvale.specs.Release.{release, layouts}
 use Rattle.cuttingvale.proofs.cv_check.Reads as check
 use Rattle.cuttingvale.proofs.cv_fresh.Reads as fresh
 use Rattle.cuttingvale.proofs.cv_step.Reads as step
@@ -32,10 +39,18 @@ use Rattle.cuttingvale.proofs.cv_draw.Reads as draw
 use Rattle.cuttingvale.proofs.cv_write.Reads as write
 use Rattle.cuttingvale.proofs.cv_poll.Reads as poll
 use Rattle.cuttingvale.proofs.cv_judge.Reads as judge
+use Rattle.cuttingvale.proofs.cv_replay.Reads as replay
+use Rattle.cuttingvale.proofs.cv_resume.Reads as resume
+use Rattle.cuttingvale.proofs.cv_log_begin.Reads as log-begin
+use Rattle.cuttingvale.proofs.cv_log_step.Reads as log-step
+use Rattle.cuttingvale.proofs.cv_log_post.Reads as log-post
+use Rattle.cuttingvale.proofs.cv_log_end.Reads as log-end
 use Rattle.cuttingvale.proofs.cv_repair.Reads as repair
 use Rattle.cuttingvale.proofs.cv_nested.Reads as nested
+use Rattle.cuttingvale.proofs.version.cv_version.Reads as version
+use Rattle.cuttingvale.proofs.version.cv_abi_4.Reads as abi
 use Rattle.proof_demands.specs.Promises.{Repairs}
-use Rattle.proof_demands.proofs.Promises.{Lent, Desk, One, Two, Three, Four}
+use Rattle.proof_demands.proofs.Promises.{Lent, Desk, None, One, Two, Three, Four}
 
 -- A TABLE
 module _ (κ : One) (t t₁ : Lent) (n n₁ : ℕ) (r : Verdict) where
@@ -90,3 +105,38 @@ module _ (κ : Three) (t t₁ z z₁ : Lent) (rs rs₁ : Desk) (n n₁ m m₁ : 
 pub poll-promise : (κ : Four) (t t₁ z z₁ w w₁ : Lent) (rs rs₁ : Desk) (n n₁ m m₁ k k₁ count count₁ : ℕ) (r : Polled)
     → poll.Post κ (t, (n, (z, (m, (rs, (w, (k, (count, tt)))))))) r (t₁, (n₁, (z₁, (m₁, (rs₁, (w₁, (k₁, (count₁, tt)))))))) ≡ (_≡_ {A = AtDesk Polling} (record { done = record { number = r .number; accepted = r .accepted; state = now z₁ }; records = now rs₁ }) (polledBy (now t) n (now z) m (now rs) (now w) k count))
 poll-promise κ t t₁ z z₁ w w₁ rs rs₁ n n₁ m m₁ k k₁ count count₁ r = refl
+
+-- A TABLE, A LOG AND A STATE
+module _ (κ : Three) (t t₁ log log₁ z z₁ : Lent) (n n₁ m m₁ : ℕ) (r : Judged) where
+  pub replay-promise : (v v₁ : ℕ) → replay.Post κ (t, (n, (v, (log, (z, (m, tt)))))) r (t₁, (n₁, (v₁, (log₁, (z₁, (m₁, tt))))))
+      ≡ (_≡_ {A = Replayed} (record { answer = r; state = now z₁ }) (replayedBy (now t) n v (now log) (now z) m))
+  replay-promise v v₁ = refl
+
+  pub resume-promise : resume.Post κ (t, (n, (z, (m, (log, tt))))) r (t₁, (n₁, (z₁, (m₁, (log₁, tt))))) ≡ (_≡_ {A = Replayed} (record { answer = r; state = now z₁ }) (resumedBy (now t) n (now z) m (now log)))
+  resume-promise = refl
+
+-- A PIECE OF A LOG, in a buffer
+module _ (κ : One) (out out₁ : Lent) (r : Piece) where
+  abbrev Holds : List ℕ → Type 0
+  Holds text = _≡_ {A = Pieced} (record { number = r .number; length = r .length; buffer = now out₁ }) (pieceIn text (now out))
+
+  pub log-begin-promise : log-begin.Post κ (out, tt) r (out₁, tt) ≡ Holds header
+  log-begin-promise = refl
+
+  pub log-end-promise : log-end.Post κ (out, tt) r (out₁, tt) ≡ Holds footer
+  log-end-promise = refl
+
+  module _ (moment moment₁ : ℕ) where
+    pub log-step-promise : (s s₁ : Name) (a a₁ : Taken) → log-step.Post κ (s, (a, (moment, (out, tt)))) r (s₁, (a₁, (moment₁, (out₁, tt)))) ≡ Holds (eventText moment (stepLine s (answerBy a)))
+    log-step-promise s s₁ a a₁ = refl
+
+    pub log-post-promise : (name name₁ : ℕ) (g g₁ : Tuple) → log-post.Post κ (name, (g, (moment, (out, tt)))) r (name₁, (g₁, (moment₁, (out₁, tt)))) ≡ Holds (eventText moment (postLine name g))
+    log-post-promise name name₁ g g₁ = refl
+
+-- WHICH LIBRARY
+module _ (κ : None) (r : ℕ) where
+  pub version-promise : version.Post κ tt r tt ≡ (r ≡ release)
+  version-promise = refl
+
+  pub abi-promise : abi.Post κ tt r tt ≡ (r ≡ layouts)
+  abi-promise = refl

@@ -15,7 +15,7 @@ use Rattle.log_pieces.proofs.end.Reads as end
 use Rattle.proof_demands.proofs.Promises.{Lent, One}
 
 -- a piece and a buffer as the promise has them together
-pieced : (r₁ r₂ : Piece) (x₁ x₂ : List ℕ) (o : Pieced)
+pub pieced : (r₁ r₂ : Piece) (x₁ x₂ : List ℕ) (o : Pieced)
     → _≡_ {A = Pieced} (record { number = r₁ .number; length = r₁ .length; buffer = x₁ }) o → _≡_ {A = Pieced} (record { number = r₂ .number; length = r₂ .length; buffer = x₂ }) o
     → (r₁ ≡ r₂) × (x₁ ≡ x₂)
 pieced r₁ r₂ x₁ x₂ o p₁ p₂ = let p = p₁ ∙ sym p₂ in (ap (λ (q : Pieced). record { number = q .number; length = q .length }) p, ap (λ (q : Pieced). q .buffer) p)
