@@ -1,3 +1,4 @@
 pub mod Listed
 pub mod Causes
 pub mod Diagnosed
+pub mod Seats

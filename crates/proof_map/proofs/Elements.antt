@@ -24,7 +24,7 @@ use Rattle.draw_limits.specs.Numbers.{countBefore, isElement, isOf, anElement}
 use Rattle.draw_model.specs.Drawn.{elementDrawn}
 use Rattle.draw_model.specs.Content.{elementIf, elementsOf}
 use Rattle.draw_map.specs.Map.{isMessageEnd}
-use Rattle.proof_map.proofs.Picked.{one, picked, as-many, at-place}
+use Rattle.proof_map.proofs.Picked.{one, picked, as-many, at-place, as-none, none-of}
 use Rattle.proof_map.proofs.KindLaws.{kind-drawn}
 
 -- the rewriting of endSnds adds an element for each
@@ -32,14 +32,6 @@ all-long : (els : List (List ℕ)) (n : ℕ) → length (iter (λ k. treated) el
 unfolding iter
 all-long els zero = (let e : length els ≡ length els + 0 = omega arith in e)
 all-long els (suc n) = treated-long (iter (λ k. treated) els n) ∙ (let e : length (iter (λ k. treated) els n) + 1 ≡ length els + suc n = omega (arith, all-long els n) in e)
-
-as-none : (b : Bool) → _≡_ {A = ℕ} 0 (oneIf (b && false))
-as-none true = refl
-as-none false = refl
-
-none-of : (f : List ℕ → ℕ) → total f [] ≡ 0
-unfolding total
-none-of f = refl
 
 -- an element that is drawn is an endSnd where its node is a message end event of the process
 module _ (t w : List ℕ) (n p k : ℕ) where

@@ -1,7 +1,7 @@
 -- What a function makes of those numbers below n that pass a test: as many as pass it, and each at the place that says how many pass it before. Assumes nothing.
 use Prim.Native.Nat.{ℕ, zero, suc, _+_, _≤_, _<_}
 use mathlib.Core.Path.{_≡_, refl, sym, _∙_, ap, ap₂}
-use mathlib.Core.Bool.{Bool, true, false}
+use mathlib.Core.Bool.{Bool, true, false, _&&_}
 use mathlib.Core.List.{List, [], _∷_, _++_, append-nil}
 use mathlib.Core.Logic.{⊎-elim}
 use native.Mathlib.Nat.{le-of-suc-le-suc, eq-or-lt-of-le}
@@ -13,6 +13,15 @@ use Rattle.base_words.specs.Pick.{if_then_else_}
 use Rattle.base_words.specs.Sum.{sum, oneIf}
 use Rattle.base_words.proofs.EachLaws.{total-append}
 use Rattle.draw_limits.specs.Numbers.{countBefore}
+
+-- nothing adds up to nothing
+pub as-none : (b : Bool) → _≡_ {A = ℕ} 0 (oneIf (b && false))
+as-none true = refl
+as-none false = refl
+
+pub none-of : (f : List ℕ → ℕ) → total f [] ≡ 0
+unfolding total
+none-of f = refl
 
 module _ {A : Type 0} (test : ℕ → Bool) (make : ℕ → A) where
   abbrev pub one : ℕ → List A
