@@ -1,3 +1,1 @@
-pub mod PutLaws
 pub mod PointsHold
-pub mod MapLaws

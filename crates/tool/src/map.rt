@@ -1,5 +1,5 @@
 // map: which node of a drawing is which number, and where it stands.
-use draw_map::put_map;
+use draw_chart::put_map;
 use draw_read::DRAWING_MOST;
 use libc::STDIN_FILENO;
 use text_lexer::piece;
