@@ -5,6 +5,8 @@ ghost use Rattle.base_words.specs.Words.{part};
 ghost use Rattle.text_numerals.specs.Numerals.{sameBytes};
 ghost use Rattle.log_lines.specs.Entries.{entryOf};
 ghost use Rattle.log_text.specs.declared.Level.the-variants.{Log, Trace, Event};
+ghost use Rattle.xml_markup.specs.Markup.{markup};
+ghost use Rattle.xml_skip.specs.Skipping.{tagOf};
 ghost use Rattle.log_text.specs.Logs.{over, overNamed, lineBy, nameBy, stringBy, stringAt, traceBy, eventBy, isOfLog, otherAt, enteredBy};
 use super::Cursor;
 use super::Level;
@@ -24,6 +26,7 @@ use xml_markup::spans::is_called;
 use xml_skip::Skipped;
 use xml_skip::Tag;
 use xml_skip::skip;
+use xml_skip::skip_from;
 use xml_skip::tag_of;
 
 fn over(s: Skipped, c: Cursor) -> Move
@@ -51,14 +54,15 @@ fn is_line(text: &[u8], from: usize, to: usize) -> bool
     e.right
 }
 
-fn line_by(a: Attribute, text: &[u8], c: Cursor, p: usize, end: usize) -> Move
+fn line_by(a: Attribute, tag: Tag, text: &[u8], c: Cursor, p: usize, end: usize) -> Move
+    requires { ⌜ tag ≡ tagOf (markup (now text) p) p ⌝ }
     ensures { λ r. ⌜ r ≡ lineBy a (now (text .entry)) c p end ⌝ }
 {
     let Attribute::Is(from, to) = a else {
         return Move::Fault(end);
     };
     if is_line(text, from, to) {
-        return over_named(skip(text, p), c, from, to);
+        return over_named(skip_from(tag, text, p), c, from, to);
     }
     Move::Fault(back(from, 1))
 }
@@ -69,28 +73,30 @@ fn is_key(text: &[u8], from: usize, to: usize) -> bool
     same(piece(text, from, to), b"concept:name")
 }
 
-fn name_by(a: Attribute, text: &[u8], c: Cursor, p: usize, end: usize) -> Move
+fn name_by(a: Attribute, tag: Tag, text: &[u8], c: Cursor, p: usize, end: usize) -> Move
+    requires { ⌜ tag ≡ tagOf (markup (now text) p) p ⌝ }
     ensures { λ r. ⌜ r ≡ nameBy a (now (text .entry)) c p end ⌝ }
 {
     let Attribute::Is(from, to) = a else {
-        return over(skip(text, p), c);
+        return over(skip_from(tag, text, p), c);
     };
     if is_key(text, from, to) {
         if c.to == 0 {
-            return line_by(attribute(text, p, b"value"), text, c, p, end);
+            return line_by(attribute(text, p, b"value"), tag, text, c, p, end);
         }
         return Move::Fault(back(from, 1));
     }
-    over(skip(text, p), c)
+    over(skip_from(tag, text, p), c)
 }
 
 fn string_by(tag: Tag, text: &[u8], c: Cursor, p: usize) -> Move
+    requires { ⌜ tag ≡ tagOf (markup (now text) p) p ⌝ }
     ensures { λ r. ⌜ r ≡ stringBy tag (now (text .entry)) c p ⌝ }
 {
     let key = attribute(text, p, b"key");
     match tag {
-        Tag::Open(q) => name_by(key, text, c, p, back(q, 1)),
-        Tag::Empty(q) => name_by(key, text, c, p, back(q, 2)),
+        Tag::Open(q) => name_by(key, tag, text, c, p, back(q, 1)),
+        Tag::Empty(q) => name_by(key, tag, text, c, p, back(q, 2)),
         Tag::Fault(q) => Move::Fault(q),
     }
 }

@@ -1,5 +1,6 @@
 // "An element inside an element, up to 16 deep, is skipped whole." Skipping an element and skipping its content call each other, with remaining depth and bytes falling.
 ghost use mathlib.Core.Path.{_≡_};
+ghost use Rattle.xml_markup.specs.Markup.{markup};
 ghost use Rattle.xml_skip.specs.Skipping.{partOf, partAt, tagOf, elementAt, contentAt, skipped};
 use xml_markup::Markup;
 use xml_markup::Opener;
@@ -137,4 +138,16 @@ pub fn skip(text: &[u8], p: usize) -> Skipped
     ensures { λ r. ⌜ r ≡ skipped (now (text .entry)) p ⌝ }
 {
     skip_element(text, p, DEPTH)
+}
+
+// The same from the tag at that place, which is read already.
+pub fn skip_from(tag: Tag, text: &[u8], p: usize) -> Skipped
+    requires { ⌜ tag ≡ tagOf (markup (now text) p) p ⌝ }
+    ensures { λ r. ⌜ r ≡ skipped (now (text .entry)) p ⌝ }
+{
+    match tag {
+        Tag::Open(q) => skip_content(text, p, q, DEPTH - 1),
+        Tag::Empty(q) => Skipped::Past(q),
+        Tag::Fault(q) => Skipped::Fault(q),
+    }
 }

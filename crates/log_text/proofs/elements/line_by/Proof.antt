@@ -16,6 +16,6 @@ line-by-spec =
     (λ c κs. search needs)
     (λ c κs. search needs)
     (λ c κs. search needs)
-    (λ c. rw (c .before .before .before .before .before .a .given .1) (pick-yes _ _ _ _ (sym (c .before .before .before .is-line .ensures) ∙ c .before .before .if1 .taken) (rw (c .before .skip .ensures) at (c .over-named .ensures))))
+    (λ c. rw (c .before .before .before .before .before .a .given .1) (pick-yes _ _ _ _ (sym (c .before .before .before .is-line .ensures) ∙ c .before .before .if1 .taken) (rw (c .before .skip-from .ensures) at (c .over-named .ensures))))
     (λ c κs. search needs)
     (λ c. rw (c .before .before .before .before .a .given .1, c .back .ensures) (pick-no _ _ _ _ (sym (c .before .before .is-line .ensures) ∙ c .before .if1 .left) (refl))))

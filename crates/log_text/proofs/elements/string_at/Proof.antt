@@ -10,5 +10,5 @@ string-at-spec =
     (tie.spec
     (λ c κs. search needs)
     (λ c κs. search needs)
-    (λ c κs. search needs)
+    (λ c κs. rw (c .before .markup .ensures) at (c .tag-of .ensures))
     (λ c. rw (c .before .tag-of .ensures, c .before .before .markup .ensures) at (c .string-by .ensures)))
