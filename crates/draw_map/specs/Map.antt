@@ -5,7 +5,7 @@ use mathlib.Core.Bool.{Bool, _&&_}
 use mathlib.Core.List.{List, [], _∷_, _++_, map}
 use lib.Dec.{eqb}
 use lib.ListN.{length}
-use Rattle.base_words.specs.Blocks.{Bytes, Drawing}
+use Rattle.base_words.specs.Blocks.{Bytes, Table, Drawing}
 use Rattle.base_words.specs.Each.{joined}
 use Rattle.base_words.specs.Pick.{if_then_else_}
 use Rattle.base_words.specs.Text.{bytes}
@@ -26,7 +26,7 @@ use Rattle.draw_walk.specs.Walk.{Walk}
 use Rattle.draw_read.specs.Drawings.{walked, thingsOf, answered}
 
 -- what a writer of a text promises that says nothing of its greatest length
-abbrev pub Puts : Bytes → ℕ → List ℕ → ℕ → List ℕ → Type 0
+abbrev pub Puts : Bytes → ℕ → Bytes → ℕ → List ℕ → Type 0
 Puts w from out r now = Put w (length w) from out r now
 
 -- A LINE: a word, numbers behind it, each after a blank, and a newline
@@ -40,7 +40,7 @@ unfoldable pub line : List ℕ → List ℕ → Bytes
 line word xs = word ++ (numbers xs ++ bytes "\n")
 
 -- AN EDGE THAT IS NO FLOW: the table has it before the element that it enters, a start, or the end behind a message end event
-unfoldable pub withinLine : List ℕ → ℕ → ℕ → ℕ → Bytes
+unfoldable pub withinLine : Table → ℕ → ℕ → ℕ → Bytes
 withinLine table i e at = line (bytes "within") (oneMore i ∷ entryAt (elementAt table i e) 0 ∷ at ∷ [])
 
 unfoldable pub elementLine : ℕ → ℕ → ℕ → Bytes
@@ -57,16 +57,16 @@ unfoldable pub branchLines : ℕ → ℕ → Drawing → ℕ → ℕ → Bytes
 branchLines i e w n k = joined (branchLine i e w k) n
 
 -- AN ELEMENT, at its place among the pool's elements, and what belongs to it and has no place of its own
-unfoldable pub belonging : List ℕ → Drawing → ℕ → ℕ → ℕ → ℕ → Bytes
+unfoldable pub belonging : Table → Drawing → ℕ → ℕ → ℕ → ℕ → Bytes
 belonging table w n i e k =
     if isOfKind kinds.start w k then withinLine table i e (place w k)
     else if isOfKind kinds.eventBased w k then branchLines i e w n k
     else []
 
-unfoldable pub withBelonging : List ℕ → Drawing → ℕ → ℕ → ℕ → ℕ → Bytes
+unfoldable pub withBelonging : Table → Drawing → ℕ → ℕ → ℕ → ℕ → Bytes
 withBelonging table w n i e k = elementLine i e (place w k) ++ belonging table w n i e k
 
-unfoldable pub elementLines : List ℕ → Drawing → ℕ → ℕ → ℕ → ℕ → Bytes
+unfoldable pub elementLines : Table → Drawing → ℕ → ℕ → ℕ → ℕ → Bytes
 elementLines table w n i p k = if isOf anElement p w k then withBelonging table w n i (countBefore (isOf anElement p w) k) k else []
 
 -- THE END behind a message end event, "behind the pool's other elements; several are treated in text order"; its edge is within it (RULES: ends)
@@ -76,10 +76,10 @@ isMessageEnd p w k = isOfKind kinds.endSnd w k && eqb (within w k) p
 unfoldable pub endPlace : Drawing → ℕ → ℕ → ℕ → ℕ
 endPlace w n p k = lesser (countBefore (isOf anElement p w) n + countBefore (isMessageEnd p w) k) greatest
 
-unfoldable pub withEnd : List ℕ → ℕ → ℕ → ℕ → Bytes
+unfoldable pub withEnd : Table → ℕ → ℕ → ℕ → Bytes
 withEnd table i e at = elementLine i e at ++ withinLine table i e at
 
-unfoldable pub endLines : List ℕ → Drawing → ℕ → ℕ → ℕ → ℕ → Bytes
+unfoldable pub endLines : Table → Drawing → ℕ → ℕ → ℕ → ℕ → Bytes
 endLines table w n i p k = if isMessageEnd p w k then withEnd table i (endPlace w n p k) (place w k) else []
 
 -- A FLOW that is an edge
@@ -96,22 +96,22 @@ theEnds = 1
 abbrev pub theEdges : ℕ
 theEdges = 2
 
-unfoldable pub linesOf : ℕ → List ℕ → Drawing → ℕ → ℕ → ℕ → ℕ → Bytes
+unfoldable pub linesOf : ℕ → Table → Drawing → ℕ → ℕ → ℕ → ℕ → Bytes
 linesOf class table w n i p k =
     if eqb class theElements then elementLines table w n i p k
     else if eqb class theEnds then endLines table w n i p k
     else edgeLine w i p k
 
-unfoldable pub allOf : ℕ → List ℕ → Drawing → ℕ → ℕ → ℕ → Bytes
+unfoldable pub allOf : ℕ → Table → Drawing → ℕ → ℕ → ℕ → Bytes
 allOf class table w n i p = joined (linesOf class table w n i p) n
 
-unfoldable pub inside : List ℕ → Drawing → ℕ → ℕ → ℕ → Bytes
+unfoldable pub inside : Table → Drawing → ℕ → ℕ → ℕ → Bytes
 inside table w n i p = allOf theElements table w n i p ++ (allOf theEnds table w n i p ++ allOf theEdges table w n i p)
 
-unfoldable pub withInside : List ℕ → Drawing → ℕ → ℕ → ℕ → ℕ → Bytes
+unfoldable pub withInside : Table → Drawing → ℕ → ℕ → ℕ → ℕ → Bytes
 withInside table w n i p k = line (bytes "pool") (oneMore i ∷ place w k ∷ []) ++ inside table w n i p
 
-unfoldable pub poolLines : Bool → List ℕ → Drawing → ℕ → ℕ → Bytes
+unfoldable pub poolLines : Bool → Table → Drawing → ℕ → ℕ → Bytes
 poolLines owned table w n k = if isPool owned w k then withInside table w n (countBefore (isPool owned w) k) (processOf owned w k) k else []
 
 -- BEHIND THE POOLS: participants without a process, and the messages, also those between two of these
@@ -131,16 +131,16 @@ theOutsiders = 1
 abbrev pub theMessages : ℕ
 theMessages = 2
 
-unfoldable pub partOf : ℕ → Bool → Bytes → List ℕ → Drawing → ℕ → ℕ → Bytes
+unfoldable pub partOf : ℕ → Bool → Bytes → Table → Drawing → ℕ → ℕ → Bytes
 partOf class owned text table w n k =
     if eqb class thePools then poolLines owned table w n k
     else if eqb class theOutsiders then outsideLine text w k
     else messageLine w k
 
-unfoldable pub everyOf : ℕ → Bytes → List ℕ → Drawing → ℕ → Bytes
+unfoldable pub everyOf : ℕ → Bytes → Table → Drawing → ℕ → Bytes
 everyOf class text table w n = joined (partOf class (hasParticipants w n) text table w n) n
 
-unfoldable pub mapOf : Bytes → List ℕ → Drawing → ℕ → Bytes
+unfoldable pub mapOf : Bytes → Table → Drawing → ℕ → Bytes
 mapOf text table w n = everyOf thePools text table w n ++ (everyOf theOutsiders text table w n ++ (everyOf theMessages text table w n ++ bytes "end\n"))
 
 -- a refused drawing: "`refused`, the number and what stands beside it" (RULES: lines)
