@@ -30,7 +30,7 @@ use Rattle.xml_markup.specs.declared.Found.the-variants.{Behind, Nowhere
 use Rattle.xml_markup.specs.Tokens.{whole, moved, ifOn, ifAttribute, isNamed, foundFrom, begun, found, isFound, twice, isFaulty}
 use Rattle.xml_markup.specs.Markup.{advance, scanFrom}
 use Rattle.xml_markup.specs.Staying.{stays}
-use Rattle.xml_markup.specs.Ahead.{numbered, keyOf, Rising, Kept, More, With, New, Reached, isFaultyElse, tried, Ahead, Sure}
+use Rattle.xml_markup.specs.Ahead.{numbered, keyOf, keyAt, Rising, Kept, More, With, New, Reached, isFaultyElse, tried, Ahead, Sure}
 use Rattle.xml_markup.proofs.Whole.{the-type as whole-type}
 use Rattle.xml_markup.proofs.TokenLaws.{is-attribute, found-here, found-on, found-end}
 use Rattle.xml_markup.proofs.ScanLaws.{scan-on}
@@ -198,9 +198,9 @@ other-named t name c i out = go (whole (c .state) (at t i))
     go Target = refl
     go Reference = refl
 
--- a number is kept, where it is that of a name whose number is kept
-pub kept-as : (v : List ℕ) (n k : ℕ) (w x name : List ℕ) → k ≡ numbered w 0 → w ≡ x → x ≡ name → Kept v n (keyOf name) → Kept v n k
-kept-as v n k w x name a b e y = rw (a ∙ ap (λ (z : List ℕ). numbered z 0) (b ∙ e)) y
+-- a name is kept, where it is one whose number is kept
+pub kept-as : (κ : ℕ → ℕ) (v : List ℕ) (n : ℕ) (w x name : List ℕ) → w ≡ x → x ≡ name → Kept κ v n (keyOf name) → Kept κ v n (keyOf w)
+kept-as κ v n w x name b e y = rw (ap (λ (z : List ℕ). numbered z 0) (b ∙ e)) y
 
 -- what is taken of a name
 abbrev count : Taken → ℕ
@@ -217,13 +217,13 @@ not-to m e = false≢true (ap isTo e)
 pub to-not : (m : ℕ) → To m ≡ Not → ⊥
 to-not m e = not-to m (sym e)
 
-module _ (v : List ℕ) (n k : ℕ) (w : Whole) (m : ℕ) where
-  pub takes-none : n ≤ length v → OneOf (0 ∷ 2 ∷ 3 ∷ []) (tagOf whole-type w) → To n ≡ To m → Rising v n → More v n v m × (w ≡ Attribute → With k v n v m)
+module _ (κ : ℕ → ℕ) (v : List ℕ) (n k : ℕ) (w : Whole) (m : ℕ) where
+  pub takes-none : n ≤ length v → OneOf (0 ∷ 2 ∷ 3 ∷ []) (tagOf whole-type w) → To n ≡ To m → Rising κ v n → More κ v n v m × (w ≡ Attribute → With κ k v n v m)
   takes-none h o e up =
       rw (sym (ap count e))
       (record { rising = up; fits = h; kept = λ x y. y }, λ a. absurd (miss (0 ∷ 2 ∷ 3 ∷ []) 1 tt (rw a at o)))
 
-  pub takes-one : (u : List ℕ) → More v n u (n + 1) × With k v n u (n + 1) → To (n + 1) ≡ To m → More v n u m × (w ≡ Attribute → With k v n u m)
+  pub takes-one : (u : List ℕ) → More κ v n u (n + 1) × With κ k v n u (n + 1) → To (n + 1) ≡ To m → More κ v n u m × (w ≡ Attribute → With κ k v n u m)
   takes-one u (a, b) e = rw (sym (ap count e)) (a, λ y. b)
 
 -- what holds behind each byte of a class holds behind a run of them
@@ -261,12 +261,12 @@ module _ (t : List ℕ) (start : ℕ) where
   reached-run c i j = run-to t (stays (c .state)) (Reached t start c) (λ k h e r. reached-byte t start c k h r c (tried-moved t start c k c (still t start c k h e))) i j
 
   module _ (c : Cursor) (p : ℕ) where
-    module _ (v : List ℕ) (n : ℕ) (d : Cursor) (i : ℕ) (a : Ahead t start c p v n d i) (h : i < length t) (next : Cursor) (e : tried t start d i ≡ On next) (u : List ℕ) (m : ℕ) (more : More v n u m) (with : whole (d .state) (at t i) ≡ Attribute → With (keyOf (part t (d .mark) i)) v n u m) where
-      other : (name : List ℕ) → (Kept u m (keyOf name) → ⊥) → isNamed t name d i ≡ false
+    module _ (v : List ℕ) (n : ℕ) (d : Cursor) (i : ℕ) (a : Ahead t start c p v n d i) (h : i < length t) (next : Cursor) (e : tried t start d i ≡ On next) (u : List ℕ) (m : ℕ) (more : More (keyAt t) v n u m) (with : whole (d .state) (at t i) ≡ Attribute → With (keyAt t) (keyOf (part t (d .mark) i)) v n u m) where
+      other : (name : List ℕ) → (Kept (keyAt t) u m (keyOf name) → ⊥) → isNamed t name d i ≡ false
       unfolding isNamed ifAttribute
       other name out = go (whole (d .state) (at t i)) with
         where
-          go : (w : Whole) → (w ≡ Attribute → With (keyOf (part t (d .mark) i)) v n u m) → ifAttribute w (sameBytes (part t (d .mark) i) name) false ≡ false
+          go : (w : Whole) → (w ≡ Attribute → With (keyAt t) (keyOf (part t (d .mark) i)) v n u m) → ifAttribute w (sameBytes (part t (d .mark) i) name) false ≡ false
           go Nothing f = refl
           go Attribute f = never (sameBytes (part t (d .mark) i) name) (λ s. out (rw (same-true (part t (d .mark) i) name s) at (f refl .is)))
           go Target f = refl
@@ -292,7 +292,7 @@ module _ (t : List ℕ) (start : ℕ) where
     pub ahead-none : (v : List ℕ) → Reached t start c p → Ahead t start c p v 0 c p
     ahead-none v r = record { rising = λ a b h l. absurd (omega arith); fits = omega arith; on = omega arith; reached = r; new = λ name new out. new; same = λ all. refl }
 
-    pub ahead-sure : (v : List ℕ) (n : ℕ) (d : Cursor) (i : ℕ) → Ahead t start c p v n d i → ((name : List ℕ) → Kept v n (keyOf name) → New t start p name) → Sure t start c p d i
+    pub ahead-sure : (v : List ℕ) (n : ℕ) (d : Cursor) (i : ℕ) → Ahead t start c p v n d i → ((name : List ℕ) → Kept (keyAt t) v n (keyOf name) → New t start p name) → Sure t start c p d i
     ahead-sure v n d i a new = record { on = a .on; reached = a .reached; same = a .same new }
 
     pub sure-here : Reached t start c p → Sure t start c p c p

@@ -10,7 +10,7 @@ ghost use Rattle.xml_markup.specs.declared.Whole.the-variants.{Attribute
 ghost use Rattle.xml_markup.specs.declared.Found.the-variants.{Nowhere};
 ghost use Rattle.xml_markup.specs.Tokens.{whole, isNamed, found};
 ghost use Rattle.xml_markup.specs.Markup.{scanFrom};
-ghost use Rattle.xml_markup.specs.Ahead.{keyOf, Rising, Kept, More, With, Reached, Ahead, Sure, isFaultyElse, tried};
+ghost use Rattle.xml_markup.specs.Ahead.{keyOf, keyAt, Rising, Kept, More, With, Reached, Ahead, Sure, isFaultyElse, tried};
 use super::Cursor;
 use super::Reach;
 use super::Scan;
@@ -18,7 +18,6 @@ use super::Taken;
 use super::Whole;
 use super::shelf::is_kept;
 use super::shelf::keep;
-use super::shelf::key_of;
 use super::staying::stay;
 use super::tokens::begun;
 use super::tokens::moved;
@@ -64,10 +63,10 @@ pub fn tried(text: &[u8], start: usize, c: Cursor, i: usize) -> Scan
     moved(c, b, i, i + 1)
 }
 
-// Puts the number of the name that the byte at a place shows to be whole among the first n.
+// Puts the name that the byte at a place shows to be whole among the first n.
 fn take_name(text: &[u8], c: Cursor, i: usize, most: usize, v: &mut [usize], n: usize) -> Taken
     requires { ⌜ n ≤ length (now v) ⌝ }
-    ensures { λ r. ⌜ ((m : ℕ) → r ≡ To m → Rising (now (v .entry)) n → More (now (v .entry)) n (now (v .exit)) m × (whole (c .state) (at (now (text .entry)) i) ≡ Attribute → With (keyOf (part (now (text .entry)) (c .mark) i)) (now (v .entry)) n (now (v .exit)) m)) × (r ≡ Not → now (v .exit) ≡ now (v .entry)) ⌝ }
+    ensures { λ r. ⌜ ((m : ℕ) → r ≡ To m → Rising (keyAt (now (text .entry))) (now (v .entry)) n → More (keyAt (now (text .entry))) (now (v .entry)) n (now (v .exit)) m × (whole (c .state) (at (now (text .entry)) i) ≡ Attribute → With (keyAt (now (text .entry))) (keyOf (part (now (text .entry)) (c .mark) i)) (now (v .entry)) n (now (v .exit)) m)) × (r ≡ Not → now (v .exit) ≡ now (v .entry)) ⌝ }
 {
     let s = c.state;
     let w = whole(s, byte(text, i));
@@ -77,34 +76,34 @@ fn take_name(text: &[u8], c: Cursor, i: usize, most: usize, v: &mut [usize], n: 
     if most <= n || v.len() <= n {
         return Taken::Not;
     }
-    if keep(v, n, key_of(piece(text, c.mark, i))) {
+    if keep(text, v, n, c.mark, i) {
         return Taken::To(n + 1);
     }
     Taken::Not
 }
 
-// Whether the byte at a place shows a name to be whole whose number is one of the first n.
-fn is_met(text: &[u8], c: Cursor, i: usize, v: &[usize], n: usize) -> bool
+// Whether the byte at a place shows a name to be whole that is one of the first n of `all`.
+fn is_met(all: &[u8], text: &[u8], c: Cursor, i: usize, v: &[usize], n: usize) -> bool
     requires { ⌜ n ≤ length (now v) ⌝ }
-    ensures { λ r. ⌜ (r ≡ false → Rising (now (v .entry)) n → (name : List ℕ) → Kept (now (v .entry)) n (keyOf name) → isNamed (now (text .entry)) name c i ≡ false) ⌝ }
+    ensures { λ r. ⌜ (r ≡ false → Rising (keyAt (now (all .entry))) (now (v .entry)) n → (name : List ℕ) → Kept (keyAt (now (all .entry))) (now (v .entry)) n (keyOf name) → isNamed (now (text .entry)) name c i ≡ false) ⌝ }
 {
     let s = c.state;
     let w = whole(s, byte(text, i));
     let Whole::Attribute = w else {
         return false;
     };
-    is_kept(v, n, key_of(piece(text, c.mark, i)))
+    is_kept(all, v, n, piece(text, c.mark, i))
 }
 
-// Whether no name of the tag at `start` has one of the first n numbers.
-fn is_clear(text: &[u8], start: usize, v: &[usize], n: usize) -> bool
+// Whether no name of the tag at `start` is one of the first n of `all`.
+fn is_clear(all: &[u8], text: &[u8], start: usize, v: &[usize], n: usize) -> bool
     requires { ⌜ n ≤ length (now v) ⌝ }
-    ensures { λ r. ⌜ (r ≡ true → Rising (now (v .entry)) n → (name : List ℕ) → Kept (now (v .entry)) n (keyOf name) → found (now (text .entry)) name start ≡ Nowhere) ⌝ }
+    ensures { λ r. ⌜ (r ≡ true → Rising (keyAt (now (all .entry))) (now (v .entry)) n → (name : List ℕ) → Kept (keyAt (now (all .entry))) (now (v .entry)) n (keyOf name) → found (now (text .entry)) name start ≡ Nowhere) ⌝ }
 {
     let mut c = begun(start);
     let mut i = start;
     while i < text.len() {
-        if is_met(text, c, i, v, n) {
+        if is_met(all, text, c, i, v, n) {
             return false;
         }
         let a = moved(c, byte(text, i), i, i + 1);
@@ -118,7 +117,7 @@ fn is_clear(text: &[u8], start: usize, v: &[usize], n: usize) -> bool
     true
 }
 
-// Reads a tag ahead as long as its names have different numbers, which are kept; it is read rightly where no name before has one of them.
+// Reads a tag ahead as long as its names are different, which are kept; it is read rightly where no name before is one of them.
 fn read_ahead(text: &[u8], start: usize, c: Cursor, p: usize, most: usize, v: &mut [usize]) -> Reach
     requires { ⌜ Reached (now text) start c p ⌝ }
     ensures { λ r. ⌜ Ahead (now (text .entry)) start c p (now (v .exit)) (r .most) (r .cursor) (r .place) ⌝ }
@@ -155,13 +154,13 @@ fn read_ahead(text: &[u8], start: usize, c: Cursor, p: usize, most: usize, v: &m
     }
 }
 
-// Reads ahead up to `most` names of a tag, their numbers kept in the words lent; nothing, and half as many next time, where one may not be new.
+// Reads ahead up to `most` names of a tag, kept in the words lent; nothing, and half as many next time, where one is not new.
 fn read_with(text: &[u8], start: usize, c: Cursor, p: usize, most: usize, v: &mut [usize]) -> Reach
     requires { ⌜ Reached (now text) start c p ⌝ }
     ensures { λ r. ⌜ Sure (now (text .entry)) start c p (r .cursor) (r .place) ⌝ }
 {
     let r = read_ahead(text, start, c, p, most, v);
-    if !is_clear(piece(text, 0, p), start, v, r.most) {
+    if !is_clear(text, piece(text, 0, p), start, v, r.most) {
         return Reach {
             cursor: c,
             place: p,

@@ -68,7 +68,7 @@ pub enum Class {
     Value(u8),
 }
 
-// How many numbers are kept; or no more are.
+// How many names are kept; or no more are.
 pub enum Taken {
     To(usize),
     Not,
@@ -81,7 +81,7 @@ pub struct Reach {
     pub most: usize,
 }
 
-// Between these places a number is looked for.
+// Between these places a name is looked for.
 pub struct Bounds {
     pub low: usize,
     pub high: usize,

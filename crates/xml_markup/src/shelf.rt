@@ -1,46 +1,56 @@
-// Numbers of names, in order.
+// Names of a text in their own order, each kept as a word that says where it stands.
 ghost use mathlib.Core.Path.{_≡_};
 ghost use mathlib.Core.Bool.{true, false};
 ghost use Prim.Native.Nat.{_+_, _-_, _<_, _≤_};
+ghost use lib.Dec.{ltb};
 ghost use lib.ListN.{length};
-ghost use Rattle.base_words.specs.Words.{at};
-ghost use Rattle.xml_markup.specs.Ahead.{stirred, keyOf, Rising, Kept, Between, Inserted, More, With};
+ghost use Rattle.base_words.specs.Words.{at, part};
+ghost use Rattle.xml_markup.specs.Ahead.{keptName, keyOf, keyAt, Rising, Kept, Between, Inserted, More, With};
 use super::Bounds;
+use text_lexer::piece;
 
-// Up to here another byte has room.
-const EXACT: usize = 72057594037927936;
+// A word holds two places below this one.
+const PLACES: usize = 4294967296;
 
-fn stir(k: usize, b: u8) -> usize
-    ensures { λ r. ⌜ r ≡ stirred k b ⌝ }
+// Whether a byte comes before another one.
+fn is_less(a: u8, b: u8) -> bool
+    ensures { λ r. ⌜ (r ≡ ltb a b) × (a < 256) × (b < 256) ⌝ }
 {
-    if k < EXACT {
-        return k * 256 + b as usize;
-    }
-    let low = k % 2147483647;
-    low * low + k / 1048576 + b as usize
+    a < b
 }
 
-// The number of a name.
-pub fn key_of(name: &[u8]) -> usize
-    ensures { λ r. ⌜ r ≡ keyOf (now (name .entry)) ⌝ }
+// Whether a name comes before another: the shorter one does, and of two as long as each other the one whose byte is smaller where they differ.
+fn is_before(a: &[u8], b: &[u8]) -> bool
+    ensures { λ r. ⌜ r ≡ ltb (keyOf (now (a .entry))) (keyOf (now (b .entry))) ⌝ }
 {
-    let mut k: usize = 0;
+    if a.len() != b.len() {
+        return a.len() < b.len();
+    }
     let mut i = 0;
-    while i < name.len() {
-        k = stir(k, name[i]);
+    while i < a.len() {
+        if a[i] != b[i] {
+            return is_less(a[i], b[i]);
+        }
         i += 1;
     }
-    k
+    false
 }
 
-fn halve(v: &[usize], n: usize, k: usize, b: Bounds) -> Bounds
-    requires { ⌜ (b .low < b .high) × (n ≤ length (now v)) × Between (now v) n k (b .low) (b .high) ⌝ }
-    ensures { λ r. ⌜ (r .high - r .low < b .high - b .low) × Between (now (v .entry)) n k (r .low) (r .high) ⌝ }
+// The name that a word says.
+fn kept_name(text: &[u8], w: usize) -> &[u8]
+    ensures { λ r. ⌜ now r ≡ keptName (now (text .entry)) w ⌝ }
+{
+    piece(text, w / PLACES, w % PLACES)
+}
+
+fn halve(text: &[u8], v: &[usize], n: usize, name: &[u8], b: Bounds) -> Bounds
+    requires { ⌜ (b .low < b .high) × (n ≤ length (now v)) × Between (keyAt (now text)) (now v) n (keyOf (now name)) (b .low) (b .high) ⌝ }
+    ensures { λ r. ⌜ (r .high - r .low < b .high - b .low) × Between (keyAt (now (text .entry))) (now (v .entry)) n (keyOf (now (name .entry))) (r .low) (r .high) ⌝ }
 {
     let low = b.low;
     let high = b.high;
     let middle = low + (high - low) / 2;
-    if v[middle] < k {
+    if is_before(kept_name(text, v[middle]), name) {
         return Bounds {
             low: middle + 1,
             high: high,
@@ -52,58 +62,63 @@ fn halve(v: &[usize], n: usize, k: usize, b: Bounds) -> Bounds
     }
 }
 
-// Where a number stands among the first n, or should stand.
-fn place_of(v: &[usize], n: usize, k: usize) -> usize
+// Where a name stands among the first n, or should stand.
+fn place_of(text: &[u8], v: &[usize], n: usize, name: &[u8]) -> usize
     requires { ⌜ n ≤ length (now v) ⌝ }
-    ensures { λ r. ⌜ Between (now (v .entry)) n k r r ⌝ }
+    ensures { λ r. ⌜ Between (keyAt (now (text .entry))) (now (v .entry)) n (keyOf (now (name .entry))) r r ⌝ }
 {
     let mut b = Bounds { low: 0, high: n };
     while b.low < b.high {
-        b = halve(v, n, k, b);
+        b = halve(text, v, n, name, b);
     }
     b.low
 }
 
-fn stands_at(v: &[usize], n: usize, r: usize, k: usize) -> bool
+// Whether a name is the one at its place.
+fn stands_at(text: &[u8], v: &[usize], n: usize, r: usize, name: &[u8]) -> bool
     requires { ⌜ n ≤ length (now v) ⌝ }
-    ensures { λ b. ⌜ (b ≡ false → r < n → at (now (v .entry)) r ≡ k → ⊥) ⌝ }
+    ensures { λ b. ⌜ (b ≡ false → r < n → keyAt (now (text .entry)) (at (now (v .entry)) r) ≡ keyOf (now (name .entry)) → ⊥) ⌝ }
 {
     if r < n {
-        return v[r] == k;
+        return !is_before(name, kept_name(text, v[r]));
     }
     false
 }
 
-// Whether a number is one of the first n.
-pub fn is_kept(v: &[usize], n: usize, k: usize) -> bool
+// Whether a name is one of the first n.
+pub fn is_kept(text: &[u8], v: &[usize], n: usize, name: &[u8]) -> bool
     requires { ⌜ n ≤ length (now v) ⌝ }
-    ensures { λ b. ⌜ (b ≡ false → Rising (now (v .entry)) n → Kept (now (v .entry)) n k → ⊥) ⌝ }
+    ensures { λ b. ⌜ (b ≡ false → Rising (keyAt (now (text .entry))) (now (v .entry)) n → Kept (keyAt (now (text .entry))) (now (v .entry)) n (keyOf (now (name .entry))) → ⊥) ⌝ }
 {
-    let r = place_of(v, n, k);
-    stands_at(v, n, r, k)
+    let r = place_of(text, v, n, name);
+    stands_at(text, v, n, r, name)
 }
 
-fn insert(v: &mut [usize], n: usize, r: usize, k: usize)
+fn insert(v: &mut [usize], n: usize, r: usize, w: usize)
     requires { ⌜ (r ≤ n) × (n < length (now v)) ⌝ }
-    ensures { λ _. ⌜ Inserted (now (v .entry)) n r k (now (v .exit)) ⌝ }
+    ensures { λ _. ⌜ Inserted (now (v .entry)) n r w (now (v .exit)) ⌝ }
 {
     let mut j = n;
     while r < j {
         v[j] = v[j - 1];
         j -= 1;
     }
-    v[r] = k;
+    v[r] = w;
 }
 
-// Puts a number among the first n, where it is none of them.
-pub fn keep(v: &mut [usize], n: usize, k: usize) -> bool
+// Puts a name among the first n, where it is none of them.
+pub fn keep(text: &[u8], v: &mut [usize], n: usize, from: usize, to: usize) -> bool
     requires { ⌜ n < length (now v) ⌝ }
-    ensures { λ r. ⌜ (r ≡ true → Rising (now (v .entry)) n → More (now (v .entry)) n (now (v .exit)) (n + 1) × With k (now (v .entry)) n (now (v .exit)) (n + 1)) × (r ≡ false → now (v .exit) ≡ now (v .entry)) ⌝ }
+    ensures { λ r. ⌜ (r ≡ true → Rising (keyAt (now (text .entry))) (now (v .entry)) n → More (keyAt (now (text .entry))) (now (v .entry)) n (now (v .exit)) (n + 1) × With (keyAt (now (text .entry))) (keyOf (part (now (text .entry)) from to)) (now (v .entry)) n (now (v .exit)) (n + 1)) × (r ≡ false → now (v .exit) ≡ now (v .entry)) ⌝ }
 {
-    let r = place_of(v, n, k);
-    if stands_at(v, n, r, k) {
+    if PLACES <= from || PLACES <= to {
         return false;
     }
-    insert(v, n, r, k);
+    let name = piece(text, from, to);
+    let r = place_of(text, v, n, name);
+    if stands_at(text, v, n, r, name) {
+        return false;
+    }
+    insert(v, n, r, from * PLACES + to);
     true
 }

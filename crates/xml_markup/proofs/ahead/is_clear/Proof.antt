@@ -5,7 +5,7 @@ use Prim.Native.Nat.{ℕ, _-_, _+_}
 use native.Mathlib.Omega.{arith}
 use lib.ListN.{length, drop}
 use Rattle.xml_markup.specs.Tokens.{foundFrom, found}
-use Rattle.xml_markup.specs.Ahead.{keyOf, Rising, Kept}
+use Rattle.xml_markup.specs.Ahead.{keyOf, keyAt, Rising, Kept}
 use Rattle.xml_markup.proofs.StayLaws.{found-stay, stay-ahead}
 use Rattle.xml_markup.proofs.TokenLaws.{found-on, found-stops, found-end}
 use borrow.Author.Needs.{needs}
@@ -13,10 +13,10 @@ use Rattle.xml_markup.proofs.ahead.is_clear.Statement.{statement}
 use Rattle.xml_markup.proofs.ahead.is_clear.Tie as tie
 
 abbrev Inv-loop : tie.InvT-loop
-Inv-loop text start v n c₀ i₀ c i = Rising v n → (name : List ℕ) → Kept v n (keyOf name) → foundFrom text name c (drop i text) i ≡ found text name start
+Inv-loop all text start v n c₀ i₀ c i = Rising (keyAt all) v n → (name : List ℕ) → Kept (keyAt all) v n (keyOf name) → foundFrom text name c (drop i text) i ≡ found text name start
 
 abbrev μ-loop : tie.MeasureT-loop
-μ-loop text start v n c₀ i₀ c i = length text - i
+μ-loop all text start v n c₀ i₀ c i = length text - i
 
 loop-holds : tie.Need-loop-holds Inv-loop μ-loop
 unfolding found

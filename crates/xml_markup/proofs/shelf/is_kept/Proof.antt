@@ -9,4 +9,4 @@ is-kept-spec =
     (tie.spec
     (λ c κs. search needs)
     (λ c κs. search needs)
-    (λ c f up. is-none _ _ _ _ (c .before .place-of .ensures) (c .stands-at .ensures f) up))
+    (λ c f up. is-none _ _ _ _ _ (c .before .place-of .ensures) (c .stands-at .ensures f) up))

@@ -1,6 +1,4 @@
-use mathlib.Core.Path.{_∙_, sym}
-use mathlib.Core.Bool.{false≢true}
-use borrow.Author.Tests.{eq-eqb}
+use Rattle.xml_markup.proofs.ShelfLaws.{word-other}
 use borrow.Author.Needs.{needs}
 use Rattle.xml_markup.proofs.shelf.stands_at.Statement.{statement}
 use Rattle.xml_markup.proofs.shelf.stands_at.Tie as tie
@@ -11,5 +9,7 @@ stands-at-spec =
     (tie.spec
     (λ c. search needs)
     (λ c. search needs)
-    (λ c f l q. false≢true (sym f ∙ eq-eqb _ _ q))
+    (λ c κs. search needs)
+    (λ c κs. search needs)
+    (λ c f l q. word-other _ _ _ _ (c .before .kept-name .ensures) _ (c .is-before .ensures) f q)
     (λ c. search needs))
