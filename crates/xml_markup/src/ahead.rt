@@ -16,8 +16,10 @@ use super::Reach;
 use super::Scan;
 use super::Taken;
 use super::Whole;
-use super::shelf::is_kept;
+use super::shelf::PLACES;
+use super::shelf::count_between;
 use super::shelf::keep;
+use super::shelf::kept_at;
 use super::staying::stay;
 use super::tokens::begun;
 use super::tokens::moved;
@@ -82,39 +84,44 @@ fn take_name(text: &[u8], c: Cursor, i: usize, most: usize, v: &mut [usize], n: 
     Taken::Not
 }
 
-// Whether the byte at a place shows a name to be whole that is one of the first n of `all`.
-fn is_met(all: &[u8], text: &[u8], c: Cursor, i: usize, v: &[usize], n: usize) -> bool
+// Where the one of the first n of `all` begins that the byte at a place shows to be whole, or nowhere.
+fn met_at(all: &[u8], text: &[u8], c: Cursor, i: usize, v: &[usize], n: usize) -> usize
     requires { ⌜ n ≤ length (now v) ⌝ }
-    ensures { λ r. ⌜ (r ≡ false → Rising (keyAt (now (all .entry))) (now (v .entry)) n → (name : List ℕ) → Kept (keyAt (now (all .entry))) (now (v .entry)) n (keyOf name) → isNamed (now (text .entry)) name c i ≡ false) ⌝ }
+    ensures { λ r. ⌜ (r ≤ 4294967296) × (r ≡ 4294967296 → Rising (keyAt (now (all .entry))) (now (v .entry)) n → (name : List ℕ) → Kept (keyAt (now (all .entry))) (now (v .entry)) n (keyOf name) → isNamed (now (text .entry)) name c i ≡ false) ⌝ }
 {
     let s = c.state;
     let w = whole(s, byte(text, i));
     let Whole::Attribute = w else {
-        return false;
+        return PLACES;
     };
-    is_kept(all, v, n, piece(text, c.mark, i))
+    kept_at(all, v, n, piece(text, c.mark, i))
 }
 
-// Whether no name of the tag at `start` is one of the first n of `all`.
-fn is_clear(all: &[u8], text: &[u8], start: usize, v: &[usize], n: usize) -> bool
-    requires { ⌜ n ≤ length (now v) ⌝ }
-    ensures { λ r. ⌜ (r ≡ true → Rising (keyAt (now (all .entry))) (now (v .entry)) n → (name : List ℕ) → Kept (keyAt (now (all .entry))) (now (v .entry)) n (keyOf name) → found (now (text .entry)) name start ≡ Nowhere) ⌝ }
+fn lesser(a: usize, b: usize) -> usize
+    ensures { λ r. ⌜ (r ≤ a) × (r ≤ b) ⌝ }
 {
+    if a <= b { a } else { b }
+}
+
+// Where the first one of the first n of `all` begins that the tag at `start` has too, or nowhere.
+fn first_met(all: &[u8], text: &[u8], start: usize, v: &[usize], n: usize) -> usize
+    requires { ⌜ n ≤ length (now v) ⌝ }
+    ensures { λ r. ⌜ (r ≡ 4294967296 → Rising (keyAt (now (all .entry))) (now (v .entry)) n → (name : List ℕ) → Kept (keyAt (now (all .entry))) (now (v .entry)) n (keyOf name) → found (now (text .entry)) name start ≡ Nowhere) ⌝ }
+{
+    let mut first = PLACES;
     let mut c = begun(start);
     let mut i = start;
     while i < text.len() {
-        if is_met(all, text, c, i, v, n) {
-            return false;
-        }
+        first = lesser(first, met_at(all, text, c, i, v, n));
         let a = moved(c, byte(text, i), i, i + 1);
         let Scan::On(next) = a else {
-            return true;
+            return first;
         };
         c = next;
         let s = next.state;
         i = stay(s, text, i + 1);
     }
-    true
+    first
 }
 
 // Reads a tag ahead as long as its names are different, which are kept; it is read rightly where no name before is one of them.
@@ -154,17 +161,18 @@ fn read_ahead(text: &[u8], start: usize, c: Cursor, p: usize, most: usize, v: &m
     }
 }
 
-// Reads ahead up to `most` names of a tag, kept in the words lent; nothing, and half as many next time, where one is not new.
+// Reads ahead up to `most` names of a tag, kept in the words lent; nothing where one is not new, and next time those before it, without the one at p, which is judged by itself then.
 fn read_with(text: &[u8], start: usize, c: Cursor, p: usize, most: usize, v: &mut [usize]) -> Reach
     requires { ⌜ Reached (now text) start c p ⌝ }
     ensures { λ r. ⌜ Sure (now (text .entry)) start c p (r .cursor) (r .place) ⌝ }
 {
     let r = read_ahead(text, start, c, p, most, v);
-    if !is_clear(text, piece(text, 0, p), start, v, r.most) {
+    let first = first_met(text, piece(text, 0, p), start, v, r.most);
+    if first != PLACES {
         return Reach {
             cursor: c,
             place: p,
-            most: most / 2,
+            most: count_between(v, r.most, p, first),
         };
     }
     let d = r.cursor;

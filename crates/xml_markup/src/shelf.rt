@@ -9,8 +9,8 @@ ghost use Rattle.xml_markup.specs.Ahead.{keptName, keyOf, keyAt, Rising,
 use super::Bounds;
 use text_lexer::piece;
 
-// A word holds two places below this one.
-const PLACES: usize = 4294967296;
+// A word holds two places below this one; as a place it is none.
+pub const PLACES: usize = 4294967296;
 
 // Whether a byte comes before another one.
 fn is_less(a: u8, b: u8) -> bool
@@ -85,13 +85,53 @@ fn stands_at(text: &[u8], v: &[usize], n: usize, r: usize, name: &[u8]) -> bool
     false
 }
 
-// Whether a name is one of the first n.
-pub fn is_kept(text: &[u8], v: &[usize], n: usize, name: &[u8]) -> bool
+// Where the name of a word begins.
+fn begin(w: usize) -> usize
+    ensures { λ r. ⌜ r < 4294967296 ⌝ }
+{
+    w / PLACES
+}
+
+fn begin_at(v: &[usize], r: usize) -> usize
+    ensures { λ p. ⌜ p < 4294967296 ⌝ }
+{
+    if r < v.len() {
+        return begin(v[r]);
+    }
+    0
+}
+
+// Where the one of the first n begins that is this name, or nowhere.
+pub fn kept_at(text: &[u8], v: &[usize], n: usize, name: &[u8]) -> usize
     requires { ⌜ n ≤ length (now v) ⌝ }
-    ensures { λ b. ⌜ (b ≡ false → Rising (keyAt (now (text .entry))) (now (v .entry)) n → Kept (keyAt (now (text .entry))) (now (v .entry)) n (keyOf (now (name .entry))) → ⊥) ⌝ }
+    ensures { λ p. ⌜ (p ≤ 4294967296) × (p ≡ 4294967296 → Rising (keyAt (now (text .entry))) (now (v .entry)) n → Kept (keyAt (now (text .entry))) (now (v .entry)) n (keyOf (now (name .entry))) → ⊥) ⌝ }
 {
     let r = place_of(text, v, n, name);
-    stands_at(text, v, n, r, name)
+    if stands_at(text, v, n, r, name) {
+        return begin_at(v, r);
+    }
+    PLACES
+}
+
+fn one_between(w: usize, from: usize, to: usize) -> usize
+    ensures { λ r. ⌜ r ≤ 1 ⌝ }
+{
+    let p = begin(w);
+    if from <= p && p < to { 1 } else { 0 }
+}
+
+// How many of the first n begin between two places.
+pub fn count_between(v: &[usize], n: usize, from: usize, to: usize) -> usize
+    requires { ⌜ n ≤ length (now v) ⌝ }
+    ensures { λ r. ⌜ r ≤ n ⌝ }
+{
+    let mut count = 0;
+    let mut j = 0;
+    while j < n {
+        count += one_between(v[j], from, to);
+        j += 1;
+    }
+    count
 }
 
 fn insert(v: &mut [usize], n: usize, r: usize, w: usize)
