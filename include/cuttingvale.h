@@ -49,7 +49,7 @@ extern "C" {
 
 /* TIME, measured and not proved: to read a text, a drawing or a log, accepted or refused, takes at most CV_INSTRUCTIONS_MOST instructions for each of CV_TEXT_MOST bytes in the
    dearest that tests/outside/run --worst makes; ordinary ones take far fewer (docs/SPEED.md). */
-#define CV_INSTRUCTIONS_MOST 3000
+#define CV_INSTRUCTIONS_MOST 62000
 
 /* WHICH LIBRARY. CV_ABI counts the layouts that table, state and what crosses in a call have had. The library has a function whose name ends in its number, which gives it;
    a program that was compiled with the header of another number does not link. Who declares the calls otherwise than by this header refers to that function himself.
@@ -127,14 +127,14 @@ enum cv_stack {
     CV_STACK_RUN = 5376,
     CV_STACK_FIGURES = 2112,
     CV_STACK_READ = 4032,
-    CV_STACK_DRAW = 137152,
+    CV_STACK_DRAW = 141376,
     CV_STACK_WRITE = 1536,
     CV_STACK_POLL = 2752,
-    CV_STACK_JUDGE = 55040,
-    CV_STACK_REPAIR = 4800,
+    CV_STACK_JUDGE = 59264,
+    CV_STACK_REPAIR = 9536,
     CV_STACK_NESTED = 1792,
-    CV_STACK_REPLAY = 55040,
-    CV_STACK_RESUME = 55040,
+    CV_STACK_REPLAY = 59264,
+    CV_STACK_RESUME = 59264,
     CV_STACK_LOG = 640
 };
 

@@ -27,8 +27,8 @@ module _ (text t₀ : List ℕ) (drawn : drawInto text t₀ .number ≡ 0) (v : 
       ap (λ (r : ReadInto). judgedTo (r .table) v log) (accepted-table text t₀ drawn)
       ∙ model-lawful said (accepted text t₀ drawn) (drawn-clear text t₀ drawn .room) (accepted-sound text t₀ drawn) v known log old
 
-  pub drawn-history-lawful : (acts : List Act) → OldHistory said v acts → length (logText (oldTold (tableOf said) acts (fresh (tableOf said) v))) ≤ logMost
-      → judgedTo (drawInto text t₀ .table) v (logText (oldTold (tableOf said) acts (fresh (tableOf said) v))) ≡ lawful
-  drawn-history-lawful acts old short =
-      ap (λ (r : ReadInto). judgedTo (r .table) v (logText (oldTold (tableOf said) acts (fresh (tableOf said) v)))) (accepted-table text t₀ drawn)
-      ∙ model-printed said (accepted text t₀ drawn) (drawn-clear text t₀ drawn .room) (accepted-sound text t₀ drawn) v known acts old short
+  pub drawn-history-lawful : (moments : ℕ → ℕ) (acts : List Act) → OldHistory said v acts → length (logText moments (oldTold (tableOf said) acts (fresh (tableOf said) v))) ≤ logMost
+      → judgedTo (drawInto text t₀ .table) v (logText moments (oldTold (tableOf said) acts (fresh (tableOf said) v))) ≡ lawful
+  drawn-history-lawful moments acts old short =
+      ap (λ (r : ReadInto). judgedTo (r .table) v (logText moments (oldTold (tableOf said) acts (fresh (tableOf said) v)))) (accepted-table text t₀ drawn)
+      ∙ model-printed said (accepted text t₀ drawn) (drawn-clear text t₀ drawn .room) (accepted-sound text t₀ drawn) v known moments acts old short

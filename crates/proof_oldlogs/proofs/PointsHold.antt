@@ -45,7 +45,8 @@ use Rattle.state_fits.specs.Fits.{isStart, startPlace, hasStart}
 use Rattle.state_fits.specs.Fresh.{firstEdge, begun, fresh}
 use Rattle.write_lines.specs.Lines.{stepLine}
 use Rattle.write_lines.proofs.LineLaws.{step-short}
-use Rattle.log_write.specs.Xes.{opening as opening-of-log, extension, global, classifier, traceOpening, header, eventOpening, eventClosing, eventText, eventsText, footer, logText, eventMost}
+use Rattle.log_write.specs.Times.{stampText}
+use Rattle.log_write.specs.Xes.{opening as opening-of-log, extension, timeExtension, global, classifier, traceOpening, header, eventOpening, eventClosing, eventText, eventsText, footer, logText, eventMost}
 use Rattle.log_text.specs.Logs.{logMost}
 use Rattle.log_judge.specs.Judge.{lawful}
 use Rattle.engine.specs.Engine.{leaving}
@@ -77,25 +78,28 @@ read : readInto text [] .number ≡ 0
 unfolding isEndSnd timesIn mentioned isUnused firstFrom lowestUnused withOne sendingTo endOf firstEnd treated endSends allTreated rewritten unusedCount roomFor hasRoom-of-ends all sum total each tab joined those iter if_then_else_ seek writes kindOf used modeOf isRule ruleOf moveOf numbered poolOf limitOf entryCount exitCount sumOf differenceOf equalOf lessOf isTrue isFalse isDefined numberIn valueOf sameTuple has without times messagesOf messageWord messagesWord queueWord withMessages tidied fieldOf operandOf expressionOf conditionOf defaultAt leftOut otherFalse holds binds itemValue gathered evaluated bindOne bound assignedValue assignOne assigned touched first branchCount instanceNamed hasToken hasTokens canLower waits isAlone countsPermit granted belowLimit hasRoom hasRooms canRaise roomy expected received worked messageSent takeOne taken more countChanged activeChanged readyChanged putOne puts cleared moved firstRefusal elementNamed moveNamed instanceOf sharedOf before siteOf exists template work sent defined matches afterTaking queued space refusalsAt refusals instanceAfter madeAfter instancesAfter queuesAfter traffic step conditionCount receivedCount sentCount ofKind asExit asEntry asFirst asTask asReceived asSent isDefault defaults defaultOnce bindsField timesBound templateOnce boundOnce check1 check2 check3 edgeRight check4 check5 poolReceives poolSends notSentThere check6 check7 check8 lowest among between isBlank isSign isDigit isLetter isWord past tokenOf tokenHere tokenAt ifWord ifSign ifAssign ifEnd valueFrom leadingZero numberOf sameBytes asNumber isFieldLetter fieldBehind fieldFrom fieldOf-of-numerals asField operandOf-of-numerals ifValue ifTooLarge ifNumber ifField ifOutOfRange ifAt onward _then_ signAt assignAt endAt keepNumber number field keepOperand operand modeNamed keepMode mode isSpelled startsNumber startsField startsSign joint expression bind templateItem comparison condition assignment guarded starts oneTooMany tooMany counted itemOf itemsFrom items inside series message receiving receivingBranches oneEdge taskPart partOf isKeyword kindNamed blank partsFrom partsOf elementOf element startsElement putBefore barred elementAlone elementsAt poolWord opening closing closed insidePool poolOfWord pool startsPool poolsAt model flat filled poolTable tableOf checked judged readInto
 read = refl
 
--- a step's line is not long
-events-short : (ns : List Name) (z : List ℕ) → length (eventsText (oldTold old (map aStep ns) z)) ≤ eventMost * length ns
-unfolding oldTold oldLine eventsText eventText eventOpening eventClosing
+-- no event has a moment; a step's line is not long
+abbrev none : ℕ → ℕ
+none k = 0
+
+events-short : (ns : List Name) (z : List ℕ) → length (eventsText none (oldTold old (map aStep ns) z)) ≤ eventMost * length ns
+unfolding oldTold oldLine eventsText eventText eventOpening eventClosing stampText if_then_else_
 events-short [] z = omega arith
 events-short (n ∷ ns) z =
     let line : List ℕ = stepLine n (oldStepped old z n .answer) in
-    let a = length-append (eventText line) (eventsText (oldTold old (map aStep ns) (oldDid old (aStep n) z .state))) in
-    let b = length-append (eventOpening ++ line) eventClosing in
+    let a = length-append (eventText 0 line) (eventsText none (oldTold old (map aStep ns) (oldDid old (aStep n) z .state))) in
+    let b = length-append (eventOpening ++ line) (eventClosing 0) in
     let c = length-append eventOpening line in
     omega (arith, a, b, c, step-short n (oldStepped old z n .answer), events-short ns (oldDid old (aStep n) z .state))
 
-short : length (logText (oldTold old acts (fresh old present))) ≤ logMost
-unfolding logText header opening-of-log extension global classifier traceOpening footer
+short : length (logText none (oldTold old acts (fresh old present))) ≤ logMost
+unfolding logText header opening-of-log extension timeExtension global classifier traceOpening footer
 short =
     let ws : List (List ℕ) = oldTold old acts (fresh old present) in
-    omega (arith, length-append (header ++ eventsText ws) footer, length-append header (eventsText ws), events-short steps (fresh old present))
+    omega (arith, length-append (header ++ eventsText none ws) footer, length-append header (eventsText none ws), events-short steps (fresh old present))
 
-pub history-lawful : judgedTo (readInto text [] .table) present (logText (oldTold old acts (fresh old present))) ≡ lawful
+pub history-lawful : judgedTo (readInto text [] .table) present (logText none (oldTold old acts (fresh old present))) ≡ lawful
 history-lawful =
-    old-history-lawful text [] read present (unfold isVersion in refl) acts
+    old-history-lawful text [] read present (unfold isVersion in refl) none acts
     (record { accepted = accepted; posted = unfold AllPosted in tt; few = λ p i e is. (let m = steps-most (getD said p noPool .number) i e acts in omega (arith, m)) })
     short

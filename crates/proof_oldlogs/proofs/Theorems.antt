@@ -266,16 +266,17 @@ module _ (ps : List Pool) (m : Model ps) (room : each hasRoom ps ≡ true) (soun
         (lines-on (linesOf log) (λ p i k. 0) (fresh t v) (fresh t′ v) fresh-beside (old .told) (λ p i k is. (let w = old .few p i k is in omega (arith, w))))
 
     -- the log of a model's old history, in the text that the run program printed of it
-    pub model-printed : (acts : List Act) → OldHistory ps v acts → length (logText (oldTold t acts (fresh t v))) ≤ logMost → judgedTo t′ v (logText (oldTold t acts (fresh t v))) ≡ lawful
-    model-printed acts old short =
+    pub model-printed : (moments : ℕ → ℕ) (acts : List Act) → OldHistory ps v acts → length (logText moments (oldTold t acts (fresh t v))) ≤ logMost
+        → judgedTo t′ v (logText moments (oldTold t acts (fresh t v))) ≡ lawful
+    model-printed moments acts old short =
         let asked = asked-good t′ v good known in
         let small = table-small (map rewritten ps) (rewritten-fits ps m room) in
         let both = acts-on acts (λ p i k. 0) (fresh t v) (fresh t′ v) fresh-beside (old .accepted) (λ p i k is. (let w = old .few p i k is in omega (arith, w))) in
         let words = fresh-words t′ v asked small acts (both .0) (old .posted) in
         let ws : List (List ℕ) = oldTold t acts (fresh t v) in
         let entries : Each Entry ws = subst (Each Entry) (both .1) (told-entries t′ acts (fresh t′ v) fresh-good (both .0) words) in
-        let back = printed-log-reads ws entries short in
-        told-log t′ v asked small acts (both .0) (old .posted) (logText ws) (length (logText ws)) (back .whole) (back .lines-are ∙ sym (both .1))
+        let back = printed-log-reads moments ws entries short in
+        told-log t′ v asked small acts (both .0) (old .posted) (logText moments ws) (length (logText moments ws)) (back .whole) (back .lines-are ∙ sym (both .1))
 
 -- A TEXT'S, by the public calls: the model that it says, and the table that is read
 module _ (text t₀ : List ℕ) (read : readInto text t₀ .number ≡ 0) (v : ℕ) (known : isVersion v ≡ true) where
@@ -291,6 +292,6 @@ module _ (text t₀ : List ℕ) (read : readInto text t₀ .number ≡ 0) (v : �
   pub old-log-lawful : (log : List ℕ) → OldLog said v log → judgedTo (readInto text t₀ .table) v log ≡ lawful
   old-log-lawful log old = by-model log (λ m room sound. model-lawful said m room sound v known log old)
 
-  pub old-history-lawful : (acts : List Act) → OldHistory said v acts → length (logText (oldTold (tableOf said) acts (fresh (tableOf said) v))) ≤ logMost
-      → judgedTo (readInto text t₀ .table) v (logText (oldTold (tableOf said) acts (fresh (tableOf said) v))) ≡ lawful
-  old-history-lawful acts old short = by-model _ (λ m room sound. model-printed said m room sound v known acts old short)
+  pub old-history-lawful : (moments : ℕ → ℕ) (acts : List Act) → OldHistory said v acts → length (logText moments (oldTold (tableOf said) acts (fresh (tableOf said) v))) ≤ logMost
+      → judgedTo (readInto text t₀ .table) v (logText moments (oldTold (tableOf said) acts (fresh (tableOf said) v))) ≡ lawful
+  old-history-lawful moments acts old short = by-model _ (λ m room sound. model-printed said m room sound v known moments acts old short)

@@ -24,7 +24,8 @@ use Rattle.log_text.specs.Logs.{scan, linesOf}
 use Rattle.log_lines.specs.Entries.{entryOf}
 use Rattle.engine.specs.Engine.{Left, Stepped, leaving}
 use Rattle.engine.specs.Calls.{Act, aStep, aPost}
-use Rattle.proof_logs.specs.Told.{postLine, AllPosted}
+use Rattle.log_pieces.specs.Pieces.{postLine}
+use Rattle.proof_logs.specs.Told.{AllPosted}
 use Rattle.proof_replay.specs.Lines.{actOf, actsOf}
 
 -- THE OLD CALLS: a step and a post by the rules alone
