@@ -20,6 +20,7 @@ use draw_links::links;
 use draw_read::draw_into;
 use draw_things::things::BLOCK_WORDS;
 use draw_things::things::MESSAGE_FLOW;
+use draw_things::things::Note;
 use draw_things::things::place_of;
 use draw_things::things::source_of;
 use draw_walk::walk;
@@ -38,7 +39,7 @@ const THE_OUTSIDERS: Word = 1;
 
 const THE_MESSAGES: Word = 2;
 
-fn process_of(owned: bool, w: &[Word], k: Word) -> Word
+fn process_of(owned: bool, w: &[Note], k: Note) -> Note
     ensures { λ r. ⌜ r ≡ processOf owned (now (w .entry)) k ⌝ }
 {
     if owned { source_of(w, k) } else { k }
@@ -49,9 +50,9 @@ fn put_pool_lines(
     from: usize,
     owned: bool,
     table: &[Word],
-    w: &[Word],
-    n: Word,
-    k: Word,
+    w: &[Note],
+    n: Note,
+    k: Note,
 ) -> usize
     ensures { λ r. ⌜ Puts (poolLines owned (now (table .entry)) (now (w .entry)) n k) from (now (out .entry)) r (now (out .exit)) ⌝ }
 {
@@ -63,7 +64,7 @@ fn put_pool_lines(
     put_pool(out, from, table, w, n, i, p, k)
 }
 
-fn put_outside(out: &mut [u8], from: usize, text: &[u8], w: &[Word], k: Word) -> usize
+fn put_outside(out: &mut [u8], from: usize, text: &[u8], w: &[Note], k: Note) -> usize
     ensures { λ r. ⌜ Puts (outsideLine (now (text .entry)) (now (w .entry)) k) from (now (out .entry)) r (now (out .exit)) ⌝ }
 {
     if !is_outside(text, w, k) {
@@ -73,7 +74,7 @@ fn put_outside(out: &mut [u8], from: usize, text: &[u8], w: &[Word], k: Word) ->
     put_line(out, from, b"outside", &xs)
 }
 
-fn put_message(out: &mut [u8], from: usize, w: &[Word], k: Word) -> usize
+fn put_message(out: &mut [u8], from: usize, w: &[Note], k: Note) -> usize
     ensures { λ r. ⌜ Puts (messageLine (now (w .entry)) k) from (now (out .entry)) r (now (out .exit)) ⌝ }
 {
     if !of_sort(MESSAGE_FLOW, w, k) {
@@ -90,9 +91,9 @@ fn put_part(
     owned: bool,
     text: &[u8],
     table: &[Word],
-    w: &[Word],
-    n: Word,
-    k: Word,
+    w: &[Note],
+    n: Note,
+    k: Note,
 ) -> usize
     ensures { λ r. ⌜ Puts (partOf class owned (now (text .entry)) (now (table .entry)) (now (w .entry)) n k) from (now (out .entry)) r (now (out .exit)) ⌝ }
 {
@@ -111,14 +112,14 @@ fn put_every(
     class: Word,
     text: &[u8],
     table: &[Word],
-    w: &[Word],
-    n: Word,
+    w: &[Note],
+    n: Note,
 ) -> usize
     ensures { λ r. ⌜ Puts (everyOf class (now (text .entry)) (now (table .entry)) (now (w .entry)) n) from (now (out .entry)) r (now (out .exit)) ⌝ }
 {
     let owned = has_participants(w, n);
     let mut end = from;
-    let mut k: Word = 0;
+    let mut k: Note = 0;
     while k < n {
         end = put_part(out, end, class, owned, text, table, w, n, k);
         k += 1;
@@ -127,7 +128,7 @@ fn put_every(
 }
 
 // The map of what is drawn, by the table that it means.
-fn put_drawn(out: &mut [u8], text: &[u8], table: &[Word], w: &[Word], n: Word) -> usize
+fn put_drawn(out: &mut [u8], text: &[u8], table: &[Word], w: &[Note], n: Note) -> usize
     ensures { λ r. ⌜ Puts (mapOf (now (text .entry)) (now (table .entry)) (now (w .entry)) n) 0 (now (out .entry)) r (now (out .exit)) ⌝ }
 {
     let pools = put_every(out, 0, THE_POOLS, text, table, w, n);
@@ -136,7 +137,7 @@ fn put_drawn(out: &mut [u8], text: &[u8], table: &[Word], w: &[Word], n: Word) -
     put_bytes(out, messages, b"end\n")
 }
 
-fn settle(text: &[u8], w: &mut [Word], n: Word)
+fn settle(text: &[u8], w: &mut [Note], n: Note)
     ensures { λ _. ⌜ now (w .exit) ≡ settledBy (now (text .entry)) n (now (w .entry)) ⌝ }
 {
     links(text, w, n);

@@ -22,6 +22,7 @@ use draw_limits::numbers::AN_ELEMENT;
 use draw_limits::numbers::count_of;
 use draw_limits::numbers::edge_of;
 use draw_limits::numbers::is_of;
+use draw_things::things::Note;
 use draw_things::things::SEQUENCE_FLOW;
 use draw_things::things::one_more;
 use draw_things::things::place_of;
@@ -36,7 +37,7 @@ const THE_ENDS: Word = 1;
 
 const THE_EDGES: Word = 2;
 
-fn put_within(out: &mut [u8], from: usize, table: &[Word], i: Word, e: Word, place: Word) -> usize
+fn put_within(out: &mut [u8], from: usize, table: &[Word], i: Note, e: Word, place: Word) -> usize
     ensures { λ r. ⌜ Puts (withinLine (now (table .entry)) i e place) from (now (out .entry)) r (now (out .exit)) ⌝ }
 {
     let edge = edge_at(element_at(table, i, e), ENTRIES as Word, 0);
@@ -44,7 +45,7 @@ fn put_within(out: &mut [u8], from: usize, table: &[Word], i: Word, e: Word, pla
     put_line(out, from, b"within", &xs)
 }
 
-fn put_element(out: &mut [u8], from: usize, i: Word, e: Word, place: Word) -> usize
+fn put_element(out: &mut [u8], from: usize, i: Note, e: Word, place: Word) -> usize
     ensures { λ r. ⌜ Puts (elementLine i e place) from (now (out .entry)) r (now (out .exit)) ⌝ }
 {
     let xs: [Word; 3] = [one_more(i), e, place];
@@ -52,7 +53,7 @@ fn put_element(out: &mut [u8], from: usize, i: Word, e: Word, place: Word) -> us
 }
 
 // A branch of gateway k, where flow j is one.
-fn put_branch(out: &mut [u8], from: usize, i: Word, e: Word, w: &[Word], k: Word, j: Word) -> usize
+fn put_branch(out: &mut [u8], from: usize, i: Note, e: Word, w: &[Note], k: Note, j: Note) -> usize
     ensures { λ r. ⌜ Puts (branchLine i e (now (w .entry)) k j) from (now (out .entry)) r (now (out .exit)) ⌝ }
 {
     if !is_with(SEQUENCE_FLOW, SOURCE_IN, k, w, j) {
@@ -67,16 +68,16 @@ fn put_branch(out: &mut [u8], from: usize, i: Word, e: Word, w: &[Word], k: Word
 fn put_branches(
     out: &mut [u8],
     from: usize,
-    i: Word,
+    i: Note,
     e: Word,
-    w: &[Word],
-    n: Word,
-    k: Word,
+    w: &[Note],
+    n: Note,
+    k: Note,
 ) -> usize
     ensures { λ r. ⌜ Puts (branchLines i e (now (w .entry)) n k) from (now (out .entry)) r (now (out .exit)) ⌝ }
 {
     let mut end = from;
-    let mut j: Word = 0;
+    let mut j: Note = 0;
     while j < n {
         end = put_branch(out, end, i, e, w, k, j);
         j += 1;
@@ -88,11 +89,11 @@ fn put_belonging(
     out: &mut [u8],
     from: usize,
     table: &[Word],
-    w: &[Word],
-    n: Word,
-    i: Word,
+    w: &[Note],
+    n: Note,
+    i: Note,
     e: Word,
-    k: Word,
+    k: Note,
 ) -> usize
     ensures { λ r. ⌜ Puts (belonging (now (table .entry)) (now (w .entry)) n i e k) from (now (out .entry)) r (now (out .exit)) ⌝ }
 {
@@ -109,11 +110,11 @@ fn put_with_belonging(
     out: &mut [u8],
     from: usize,
     table: &[Word],
-    w: &[Word],
-    n: Word,
-    i: Word,
+    w: &[Note],
+    n: Note,
+    i: Note,
     e: Word,
-    k: Word,
+    k: Note,
 ) -> usize
     ensures { λ r. ⌜ Puts (withBelonging (now (table .entry)) (now (w .entry)) n i e k) from (now (out .entry)) r (now (out .exit)) ⌝ }
 {
@@ -125,11 +126,11 @@ fn put_element_lines(
     out: &mut [u8],
     from: usize,
     table: &[Word],
-    w: &[Word],
-    n: Word,
-    i: Word,
-    p: Word,
-    k: Word,
+    w: &[Note],
+    n: Note,
+    i: Note,
+    p: Note,
+    k: Note,
 ) -> usize
     ensures { λ r. ⌜ Puts (elementLines (now (table .entry)) (now (w .entry)) n i p k) from (now (out .entry)) r (now (out .exit)) ⌝ }
 {
@@ -140,23 +141,23 @@ fn put_element_lines(
     put_with_belonging(out, from, table, w, n, i, e, k)
 }
 
-fn is_message_end(p: Word, w: &[Word], k: Word) -> bool
+fn is_message_end(p: Note, w: &[Note], k: Note) -> bool
     ensures { λ r. ⌜ r ≡ isMessageEnd p (now (w .entry)) k ⌝ }
 {
     is_of_kind(END_SND, w, k) && within_of(w, k) == p
 }
 
-fn one_message_end(p: Word, w: &[Word], k: Word) -> Word
+fn one_message_end(p: Note, w: &[Note], k: Note) -> Note
     ensures { λ r. ⌜ (r ≡ oneIf (isMessageEnd p (now (w .entry)) k)) × (r ≤ 1) ⌝ }
 {
     if is_message_end(p, w, k) { 1 } else { 0 }
 }
 
-fn count_message_ends(p: Word, w: &[Word], k: Word) -> Word
+fn count_message_ends(p: Note, w: &[Note], k: Note) -> Note
     ensures { λ r. ⌜ r ≡ countBefore (isMessageEnd p (now (w .entry))) k ⌝ }
 {
-    let mut count: Word = 0;
-    let mut j: Word = 0;
+    let mut count: Note = 0;
+    let mut j: Note = 0;
     while j < k {
         count += one_message_end(p, w, j);
         j += 1;
@@ -164,7 +165,7 @@ fn count_message_ends(p: Word, w: &[Word], k: Word) -> Word
     count
 }
 
-fn end_place(w: &[Word], n: Word, p: Word, k: Word) -> Word
+fn end_place(w: &[Note], n: Note, p: Note, k: Note) -> Word
     ensures { λ r. ⌜ r ≡ endPlace (now (w .entry)) n p k ⌝ }
 {
     let elements = count_of(AN_ELEMENT, p, w, n);
@@ -172,7 +173,7 @@ fn end_place(w: &[Word], n: Word, p: Word, k: Word) -> Word
     least(elements as usize + ends as usize, GREATEST as usize) as Word
 }
 
-fn put_with_end(out: &mut [u8], from: usize, table: &[Word], i: Word, e: Word, place: Word) -> usize
+fn put_with_end(out: &mut [u8], from: usize, table: &[Word], i: Note, e: Word, place: Word) -> usize
     ensures { λ r. ⌜ Puts (withEnd (now (table .entry)) i e place) from (now (out .entry)) r (now (out .exit)) ⌝ }
 {
     let head = put_element(out, from, i, e, place);
@@ -183,11 +184,11 @@ fn put_end_lines(
     out: &mut [u8],
     from: usize,
     table: &[Word],
-    w: &[Word],
-    n: Word,
-    i: Word,
-    p: Word,
-    k: Word,
+    w: &[Note],
+    n: Note,
+    i: Note,
+    p: Note,
+    k: Note,
 ) -> usize
     ensures { λ r. ⌜ Puts (endLines (now (table .entry)) (now (w .entry)) n i p k) from (now (out .entry)) r (now (out .exit)) ⌝ }
 {
@@ -198,7 +199,7 @@ fn put_end_lines(
     put_with_end(out, from, table, i, e, place_of(w, k))
 }
 
-fn put_edge(out: &mut [u8], from: usize, w: &[Word], i: Word, p: Word, k: Word) -> usize
+fn put_edge(out: &mut [u8], from: usize, w: &[Note], i: Note, p: Note, k: Note) -> usize
     ensures { λ r. ⌜ Puts (edgeLine (now (w .entry)) i p k) from (now (out .entry)) r (now (out .exit)) ⌝ }
 {
     if !is_of(AN_EDGE, p, w, k) {
@@ -213,11 +214,11 @@ fn put_lines_of(
     from: usize,
     class: Word,
     table: &[Word],
-    w: &[Word],
-    n: Word,
-    i: Word,
-    p: Word,
-    k: Word,
+    w: &[Note],
+    n: Note,
+    i: Note,
+    p: Note,
+    k: Note,
 ) -> usize
     ensures { λ r. ⌜ Puts (linesOf class (now (table .entry)) (now (w .entry)) n i p k) from (now (out .entry)) r (now (out .exit)) ⌝ }
 {
@@ -235,15 +236,15 @@ fn put_all_of(
     from: usize,
     class: Word,
     table: &[Word],
-    w: &[Word],
-    n: Word,
-    i: Word,
-    p: Word,
+    w: &[Note],
+    n: Note,
+    i: Note,
+    p: Note,
 ) -> usize
     ensures { λ r. ⌜ Puts (allOf class (now (table .entry)) (now (w .entry)) n i p) from (now (out .entry)) r (now (out .exit)) ⌝ }
 {
     let mut end = from;
-    let mut k: Word = 0;
+    let mut k: Note = 0;
     while k < n {
         end = put_lines_of(out, end, class, table, w, n, i, p, k);
         k += 1;
@@ -255,10 +256,10 @@ fn put_inside(
     out: &mut [u8],
     from: usize,
     table: &[Word],
-    w: &[Word],
-    n: Word,
-    i: Word,
-    p: Word,
+    w: &[Note],
+    n: Note,
+    i: Note,
+    p: Note,
 ) -> usize
     ensures { λ r. ⌜ Puts (inside (now (table .entry)) (now (w .entry)) n i p) from (now (out .entry)) r (now (out .exit)) ⌝ }
 {
@@ -272,11 +273,11 @@ pub fn put_pool(
     out: &mut [u8],
     from: usize,
     table: &[Word],
-    w: &[Word],
-    n: Word,
-    i: Word,
-    p: Word,
-    k: Word,
+    w: &[Note],
+    n: Note,
+    i: Note,
+    p: Note,
+    k: Note,
 ) -> usize
     ensures { λ r. ⌜ Puts (withInside (now (table .entry)) (now (w .entry)) n i p k) from (now (out .entry)) r (now (out .exit)) ⌝ }
 {

@@ -11,13 +11,14 @@ use super::rules::breaks;
 use base_words::Word;
 use draw_faults::pools::has_participants;
 use draw_faults::pools::has_pool;
+use draw_things::things::Note;
 use draw_things::things::ROOM;
 use draw_things::things::place_of;
 
-fn first_breaking(rule: Word, text: &[u8], w: &[Word], n: Word) -> Word
+fn first_breaking(rule: Word, text: &[u8], w: &[Note], n: Note) -> Note
     ensures { λ r. ⌜ r ≡ firstBreaking rule (now (text .entry)) (now (w .entry)) n ⌝ }
 {
-    let mut k: Word = 0;
+    let mut k: Note = 0;
     while k < n {
         if breaks(rule, text, w, n, k) {
             return k;
@@ -27,14 +28,14 @@ fn first_breaking(rule: Word, text: &[u8], w: &[Word], n: Word) -> Word
     k
 }
 
-fn is_broken(text: &[u8], w: &[Word], n: Word, r: Word) -> bool
+fn is_broken(text: &[u8], w: &[Note], n: Note, r: Word) -> bool
     requires { ⌜ r < 16 ⌝ }
     ensures { λ b. ⌜ b ≡ isBroken (now (text .entry)) (now (w .entry)) n r ⌝ }
 {
     first_breaking(r + 1, text, w, n) < n
 }
 
-fn first_broken(text: &[u8], w: &[Word], n: Word) -> Word
+fn first_broken(text: &[u8], w: &[Note], n: Note) -> Word
     ensures { λ r. ⌜ r ≡ firstBroken (now (text .entry)) (now (w .entry)) n ⌝ }
 {
     let mut r: Word = 0;
@@ -47,13 +48,13 @@ fn first_broken(text: &[u8], w: &[Word], n: Word) -> Word
     r
 }
 
-fn has_pools(w: &[Word], n: Word) -> bool
+fn has_pools(w: &[Note], n: Note) -> bool
     ensures { λ r. ⌜ r ≡ hasPool (hasParticipants (now (w .entry)) n) (now (w .entry)) n ⌝ }
 {
     has_pool(has_participants(w, n), w, n)
 }
 
-fn broken_by_all(w: &[Word], n: Word) -> Broken
+fn broken_by_all(w: &[Note], n: Note) -> Broken
     ensures { λ b. ⌜ b ≡ brokenByAll (now (w .entry)) n ⌝ }
 {
     if !has_pools(w, n) {
@@ -72,7 +73,7 @@ fn broken_by_all(w: &[Word], n: Word) -> Broken
 }
 
 // The first rule that is broken, and the place of the first thing that breaks it; 0 where none is.
-pub fn broken_in(text: &[u8], w: &[Word], n: Word) -> Broken
+pub fn broken_in(text: &[u8], w: &[Note], n: Note) -> Broken
     ensures { λ b. ⌜ b ≡ brokenIn (now (text .entry)) (now (w .entry)) n ⌝ }
 {
     let r = first_broken(text, w, n);

@@ -13,6 +13,7 @@ use draw_kinds::roles;
 use draw_links::links;
 use draw_read::draw_into;
 use draw_things::things::BLOCK_WORDS;
+use draw_things::things::Note;
 use draw_walk::walk;
 use found::broken_in;
 use seats::seat_at;
@@ -25,7 +26,7 @@ pub mod seats;
 // A rule, and the place of what breaks it.
 pub struct Broken {
     pub rule: Word,
-    pub place: Word,
+    pub place: Note,
 }
 
 // The number of a drawing, the rule or check that is broken, and a place.
@@ -46,14 +47,14 @@ fn told(number: Word, rule: usize, place: usize) -> Diagnosis
     }
 }
 
-fn told_of(number: Word, text: &[u8], w: &[Word], n: Word) -> Diagnosis
+fn told_of(number: Word, text: &[u8], w: &[Note], n: Note) -> Diagnosis
     ensures { λ d. ⌜ d ≡ told number (brokenIn (now (text .entry)) (now (w .entry)) n .rule) (brokenIn (now (text .entry)) (now (w .entry)) n .place) ⌝ }
 {
     let b = broken_in(text, w, n);
     told(number, b.rule as usize, b.place as usize)
 }
 
-fn diagnose_by(a: Reading, text: &[u8], w: &[Word], n: Word) -> Diagnosis
+fn diagnose_by(a: Reading, text: &[u8], w: &[Note], n: Note) -> Diagnosis
     ensures { λ d. ⌜ d ≡ diagnosedBy a (now (text .entry)) (now (w .entry)) n ⌝ }
 {
     if a.number == NOT_RUN {
@@ -68,7 +69,7 @@ fn diagnose_by(a: Reading, text: &[u8], w: &[Word], n: Word) -> Diagnosis
     told(a.number, 0, a.beside)
 }
 
-fn settle(text: &[u8], w: &mut [Word], n: Word)
+fn settle(text: &[u8], w: &mut [Note], n: Note)
     ensures { λ _. ⌜ now (w .exit) ≡ settledBy (now (text .entry)) n (now (w .entry)) ⌝ }
 {
     links(text, w, n);

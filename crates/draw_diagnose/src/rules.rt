@@ -17,6 +17,7 @@ use draw_faults::pools::is_second_collaboration;
 use draw_faults::pools::is_unowned;
 use draw_kinds::counting::of_sort;
 use draw_things::things::CONDITION_EXPRESSION;
+use draw_things::things::Note;
 use draw_things::things::PARTICIPANT_MULTIPLICITY;
 use draw_things::things::STRANGER;
 use draw_things::things::source_of;
@@ -56,13 +57,13 @@ pub const NO_POOL: Word = 17;
 
 pub const TOO_MANY: Word = 18;
 
-fn is_adrift(text: &[u8], w: &[Word], k: Word) -> bool
+fn is_adrift(text: &[u8], w: &[Note], k: Note) -> bool
     ensures { λ r. ⌜ r ≡ isAdrift (now (text .entry)) (now (w .entry)) k ⌝ }
 {
     is_wrong_message(text, w, k) && (source_of(w, k) == 0 || target_of(w, k) == 0)
 }
 
-fn breaks_pools(rule: Word, text: &[u8], w: &[Word], n: Word, k: Word) -> bool
+fn breaks_pools(rule: Word, text: &[u8], w: &[Note], n: Note, k: Note) -> bool
     ensures { λ r. ⌜ r ≡ breaksPools rule (now (text .entry)) (now (w .entry)) n k ⌝ }
 {
     if rule == A_STRANGER {
@@ -83,7 +84,7 @@ fn breaks_pools(rule: Word, text: &[u8], w: &[Word], n: Word, k: Word) -> bool
     is_second(PARTICIPANT_MULTIPLICITY, w, k)
 }
 
-fn breaks_nodes(rule: Word, text: &[u8], w: &[Word], n: Word, k: Word) -> bool
+fn breaks_nodes(rule: Word, text: &[u8], w: &[Note], n: Note, k: Note) -> bool
     ensures { λ r. ⌜ r ≡ breaksNodes rule (now (text .entry)) (now (w .entry)) n k ⌝ }
 {
     if rule == LOOSE {
@@ -101,7 +102,7 @@ fn breaks_nodes(rule: Word, text: &[u8], w: &[Word], n: Word, k: Word) -> bool
     is_wrong_message(text, w, k)
 }
 
-fn breaks_flows(rule: Word, text: &[u8], w: &[Word], n: Word, k: Word) -> bool
+fn breaks_flows(rule: Word, text: &[u8], w: &[Note], n: Note, k: Note) -> bool
     ensures { λ r. ⌜ r ≡ breaksFlows rule (now (text .entry)) (now (w .entry)) n k ⌝ }
 {
     if rule == UNHEARD {
@@ -119,7 +120,7 @@ fn breaks_flows(rule: Word, text: &[u8], w: &[Word], n: Word, k: Word) -> bool
     is_wrong_condition(text, w, k)
 }
 
-pub fn breaks(rule: Word, text: &[u8], w: &[Word], n: Word, k: Word) -> bool
+pub fn breaks(rule: Word, text: &[u8], w: &[Note], n: Note, k: Note) -> bool
     ensures { λ r. ⌜ r ≡ breaks rule (now (text .entry)) (now (w .entry)) n k ⌝ }
 {
     if rule < LOOSE {

@@ -27,6 +27,7 @@ use draw_limits::numbers::count_of;
 use draw_links::is_node_at;
 use draw_model::element::element_drawn;
 use draw_things::things::MESSAGE_FLOW;
+use draw_things::things::Note;
 use draw_things::things::PARTICIPANT_MULTIPLICITY;
 use draw_things::things::place_of;
 use draw_things::things::source_of;
@@ -42,23 +43,23 @@ const NAMES_APART: usize = 6;
 
 const ONE_DEFAULT: usize = 7;
 
-fn is_kind_in(c: Word, p: Word, w: &[Word], j: Word) -> bool
+fn is_kind_in(c: Note, p: Note, w: &[Note], j: Note) -> bool
     ensures { λ r. ⌜ r ≡ isKindIn c p (now (w .entry)) j ⌝ }
 {
     is_of_kind(c, w, j) && within_of(w, j) == p
 }
 
-fn one_kind(c: Word, p: Word, w: &[Word], j: Word) -> Word
+fn one_kind(c: Note, p: Note, w: &[Note], j: Note) -> Note
     ensures { λ r. ⌜ (r ≡ oneIf (isKindIn c p (now (w .entry)) j)) × (r ≤ 1) ⌝ }
 {
     if is_kind_in(c, p, w, j) { 1 } else { 0 }
 }
 
-fn count_kind(c: Word, p: Word, w: &[Word], n: Word) -> Word
+fn count_kind(c: Note, p: Note, w: &[Note], n: Note) -> Note
     ensures { λ r. ⌜ r ≡ countKind c p (now (w .entry)) n ⌝ }
 {
-    let mut count: Word = 0;
-    let mut j: Word = 0;
+    let mut count: Note = 0;
+    let mut j: Note = 0;
     while j < n {
         count += one_kind(c, p, w, j);
         j += 1;
@@ -66,7 +67,7 @@ fn count_kind(c: Word, p: Word, w: &[Word], n: Word) -> Word
     count
 }
 
-fn is_misstarted(w: &[Word], n: Word, p: Word) -> bool
+fn is_misstarted(w: &[Note], n: Note, p: Note) -> bool
     ensures { λ r. ⌜ r ≡ isMisstarted (now (w .entry)) n p ⌝ }
 {
     let plain = count_kind(START, p, w, n);
@@ -74,19 +75,19 @@ fn is_misstarted(w: &[Word], n: Word, p: Word) -> bool
     plain as usize + receiving as usize != 1
 }
 
-fn is_many(w: &[Word], n: Word, k: Word) -> bool
+fn is_many(w: &[Note], n: Note, k: Note) -> bool
     ensures { λ r. ⌜ r ≡ isMany (now (w .entry)) n k ⌝ }
 {
     first_with(PARTICIPANT_MULTIPLICITY, WITHIN_IN, k, w, n) < n
 }
 
-fn is_unasked(w: &[Word], n: Word, p: Word, k: Word) -> bool
+fn is_unasked(w: &[Note], n: Note, p: Note, k: Note) -> bool
     ensures { λ r. ⌜ r ≡ isUnasked (now (w .entry)) n p k ⌝ }
 {
     is_many(w, n, k) && count_kind(START, p, w, n) != 0
 }
 
-fn is_crowded(w: &[Word], n: Word, p: Word) -> bool
+fn is_crowded(w: &[Note], n: Note, p: Note) -> bool
     ensures { λ r. ⌜ r ≡ isCrowded (now (w .entry)) n p ⌝ }
 {
     let ends = count_kind(END_SND, p, w, n) as usize;
@@ -99,7 +100,7 @@ fn is_crowded(w: &[Word], n: Word, p: Word) -> bool
     edges + starts + ends > EDGES as usize
 }
 
-fn is_pool_seat(check: usize, w: &[Word], n: Word, p: Word, k: Word) -> bool
+fn is_pool_seat(check: usize, w: &[Note], n: Note, p: Note, k: Note) -> bool
     ensures { λ r. ⌜ r ≡ isPoolSeat check (now (w .entry)) n p k ⌝ }
 {
     if check == ONE_START {
@@ -111,13 +112,13 @@ fn is_pool_seat(check: usize, w: &[Word], n: Word, p: Word, k: Word) -> bool
     is_crowded(w, n, p)
 }
 
-fn joins_own(w: &[Word], a: Word, b: Word) -> bool
+fn joins_own(w: &[Note], a: Note, b: Note) -> bool
     ensures { λ r. ⌜ r ≡ joinsOwn (now (w .entry)) a b ⌝ }
 {
     is_node_at(w, a) && (is_node_at(w, b) && within_of(w, a) == within_of(w, b))
 }
 
-fn is_own_message(w: &[Word], k: Word) -> bool
+fn is_own_message(w: &[Note], k: Note) -> bool
     ensures { λ r. ⌜ r ≡ isOwnMessage (now (w .entry)) k ⌝ }
 {
     of_sort(MESSAGE_FLOW, w, k) && joins_own(w, source_of(w, k), target_of(w, k))
@@ -129,7 +130,7 @@ fn is_once(x: &[Word; ELEMENT_WORDS]) -> bool
     default_once(x)
 }
 
-fn has_one_default(text: &[u8], w: &[Word], n: Word, k: Word) -> bool
+fn has_one_default(text: &[u8], w: &[Note], n: Note, k: Note) -> bool
     ensures { λ r. ⌜ r ≡ defaultOnce (elementDrawn (now (text .entry)) (now (w .entry)) n k) ⌝ }
 {
     let mut x = [0; ELEMENT_WORDS];
@@ -137,19 +138,19 @@ fn has_one_default(text: &[u8], w: &[Word], n: Word, k: Word) -> bool
     is_once(&x)
 }
 
-fn has_defaults(text: &[u8], w: &[Word], n: Word, k: Word) -> bool
+fn has_defaults(text: &[u8], w: &[Note], n: Note, k: Note) -> bool
     ensures { λ r. ⌜ r ≡ hasDefaults (now (text .entry)) (now (w .entry)) n k ⌝ }
 {
     is_split(w, k) && !has_one_default(text, w, n, k)
 }
 
-fn process_of(owned: bool, w: &[Word], k: Word) -> Word
+fn process_of(owned: bool, w: &[Note], k: Note) -> Note
     ensures { λ r. ⌜ r ≡ processOf owned (now (w .entry)) k ⌝ }
 {
     if owned { source_of(w, k) } else { k }
 }
 
-fn is_seat(check: usize, owned: bool, text: &[u8], w: &[Word], n: Word, k: Word) -> bool
+fn is_seat(check: usize, owned: bool, text: &[u8], w: &[Note], n: Note, k: Note) -> bool
     ensures { λ r. ⌜ r ≡ isSeat check owned (now (text .entry)) (now (w .entry)) n k ⌝ }
 {
     if check == NAMES_APART {
@@ -161,11 +162,11 @@ fn is_seat(check: usize, owned: bool, text: &[u8], w: &[Word], n: Word, k: Word)
     is_pool(owned, w, k) && is_pool_seat(check, w, n, process_of(owned, w, k), k)
 }
 
-fn first_seat(check: usize, text: &[u8], w: &[Word], n: Word) -> Word
+fn first_seat(check: usize, text: &[u8], w: &[Note], n: Note) -> Note
     ensures { λ r. ⌜ r ≡ firstSeat check (now (text .entry)) (now (w .entry)) n ⌝ }
 {
     let owned = has_participants(w, n);
-    let mut k: Word = 0;
+    let mut k: Note = 0;
     while k < n {
         if is_seat(check, owned, text, w, n, k) {
             return k;
@@ -176,7 +177,7 @@ fn first_seat(check: usize, text: &[u8], w: &[Word], n: Word) -> Word
 }
 
 // The place of the first thing that breaks a check; with 0, of the first pool without room.
-pub fn seat_at(check: usize, text: &[u8], w: &[Word], n: Word) -> usize
+pub fn seat_at(check: usize, text: &[u8], w: &[Note], n: Note) -> usize
     ensures { λ r. ⌜ r ≡ seatAt check (now (text .entry)) (now (w .entry)) n ⌝ }
 {
     let k = first_seat(check, text, w, n);

@@ -18,6 +18,7 @@ use draw_kinds::counting::of_sort;
 use draw_things::things::BRANCH;
 use draw_things::things::CONDITION_EXPRESSION;
 use draw_things::things::MESSAGE_FLOW;
+use draw_things::things::Note;
 use draw_things::things::SEQUENCE_FLOW;
 use draw_things::things::place_of;
 use draw_things::things::source_of;
@@ -25,7 +26,7 @@ use draw_things::things::target_of;
 use draw_things::things::within_of;
 
 // Whether a sequence flow doesn't join two nodes of its process.
-pub fn is_loose(w: &[Word], k: Word) -> bool
+pub fn is_loose(w: &[Note], k: Note) -> bool
     ensures { λ r. ⌜ r ≡ isLoose (now (w .entry)) k ⌝ }
 {
     if !of_sort(SEQUENCE_FLOW, w, k) {
@@ -34,20 +35,20 @@ pub fn is_loose(w: &[Word], k: Word) -> bool
     source_of(w, k) == 0 || target_of(w, k) == 0
 }
 
-fn source_is(c: Word, w: &[Word], k: Word) -> bool
+fn source_is(c: Note, w: &[Note], k: Note) -> bool
     ensures { λ r. ⌜ r ≡ isOfKind c (now (w .entry)) (source (now (w .entry)) k) ⌝ }
 {
     is_of_kind(c, w, source_of(w, k))
 }
 
-fn target_is(c: Word, w: &[Word], k: Word) -> bool
+fn target_is(c: Note, w: &[Note], k: Note) -> bool
     ensures { λ r. ⌜ r ≡ isOfKind c (now (w .entry)) (target (now (w .entry)) k) ⌝ }
 {
     is_of_kind(c, w, target_of(w, k))
 }
 
 // Whether a flow from an event gateway leads to no catch event of its own.
-pub fn is_wrong_branch(w: &[Word], k: Word) -> bool
+pub fn is_wrong_branch(w: &[Note], k: Note) -> bool
     ensures { λ r. ⌜ r ≡ isWrongBranch (now (w .entry)) k ⌝ }
 {
     if !of_sort(SEQUENCE_FLOW, w, k) {
@@ -56,13 +57,13 @@ pub fn is_wrong_branch(w: &[Word], k: Word) -> bool
     source_is(EVENT_BASED, w, k) && !target_is(BRANCH, w, k)
 }
 
-fn leaves_split(w: &[Word], k: Word) -> bool
+fn leaves_split(w: &[Note], k: Note) -> bool
     ensures { λ r. ⌜ r ≡ isSplit (now (w .entry)) (source (now (w .entry)) (within (now (w .entry)) k)) ⌝ }
 {
     is_split(w, source_of(w, within_of(w, k)))
 }
 
-fn is_wrong_form(form: Word, w: &[Word], k: Word) -> bool
+fn is_wrong_form(form: Word, w: &[Note], k: Note) -> bool
     ensures { λ r. ⌜ r ≡ isWrongForm form (now (w .entry)) k ⌝ }
 {
     if form == ABSENT {
@@ -71,7 +72,7 @@ fn is_wrong_form(form: Word, w: &[Word], k: Word) -> bool
     form == FOREIGN || !leaves_split(w, k)
 }
 
-fn form_of(text: &[u8], w: &[Word], k: Word) -> Word
+fn form_of(text: &[u8], w: &[Note], k: Note) -> Word
     ensures { λ r. ⌜ r ≡ conditionAt (now (text .entry)) (place (now (w .entry)) k) .form ⌝ }
 {
     let c = condition_at(text, place_of(w, k) as usize);
@@ -79,32 +80,32 @@ fn form_of(text: &[u8], w: &[Word], k: Word) -> Word
 }
 
 // Whether a condition is not in our notation, or stands where none may.
-pub fn is_wrong_condition(text: &[u8], w: &[Word], k: Word) -> bool
+pub fn is_wrong_condition(text: &[u8], w: &[Note], k: Note) -> bool
     ensures { λ r. ⌜ r ≡ isWrongCondition (now (text .entry)) (now (w .entry)) k ⌝ }
 {
     of_sort(CONDITION_EXPRESSION, w, k) && is_wrong_form(form_of(text, w, k), w, k)
 }
 
-fn may_send(text: &[u8], w: &[Word], j: Word) -> bool
+fn may_send(text: &[u8], w: &[Note], j: Note) -> bool
     ensures { λ r. ⌜ r ≡ maySend (now (text .entry)) (now (w .entry)) j ⌝ }
 {
     is_sender(w, j) || is_outside(text, w, j)
 }
 
-fn may_receive(text: &[u8], w: &[Word], j: Word) -> bool
+fn may_receive(text: &[u8], w: &[Note], j: Note) -> bool
     ensures { λ r. ⌜ r ≡ mayReceive (now (text .entry)) (now (w .entry)) j ⌝ }
 {
     is_receiver(w, j) || is_outside(text, w, j)
 }
 
-fn has_right_ends(text: &[u8], w: &[Word], k: Word) -> bool
+fn has_right_ends(text: &[u8], w: &[Note], k: Note) -> bool
     ensures { λ r. ⌜ r ≡ maySend (now (text .entry)) (now (w .entry)) (source (now (w .entry)) k) && mayReceive (now (text .entry)) (now (w .entry)) (target (now (w .entry)) k) ⌝ }
 {
     may_send(text, w, source_of(w, k)) && may_receive(text, w, target_of(w, k))
 }
 
 // Whether a message flow has an end that doesn't send or receive.
-pub fn is_wrong_message(text: &[u8], w: &[Word], k: Word) -> bool
+pub fn is_wrong_message(text: &[u8], w: &[Note], k: Note) -> bool
     ensures { λ r. ⌜ r ≡ isWrongMessage (now (text .entry)) (now (w .entry)) k ⌝ }
 {
     of_sort(MESSAGE_FLOW, w, k) && !has_right_ends(text, w, k)

@@ -3,10 +3,10 @@ ghost use mathlib.Core.Bool.{_&&_};
 ghost use mathlib.Core.Path.{_≡_};
 ghost use Rattle.draw_links.specs.Links.{hasId};
 ghost use Rattle.draw_faults.specs.Amiss.{isReadSort, isRead, isTaken, isRepeated};
-use base_words::Word;
 use draw_links::attribute_of;
 use draw_links::has_id;
 use draw_things::things::MESSAGE_FLOW;
+use draw_things::things::Note;
 use draw_things::things::PARTICIPANT;
 use draw_things::things::PROCESS;
 use draw_things::things::SEQUENCE_FLOW;
@@ -15,7 +15,7 @@ use draw_things::things::sort_of;
 use text_lexer::piece;
 use xml_markup::Attribute;
 
-fn is_read_sort(s: Word) -> bool
+fn is_read_sort(s: Note) -> bool
     ensures { λ r. ⌜ r ≡ isReadSort s ⌝ }
 {
     if is_node(s) {
@@ -30,22 +30,22 @@ fn is_read_sort(s: Word) -> bool
     s == PROCESS || s == SEQUENCE_FLOW
 }
 
-fn is_read(w: &[Word], j: Word) -> bool
+fn is_read(w: &[Note], j: Note) -> bool
     ensures { λ r. ⌜ r ≡ isRead (now (w .entry)) j ⌝ }
 {
     is_read_sort(sort_of(w, j))
 }
 
-fn is_read_as(text: &[u8], v: &[u8], w: &[Word], j: Word) -> bool
+fn is_read_as(text: &[u8], v: &[u8], w: &[Note], j: Note) -> bool
     ensures { λ r. ⌜ r ≡ isRead (now (w .entry)) j && hasId (now (text .entry)) (now (v .entry)) (now (w .entry)) j ⌝ }
 {
     is_read(w, j) && has_id(text, v, w, j)
 }
 
-fn is_taken(text: &[u8], v: &[u8], w: &[Word], k: Word) -> bool
+fn is_taken(text: &[u8], v: &[u8], w: &[Note], k: Note) -> bool
     ensures { λ r. ⌜ r ≡ isTaken (now (text .entry)) (now (v .entry)) (now (w .entry)) k ⌝ }
 {
-    let mut j: Word = 0;
+    let mut j: Note = 0;
     while j < k {
         if is_read_as(text, v, w, j) {
             return true;
@@ -56,7 +56,7 @@ fn is_taken(text: &[u8], v: &[u8], w: &[Word], k: Word) -> bool
 }
 
 // Whether an element read before thing k has its id.
-pub fn is_repeated(text: &[u8], w: &[Word], k: Word) -> bool
+pub fn is_repeated(text: &[u8], w: &[Note], k: Note) -> bool
     ensures { λ r. ⌜ r ≡ isRepeated (now (text .entry)) (now (w .entry)) k ⌝ }
 {
     if !is_read(w, k) {

@@ -2,10 +2,10 @@
 ghost use mathlib.Core.Path.{_≡_};
 ghost use Rattle.base_words.specs.All.{all};
 ghost use Rattle.draw_faults.specs.Amiss.{has, hasParticipants, hasPool, amissAsFlow, amissAsNode, amissAsPool, isAmiss, isRight, isDrawing};
-use base_words::Word;
 use draw_kinds::counting::of_sort;
 use draw_links::attribute_of;
 use draw_things::things::CONDITION_EXPRESSION;
+use draw_things::things::Note;
 use draw_things::things::PARTICIPANT_MULTIPLICITY;
 use draw_things::things::ROOM;
 use draw_things::things::STRANGER;
@@ -32,7 +32,7 @@ pub mod nodes;
 pub mod pools;
 
 // Whether an attribute of thing k is there.
-pub fn has(text: &[u8], name: &[u8], w: &[Word], k: Word) -> bool
+pub fn has(text: &[u8], name: &[u8], w: &[Note], k: Note) -> bool
     ensures { λ r. ⌜ r ≡ has (now (text .entry)) (now (name .entry)) (now (w .entry)) k ⌝ }
 {
     let a = attribute_of(text, w, k, name);
@@ -42,7 +42,7 @@ pub fn has(text: &[u8], name: &[u8], w: &[Word], k: Word) -> bool
     true
 }
 
-fn amiss_as_flow(text: &[u8], w: &[Word], k: Word) -> bool
+fn amiss_as_flow(text: &[u8], w: &[Note], k: Note) -> bool
     ensures { λ r. ⌜ r ≡ amissAsFlow (now (text .entry)) (now (w .entry)) k ⌝ }
 {
     if is_loose(w, k) {
@@ -57,7 +57,7 @@ fn amiss_as_flow(text: &[u8], w: &[Word], k: Word) -> bool
     is_wrong_condition(text, w, k) || is_wrong_message(text, w, k)
 }
 
-fn amiss_as_node(text: &[u8], w: &[Word], n: Word, k: Word) -> bool
+fn amiss_as_node(text: &[u8], w: &[Note], n: Note, k: Note) -> bool
     ensures { λ r. ⌜ r ≡ amissAsNode (now (text .entry)) (now (w .entry)) n k ⌝ }
 {
     if is_of_kind(0, w, k) {
@@ -69,7 +69,7 @@ fn amiss_as_node(text: &[u8], w: &[Word], n: Word, k: Word) -> bool
     is_unheard(w, n, k) || is_untold(w, n, k)
 }
 
-fn amiss_as_pool(text: &[u8], w: &[Word], n: Word, k: Word) -> bool
+fn amiss_as_pool(text: &[u8], w: &[Note], n: Note, k: Note) -> bool
     ensures { λ r. ⌜ r ≡ amissAsPool (now (text .entry)) (now (w .entry)) n k ⌝ }
 {
     if is_second_collaboration(w, k) {
@@ -81,7 +81,7 @@ fn amiss_as_pool(text: &[u8], w: &[Word], n: Word, k: Word) -> bool
     is_unowned(w, n, k) || is_second(PARTICIPANT_MULTIPLICITY, w, k)
 }
 
-fn is_amiss(text: &[u8], w: &[Word], n: Word, k: Word) -> bool
+fn is_amiss(text: &[u8], w: &[Note], n: Note, k: Note) -> bool
     ensures { λ r. ⌜ r ≡ isAmiss (now (text .entry)) (now (w .entry)) n k ⌝ }
 {
     if of_sort(STRANGER, w, k) {
@@ -96,10 +96,10 @@ fn is_amiss(text: &[u8], w: &[Word], n: Word, k: Word) -> bool
     amiss_as_pool(text, w, n, k) || is_repeated(text, w, k)
 }
 
-fn all_right(text: &[u8], w: &[Word], n: Word) -> bool
+fn all_right(text: &[u8], w: &[Note], n: Note) -> bool
     ensures { λ r. ⌜ r ≡ all (isRight (now (text .entry)) (now (w .entry)) n) n ⌝ }
 {
-    let mut k: Word = 0;
+    let mut k: Note = 0;
     while k < n {
         if is_amiss(text, w, n, k) {
             return false;
@@ -109,14 +109,14 @@ fn all_right(text: &[u8], w: &[Word], n: Word) -> bool
     true
 }
 
-fn has_pools(w: &[Word], n: Word) -> bool
+fn has_pools(w: &[Note], n: Note) -> bool
     ensures { λ r. ⌜ r ≡ hasPool (hasParticipants (now (w .entry)) n) (now (w .entry)) n ⌝ }
 {
     has_pool(has_participants(w, n), w, n)
 }
 
 // Whether nothing is amiss in what is drawn, its flows joined and its kinds settled.
-pub fn is_drawing(text: &[u8], w: &[Word], n: Word) -> bool
+pub fn is_drawing(text: &[u8], w: &[Note], n: Note) -> bool
     ensures { λ r. ⌜ r ≡ isDrawing (now (text .entry)) (now (w .entry)) n ⌝ }
 {
     n as usize <= ROOM && (has_pools(w, n) && all_right(text, w, n))

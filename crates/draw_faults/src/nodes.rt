@@ -9,7 +9,6 @@ use base_kinds::moves::START_RCV;
 use base_kinds::moves::TASK_RCV;
 use base_kinds::moves::TASK_SND;
 use base_kinds::moves::XOR_SPLIT;
-use base_words::Word;
 use draw_kinds::counting::SOURCE_IN;
 use draw_kinds::counting::TARGET_IN;
 use draw_kinds::counting::count_with;
@@ -17,30 +16,31 @@ use draw_links::is_node_at;
 use draw_links::named;
 use draw_things::things::BRANCH;
 use draw_things::things::MESSAGE_FLOW;
+use draw_things::things::Note;
 use draw_things::things::kind_of_thing;
 
 // Whether thing j is a node of a kind.
-pub fn is_of_kind(c: Word, w: &[Word], j: Word) -> bool
+pub fn is_of_kind(c: Note, w: &[Note], j: Note) -> bool
     ensures { λ r. ⌜ r ≡ isOfKind c (now (w .entry)) j ⌝ }
 {
     is_node_at(w, j) && kind_of_thing(w, j) == c
 }
 
 // Whether thing k is an exclusive split.
-pub fn is_split(w: &[Word], k: Word) -> bool
+pub fn is_split(w: &[Note], k: Note) -> bool
     ensures { λ r. ⌜ r ≡ isSplit (now (w .entry)) k ⌝ }
 {
     is_of_kind(XOR_SPLIT, w, k)
 }
 
 // Whether the default of a split is none of its own flows.
-pub fn has_wrong_default(text: &[u8], w: &[Word], n: Word, k: Word) -> bool
+pub fn has_wrong_default(text: &[u8], w: &[Note], n: Note, k: Note) -> bool
     ensures { λ r. ⌜ r ≡ hasWrongDefault (now (text .entry)) (now (w .entry)) n k ⌝ }
 {
     is_split(w, k) && (has(text, b"default", w, k) && named(text, w, n, k, b"default") == 0)
 }
 
-fn sends(c: Word) -> bool
+fn sends(c: Note) -> bool
     ensures { λ r. ⌜ r ≡ sends c ⌝ }
 {
     if c == TASK_SND {
@@ -49,7 +49,7 @@ fn sends(c: Word) -> bool
     c == INTER_SND || c == END_SND
 }
 
-fn receives(c: Word) -> bool
+fn receives(c: Note) -> bool
     ensures { λ r. ⌜ r ≡ receives c ⌝ }
 {
     if c == TASK_RCV {
@@ -62,28 +62,28 @@ fn receives(c: Word) -> bool
 }
 
 // Whether thing j sends a message.
-pub fn is_sender(w: &[Word], j: Word) -> bool
+pub fn is_sender(w: &[Note], j: Note) -> bool
     ensures { λ r. ⌜ r ≡ isSender (now (w .entry)) j ⌝ }
 {
     is_node_at(w, j) && sends(kind_of_thing(w, j))
 }
 
 // Whether thing j receives a message.
-pub fn is_receiver(w: &[Word], j: Word) -> bool
+pub fn is_receiver(w: &[Note], j: Note) -> bool
     ensures { λ r. ⌜ r ≡ isReceiver (now (w .entry)) j ⌝ }
 {
     is_node_at(w, j) && receives(kind_of_thing(w, j))
 }
 
 // Whether no message flow leaves sender k, or two do.
-pub fn is_unheard(w: &[Word], n: Word, k: Word) -> bool
+pub fn is_unheard(w: &[Note], n: Note, k: Note) -> bool
     ensures { λ r. ⌜ r ≡ isUnheard (now (w .entry)) n k ⌝ }
 {
     is_sender(w, k) && count_with(MESSAGE_FLOW, SOURCE_IN, k, w, n) != 1
 }
 
 // Whether no message flow comes to receiver k, or two do.
-pub fn is_untold(w: &[Word], n: Word, k: Word) -> bool
+pub fn is_untold(w: &[Note], n: Note, k: Note) -> bool
     ensures { λ r. ⌜ r ≡ isUntold (now (w .entry)) n k ⌝ }
 {
     is_receiver(w, k) && count_with(MESSAGE_FLOW, TARGET_IN, k, w, n) != 1

@@ -2,37 +2,37 @@
 ghost use mathlib.Core.Path.{_≡_};
 ghost use Rattle.draw_faults.specs.Amiss.{isSecondCollaboration, isLost, hasParticipants, isPool, hasPool, isUnowned, isSecond, isOutside};
 use super::has;
-use base_words::Word;
 use draw_kinds::counting::SOURCE_IN;
 use draw_kinds::counting::WITHIN_IN;
 use draw_kinds::counting::count_sort;
 use draw_kinds::counting::count_with;
 use draw_kinds::counting::of_sort;
 use draw_things::things::COLLABORATION;
+use draw_things::things::Note;
 use draw_things::things::PARTICIPANT;
 use draw_things::things::PROCESS;
 use draw_things::things::source_of;
 use draw_things::things::within_of;
 
 // Whether a collaboration stands before collaboration k.
-pub fn is_second_collaboration(w: &[Word], k: Word) -> bool
+pub fn is_second_collaboration(w: &[Note], k: Note) -> bool
     ensures { λ r. ⌜ r ≡ isSecondCollaboration (now (w .entry)) k ⌝ }
 {
     of_sort(COLLABORATION, w, k) && 0 < count_sort(COLLABORATION, w, k)
 }
 
 // Whether participant k names no process.
-pub fn is_lost(text: &[u8], w: &[Word], k: Word) -> bool
+pub fn is_lost(text: &[u8], w: &[Note], k: Note) -> bool
     ensures { λ r. ⌜ r ≡ isLost (now (text .entry)) (now (w .entry)) k ⌝ }
 {
     of_sort(PARTICIPANT, w, k) && (has(text, b"processRef", w, k) && source_of(w, k) == 0)
 }
 
 // Whether there is a participant.
-pub fn has_participants(w: &[Word], n: Word) -> bool
+pub fn has_participants(w: &[Note], n: Note) -> bool
     ensures { λ r. ⌜ r ≡ hasParticipants (now (w .entry)) n ⌝ }
 {
-    let mut j: Word = 0;
+    let mut j: Note = 0;
     while j < n {
         if of_sort(PARTICIPANT, w, j) {
             return true;
@@ -43,7 +43,7 @@ pub fn has_participants(w: &[Word], n: Word) -> bool
 }
 
 // Whether thing k is a pool: a participant with a process or, where there are no participants, a process.
-pub fn is_pool(owned: bool, w: &[Word], k: Word) -> bool
+pub fn is_pool(owned: bool, w: &[Note], k: Note) -> bool
     ensures { λ r. ⌜ r ≡ isPool owned (now (w .entry)) k ⌝ }
 {
     if owned {
@@ -53,10 +53,10 @@ pub fn is_pool(owned: bool, w: &[Word], k: Word) -> bool
 }
 
 // Whether there is a pool.
-pub fn has_pool(owned: bool, w: &[Word], n: Word) -> bool
+pub fn has_pool(owned: bool, w: &[Note], n: Note) -> bool
     ensures { λ r. ⌜ r ≡ hasPool owned (now (w .entry)) n ⌝ }
 {
-    let mut j: Word = 0;
+    let mut j: Note = 0;
     while j < n {
         if is_pool(owned, w, j) {
             return true;
@@ -67,7 +67,7 @@ pub fn has_pool(owned: bool, w: &[Word], n: Word) -> bool
 }
 
 // Whether process k belongs to no participant, or to two.
-pub fn is_unowned(w: &[Word], n: Word, k: Word) -> bool
+pub fn is_unowned(w: &[Note], n: Note, k: Note) -> bool
     ensures { λ r. ⌜ r ≡ isUnowned (now (w .entry)) n k ⌝ }
 {
     of_sort(PROCESS, w, k)
@@ -75,14 +75,14 @@ pub fn is_unowned(w: &[Word], n: Word, k: Word) -> bool
 }
 
 // Whether one of the same sort stands before thing k in the same thing.
-pub fn is_second(s: Word, w: &[Word], k: Word) -> bool
+pub fn is_second(s: Note, w: &[Note], k: Note) -> bool
     ensures { λ r. ⌜ r ≡ isSecond s (now (w .entry)) k ⌝ }
 {
     of_sort(s, w, k) && 0 < count_with(s, WITHIN_IN, within_of(w, k), w, k)
 }
 
 // Whether thing j is a participant without a process.
-pub fn is_outside(text: &[u8], w: &[Word], j: Word) -> bool
+pub fn is_outside(text: &[u8], w: &[Note], j: Note) -> bool
     ensures { λ r. ⌜ r ≡ isOutside (now (text .entry)) (now (w .entry)) j ⌝ }
 {
     of_sort(PARTICIPANT, w, j) && !has(text, b"processRef", w, j)

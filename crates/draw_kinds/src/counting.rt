@@ -3,43 +3,43 @@ ghost use mathlib.Core.Path.{_≡_};
 ghost use Prim.Native.Nat.{_≤_};
 ghost use Rattle.base_words.specs.Sum.{oneIf};
 ghost use Rattle.draw_kinds.specs.Counting.{column, isWith, countWith, firstWith, ofSort, countSort};
-use base_words::Word;
 use base_words::word;
+use draw_things::things::Note;
 use draw_things::things::THING_WORDS;
 use draw_things::things::sort_of;
 
 // The columns of a thing.
-pub const WITHIN_IN: Word = 2;
+pub const WITHIN_IN: Note = 2;
 
-pub const SOURCE_IN: Word = 3;
+pub const SOURCE_IN: Note = 3;
 
-pub const TARGET_IN: Word = 4;
+pub const TARGET_IN: Note = 4;
 
-fn column(c: Word, w: &[Word], j: Word) -> Word
+fn column(c: Note, w: &[Note], j: Note) -> Note
     ensures { λ r. ⌜ r ≡ column c (now (w .entry)) j ⌝ }
 {
     word(w, THING_WORDS * (j as usize) + c as usize)
 }
 
 // Whether thing j is of sort s and has v in column c.
-pub fn is_with(s: Word, c: Word, v: Word, w: &[Word], j: Word) -> bool
+pub fn is_with(s: Note, c: Note, v: Note, w: &[Note], j: Note) -> bool
     ensures { λ r. ⌜ r ≡ isWith s c v (now (w .entry)) j ⌝ }
 {
     sort_of(w, j) == s && column(c, w, j) == v
 }
 
-fn one_with(s: Word, c: Word, v: Word, w: &[Word], j: Word) -> Word
+fn one_with(s: Note, c: Note, v: Note, w: &[Note], j: Note) -> Note
     ensures { λ r. ⌜ (r ≡ oneIf (isWith s c v (now (w .entry)) j)) × (r ≤ 1) ⌝ }
 {
     if is_with(s, c, v, w, j) { 1 } else { 0 }
 }
 
 // How many of the first n things are so.
-pub fn count_with(s: Word, c: Word, v: Word, w: &[Word], n: Word) -> Word
+pub fn count_with(s: Note, c: Note, v: Note, w: &[Note], n: Note) -> Note
     ensures { λ r. ⌜ r ≡ countWith s c v (now (w .entry)) n ⌝ }
 {
-    let mut count: Word = 0;
-    let mut j: Word = 0;
+    let mut count: Note = 0;
+    let mut j: Note = 0;
     while j < n {
         count += one_with(s, c, v, w, j);
         j += 1;
@@ -48,10 +48,10 @@ pub fn count_with(s: Word, c: Word, v: Word, w: &[Word], n: Word) -> Word
 }
 
 // The first of the first n things that is so; n where none is.
-pub fn first_with(s: Word, c: Word, v: Word, w: &[Word], n: Word) -> Word
+pub fn first_with(s: Note, c: Note, v: Note, w: &[Note], n: Note) -> Note
     ensures { λ r. ⌜ r ≡ firstWith s c v (now (w .entry)) n ⌝ }
 {
-    let mut j: Word = 0;
+    let mut j: Note = 0;
     while j < n {
         if is_with(s, c, v, w, j) {
             return j;
@@ -62,24 +62,24 @@ pub fn first_with(s: Word, c: Word, v: Word, w: &[Word], n: Word) -> Word
 }
 
 // Whether thing j is of sort s.
-pub fn of_sort(s: Word, w: &[Word], j: Word) -> bool
+pub fn of_sort(s: Note, w: &[Note], j: Note) -> bool
     ensures { λ r. ⌜ r ≡ ofSort s (now (w .entry)) j ⌝ }
 {
     sort_of(w, j) == s
 }
 
-fn one_of_sort(s: Word, w: &[Word], j: Word) -> Word
+fn one_of_sort(s: Note, w: &[Note], j: Note) -> Note
     ensures { λ r. ⌜ (r ≡ oneIf (ofSort s (now (w .entry)) j)) × (r ≤ 1) ⌝ }
 {
     if of_sort(s, w, j) { 1 } else { 0 }
 }
 
 // How many of the first n things are of sort s.
-pub fn count_sort(s: Word, w: &[Word], n: Word) -> Word
+pub fn count_sort(s: Note, w: &[Note], n: Note) -> Note
     ensures { λ r. ⌜ r ≡ countSort s (now (w .entry)) n ⌝ }
 {
-    let mut count: Word = 0;
-    let mut j: Word = 0;
+    let mut count: Note = 0;
+    let mut j: Note = 0;
     while j < n {
         count += one_of_sort(s, w, j);
         j += 1;

@@ -2,7 +2,6 @@
 ghost use mathlib.Core.Path.{_≡_};
 ghost use Rattle.draw_kinds.specs.Roles.{shapeOf, flows, defines, when, startDrawn, endDrawn, intermediate, activity, splits, joins, gateway, kindBy, caughtAs, kindDrawn, settled, roles};
 use base_kinds::moves;
-use base_words::Word;
 use counting::SOURCE_IN;
 use counting::TARGET_IN;
 use counting::WITHIN_IN;
@@ -16,6 +15,7 @@ use draw_things::things::EXCLUSIVE_GATEWAY;
 use draw_things::things::INTERMEDIATE_CATCH_EVENT;
 use draw_things::things::INTERMEDIATE_THROW_EVENT;
 use draw_things::things::MESSAGE_EVENT_DEFINITION;
+use draw_things::things::Note;
 use draw_things::things::PARALLEL_GATEWAY;
 use draw_things::things::RECEIVE_TASK;
 use draw_things::things::SEND_TASK;
@@ -31,13 +31,13 @@ pub mod counting;
 
 // What is drawn round a node: flows in, flows out, message and terminate definitions.
 pub struct Shape {
-    pub ins: Word,
-    pub outs: Word,
-    pub messages: Word,
-    pub terminates: Word,
+    pub ins: Note,
+    pub outs: Note,
+    pub messages: Note,
+    pub terminates: Note,
 }
 
-fn shape_of(w: &[Word], n: Word, k: Word) -> Shape
+fn shape_of(w: &[Note], n: Note, k: Note) -> Shape
     ensures { λ r. ⌜ r ≡ shapeOf (now (w .entry)) n k ⌝ }
 {
     let ins = count_with(SEQUENCE_FLOW, TARGET_IN, k, w, n);
@@ -52,25 +52,25 @@ fn shape_of(w: &[Word], n: Word, k: Word) -> Shape
     }
 }
 
-fn flows(i: Word, o: Word, d: Shape) -> bool
+fn flows(i: Note, o: Note, d: Shape) -> bool
     ensures { λ r. ⌜ r ≡ flows i o d ⌝ }
 {
     d.ins == i && d.outs == o
 }
 
-fn defines(m: Word, e: Word, d: Shape) -> bool
+fn defines(m: Note, e: Note, d: Shape) -> bool
     ensures { λ r. ⌜ r ≡ defines m e d ⌝ }
 {
     d.messages == m && d.terminates == e
 }
 
-fn when(right: bool, kind: Word) -> Word
+fn when(right: bool, kind: Note) -> Note
     ensures { λ r. ⌜ r ≡ when right kind ⌝ }
 {
     if right { kind } else { 0 }
 }
 
-fn start_drawn(d: Shape) -> Word
+fn start_drawn(d: Shape) -> Note
     ensures { λ r. ⌜ r ≡ startDrawn d ⌝ }
 {
     if !flows(0, 1, d) {
@@ -82,7 +82,7 @@ fn start_drawn(d: Shape) -> Word
     when(defines(1, 0, d), moves::START_RCV)
 }
 
-fn end_drawn(d: Shape) -> Word
+fn end_drawn(d: Shape) -> Note
     ensures { λ r. ⌜ r ≡ endDrawn d ⌝ }
 {
     if !flows(1, 0, d) {
@@ -97,7 +97,7 @@ fn end_drawn(d: Shape) -> Word
     when(defines(0, 1, d), moves::TERMINATE)
 }
 
-fn intermediate(kind: Word, d: Shape) -> Word
+fn intermediate(kind: Note, d: Shape) -> Note
     ensures { λ r. ⌜ r ≡ intermediate kind d ⌝ }
 {
     if !flows(1, 1, d) {
@@ -106,7 +106,7 @@ fn intermediate(kind: Word, d: Shape) -> Word
     when(defines(1, 0, d), kind)
 }
 
-fn activity(kind: Word, d: Shape) -> Word
+fn activity(kind: Note, d: Shape) -> Note
     ensures { λ r. ⌜ r ≡ activity kind d ⌝ }
 {
     when(flows(1, 1, d), kind)
@@ -124,7 +124,7 @@ fn joins(d: Shape) -> bool
     2 <= d.ins && d.outs == 1
 }
 
-fn gateway(split: Word, join: Word, d: Shape) -> Word
+fn gateway(split: Note, join: Note, d: Shape) -> Note
     ensures { λ r. ⌜ r ≡ gateway split join d ⌝ }
 {
     if splits(d) {
@@ -133,7 +133,7 @@ fn gateway(split: Word, join: Word, d: Shape) -> Word
     when(joins(d), join)
 }
 
-fn kind_by(s: Word, caught: Word, d: Shape) -> Word
+fn kind_by(s: Note, caught: Note, d: Shape) -> Note
     ensures { λ r. ⌜ r ≡ kindBy s caught d ⌝ }
 {
     if s == START_EVENT {
@@ -166,7 +166,7 @@ fn kind_by(s: Word, caught: Word, d: Shape) -> Word
     gateway(moves::EVENT_BASED, 0, d)
 }
 
-fn caught_as(w: &[Word], n: Word, k: Word) -> Word
+fn caught_as(w: &[Note], n: Note, k: Note) -> Note
     ensures { λ r. ⌜ r ≡ caughtAs (now (w .entry)) n k ⌝ }
 {
     let flow = first_with(SEQUENCE_FLOW, TARGET_IN, k, w, n);
@@ -176,13 +176,13 @@ fn caught_as(w: &[Word], n: Word, k: Word) -> Word
     moves::INTER_RCV
 }
 
-fn kind_drawn(w: &[Word], n: Word, k: Word) -> Word
+fn kind_drawn(w: &[Note], n: Note, k: Note) -> Note
     ensures { λ r. ⌜ r ≡ kindDrawn (now (w .entry)) n k ⌝ }
 {
     kind_by(sort_of(w, k), caught_as(w, n, k), shape_of(w, n, k))
 }
 
-fn settle(w: &mut [Word], n: Word, k: Word)
+fn settle(w: &mut [Note], n: Note, k: Note)
     ensures { λ _. ⌜ now (w .exit) ≡ settled n k (now (w .entry)) ⌝ }
 {
     if is_node_at(w, k) {
@@ -192,10 +192,10 @@ fn settle(w: &mut [Word], n: Word, k: Word)
 }
 
 // The kinds of nodes, stored in the things.
-pub fn roles(w: &mut [Word], n: Word)
+pub fn roles(w: &mut [Note], n: Note)
     ensures { λ _. ⌜ now (w .exit) ≡ roles n (now (w .entry)) ⌝ }
 {
-    let mut k: Word = 0;
+    let mut k: Note = 0;
     while k < n {
         settle(w, n, k);
         k += 1;

@@ -26,6 +26,7 @@ use draw_links::attribute_of;
 use draw_links::is_node_at;
 use draw_things::things::CONDITION_EXPRESSION;
 use draw_things::things::MESSAGE_FLOW;
+use draw_things::things::Note;
 use draw_things::things::PARTICIPANT_MULTIPLICITY;
 use draw_things::things::SEQUENCE_FLOW;
 use draw_things::things::place_of;
@@ -47,26 +48,26 @@ use xml_markup::Attribute;
 
 pub mod numbers;
 
-fn is_fifth_pool(owned: bool, w: &[Word], k: Word) -> bool
+fn is_fifth_pool(owned: bool, w: &[Note], k: Note) -> bool
     ensures { λ r. ⌜ r ≡ isFifthPool owned (now (w .entry)) k ⌝ }
 {
     is_pool(owned, w, k) && POOLS <= count_pools(owned, w, k)
 }
 
-fn is_one_too_many(class: Word, most: Word, w: &[Word], k: Word) -> bool
+fn is_one_too_many(class: Word, most: Word, w: &[Note], k: Note) -> bool
     ensures { λ r. ⌜ r ≡ isOneTooMany class most (now (w .entry)) k ⌝ }
 {
     let p = within_of(w, k);
     is_of(class, p, w, k) && most <= count_of(class, p, w, k)
 }
 
-fn is_start_beyond(w: &[Word], n: Word, k: Word) -> bool
+fn is_start_beyond(w: &[Note], n: Note, k: Note) -> bool
     ensures { λ r. ⌜ r ≡ isStartBeyond (now (w .entry)) n k ⌝ }
 {
     is_start(within_of(w, k), w, k) && EDGES < first_edge_of(w, n, k)
 }
 
-fn is_node_beyond(w: &[Word], n: Word, k: Word) -> bool
+fn is_node_beyond(w: &[Note], n: Note, k: Note) -> bool
     ensures { λ r. ⌜ r ≡ isNodeBeyond (now (w .entry)) n k ⌝ }
 {
     if is_one_too_many(AN_ELEMENT, ELEMENTS, w, k) {
@@ -75,26 +76,26 @@ fn is_node_beyond(w: &[Word], n: Word, k: Word) -> bool
     is_one_too_many(A_TASK, TASKS, w, k) || is_start_beyond(w, n, k)
 }
 
-fn is_ninth(w: &[Word], k: Word) -> bool
+fn is_ninth(w: &[Note], k: Note) -> bool
     ensures { λ r. ⌜ r ≡ isNinth (now (w .entry)) k ⌝ }
 {
     BRANCHES <= count_with(SEQUENCE_FLOW, SOURCE_IN, source_of(w, k), w, k)
         || BRANCHES <= count_with(SEQUENCE_FLOW, TARGET_IN, target_of(w, k), w, k)
 }
 
-fn is_flow_beyond(w: &[Word], k: Word) -> bool
+fn is_flow_beyond(w: &[Note], k: Note) -> bool
     ensures { λ r. ⌜ r ≡ isFlowBeyond (now (w .entry)) k ⌝ }
 {
     of_sort(SEQUENCE_FLOW, w, k) && (is_one_too_many(AN_EDGE, EDGES, w, k) || is_ninth(w, k))
 }
 
-fn is_used(w: &[Word], k: Word) -> bool
+fn is_used(w: &[Note], k: Note) -> bool
     ensures { λ r. ⌜ r ≡ isUsed (now (w .entry)) k ⌝ }
 {
     is_node_at(w, source_of(w, k)) || is_node_at(w, target_of(w, k))
 }
 
-fn is_message_beyond(w: &[Word], k: Word) -> bool
+fn is_message_beyond(w: &[Note], k: Note) -> bool
     ensures { λ r. ⌜ r ≡ isMessageBeyond (now (w .entry)) k ⌝ }
 {
     of_sort(MESSAGE_FLOW, w, k) && (is_used(w, k) && NAMES <= message_of(w, k))
@@ -107,40 +108,40 @@ fn is_limit(v: Word) -> bool
 }
 
 // Whether the thing in which thing k stands is a participant with a process.
-fn is_owned(w: &[Word], k: Word) -> bool
+fn is_owned(w: &[Note], k: Note) -> bool
     ensures { λ r. ⌜ r ≡ not (eqb (source (now (w .entry)) (within (now (w .entry)) k)) 0) ⌝ }
 {
     source_of(w, within_of(w, k)) != 0
 }
 
-fn is_maximum_beyond(text: &[u8], w: &[Word], k: Word) -> bool
+fn is_maximum_beyond(text: &[u8], w: &[Note], k: Note) -> bool
     ensures { λ r. ⌜ r ≡ isMaximumBeyond (now (text .entry)) (now (w .entry)) k ⌝ }
 {
     of_sort(PARTICIPANT_MULTIPLICITY, w, k) && (is_owned(w, k) && !is_limit(maximum_of(text, w, k)))
 }
 
-fn is_guarded(text: &[u8], w: &[Word], n: Word, j: Word) -> bool
+fn is_guarded(text: &[u8], w: &[Note], n: Note, j: Note) -> bool
     ensures { λ r. ⌜ r ≡ isGuarded (now (text .entry)) (now (w .entry)) n j ⌝ }
 {
     let gateway = source_of(w, j);
     is_split(w, gateway) && default_of(text, w, n, gateway) != j
 }
 
-fn condition_beyond(text: &[u8], w: &[Word], k: Word) -> usize
+fn condition_beyond(text: &[u8], w: &[Note], k: Note) -> usize
     ensures { λ r. ⌜ r ≡ conditionAt (now (text .entry)) (place (now (w .entry)) k) .beyond ⌝ }
 {
     let said = condition_at(text, place_of(w, k) as usize);
     said.beyond
 }
 
-fn is_condition_beyond(text: &[u8], w: &[Word], n: Word, k: Word) -> bool
+fn is_condition_beyond(text: &[u8], w: &[Note], n: Note, k: Note) -> bool
     ensures { λ r. ⌜ r ≡ isConditionBeyond (now (text .entry)) (now (w .entry)) n k ⌝ }
 {
     of_sort(CONDITION_EXPRESSION, w, k)
         && (condition_beyond(text, w, k) != 0 && is_guarded(text, w, n, within_of(w, k)))
 }
 
-fn is_beyond(owned: bool, text: &[u8], w: &[Word], n: Word, k: Word) -> bool
+fn is_beyond(owned: bool, text: &[u8], w: &[Note], n: Note, k: Note) -> bool
     ensures { λ r. ⌜ r ≡ isBeyond owned (now (text .entry)) (now (w .entry)) n k ⌝ }
 {
     if is_fifth_pool(owned, w, k) {
@@ -159,11 +160,11 @@ fn is_beyond(owned: bool, text: &[u8], w: &[Word], n: Word, k: Word) -> bool
 }
 
 // The first thing that is beyond the limits, n where none is.
-pub fn first_beyond(text: &[u8], w: &[Word], n: Word) -> Word
+pub fn first_beyond(text: &[u8], w: &[Note], n: Note) -> Note
     ensures { λ r. ⌜ r ≡ firstBeyond (now (text .entry)) (now (w .entry)) n ⌝ }
 {
     let owned = has_participants(w, n);
-    let mut k: Word = 0;
+    let mut k: Note = 0;
     while k < n {
         if is_beyond(owned, text, w, n, k) {
             return k;
@@ -173,7 +174,7 @@ pub fn first_beyond(text: &[u8], w: &[Word], n: Word) -> Word
     k
 }
 
-fn value_place(text: &[u8], w: &[Word], k: Word) -> usize
+fn value_place(text: &[u8], w: &[Note], k: Note) -> usize
     ensures { λ r. ⌜ r ≡ valuePlace (now (text .entry)) (now (w .entry)) k ⌝ }
 {
     let a = attribute_of(text, w, k, b"maximum");
@@ -184,7 +185,7 @@ fn value_place(text: &[u8], w: &[Word], k: Word) -> usize
 }
 
 // The place of what is beyond in thing k.
-pub fn beyond_at(text: &[u8], w: &[Word], k: Word) -> usize
+pub fn beyond_at(text: &[u8], w: &[Note], k: Note) -> usize
     ensures { λ r. ⌜ r ≡ beyondAt (now (text .entry)) (now (w .entry)) k ⌝ }
 {
     if of_sort(PARTICIPANT_MULTIPLICITY, w, k) {

@@ -21,6 +21,7 @@ use draw_links::is_node_at;
 use draw_links::named;
 use draw_things::things::BRANCH;
 use draw_things::things::MESSAGE_FLOW;
+use draw_things::things::Note;
 use draw_things::things::RECEIVE_TASK;
 use draw_things::things::SEQUENCE_FLOW;
 use draw_things::things::TASK;
@@ -42,41 +43,41 @@ pub const A_TASK: Word = 1;
 pub const AN_EDGE: Word = 2;
 
 // Whether thing j is an element of process p.
-pub fn is_element(p: Word, w: &[Word], j: Word) -> bool
+pub fn is_element(p: Note, w: &[Note], j: Note) -> bool
     ensures { λ r. ⌜ r ≡ isElement p (now (w .entry)) j ⌝ }
 {
     is_node_at(w, j) && (within_of(w, j) == p && kind_of_thing(w, j) != BRANCH)
 }
 
 // Whether thing j is a task of process p.
-pub fn is_task(p: Word, w: &[Word], j: Word) -> bool
+pub fn is_task(p: Note, w: &[Note], j: Note) -> bool
     ensures { λ r. ⌜ r ≡ isTask p (now (w .entry)) j ⌝ }
 {
     let s = sort_of(w, j);
     TASK <= s && (s <= RECEIVE_TASK && within_of(w, j) == p)
 }
 
-fn leaves_events(w: &[Word], j: Word) -> bool
+fn leaves_events(w: &[Note], j: Note) -> bool
     ensures { λ r. ⌜ r ≡ isOfKind eventBased (now (w .entry)) (source (now (w .entry)) j) ⌝ }
 {
     is_of_kind(EVENT_BASED, w, source_of(w, j))
 }
 
-fn is_edge(p: Word, w: &[Word], j: Word) -> bool
+fn is_edge(p: Note, w: &[Note], j: Note) -> bool
     ensures { λ r. ⌜ r ≡ isEdge p (now (w .entry)) j ⌝ }
 {
     of_sort(SEQUENCE_FLOW, w, j) && (within_of(w, j) == p && !leaves_events(w, j))
 }
 
 // Whether thing j is a start of process p.
-pub fn is_start(p: Word, w: &[Word], j: Word) -> bool
+pub fn is_start(p: Note, w: &[Note], j: Note) -> bool
     ensures { λ r. ⌜ r ≡ isStart p (now (w .entry)) j ⌝ }
 {
     is_of_kind(START, w, j) && within_of(w, j) == p
 }
 
 // Whether thing j is one of those that are counted, in process p.
-pub fn is_of(class: Word, p: Word, w: &[Word], j: Word) -> bool
+pub fn is_of(class: Word, p: Note, w: &[Note], j: Note) -> bool
     ensures { λ r. ⌜ r ≡ isOf class p (now (w .entry)) j ⌝ }
 {
     if class == AN_ELEMENT {
@@ -88,18 +89,18 @@ pub fn is_of(class: Word, p: Word, w: &[Word], j: Word) -> bool
     is_edge(p, w, j)
 }
 
-fn one_of(class: Word, p: Word, w: &[Word], j: Word) -> Word
+fn one_of(class: Word, p: Note, w: &[Note], j: Note) -> Note
     ensures { λ r. ⌜ (r ≡ oneIf (isOf class p (now (w .entry)) j)) × (r ≤ 1) ⌝ }
 {
     if is_of(class, p, w, j) { 1 } else { 0 }
 }
 
 // How many of those that are counted stand before thing k.
-pub fn count_of(class: Word, p: Word, w: &[Word], k: Word) -> Word
+pub fn count_of(class: Word, p: Note, w: &[Note], k: Note) -> Note
     ensures { λ r. ⌜ r ≡ countBefore (isOf class p (now (w .entry))) k ⌝ }
 {
-    let mut count: Word = 0;
-    let mut j: Word = 0;
+    let mut count: Note = 0;
+    let mut j: Note = 0;
     while j < k {
         count += one_of(class, p, w, j);
         j += 1;
@@ -107,29 +108,29 @@ pub fn count_of(class: Word, p: Word, w: &[Word], k: Word) -> Word
     count
 }
 
-fn starts_before(p: Word, k: Word, w: &[Word], j: Word) -> bool
+fn starts_before(p: Note, k: Note, w: &[Note], j: Note) -> bool
     ensures { λ r. ⌜ r ≡ isStart p (now (w .entry)) j && ltb j k ⌝ }
 {
     is_start(p, w, j) && j < k
 }
 
-fn is_before_first(p: Word, k: Word, w: &[Word], j: Word) -> bool
+fn is_before_first(p: Note, k: Note, w: &[Note], j: Note) -> bool
     ensures { λ r. ⌜ r ≡ isBeforeFirst p k (now (w .entry)) j ⌝ }
 {
     is_edge(p, w, j) || starts_before(p, k, w, j)
 }
 
-fn one_before_first(p: Word, k: Word, w: &[Word], j: Word) -> Word
+fn one_before_first(p: Note, k: Note, w: &[Note], j: Note) -> Note
     ensures { λ r. ⌜ (r ≡ oneIf (isBeforeFirst p k (now (w .entry)) j)) × (r ≤ 1) ⌝ }
 {
     if is_before_first(p, k, w, j) { 1 } else { 0 }
 }
 
-fn count_before_first(p: Word, k: Word, w: &[Word], n: Word) -> Word
+fn count_before_first(p: Note, k: Note, w: &[Note], n: Note) -> Note
     ensures { λ r. ⌜ r ≡ countBefore (isBeforeFirst p k (now (w .entry))) n ⌝ }
 {
-    let mut count: Word = 0;
-    let mut j: Word = 0;
+    let mut count: Note = 0;
+    let mut j: Note = 0;
     while j < n {
         count += one_before_first(p, k, w, j);
         j += 1;
@@ -137,18 +138,18 @@ fn count_before_first(p: Word, k: Word, w: &[Word], n: Word) -> Word
     count
 }
 
-fn one_pool(owned: bool, w: &[Word], j: Word) -> Word
+fn one_pool(owned: bool, w: &[Note], j: Note) -> Note
     ensures { λ r. ⌜ (r ≡ oneIf (isPool owned (now (w .entry)) j)) × (r ≤ 1) ⌝ }
 {
     if is_pool(owned, w, j) { 1 } else { 0 }
 }
 
 // How many pools stand before thing k.
-pub fn count_pools(owned: bool, w: &[Word], k: Word) -> Word
+pub fn count_pools(owned: bool, w: &[Note], k: Note) -> Note
     ensures { λ r. ⌜ r ≡ countBefore (isPool owned (now (w .entry))) k ⌝ }
 {
-    let mut count: Word = 0;
-    let mut j: Word = 0;
+    let mut count: Note = 0;
+    let mut j: Note = 0;
     while j < k {
         count += one_pool(owned, w, j);
         j += 1;
@@ -157,28 +158,28 @@ pub fn count_pools(owned: bool, w: &[Word], k: Word) -> Word
 }
 
 // The number of task k.
-pub fn task_of(w: &[Word], k: Word) -> Word
+pub fn task_of(w: &[Note], k: Note) -> Note
     ensures { λ r. ⌜ r ≡ taskOf (now (w .entry)) k ⌝ }
 {
     one_more(count_of(A_TASK, within_of(w, k), w, k))
 }
 
 // The number of the edge that flow k is.
-pub fn edge_of(w: &[Word], k: Word) -> Word
+pub fn edge_of(w: &[Note], k: Note) -> Note
     ensures { λ r. ⌜ r ≡ edgeOf (now (w .entry)) k ⌝ }
 {
     one_more(count_of(AN_EDGE, within_of(w, k), w, k))
 }
 
 // The number of the first edge of start k.
-pub fn first_edge_of(w: &[Word], n: Word, k: Word) -> Word
+pub fn first_edge_of(w: &[Note], n: Note, k: Note) -> Note
     ensures { λ r. ⌜ r ≡ firstEdgeOf (now (w .entry)) n k ⌝ }
 {
     one_more(count_before_first(within_of(w, k), k, w, n))
 }
 
 // The name of the message that flow k is.
-pub fn message_of(w: &[Word], k: Word) -> Word
+pub fn message_of(w: &[Note], k: Note) -> Note
     ensures { λ r. ⌜ r ≡ messageOf (now (w .entry)) k ⌝ }
 {
     count_sort(MESSAGE_FLOW, w, k)
@@ -195,7 +196,7 @@ fn value_of(word: &[u8]) -> Word
 }
 
 // The maximum of multiplicity k.
-pub fn maximum_of(text: &[u8], w: &[Word], k: Word) -> Word
+pub fn maximum_of(text: &[u8], w: &[Note], k: Note) -> Word
     ensures { λ r. ⌜ r ≡ maximumOf (now (text .entry)) (now (w .entry)) k ⌝ }
 {
     let a = attribute_of(text, w, k, b"maximum");
@@ -206,7 +207,7 @@ pub fn maximum_of(text: &[u8], w: &[Word], k: Word) -> Word
 }
 
 // The default flow of split k.
-pub fn default_of(text: &[u8], w: &[Word], n: Word, k: Word) -> Word
+pub fn default_of(text: &[u8], w: &[Note], n: Note, k: Note) -> Note
     ensures { λ r. ⌜ r ≡ defaultOf (now (text .entry)) (now (w .entry)) n k ⌝ }
 {
     named(text, w, n, k, b"default")

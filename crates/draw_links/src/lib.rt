@@ -5,8 +5,8 @@ ghost use lib.Dec.{eqb};
 ghost use Rattle.draw_things.specs.Things.{sort, within, source, place, isNode, participant, messageFlow, sequenceFlow};
 ghost use Rattle.xml_markup.specs.Spans.{attribute};
 ghost use Rattle.draw_links.specs.Links.{hasId, mayName, meant, named, joined, owned, linked, links};
-use base_words::Word;
 use draw_things::things::MESSAGE_FLOW;
+use draw_things::things::Note;
 use draw_things::things::PARTICIPANT;
 use draw_things::things::PROCESS;
 use draw_things::things::SEQUENCE_FLOW;
@@ -24,7 +24,7 @@ use xml_markup::spans::attribute;
 use xml_markup::spans::local_of;
 
 // An attribute of a thing.
-pub fn attribute_of(text: &[u8], w: &[Word], k: Word, name: &[u8]) -> Attribute
+pub fn attribute_of(text: &[u8], w: &[Note], k: Note, name: &[u8]) -> Attribute
     ensures { λ r. ⌜ r ≡ attribute (now (text .entry)) (place (now (w .entry)) k) (now (name .entry)) ⌝ }
 {
     let p = place_of(w, k) as usize;
@@ -32,7 +32,7 @@ pub fn attribute_of(text: &[u8], w: &[Word], k: Word, name: &[u8]) -> Attribute
 }
 
 // Whether thing j has an id.
-pub fn has_id(text: &[u8], v: &[u8], w: &[Word], j: Word) -> bool
+pub fn has_id(text: &[u8], v: &[u8], w: &[Note], j: Note) -> bool
     ensures { λ r. ⌜ r ≡ hasId (now (text .entry)) (now (v .entry)) (now (w .entry)) j ⌝ }
 {
     let a = attribute_of(text, w, j, b"id");
@@ -43,32 +43,32 @@ pub fn has_id(text: &[u8], v: &[u8], w: &[Word], j: Word) -> bool
 }
 
 // Whether thing j is a node.
-pub fn is_node_at(w: &[Word], j: Word) -> bool
+pub fn is_node_at(w: &[Note], j: Note) -> bool
     ensures { λ r. ⌜ r ≡ isNode (sort (now (w .entry)) j) ⌝ }
 {
     is_node(sort_of(w, j))
 }
 
-fn is_beside(w: &[Word], k: Word, j: Word) -> bool
+fn is_beside(w: &[Note], k: Note, j: Note) -> bool
     ensures { λ r. ⌜ r ≡ isNode (sort (now (w .entry)) j) && eqb (within (now (w .entry)) j) (within (now (w .entry)) k) ⌝ }
 {
     is_node_at(w, j) && within_of(w, j) == within_of(w, k)
 }
 
-fn is_end(w: &[Word], j: Word) -> bool
+fn is_end(w: &[Note], j: Note) -> bool
     ensures { λ r. ⌜ r ≡ isNode (sort (now (w .entry)) j) || eqb (sort (now (w .entry)) j) participant ⌝ }
 {
     is_node_at(w, j) || sort_of(w, j) == PARTICIPANT
 }
 
-fn is_exit(w: &[Word], k: Word, j: Word) -> bool
+fn is_exit(w: &[Note], k: Note, j: Note) -> bool
     ensures { λ r. ⌜ r ≡ eqb (sort (now (w .entry)) j) sequenceFlow && eqb (source (now (w .entry)) j) k ⌝ }
 {
     sort_of(w, j) == SEQUENCE_FLOW && source_of(w, j) == k
 }
 
 // Whether thing j is of a sort that thing k may name.
-fn may_name(w: &[Word], k: Word, j: Word) -> bool
+fn may_name(w: &[Note], k: Note, j: Note) -> bool
     ensures { λ r. ⌜ r ≡ mayName (now (w .entry)) k j ⌝ }
 {
     let s = sort_of(w, k);
@@ -84,16 +84,16 @@ fn may_name(w: &[Word], k: Word, j: Word) -> bool
     is_exit(w, k, j)
 }
 
-fn is_meant(text: &[u8], w: &[Word], k: Word, v: &[u8], j: Word) -> bool
+fn is_meant(text: &[u8], w: &[Note], k: Note, v: &[u8], j: Note) -> bool
     ensures { λ r. ⌜ r ≡ mayName (now (w .entry)) k j && hasId (now (text .entry)) (now (v .entry)) (now (w .entry)) j ⌝ }
 {
     may_name(w, k, j) && has_id(text, v, w, j)
 }
 
-fn meant(text: &[u8], w: &[Word], n: Word, k: Word, v: &[u8]) -> Word
+fn meant(text: &[u8], w: &[Note], n: Note, k: Note, v: &[u8]) -> Note
     ensures { λ r. ⌜ r ≡ meant (now (text .entry)) (now (w .entry)) n k (now (v .entry)) ⌝ }
 {
-    let mut j: Word = 0;
+    let mut j: Note = 0;
     while j < n {
         if is_meant(text, w, k, v, j) {
             return j;
@@ -104,7 +104,7 @@ fn meant(text: &[u8], w: &[Word], n: Word, k: Word, v: &[u8]) -> Word
 }
 
 // The thing that an attribute of thing k names; 0 for none.
-pub fn named(text: &[u8], w: &[Word], n: Word, k: Word, name: &[u8]) -> Word
+pub fn named(text: &[u8], w: &[Note], n: Note, k: Note, name: &[u8]) -> Note
     ensures { λ r. ⌜ r ≡ named (now (text .entry)) (now (w .entry)) n k (now (name .entry)) ⌝ }
 {
     let a = attribute_of(text, w, k, name);
@@ -114,7 +114,7 @@ pub fn named(text: &[u8], w: &[Word], n: Word, k: Word, name: &[u8]) -> Word
     meant(text, w, n, k, local_of(piece(text, from, to)))
 }
 
-fn join(text: &[u8], w: &mut [Word], n: Word, k: Word)
+fn join(text: &[u8], w: &mut [Note], n: Note, k: Note)
     ensures { λ _. ⌜ now (w .exit) ≡ joined (now (text .entry)) n k (now (w .entry)) ⌝ }
 {
     let from = named(text, w, n, k, b"sourceRef");
@@ -123,21 +123,21 @@ fn join(text: &[u8], w: &mut [Word], n: Word, k: Word)
     set_target(w, k, to);
 }
 
-fn own(text: &[u8], w: &mut [Word], n: Word, k: Word)
+fn own(text: &[u8], w: &mut [Note], n: Note, k: Note)
     ensures { λ _. ⌜ now (w .exit) ≡ owned (now (text .entry)) n k (now (w .entry)) ⌝ }
 {
     let process = named(text, w, n, k, b"processRef");
     set_source(w, k, process);
 }
 
-fn is_flow(w: &[Word], k: Word) -> bool
+fn is_flow(w: &[Note], k: Note) -> bool
     ensures { λ r. ⌜ r ≡ eqb (sort (now (w .entry)) k) sequenceFlow || eqb (sort (now (w .entry)) k) messageFlow ⌝ }
 {
     let s = sort_of(w, k);
     s == SEQUENCE_FLOW || s == MESSAGE_FLOW
 }
 
-fn link(text: &[u8], w: &mut [Word], n: Word, k: Word)
+fn link(text: &[u8], w: &mut [Note], n: Note, k: Note)
     ensures { λ _. ⌜ now (w .exit) ≡ linked (now (text .entry)) n k (now (w .entry)) ⌝ }
 {
     if is_flow(w, k) {
@@ -150,10 +150,10 @@ fn link(text: &[u8], w: &mut [Word], n: Word, k: Word)
 }
 
 // The ends of flows and the processes of participants, stored in the things.
-pub fn links(text: &[u8], w: &mut [Word], n: Word)
+pub fn links(text: &[u8], w: &mut [Note], n: Note)
     ensures { λ _. ⌜ now (w .exit) ≡ links (now (text .entry)) n (now (w .entry)) ⌝ }
 {
-    let mut k: Word = 0;
+    let mut k: Note = 0;
     while k < n {
         link(text, w, n, k);
         k += 1;

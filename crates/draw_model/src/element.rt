@@ -50,6 +50,7 @@ use draw_limits::numbers::message_of;
 use draw_limits::numbers::task_of;
 use draw_things::things::CONDITION_EXPRESSION;
 use draw_things::things::MESSAGE_FLOW;
+use draw_things::things::Note;
 use draw_things::things::SEQUENCE_FLOW;
 use draw_things::things::kind_of_thing;
 use draw_things::things::one_more;
@@ -67,19 +68,19 @@ fn put_edge(list: Word, e: Word, x: &mut [Word])
     put(x, list as usize, one_more(count));
 }
 
-fn received_by(w: &[Word], n: Word, k: Word) -> Word
+fn received_by(w: &[Note], n: Note, k: Note) -> Word
     ensures { λ r. ⌜ r ≡ receivedBy (now (w .entry)) n k ⌝ }
 {
     message_of(w, first_with(MESSAGE_FLOW, TARGET_IN, k, w, n))
 }
 
-fn sent_by(w: &[Word], n: Word, k: Word) -> Word
+fn sent_by(w: &[Note], n: Note, k: Note) -> Word
     ensures { λ r. ⌜ r ≡ sentBy (now (w .entry)) n k ⌝ }
 {
     message_of(w, first_with(MESSAGE_FLOW, SOURCE_IN, k, w, n))
 }
 
-fn put_message(w: &[Word], n: Word, k: Word, x: &mut [Word])
+fn put_message(w: &[Note], n: Note, k: Note, x: &mut [Word])
     ensures { λ _. ⌜ now (x .exit) ≡ withMessage (now (w .entry)) n k (now (x .entry)) ⌝ }
 {
     if is_receiver(w, k) {
@@ -98,7 +99,7 @@ fn put_form(b: Word, form: Word, x: &mut [Word])
     put(x, CONDITIONS + EXPRESSION_WORDS * (b as usize) + FORM, form);
 }
 
-fn put_task(w: &[Word], k: Word, x: &mut [Word])
+fn put_task(w: &[Note], k: Note, x: &mut [Word])
     ensures { λ _. ⌜ now (x .exit) ≡ withTask (now (w .entry)) k (now (x .entry)) ⌝ }
 {
     put(x, TASK, task_of(w, k));
@@ -106,7 +107,7 @@ fn put_task(w: &[Word], k: Word, x: &mut [Word])
     put_form(0, ALWAYS, x);
 }
 
-fn put_first(w: &[Word], n: Word, k: Word, x: &mut [Word])
+fn put_first(w: &[Note], n: Note, k: Note, x: &mut [Word])
     ensures { λ _. ⌜ now (x .exit) ≡ withFirst (now (w .entry)) n k (now (x .entry)) ⌝ }
 {
     let p = within_of(w, k);
@@ -119,14 +120,14 @@ fn put_first(w: &[Word], n: Word, k: Word, x: &mut [Word])
     }
 }
 
-fn put_kind(w: &[Word], k: Word, x: &mut [Word])
+fn put_kind(w: &[Note], k: Note, x: &mut [Word])
     ensures { λ _. ⌜ now (x .exit) ≡ blank (kind (now (w .entry)) k) (now (x .entry)) ⌝ }
 {
     clear(x);
     put(x, KIND, kind_of_thing(w, k));
 }
 
-fn put_head(w: &[Word], n: Word, k: Word, x: &mut [Word; ELEMENT_WORDS])
+fn put_head(w: &[Note], n: Note, k: Note, x: &mut [Word; ELEMENT_WORDS])
     ensures { λ _. ⌜ now (x .exit) ≡ headOf (now (w .entry)) n k ⌝ }
 {
     put_kind(w, k, x);
@@ -162,7 +163,7 @@ fn put_said(c: Condition, b: Word, x: &mut [Word])
 }
 
 // The condition of flow j, as that of branch b.
-fn put_guarded(text: &[u8], w: &[Word], n: Word, j: Word, b: Word, x: &mut [Word])
+fn put_guarded(text: &[u8], w: &[Note], n: Note, j: Note, b: Word, x: &mut [Word])
     ensures { λ _. ⌜ now (x .exit) ≡ guardedBy (now (text .entry)) (now (w .entry)) n j b (now (x .entry)) ⌝ }
 {
     let i = first_with(CONDITION_EXPRESSION, WITHIN_IN, j, w, n);
@@ -174,7 +175,7 @@ fn put_guarded(text: &[u8], w: &[Word], n: Word, j: Word, b: Word, x: &mut [Word
     put_form(b, ALWAYS, x);
 }
 
-fn put_guard(text: &[u8], w: &[Word], n: Word, k: Word, j: Word, b: Word, x: &mut [Word])
+fn put_guard(text: &[u8], w: &[Note], n: Note, k: Note, j: Note, b: Word, x: &mut [Word])
     ensures { λ _. ⌜ now (x .exit) ≡ withGuard (now (text .entry)) (now (w .entry)) n k j b (now (x .entry)) ⌝ }
 {
     if default_of(text, w, n, k) == j {
@@ -185,7 +186,7 @@ fn put_guard(text: &[u8], w: &[Word], n: Word, k: Word, j: Word, b: Word, x: &mu
 }
 
 // The number of the edge behind the catch event to which flow j leads.
-fn exit_behind(w: &[Word], n: Word, j: Word) -> Word
+fn exit_behind(w: &[Note], n: Note, j: Note) -> Word
     ensures { λ r. ⌜ r ≡ exitBehind (now (w .entry)) n j ⌝ }
 {
     edge_of(
@@ -194,7 +195,7 @@ fn exit_behind(w: &[Word], n: Word, j: Word) -> Word
     )
 }
 
-fn put_branch(w: &[Word], n: Word, j: Word, x: &mut [Word])
+fn put_branch(w: &[Note], n: Note, j: Note, x: &mut [Word])
     ensures { λ _. ⌜ now (x .exit) ≡ withBranch (now (w .entry)) n j (now (x .entry)) ⌝ }
 {
     let b = word(x, EXITS);
@@ -203,7 +204,7 @@ fn put_branch(w: &[Word], n: Word, j: Word, x: &mut [Word])
     put_edge(EXITS as Word, exit_behind(w, n, j), x);
 }
 
-fn put_guarded_exit(text: &[u8], w: &[Word], n: Word, k: Word, j: Word, x: &mut [Word])
+fn put_guarded_exit(text: &[u8], w: &[Note], n: Note, k: Note, j: Note, x: &mut [Word])
     ensures { λ _. ⌜ now (x .exit) ≡ withEdge exitsPlace (edgeOf (now (w .entry)) j) (withGuard (now (text .entry)) (now (w .entry)) n k j (at (now (x .entry)) exitsPlace) (now (x .entry))) ⌝ }
 {
     let b = word(x, EXITS);
@@ -211,7 +212,7 @@ fn put_guarded_exit(text: &[u8], w: &[Word], n: Word, k: Word, j: Word, x: &mut 
     put_edge(EXITS as Word, edge_of(w, j), x);
 }
 
-fn put_exit(text: &[u8], w: &[Word], n: Word, k: Word, j: Word, x: &mut [Word])
+fn put_exit(text: &[u8], w: &[Note], n: Note, k: Note, j: Note, x: &mut [Word])
     ensures { λ _. ⌜ now (x .exit) ≡ exitBy (now (text .entry)) (now (w .entry)) n k j (now (x .entry)) ⌝ }
 {
     let kind = kind_of_thing(w, k);
@@ -226,7 +227,7 @@ fn put_exit(text: &[u8], w: &[Word], n: Word, k: Word, j: Word, x: &mut [Word])
     put_edge(EXITS as Word, edge_of(w, j), x);
 }
 
-fn put_entry(w: &[Word], k: Word, j: Word, x: &mut [Word])
+fn put_entry(w: &[Note], k: Note, j: Note, x: &mut [Word])
     ensures { λ _. ⌜ now (x .exit) ≡ entryBy (now (w .entry)) k j (now (x .entry)) ⌝ }
 {
     if target_of(w, j) == k {
@@ -234,7 +235,7 @@ fn put_entry(w: &[Word], k: Word, j: Word, x: &mut [Word])
     }
 }
 
-fn put_leaving(text: &[u8], w: &[Word], n: Word, k: Word, j: Word, x: &mut [Word])
+fn put_leaving(text: &[u8], w: &[Note], n: Note, k: Note, j: Note, x: &mut [Word])
     ensures { λ _. ⌜ now (x .exit) ≡ leavingBy (now (text .entry)) (now (w .entry)) n k j (now (x .entry)) ⌝ }
 {
     if source_of(w, j) == k {
@@ -242,7 +243,7 @@ fn put_leaving(text: &[u8], w: &[Word], n: Word, k: Word, j: Word, x: &mut [Word
     }
 }
 
-fn put_flow(text: &[u8], w: &[Word], n: Word, k: Word, j: Word, x: &mut [Word])
+fn put_flow(text: &[u8], w: &[Note], n: Note, k: Note, j: Note, x: &mut [Word])
     ensures { λ _. ⌜ now (x .exit) ≡ byFlow (now (text .entry)) (now (w .entry)) n k j (now (x .entry)) ⌝ }
 {
     if of_sort(SEQUENCE_FLOW, w, j) {
@@ -252,11 +253,11 @@ fn put_flow(text: &[u8], w: &[Word], n: Word, k: Word, j: Word, x: &mut [Word])
 }
 
 // The words of the element that node k is, whatever stood in them.
-pub fn element_drawn(text: &[u8], w: &[Word], n: Word, k: Word, x: &mut [Word; ELEMENT_WORDS])
+pub fn element_drawn(text: &[u8], w: &[Note], n: Note, k: Note, x: &mut [Word; ELEMENT_WORDS])
     ensures { λ _. ⌜ now (x .exit) ≡ elementDrawn (now (text .entry)) (now (w .entry)) n k ⌝ }
 {
     put_head(w, n, k, x);
-    let mut j: Word = 0;
+    let mut j: Note = 0;
     while j < n {
         put_flow(text, w, n, k, j, x);
         j += 1;

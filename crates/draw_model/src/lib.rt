@@ -17,6 +17,7 @@ use draw_kinds::counting::first_with;
 use draw_limits::numbers::count_pools;
 use draw_limits::numbers::is_element;
 use draw_limits::numbers::maximum_of;
+use draw_things::things::Note;
 use draw_things::things::PARTICIPANT_MULTIPLICITY;
 use draw_things::things::one_more;
 use draw_things::things::source_of;
@@ -32,10 +33,10 @@ pub mod element;
 fn keep_next(
     fills: bool,
     text: &[u8],
-    w: &[Word],
-    n: Word,
-    p: Word,
-    k: Word,
+    w: &[Note],
+    n: Note,
+    p: Note,
+    k: Note,
     i: Word,
     count: Word,
     v: &mut [Word],
@@ -54,11 +55,11 @@ fn keep_next(
 }
 
 // The elements of process p, as those of pool i.
-fn keep_elements(fills: bool, text: &[u8], w: &[Word], n: Word, p: Word, i: Word, v: &mut [Word])
+fn keep_elements(fills: bool, text: &[u8], w: &[Note], n: Note, p: Note, i: Word, v: &mut [Word])
     ensures { λ _. ⌜ now (v .exit) ≡ keptAll (keptElement fills i) 0 (elementsOf (now (text .entry)) (now (w .entry)) n p) (now (v .entry)) ⌝ }
 {
     let mut count: Word = 0;
-    let mut k: Word = 0;
+    let mut k: Note = 0;
     while k < n {
         count = keep_next(fills, text, w, n, p, k, i, count, v);
         k += 1;
@@ -69,9 +70,9 @@ fn keep_elements(fills: bool, text: &[u8], w: &[Word], n: Word, p: Word, i: Word
 fn keep_all(
     fills: bool,
     text: &[u8],
-    w: &[Word],
-    n: Word,
-    p: Word,
+    w: &[Note],
+    n: Note,
+    p: Note,
     i: Word,
     s: &mut [Word],
     v: &mut [Word],
@@ -86,7 +87,7 @@ fn keep_all(
     keep_elements(fills, text, w, n, p, i, s);
 }
 
-fn limit_of(text: &[u8], w: &[Word], n: Word, k: Word) -> Word
+fn limit_of(text: &[u8], w: &[Note], n: Note, k: Note) -> Word
     ensures { λ r. ⌜ r ≡ limitOf (now (text .entry)) (now (w .entry)) n k ⌝ }
 {
     let i = first_with(PARTICIPANT_MULTIPLICITY, WITHIN_IN, k, w, n);
@@ -96,13 +97,13 @@ fn limit_of(text: &[u8], w: &[Word], n: Word, k: Word) -> Word
     0
 }
 
-fn process_of(owned: bool, w: &[Word], k: Word) -> Word
+fn process_of(owned: bool, w: &[Note], k: Note) -> Note
     ensures { λ r. ⌜ r ≡ processOf owned (now (w .entry)) k ⌝ }
 {
     if owned { source_of(w, k) } else { k }
 }
 
-fn number_of(owned: bool, w: &[Word], k: Word) -> Word
+fn number_of(owned: bool, w: &[Note], k: Note) -> Note
     ensures { λ r. ⌜ r ≡ numberOf owned (now (w .entry)) k ⌝ }
 {
     one_more(count_pools(owned, w, k))
@@ -113,9 +114,9 @@ fn keep_pool(
     fills: bool,
     owned: bool,
     text: &[u8],
-    w: &[Word],
-    n: Word,
-    k: Word,
+    w: &[Note],
+    n: Note,
+    k: Note,
     i: Word,
     v: &mut [Word],
 )
@@ -134,9 +135,9 @@ fn keep_next_pool(
     fills: bool,
     owned: bool,
     text: &[u8],
-    w: &[Word],
-    n: Word,
-    k: Word,
+    w: &[Note],
+    n: Note,
+    k: Note,
     i: Word,
     v: &mut [Word],
 ) -> Word
@@ -152,12 +153,12 @@ fn keep_next_pool(
 }
 
 // The pools of a drawing, kept in v.
-pub fn keep_content(fills: bool, text: &[u8], w: &[Word], n: Word, v: &mut [Word])
+pub fn keep_content(fills: bool, text: &[u8], w: &[Note], n: Note, v: &mut [Word])
     ensures { λ _. ⌜ now (v .exit) ≡ keptAll (keptPool fills) 0 (content (now (text .entry)) (now (w .entry)) n) (now (v .entry)) ⌝ }
 {
     let owned = has_participants(w, n);
     let mut i: Word = 0;
-    let mut k: Word = 0;
+    let mut k: Note = 0;
     while k < n {
         i = keep_next_pool(fills, owned, text, w, n, k, i, v);
         k += 1;
@@ -170,7 +171,7 @@ fn is_within(x: &[Word; ELEMENT_WORDS]) -> bool
     element_fits(x)
 }
 
-fn is_fit(text: &[u8], w: &[Word], n: Word, k: Word) -> bool
+fn is_fit(text: &[u8], w: &[Note], n: Note, k: Note) -> bool
     ensures { λ r. ⌜ r ≡ elementFits (elementDrawn (now (text .entry)) (now (w .entry)) n k) ⌝ }
 {
     let mut x = [0; ELEMENT_WORDS];
@@ -178,17 +179,17 @@ fn is_fit(text: &[u8], w: &[Word], n: Word, k: Word) -> bool
     is_within(&x)
 }
 
-fn is_unfit(text: &[u8], w: &[Word], n: Word, k: Word) -> bool
+fn is_unfit(text: &[u8], w: &[Note], n: Note, k: Note) -> bool
     ensures { λ r. ⌜ r ≡ isUnfit (now (text .entry)) (now (w .entry)) n k ⌝ }
 {
     is_element(within_of(w, k), w, k) && !is_fit(text, w, n, k)
 }
 
 // The first node whose element is not within the limits, n where there is none.
-pub fn first_unfit(text: &[u8], w: &[Word], n: Word) -> Word
+pub fn first_unfit(text: &[u8], w: &[Note], n: Note) -> Note
     ensures { λ r. ⌜ r ≡ firstUnfit (now (text .entry)) (now (w .entry)) n ⌝ }
 {
-    let mut k: Word = 0;
+    let mut k: Note = 0;
     while k < n {
         if is_unfit(text, w, n, k) {
             return k;

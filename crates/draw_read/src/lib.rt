@@ -26,6 +26,7 @@ use draw_links::links;
 use draw_model::first_unfit;
 use draw_model::keep_content;
 use draw_things::things::BLOCK_WORDS;
+use draw_things::things::Note;
 use draw_things::things::place_of;
 use draw_walk::walk;
 use text_ends::JUDGED_WORDS;
@@ -47,7 +48,7 @@ fn answer(number: Word, beside: usize) -> Reading
 }
 
 // What is answered to the model of a drawing that is not beyond the limits.
-fn checked(text: &[u8], w: &[Word], n: Word) -> Reading
+fn checked(text: &[u8], w: &[Note], n: Note) -> Reading
     ensures { λ a. ⌜ (ltb (firstBeyond (now (text .entry)) (now (w .entry)) n) n ≡ false → a ≡ checkedAs (content (now (text .entry)) (now (w .entry)) n)) ⌝ }
 {
     let mut m = [0; JUDGED_WORDS];
@@ -55,7 +56,7 @@ fn checked(text: &[u8], w: &[Word], n: Word) -> Reading
     answer_for(&m)
 }
 
-fn fitted(text: &[u8], w: &[Word], n: Word) -> Reading
+fn fitted(text: &[u8], w: &[Note], n: Note) -> Reading
     ensures { λ a. ⌜ (ltb (firstBeyond (now (text .entry)) (now (w .entry)) n) n ≡ false → a ≡ fittedBy (now (text .entry)) (now (w .entry)) n) ⌝ }
 {
     let k = first_unfit(text, w, n);
@@ -66,7 +67,7 @@ fn fitted(text: &[u8], w: &[Word], n: Word) -> Reading
 }
 
 // The answer to a drawing whose walk met the things w.
-fn meant(text: &[u8], w: &[Word], n: Word) -> Reading
+fn meant(text: &[u8], w: &[Note], n: Note) -> Reading
     ensures { λ a. ⌜ a ≡ meantBy (now (text .entry)) (now (w .entry)) n ⌝ }
 {
     if !is_drawing(text, w, n) {
@@ -80,7 +81,7 @@ fn meant(text: &[u8], w: &[Word], n: Word) -> Reading
 }
 
 // The table of a drawing that is not beyond the limits.
-fn fill(text: &[u8], w: &[Word], n: Word, t: &mut [Word; TABLE_WORDS])
+fn fill(text: &[u8], w: &[Note], n: Note, t: &mut [Word; TABLE_WORDS])
     ensures { λ _. ⌜ (ltb (firstBeyond (now (text .entry)) (now (w .entry)) n) n ≡ false → each hasRoom (content (now (text .entry)) (now (w .entry)) n) ≡ true → now (t .exit) ≡ tableOf (map rewritten (content (now (text .entry)) (now (w .entry)) n))) ⌝ }
 {
     clear(t);
@@ -88,7 +89,7 @@ fn fill(text: &[u8], w: &[Word], n: Word, t: &mut [Word; TABLE_WORDS])
     rewrite(t);
 }
 
-fn judge(text: &[u8], w: &[Word], n: Word, t: &mut [Word; TABLE_WORDS]) -> Reading
+fn judge(text: &[u8], w: &[Note], n: Note, t: &mut [Word; TABLE_WORDS]) -> Reading
     ensures { λ a. ⌜ record { number = a .number; beside = a .beside; table = now (t .exit) } ≡ filledBy (meantBy (now (text .entry)) (now (w .entry)) n) (content (now (text .entry)) (now (w .entry)) n) (now (t .entry)) ⌝ }
 {
     let a = meant(text, w, n);
@@ -99,7 +100,7 @@ fn judge(text: &[u8], w: &[Word], n: Word, t: &mut [Word; TABLE_WORDS]) -> Readi
     a
 }
 
-fn settle(text: &[u8], w: &mut [Word], n: Word)
+fn settle(text: &[u8], w: &mut [Note], n: Note)
     ensures { λ _. ⌜ now (w .exit) ≡ settledBy (now (text .entry)) n (now (w .entry)) ⌝ }
 {
     links(text, w, n);

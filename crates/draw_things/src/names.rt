@@ -6,10 +6,10 @@ ghost use Rattle.draw_things.specs.Names.{rowCount, padded, rowNamed, ro
 ghost use Rattle.xml_markup.specs.Spans.{nameAt, bytesOf, localOf};
 use super::things::INTERMEDIATE_THROW_EVENT;
 use super::things::NOTHING;
+use super::things::Note;
 use super::things::PROCESS;
 use super::things::START_EVENT;
 use super::things::STRANGER;
-use base_words::Word;
 use text_lexer::byte;
 use text_lexer::piece;
 use text_numerals::same;
@@ -147,19 +147,19 @@ fn row_named(name: &[u8]) -> usize
     i
 }
 
-fn row_sort(i: usize) -> Word
+fn row_sort(i: usize) -> Note
     ensures { λ r. ⌜ r ≡ rowOf i .sort ⌝ }
 {
     if ROWS <= i {
         return STRANGER;
     }
-    byte(&SORTS, i) as Word
+    byte(&SORTS, i) as Note
 }
 
-fn row_parent(i: usize) -> Word
+fn row_parent(i: usize) -> Note
     ensures { λ r. ⌜ r ≡ rowOf i .parent ⌝ }
 {
-    byte(&PARENTS, i) as Word
+    byte(&PARENTS, i) as Note
 }
 
 fn is_false(name: &[u8]) -> bool
@@ -246,13 +246,13 @@ fn draws_another(text: &[u8], p: usize) -> bool
     false
 }
 
-fn is_event(s: Word) -> bool
+fn is_event(s: Note) -> bool
     ensures { λ r. ⌜ r ≡ isEvent s ⌝ }
 {
     START_EVENT <= s && s <= INTERMEDIATE_THROW_EVENT
 }
 
-fn family(s: Word) -> Word
+fn family(s: Note) -> Note
     ensures { λ r. ⌜ r ≡ family s ⌝ }
 {
     if is_event(s) { START_EVENT } else { s }
@@ -265,7 +265,7 @@ fn row_at(text: &[u8], p: usize) -> usize
 }
 
 // The sort that the element at a place has by its name, inside a thing of the sort `parent`.
-pub fn named_at(parent: Word, text: &[u8], p: usize) -> Word
+pub fn named_at(parent: Note, text: &[u8], p: usize) -> Note
     ensures { λ r. ⌜ r ≡ namedAt parent (now (text .entry)) p ⌝ }
 {
     let i = row_at(text, p);
@@ -280,7 +280,7 @@ pub fn named_at(parent: Word, text: &[u8], p: usize) -> Word
 }
 
 // What is drawn by the element at a place whose name draws s, inside a thing of the sort `parent`.
-pub fn drawn_as(s: Word, parent: Word, text: &[u8], p: usize) -> Word
+pub fn drawn_as(s: Note, parent: Note, text: &[u8], p: usize) -> Note
     ensures { λ r. ⌜ r ≡ drawnAs s parent (now (text .entry)) p ⌝ }
 {
     if parent != PROCESS {

@@ -6,53 +6,56 @@ use base_words::Word;
 use base_words::put;
 use base_words::word;
 
+// What is noted of a thing: a sort, a place, another thing, a kind; and how many things there are.
+pub type Note = Word;
+
 // The sorts of things.
-pub const NOTHING: Word = 0;
+pub const NOTHING: Note = 0;
 
-pub const DEFINITIONS: Word = 1;
+pub const DEFINITIONS: Note = 1;
 
-pub const COLLABORATION: Word = 2;
+pub const COLLABORATION: Note = 2;
 
-pub const PARTICIPANT: Word = 3;
+pub const PARTICIPANT: Note = 3;
 
-pub const PARTICIPANT_MULTIPLICITY: Word = 4;
+pub const PARTICIPANT_MULTIPLICITY: Note = 4;
 
-pub const MESSAGE_FLOW: Word = 5;
+pub const MESSAGE_FLOW: Note = 5;
 
-pub const PROCESS: Word = 6;
+pub const PROCESS: Note = 6;
 
-pub const SEQUENCE_FLOW: Word = 7;
+pub const SEQUENCE_FLOW: Note = 7;
 
-pub const CONDITION_EXPRESSION: Word = 8;
+pub const CONDITION_EXPRESSION: Note = 8;
 
-pub const MESSAGE_EVENT_DEFINITION: Word = 9;
+pub const MESSAGE_EVENT_DEFINITION: Note = 9;
 
-pub const TERMINATE_EVENT_DEFINITION: Word = 10;
+pub const TERMINATE_EVENT_DEFINITION: Note = 10;
 
-pub const STRANGER: Word = 11;
+pub const STRANGER: Note = 11;
 
-pub const START_EVENT: Word = 12;
+pub const START_EVENT: Note = 12;
 
-pub const END_EVENT: Word = 13;
+pub const END_EVENT: Note = 13;
 
-pub const INTERMEDIATE_CATCH_EVENT: Word = 14;
+pub const INTERMEDIATE_CATCH_EVENT: Note = 14;
 
-pub const INTERMEDIATE_THROW_EVENT: Word = 15;
+pub const INTERMEDIATE_THROW_EVENT: Note = 15;
 
-pub const TASK: Word = 16;
+pub const TASK: Note = 16;
 
-pub const SEND_TASK: Word = 17;
+pub const SEND_TASK: Note = 17;
 
-pub const RECEIVE_TASK: Word = 18;
+pub const RECEIVE_TASK: Note = 18;
 
-pub const PARALLEL_GATEWAY: Word = 19;
+pub const PARALLEL_GATEWAY: Note = 19;
 
-pub const EXCLUSIVE_GATEWAY: Word = 20;
+pub const EXCLUSIVE_GATEWAY: Note = 20;
 
-pub const EVENT_BASED_GATEWAY: Word = 21;
+pub const EVENT_BASED_GATEWAY: Note = 21;
 
 // The kind of a catch event behind an event gateway.
-pub const BRANCH: Word = 16;
+pub const BRANCH: Note = 16;
 
 // The words of a thing, the things that a block holds, and its words.
 pub const THING_WORDS: usize = 5;
@@ -69,80 +72,80 @@ const SOURCE: usize = 3;
 
 const TARGET: usize = 4;
 
-pub fn sort_of(w: &[Word], k: Word) -> Word
+pub fn sort_of(w: &[Note], k: Note) -> Note
     ensures { λ r. ⌜ r ≡ sort (now (w .entry)) k ⌝ }
 {
     word(w, THING_WORDS * (k as usize))
 }
 
-pub fn place_of(w: &[Word], k: Word) -> Word
+pub fn place_of(w: &[Note], k: Note) -> Note
     ensures { λ r. ⌜ r ≡ place (now (w .entry)) k ⌝ }
 {
     word(w, THING_WORDS * (k as usize) + PLACE)
 }
 
-pub fn within_of(w: &[Word], k: Word) -> Word
+pub fn within_of(w: &[Note], k: Note) -> Note
     ensures { λ r. ⌜ r ≡ within (now (w .entry)) k ⌝ }
 {
     word(w, THING_WORDS * (k as usize) + WITHIN)
 }
 
-pub fn source_of(w: &[Word], k: Word) -> Word
+pub fn source_of(w: &[Note], k: Note) -> Note
     ensures { λ r. ⌜ r ≡ source (now (w .entry)) k ⌝ }
 {
     word(w, THING_WORDS * (k as usize) + SOURCE)
 }
 
-pub fn target_of(w: &[Word], k: Word) -> Word
+pub fn target_of(w: &[Note], k: Note) -> Note
     ensures { λ r. ⌜ r ≡ target (now (w .entry)) k ⌝ }
 {
     word(w, THING_WORDS * (k as usize) + TARGET)
 }
 
-pub fn kind_of_thing(w: &[Word], k: Word) -> Word
+pub fn kind_of_thing(w: &[Note], k: Note) -> Note
     ensures { λ r. ⌜ r ≡ kind (now (w .entry)) k ⌝ }
 {
     word(w, THING_WORDS * (k as usize) + SOURCE)
 }
 
-pub fn set_source(w: &mut [Word], k: Word, v: Word)
+pub fn set_source(w: &mut [Note], k: Note, v: Note)
     ensures { λ _. ⌜ now (w .exit) ≡ withSource (now (w .entry)) k v ⌝ }
 {
     put(w, THING_WORDS * (k as usize) + SOURCE, v);
 }
 
-pub fn set_target(w: &mut [Word], k: Word, v: Word)
+pub fn set_target(w: &mut [Note], k: Note, v: Note)
     ensures { λ _. ⌜ now (w .exit) ≡ withTarget (now (w .entry)) k v ⌝ }
 {
     put(w, THING_WORDS * (k as usize) + TARGET, v);
 }
 
-pub fn is_node(s: Word) -> bool
+pub fn is_node(s: Note) -> bool
     ensures { λ r. ⌜ r ≡ isNode s ⌝ }
 {
     START_EVENT <= s && s <= EVENT_BASED_GATEWAY
 }
 
 // A place as a word.
-fn narrow(p: usize) -> Word
+fn narrow(p: usize) -> Note
     ensures { λ r. ⌜ r ≡ narrow p ⌝ }
 {
     if p < GREATEST as usize {
-        p as Word
+        p as Note
     } else {
         GREATEST
     }
 }
 
 // One more; the greatest word stays.
-pub fn one_more(n: Word) -> Word
+pub fn one_more(n: Note) -> Note
     ensures { λ r. ⌜ r ≡ oneMore n ⌝ }
 {
     if n < GREATEST { n + 1 } else { GREATEST }
 }
 
 // Thing n: of a sort, at a place, within thing k.
-pub fn add_thing(sort: Word, p: usize, k: Word, w: &mut [Word], n: Word)
+pub fn add_thing(sort: Note, p: usize, k: Note, w: &mut [Note], n: Note)
     ensures { λ _. ⌜ now (w .exit) ≡ added sort p k (now (w .entry)) n ⌝ }
 {
     let i = THING_WORDS * (n as usize);

@@ -1,11 +1,11 @@
 // One walk through a drawing, from left to right: the first fault of its text, and what is drawn up to there.
 ghost use mathlib.Core.Path.{_≡_};
 ghost use Rattle.draw_walk.specs.Walk.{told, tagFrom, noted, counted, entered, contentAt, thingAt, walk};
-use base_words::Word;
 use draw_things::names::drawn_as;
 use draw_things::names::named_at;
 use draw_things::things::DEFINITIONS;
 use draw_things::things::NOTHING;
+use draw_things::things::Note;
 use draw_things::things::add_thing;
 use draw_things::things::one_more;
 use xml_document::around::last_from;
@@ -26,13 +26,13 @@ use passing::pass;
 // The place reached, or that of the fault, and how many things were met.
 pub struct Walked {
     pub end: Skipped,
-    pub count: Word,
+    pub count: Note,
 }
 
 // The thing whose content is walked: its sort, its ordinal and the place of its tag.
 pub struct Outer {
-    pub sort: Word,
-    pub thing: Word,
+    pub sort: Note,
+    pub thing: Note,
     pub tag: usize,
 }
 
@@ -46,7 +46,7 @@ fn tag_from(s: Skipped) -> Tag
 }
 
 // Where the content of an element of a sort begins, or the place behind the element.
-fn enter(s: Word, text: &[u8], p: usize) -> Tag
+fn enter(s: Note, text: &[u8], p: usize) -> Tag
     ensures { λ r. ⌜ r ≡ entered s (now (text .entry)) p ⌝ }
 {
     if s == NOTHING {
@@ -58,7 +58,7 @@ fn enter(s: Word, text: &[u8], p: usize) -> Tag
     tag_of(markup(text, p), p)
 }
 
-fn note(s: Word, p: usize, k: Word, w: &mut [Word], n: Word)
+fn note(s: Note, p: usize, k: Note, w: &mut [Note], n: Note)
     ensures { λ _. ⌜ now (w .exit) ≡ noted s p k (now (w .entry)) n ⌝ }
 {
     if s != NOTHING {
@@ -66,7 +66,7 @@ fn note(s: Word, p: usize, k: Word, w: &mut [Word], n: Word)
     }
 }
 
-fn counted(s: Word, n: Word) -> Word
+fn counted(s: Note, n: Note) -> Note
     ensures { λ r. ⌜ r ≡ counted s n ⌝ }
 {
     if s == NOTHING { n } else { one_more(n) }
@@ -74,13 +74,13 @@ fn counted(s: Word, n: Word) -> Word
 
 // An element at a place, walked as a sort and drawing d, within thing k, after n things.
 pub fn walk_thing(
-    s: Word,
-    d: Word,
+    s: Note,
+    d: Note,
     text: &[u8],
-    k: Word,
+    k: Note,
     p: usize,
-    w: &mut [Word],
-    n: Word,
+    w: &mut [Note],
+    n: Note,
 ) -> Walked
     ensures { λ r. ⌜ told r (now (w .exit)) ≡ thingAt s d (now (text .entry)) k p (now (w .entry)) n ⌝ }
 {
@@ -108,7 +108,7 @@ pub fn walk_thing(
 }
 
 // The content of a thing from a place on, after n things.
-pub fn walk_content(text: &[u8], o: Outer, p: usize, w: &mut [Word], n: Word) -> Walked
+pub fn walk_content(text: &[u8], o: Outer, p: usize, w: &mut [Note], n: Note) -> Walked
     ensures { λ r. ⌜ told r (now (w .exit)) ≡ contentAt (now (text .entry)) o p (now (w .entry)) n ⌝ }
 {
     let mut at = p;
@@ -151,7 +151,7 @@ pub fn walk_content(text: &[u8], o: Outer, p: usize, w: &mut [Word], n: Word) ->
 }
 
 // The things of a drawing into the words lent, and how many there are; or the first fault of its text.
-pub fn walk(text: &[u8], w: &mut [Word]) -> Walked
+pub fn walk(text: &[u8], w: &mut [Note]) -> Walked
     ensures { λ r. ⌜ told r (now (w .exit)) ≡ walk (now (text .entry)) (now (w .entry)) ⌝ }
 {
     let root = root_at(text, b"definitions");

@@ -1,8 +1,8 @@
 // Things that are not read into, and the maximum of a participant's instances.
 ghost use mathlib.Core.Path.{_≡_};
 ghost use Rattle.draw_walk.specs.Walk.{isNumber, judged, multiplicity, isPassed, passed};
-use base_words::Word;
 use draw_things::things::CONDITION_EXPRESSION;
+use draw_things::things::Note;
 use draw_things::things::PARTICIPANT_MULTIPLICITY;
 use draw_things::things::STRANGER;
 use text_lexer::piece;
@@ -49,7 +49,7 @@ fn multiplicity(text: &[u8], p: usize) -> Skipped
 }
 
 // Whether a thing of a sort is skipped whole.
-pub fn is_passed(s: Word) -> bool
+pub fn is_passed(s: Note) -> bool
     ensures { λ r. ⌜ r ≡ isPassed s ⌝ }
 {
     if s == PARTICIPANT_MULTIPLICITY {
@@ -59,7 +59,7 @@ pub fn is_passed(s: Word) -> bool
 }
 
 // Skips a thing of a sort whole.
-pub fn pass(s: Word, text: &[u8], p: usize) -> Skipped
+pub fn pass(s: Note, text: &[u8], p: usize) -> Skipped
     ensures { λ r. ⌜ r ≡ passed s (now (text .entry)) p ⌝ }
 {
     if s == PARTICIPANT_MULTIPLICITY {
