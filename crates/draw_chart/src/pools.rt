@@ -24,7 +24,7 @@ use draw_limits::numbers::edge_of;
 use draw_limits::numbers::is_of;
 use draw_things::things::Note;
 use draw_things::things::SEQUENCE_FLOW;
-use draw_things::things::one_more;
+use draw_things::things::next_number;
 use draw_things::things::place_of;
 use draw_things::things::target_of;
 use draw_things::things::within_of;
@@ -37,23 +37,23 @@ const THE_ENDS: Word = 1;
 
 const THE_EDGES: Word = 2;
 
-fn put_within(out: &mut [u8], from: usize, table: &[Word], i: Note, e: Word, place: Word) -> usize
+fn put_within(out: &mut [u8], from: usize, table: &[Word], i: Word, e: Word, place: Word) -> usize
     ensures { λ r. ⌜ Puts (withinLine (now (table .entry)) i e place) from (now (out .entry)) r (now (out .exit)) ⌝ }
 {
     let edge = edge_at(element_at(table, i, e), ENTRIES as Word, 0);
-    let xs: [Word; 3] = [one_more(i), edge, place];
+    let xs: [Word; 3] = [next_number(i), edge, place];
     put_line(out, from, b"within", &xs)
 }
 
-fn put_element(out: &mut [u8], from: usize, i: Note, e: Word, place: Word) -> usize
+fn put_element(out: &mut [u8], from: usize, i: Word, e: Word, place: Word) -> usize
     ensures { λ r. ⌜ Puts (elementLine i e place) from (now (out .entry)) r (now (out .exit)) ⌝ }
 {
-    let xs: [Word; 3] = [one_more(i), e, place];
+    let xs: [Word; 3] = [next_number(i), e, place];
     put_line(out, from, b"element", &xs)
 }
 
 // A branch of gateway k, where flow j is one.
-fn put_branch(out: &mut [u8], from: usize, i: Note, e: Word, w: &[Note], k: Note, j: Note) -> usize
+fn put_branch(out: &mut [u8], from: usize, i: Word, e: Word, w: &[Note], k: Note, j: Note) -> usize
     ensures { λ r. ⌜ Puts (branchLine i e (now (w .entry)) k j) from (now (out .entry)) r (now (out .exit)) ⌝ }
 {
     if !is_with(SEQUENCE_FLOW, SOURCE_IN, k, w, j) {
@@ -61,14 +61,14 @@ fn put_branch(out: &mut [u8], from: usize, i: Note, e: Word, w: &[Note], k: Note
     }
     let b = count_with(SEQUENCE_FLOW, SOURCE_IN, k, w, j);
     let node = place_of(w, target_of(w, j));
-    let xs: [Word; 5] = [one_more(i), e, b, place_of(w, j), node];
+    let xs: [Word; 5] = [next_number(i), e, b, place_of(w, j), node];
     put_line(out, from, b"branch", &xs)
 }
 
 fn put_branches(
     out: &mut [u8],
     from: usize,
-    i: Note,
+    i: Word,
     e: Word,
     w: &[Note],
     n: Note,
@@ -91,7 +91,7 @@ fn put_belonging(
     table: &[Word],
     w: &[Note],
     n: Note,
-    i: Note,
+    i: Word,
     e: Word,
     k: Note,
 ) -> usize
@@ -112,7 +112,7 @@ fn put_with_belonging(
     table: &[Word],
     w: &[Note],
     n: Note,
-    i: Note,
+    i: Word,
     e: Word,
     k: Note,
 ) -> usize
@@ -128,7 +128,7 @@ fn put_element_lines(
     table: &[Word],
     w: &[Note],
     n: Note,
-    i: Note,
+    i: Word,
     p: Note,
     k: Note,
 ) -> usize
@@ -147,16 +147,16 @@ fn is_message_end(p: Note, w: &[Note], k: Note) -> bool
     is_of_kind(END_SND, w, k) && within_of(w, k) == p
 }
 
-fn one_message_end(p: Note, w: &[Note], k: Note) -> Note
+fn one_message_end(p: Note, w: &[Note], k: Note) -> Word
     ensures { λ r. ⌜ (r ≡ oneIf (isMessageEnd p (now (w .entry)) k)) × (r ≤ 1) ⌝ }
 {
     if is_message_end(p, w, k) { 1 } else { 0 }
 }
 
-fn count_message_ends(p: Note, w: &[Note], k: Note) -> Note
+fn count_message_ends(p: Note, w: &[Note], k: Note) -> Word
     ensures { λ r. ⌜ r ≡ countBefore (isMessageEnd p (now (w .entry))) k ⌝ }
 {
-    let mut count: Note = 0;
+    let mut count: Word = 0;
     let mut j: Note = 0;
     while j < k {
         count += one_message_end(p, w, j);
@@ -173,7 +173,7 @@ fn end_place(w: &[Note], n: Note, p: Note, k: Note) -> Word
     least(elements as usize + ends as usize, GREATEST as usize) as Word
 }
 
-fn put_with_end(out: &mut [u8], from: usize, table: &[Word], i: Note, e: Word, place: Word) -> usize
+fn put_with_end(out: &mut [u8], from: usize, table: &[Word], i: Word, e: Word, place: Word) -> usize
     ensures { λ r. ⌜ Puts (withEnd (now (table .entry)) i e place) from (now (out .entry)) r (now (out .exit)) ⌝ }
 {
     let head = put_element(out, from, i, e, place);
@@ -186,7 +186,7 @@ fn put_end_lines(
     table: &[Word],
     w: &[Note],
     n: Note,
-    i: Note,
+    i: Word,
     p: Note,
     k: Note,
 ) -> usize
@@ -199,13 +199,13 @@ fn put_end_lines(
     put_with_end(out, from, table, i, e, place_of(w, k))
 }
 
-fn put_edge(out: &mut [u8], from: usize, w: &[Note], i: Note, p: Note, k: Note) -> usize
+fn put_edge(out: &mut [u8], from: usize, w: &[Note], i: Word, p: Note, k: Note) -> usize
     ensures { λ r. ⌜ Puts (edgeLine (now (w .entry)) i p k) from (now (out .entry)) r (now (out .exit)) ⌝ }
 {
     if !is_of(AN_EDGE, p, w, k) {
         return from;
     }
-    let xs: [Word; 3] = [one_more(i), edge_of(w, k), place_of(w, k)];
+    let xs: [Word; 3] = [next_number(i), edge_of(w, k), place_of(w, k)];
     put_line(out, from, b"edge", &xs)
 }
 
@@ -216,7 +216,7 @@ fn put_lines_of(
     table: &[Word],
     w: &[Note],
     n: Note,
-    i: Note,
+    i: Word,
     p: Note,
     k: Note,
 ) -> usize
@@ -238,7 +238,7 @@ fn put_all_of(
     table: &[Word],
     w: &[Note],
     n: Note,
-    i: Note,
+    i: Word,
     p: Note,
 ) -> usize
     ensures { λ r. ⌜ Puts (allOf class (now (table .entry)) (now (w .entry)) n i p) from (now (out .entry)) r (now (out .exit)) ⌝ }
@@ -258,7 +258,7 @@ fn put_inside(
     table: &[Word],
     w: &[Note],
     n: Note,
-    i: Note,
+    i: Word,
     p: Note,
 ) -> usize
     ensures { λ r. ⌜ Puts (inside (now (table .entry)) (now (w .entry)) n i p) from (now (out .entry)) r (now (out .exit)) ⌝ }
@@ -275,13 +275,13 @@ pub fn put_pool(
     table: &[Word],
     w: &[Note],
     n: Note,
-    i: Note,
+    i: Word,
     p: Note,
     k: Note,
 ) -> usize
     ensures { λ r. ⌜ Puts (withInside (now (table .entry)) (now (w .entry)) n i p k) from (now (out .entry)) r (now (out .exit)) ⌝ }
 {
-    let xs: [Word; 2] = [one_more(i), place_of(w, k)];
+    let xs: [Word; 2] = [next_number(i), place_of(w, k)];
     let head = put_line(out, from, b"pool", &xs);
     put_inside(out, head, table, w, n, i, p)
 }

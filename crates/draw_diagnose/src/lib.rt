@@ -26,7 +26,7 @@ pub mod seats;
 // A rule, and the place of what breaks it.
 pub struct Broken {
     pub rule: Word,
-    pub place: Note,
+    pub place: Word,
 }
 
 // The number of a drawing, the rule or check that is broken, and a place.

@@ -43,22 +43,22 @@ const NAMES_APART: usize = 6;
 
 const ONE_DEFAULT: usize = 7;
 
-fn is_kind_in(c: Note, p: Note, w: &[Note], j: Note) -> bool
+fn is_kind_in(c: Word, p: Note, w: &[Note], j: Note) -> bool
     ensures { λ r. ⌜ r ≡ isKindIn c p (now (w .entry)) j ⌝ }
 {
     is_of_kind(c, w, j) && within_of(w, j) == p
 }
 
-fn one_kind(c: Note, p: Note, w: &[Note], j: Note) -> Note
+fn one_kind(c: Word, p: Note, w: &[Note], j: Note) -> Word
     ensures { λ r. ⌜ (r ≡ oneIf (isKindIn c p (now (w .entry)) j)) × (r ≤ 1) ⌝ }
 {
     if is_kind_in(c, p, w, j) { 1 } else { 0 }
 }
 
-fn count_kind(c: Note, p: Note, w: &[Note], n: Note) -> Note
+fn count_kind(c: Word, p: Note, w: &[Note], n: Note) -> Word
     ensures { λ r. ⌜ r ≡ countKind c p (now (w .entry)) n ⌝ }
 {
-    let mut count: Note = 0;
+    let mut count: Word = 0;
     let mut j: Note = 0;
     while j < n {
         count += one_kind(c, p, w, j);

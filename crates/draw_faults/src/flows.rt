@@ -35,13 +35,13 @@ pub fn is_loose(w: &[Note], k: Note) -> bool
     source_of(w, k) == 0 || target_of(w, k) == 0
 }
 
-fn source_is(c: Note, w: &[Note], k: Note) -> bool
+fn source_is(c: Word, w: &[Note], k: Note) -> bool
     ensures { λ r. ⌜ r ≡ isOfKind c (now (w .entry)) (source (now (w .entry)) k) ⌝ }
 {
     is_of_kind(c, w, source_of(w, k))
 }
 
-fn target_is(c: Note, w: &[Note], k: Note) -> bool
+fn target_is(c: Word, w: &[Note], k: Note) -> bool
     ensures { λ r. ⌜ r ≡ isOfKind c (now (w .entry)) (target (now (w .entry)) k) ⌝ }
 {
     is_of_kind(c, w, target_of(w, k))

@@ -9,6 +9,7 @@ use base_kinds::moves::START_RCV;
 use base_kinds::moves::TASK_RCV;
 use base_kinds::moves::TASK_SND;
 use base_kinds::moves::XOR_SPLIT;
+use base_words::Word;
 use draw_kinds::counting::SOURCE_IN;
 use draw_kinds::counting::TARGET_IN;
 use draw_kinds::counting::count_with;
@@ -20,7 +21,7 @@ use draw_things::things::Note;
 use draw_things::things::kind_of_thing;
 
 // Whether thing j is a node of a kind.
-pub fn is_of_kind(c: Note, w: &[Note], j: Note) -> bool
+pub fn is_of_kind(c: Word, w: &[Note], j: Note) -> bool
     ensures { λ r. ⌜ r ≡ isOfKind c (now (w .entry)) j ⌝ }
 {
     is_node_at(w, j) && kind_of_thing(w, j) == c
@@ -40,7 +41,7 @@ pub fn has_wrong_default(text: &[u8], w: &[Note], n: Note, k: Note) -> bool
     is_split(w, k) && (has(text, b"default", w, k) && named(text, w, n, k, b"default") == 0)
 }
 
-fn sends(c: Note) -> bool
+fn sends(c: Word) -> bool
     ensures { λ r. ⌜ r ≡ sends c ⌝ }
 {
     if c == TASK_SND {
@@ -49,7 +50,7 @@ fn sends(c: Note) -> bool
     c == INTER_SND || c == END_SND
 }
 
-fn receives(c: Note) -> bool
+fn receives(c: Word) -> bool
     ensures { λ r. ⌜ r ≡ receives c ⌝ }
 {
     if c == TASK_RCV {

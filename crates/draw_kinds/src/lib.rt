@@ -1,14 +1,13 @@
 // Which of the kinds of document 01 a node of a drawing is: what stands round it, counted.
 ghost use mathlib.Core.Path.{_≡_};
 ghost use Rattle.draw_kinds.specs.Roles.{shapeOf, flows, defines, when, startDrawn, endDrawn, intermediate, activity, splits, joins, gateway, kindBy, caughtAs, kindDrawn, settled, roles};
-use base_kinds::moves;
+use base_words::Word;
 use counting::SOURCE_IN;
 use counting::TARGET_IN;
 use counting::WITHIN_IN;
 use counting::count_with;
 use counting::first_with;
 use draw_links::is_node_at;
-use draw_things::things::BRANCH;
 use draw_things::things::END_EVENT;
 use draw_things::things::EVENT_BASED_GATEWAY;
 use draw_things::things::EXCLUSIVE_GATEWAY;
@@ -28,13 +27,14 @@ use draw_things::things::sort_of;
 use draw_things::things::source_of;
 
 pub mod counting;
+mod kinds;
 
 // What is drawn round a node: flows in, flows out, message and terminate definitions.
 pub struct Shape {
-    pub ins: Note,
-    pub outs: Note,
-    pub messages: Note,
-    pub terminates: Note,
+    pub ins: Word,
+    pub outs: Word,
+    pub messages: Word,
+    pub terminates: Word,
 }
 
 fn shape_of(w: &[Note], n: Note, k: Note) -> Shape
@@ -52,13 +52,13 @@ fn shape_of(w: &[Note], n: Note, k: Note) -> Shape
     }
 }
 
-fn flows(i: Note, o: Note, d: Shape) -> bool
+fn flows(i: Word, o: Word, d: Shape) -> bool
     ensures { λ r. ⌜ r ≡ flows i o d ⌝ }
 {
     d.ins == i && d.outs == o
 }
 
-fn defines(m: Note, e: Note, d: Shape) -> bool
+fn defines(m: Word, e: Word, d: Shape) -> bool
     ensures { λ r. ⌜ r ≡ defines m e d ⌝ }
 {
     d.messages == m && d.terminates == e
@@ -77,9 +77,9 @@ fn start_drawn(d: Shape) -> Note
         return 0;
     }
     if defines(0, 0, d) {
-        return moves::START;
+        return kinds::START;
     }
-    when(defines(1, 0, d), moves::START_RCV)
+    when(defines(1, 0, d), kinds::START_RCV)
 }
 
 fn end_drawn(d: Shape) -> Note
@@ -89,12 +89,12 @@ fn end_drawn(d: Shape) -> Note
         return 0;
     }
     if defines(0, 0, d) {
-        return moves::END;
+        return kinds::END;
     }
     if defines(1, 0, d) {
-        return moves::END_SND;
+        return kinds::END_SND;
     }
-    when(defines(0, 1, d), moves::TERMINATE)
+    when(defines(0, 1, d), kinds::TERMINATE)
 }
 
 fn intermediate(kind: Note, d: Shape) -> Note
@@ -146,24 +146,24 @@ fn kind_by(s: Note, caught: Note, d: Shape) -> Note
         return intermediate(caught, d);
     }
     if s == INTERMEDIATE_THROW_EVENT {
-        return intermediate(moves::INTER_SND, d);
+        return intermediate(kinds::INTER_SND, d);
     }
     if s == TASK {
-        return activity(moves::TASK, d);
+        return activity(kinds::TASK, d);
     }
     if s == SEND_TASK {
-        return activity(moves::TASK_SND, d);
+        return activity(kinds::TASK_SND, d);
     }
     if s == RECEIVE_TASK {
-        return activity(moves::TASK_RCV, d);
+        return activity(kinds::TASK_RCV, d);
     }
     if s == PARALLEL_GATEWAY {
-        return gateway(moves::AND_SPLIT, moves::AND_JOIN, d);
+        return gateway(kinds::AND_SPLIT, kinds::AND_JOIN, d);
     }
     if s == EXCLUSIVE_GATEWAY {
-        return gateway(moves::XOR_SPLIT, moves::XOR_JOIN, d);
+        return gateway(kinds::XOR_SPLIT, kinds::XOR_JOIN, d);
     }
-    gateway(moves::EVENT_BASED, 0, d)
+    gateway(kinds::EVENT_BASED, 0, d)
 }
 
 fn caught_as(w: &[Note], n: Note, k: Note) -> Note
@@ -171,9 +171,9 @@ fn caught_as(w: &[Note], n: Note, k: Note) -> Note
 {
     let flow = first_with(SEQUENCE_FLOW, TARGET_IN, k, w, n);
     if sort_of(w, source_of(w, flow)) == EVENT_BASED_GATEWAY {
-        return BRANCH;
+        return kinds::BRANCH;
     }
-    moves::INTER_RCV
+    kinds::INTER_RCV
 }
 
 fn kind_drawn(w: &[Note], n: Note, k: Note) -> Note

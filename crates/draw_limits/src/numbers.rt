@@ -26,7 +26,7 @@ use draw_things::things::RECEIVE_TASK;
 use draw_things::things::SEQUENCE_FLOW;
 use draw_things::things::TASK;
 use draw_things::things::kind_of_thing;
-use draw_things::things::one_more;
+use draw_things::things::next_number;
 use draw_things::things::sort_of;
 use draw_things::things::source_of;
 use draw_things::things::within_of;
@@ -89,17 +89,17 @@ pub fn is_of(class: Word, p: Note, w: &[Note], j: Note) -> bool
     is_edge(p, w, j)
 }
 
-fn one_of(class: Word, p: Note, w: &[Note], j: Note) -> Note
+fn one_of(class: Word, p: Note, w: &[Note], j: Note) -> Word
     ensures { λ r. ⌜ (r ≡ oneIf (isOf class p (now (w .entry)) j)) × (r ≤ 1) ⌝ }
 {
     if is_of(class, p, w, j) { 1 } else { 0 }
 }
 
 // How many of those that are counted stand before thing k.
-pub fn count_of(class: Word, p: Note, w: &[Note], k: Note) -> Note
+pub fn count_of(class: Word, p: Note, w: &[Note], k: Note) -> Word
     ensures { λ r. ⌜ r ≡ countBefore (isOf class p (now (w .entry))) k ⌝ }
 {
-    let mut count: Note = 0;
+    let mut count: Word = 0;
     let mut j: Note = 0;
     while j < k {
         count += one_of(class, p, w, j);
@@ -120,16 +120,16 @@ fn is_before_first(p: Note, k: Note, w: &[Note], j: Note) -> bool
     is_edge(p, w, j) || starts_before(p, k, w, j)
 }
 
-fn one_before_first(p: Note, k: Note, w: &[Note], j: Note) -> Note
+fn one_before_first(p: Note, k: Note, w: &[Note], j: Note) -> Word
     ensures { λ r. ⌜ (r ≡ oneIf (isBeforeFirst p k (now (w .entry)) j)) × (r ≤ 1) ⌝ }
 {
     if is_before_first(p, k, w, j) { 1 } else { 0 }
 }
 
-fn count_before_first(p: Note, k: Note, w: &[Note], n: Note) -> Note
+fn count_before_first(p: Note, k: Note, w: &[Note], n: Note) -> Word
     ensures { λ r. ⌜ r ≡ countBefore (isBeforeFirst p k (now (w .entry))) n ⌝ }
 {
-    let mut count: Note = 0;
+    let mut count: Word = 0;
     let mut j: Note = 0;
     while j < n {
         count += one_before_first(p, k, w, j);
@@ -138,17 +138,17 @@ fn count_before_first(p: Note, k: Note, w: &[Note], n: Note) -> Note
     count
 }
 
-fn one_pool(owned: bool, w: &[Note], j: Note) -> Note
+fn one_pool(owned: bool, w: &[Note], j: Note) -> Word
     ensures { λ r. ⌜ (r ≡ oneIf (isPool owned (now (w .entry)) j)) × (r ≤ 1) ⌝ }
 {
     if is_pool(owned, w, j) { 1 } else { 0 }
 }
 
 // How many pools stand before thing k.
-pub fn count_pools(owned: bool, w: &[Note], k: Note) -> Note
+pub fn count_pools(owned: bool, w: &[Note], k: Note) -> Word
     ensures { λ r. ⌜ r ≡ countBefore (isPool owned (now (w .entry))) k ⌝ }
 {
-    let mut count: Note = 0;
+    let mut count: Word = 0;
     let mut j: Note = 0;
     while j < k {
         count += one_pool(owned, w, j);
@@ -158,28 +158,28 @@ pub fn count_pools(owned: bool, w: &[Note], k: Note) -> Note
 }
 
 // The number of task k.
-pub fn task_of(w: &[Note], k: Note) -> Note
+pub fn task_of(w: &[Note], k: Note) -> Word
     ensures { λ r. ⌜ r ≡ taskOf (now (w .entry)) k ⌝ }
 {
-    one_more(count_of(A_TASK, within_of(w, k), w, k))
+    next_number(count_of(A_TASK, within_of(w, k), w, k))
 }
 
 // The number of the edge that flow k is.
-pub fn edge_of(w: &[Note], k: Note) -> Note
+pub fn edge_of(w: &[Note], k: Note) -> Word
     ensures { λ r. ⌜ r ≡ edgeOf (now (w .entry)) k ⌝ }
 {
-    one_more(count_of(AN_EDGE, within_of(w, k), w, k))
+    next_number(count_of(AN_EDGE, within_of(w, k), w, k))
 }
 
 // The number of the first edge of start k.
-pub fn first_edge_of(w: &[Note], n: Note, k: Note) -> Note
+pub fn first_edge_of(w: &[Note], n: Note, k: Note) -> Word
     ensures { λ r. ⌜ r ≡ firstEdgeOf (now (w .entry)) n k ⌝ }
 {
-    one_more(count_before_first(within_of(w, k), k, w, n))
+    next_number(count_before_first(within_of(w, k), k, w, n))
 }
 
 // The name of the message that flow k is.
-pub fn message_of(w: &[Note], k: Note) -> Note
+pub fn message_of(w: &[Note], k: Note) -> Word
     ensures { λ r. ⌜ r ≡ messageOf (now (w .entry)) k ⌝ }
 {
     count_sort(MESSAGE_FLOW, w, k)

@@ -53,7 +53,7 @@ use draw_things::things::MESSAGE_FLOW;
 use draw_things::things::Note;
 use draw_things::things::SEQUENCE_FLOW;
 use draw_things::things::kind_of_thing;
-use draw_things::things::one_more;
+use draw_things::things::next_number;
 use draw_things::things::place_of;
 use draw_things::things::source_of;
 use draw_things::things::target_of;
@@ -65,7 +65,7 @@ fn put_edge(list: Word, e: Word, x: &mut [Word])
 {
     let count = word(x, list as usize);
     put(x, (list as usize) + FIRST_EDGE + (count as usize), e);
-    put(x, list as usize, one_more(count));
+    put(x, list as usize, next_number(count));
 }
 
 fn received_by(w: &[Note], n: Note, k: Note) -> Word

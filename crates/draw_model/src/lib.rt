@@ -19,7 +19,7 @@ use draw_limits::numbers::is_element;
 use draw_limits::numbers::maximum_of;
 use draw_things::things::Note;
 use draw_things::things::PARTICIPANT_MULTIPLICITY;
-use draw_things::things::one_more;
+use draw_things::things::next_number;
 use draw_things::things::source_of;
 use draw_things::things::within_of;
 use element::element_drawn;
@@ -103,10 +103,10 @@ fn process_of(owned: bool, w: &[Note], k: Note) -> Note
     if owned { source_of(w, k) } else { k }
 }
 
-fn number_of(owned: bool, w: &[Note], k: Note) -> Note
+fn number_of(owned: bool, w: &[Note], k: Note) -> Word
     ensures { λ r. ⌜ r ≡ numberOf owned (now (w .entry)) k ⌝ }
 {
-    one_more(count_pools(owned, w, k))
+    next_number(count_pools(owned, w, k))
 }
 
 // Thing k as pool i.

@@ -1,4 +1,4 @@
--- The things of a drawing, in the order in which they stand: a block of words, five for each. Thing 0 is the root, so 0 is none where another thing is named.
+-- The things of a drawing, in the order in which they stand: a block of notes, five for each. Thing 0 is the root, so 0 is none where another thing is named.
 use Prim.Native.Nat.{ℕ, _+_, _*_}
 use mathlib.Core.Bool.{Bool, _&&_}
 use mathlib.Core.List.{List}
@@ -6,7 +6,7 @@ use lib.Dec.{leb, ltb}
 use lib.ListN.{set}
 use Rattle.base_words.specs.Blocks.{Drawing}
 use Rattle.base_words.specs.Pick.{if_then_else_}
-use Rattle.base_words.specs.Words.{at, greatest}
+use Rattle.base_words.specs.Words.{at}
 
 -- SORTS. Nothing: an element that is no thing.
 abbrev pub nothing : ℕ
@@ -80,7 +80,7 @@ eventBasedGateway = 21
 unfoldable pub isNode : ℕ → Bool
 isNode s = leb startEvent s && leb s eventBasedGateway
 
--- WORDS
+-- NOTES
 abbrev pub thingWords : ℕ
 thingWords = 5
 
@@ -91,7 +91,7 @@ room = 6554
 abbrev pub blockWords : ℕ
 blockWords = thingWords * room
 
--- where the words of thing k stand
+-- where the notes of thing k stand
 abbrev pub sortPlace : ℕ → ℕ
 sortPlace k = thingWords * k
 
@@ -138,13 +138,17 @@ withSource w k v = set w (sourcePlace k) v
 abbrev pub withTarget : Drawing → ℕ → ℕ → Drawing
 withTarget w k v = set w (targetPlace k) v
 
--- A place as a word; the greatest word stands for those above it, which no text of 65,536 bytes has.
-unfoldable pub narrow : ℕ → ℕ
-narrow p = if ltb p greatest then p else greatest
+-- the greatest note: the last place of a text of 65,536 bytes
+abbrev pub greatestNote : ℕ
+greatestNote = 65535
 
--- one more; the greatest word stays
+-- A place as a note; the greatest note stands for those above it, which no text of 65,536 bytes has.
+unfoldable pub narrow : ℕ → ℕ
+narrow p = if ltb p greatestNote then p else greatestNote
+
+-- one more; the greatest note stays
 unfoldable pub oneMore : ℕ → ℕ
-oneMore n = if ltb n greatest then n + 1 else greatest
+oneMore n = if ltb n greatestNote then n + 1 else greatestNote
 
 -- thing n added: of a sort, at a place, within a thing, with no source and no target yet
 unfoldable pub added : ℕ → ℕ → ℕ → Drawing → ℕ → Drawing

@@ -1,13 +1,17 @@
-// The things of a drawing: five words for each, in the order in which they stand.
+// The things of a drawing: five notes for each, in the order in which they stand.
 ghost use mathlib.Core.Path.{_≡_};
+ghost use lib.ListN.{set};
+ghost use Rattle.base_words.specs.Words.{at};
 ghost use Rattle.draw_things.specs.Things.{sort, place, within, source, target, kind, isNode, withSource, withTarget, narrow, oneMore, added};
-use base_words::GREATEST;
 use base_words::Word;
-use base_words::put;
-use base_words::word;
 
-// What is noted of a thing: a sort, a place, another thing, a kind; and how many things there are.
-pub type Note = Word;
+// What is noted of a thing: a sort, a place, another thing, a kind. Half a word, since a block of them stands on the stack.
+pub type Note = u16;
+
+// The greatest note: the last place of a text of 65,536 bytes. No number of what is drawn is greater.
+const GREATEST_NOTE: Note = 65535;
+
+const GREATEST_NUMBER: Word = GREATEST_NOTE as Word;
 
 // The sorts of things.
 pub const NOTHING: Note = 0;
@@ -55,9 +59,9 @@ pub const EXCLUSIVE_GATEWAY: Note = 20;
 pub const EVENT_BASED_GATEWAY: Note = 21;
 
 // The kind of a catch event behind an event gateway.
-pub const BRANCH: Note = 16;
+pub const BRANCH: Word = 16;
 
-// The words of a thing, the things that a block holds, and its words.
+// The notes of a thing, the things that a block holds, and its notes.
 pub const THING_WORDS: usize = 5;
 
 pub const ROOM: usize = 6554;
@@ -72,40 +76,55 @@ const SOURCE: usize = 3;
 
 const TARGET: usize = 4;
 
+// The note at a place of the block; outside it 0.
+pub fn note_at(w: &[Note], i: usize) -> Note
+    ensures { λ r. ⌜ r ≡ at (now (w .entry)) i ⌝ }
+{
+    if i < w.len() { w[i] } else { 0 }
+}
+
+fn put(w: &mut [Note], i: usize, v: Note)
+    ensures { λ _. ⌜ now (w .exit) ≡ set (now (w .entry)) i v ⌝ }
+{
+    if i < w.len() {
+        w[i] = v;
+    }
+}
+
 pub fn sort_of(w: &[Note], k: Note) -> Note
     ensures { λ r. ⌜ r ≡ sort (now (w .entry)) k ⌝ }
 {
-    word(w, THING_WORDS * (k as usize))
+    note_at(w, THING_WORDS * (k as usize))
 }
 
-pub fn place_of(w: &[Note], k: Note) -> Note
+pub fn place_of(w: &[Note], k: Note) -> Word
     ensures { λ r. ⌜ r ≡ place (now (w .entry)) k ⌝ }
 {
-    word(w, THING_WORDS * (k as usize) + PLACE)
+    note_at(w, THING_WORDS * (k as usize) + PLACE) as Word
 }
 
 pub fn within_of(w: &[Note], k: Note) -> Note
     ensures { λ r. ⌜ r ≡ within (now (w .entry)) k ⌝ }
 {
-    word(w, THING_WORDS * (k as usize) + WITHIN)
+    note_at(w, THING_WORDS * (k as usize) + WITHIN)
 }
 
 pub fn source_of(w: &[Note], k: Note) -> Note
     ensures { λ r. ⌜ r ≡ source (now (w .entry)) k ⌝ }
 {
-    word(w, THING_WORDS * (k as usize) + SOURCE)
+    note_at(w, THING_WORDS * (k as usize) + SOURCE)
 }
 
 pub fn target_of(w: &[Note], k: Note) -> Note
     ensures { λ r. ⌜ r ≡ target (now (w .entry)) k ⌝ }
 {
-    word(w, THING_WORDS * (k as usize) + TARGET)
+    note_at(w, THING_WORDS * (k as usize) + TARGET)
 }
 
-pub fn kind_of_thing(w: &[Note], k: Note) -> Note
+pub fn kind_of_thing(w: &[Note], k: Note) -> Word
     ensures { λ r. ⌜ r ≡ kind (now (w .entry)) k ⌝ }
 {
-    word(w, THING_WORDS * (k as usize) + SOURCE)
+    note_at(w, THING_WORDS * (k as usize) + SOURCE) as Word
 }
 
 pub fn set_source(w: &mut [Note], k: Note, v: Note)
@@ -126,22 +145,37 @@ pub fn is_node(s: Note) -> bool
     START_EVENT <= s && s <= EVENT_BASED_GATEWAY
 }
 
-// A place as a word.
+// A place as a note.
 fn narrow(p: usize) -> Note
     ensures { λ r. ⌜ r ≡ narrow p ⌝ }
 {
-    if p < GREATEST as usize {
+    if p < GREATEST_NOTE as usize {
         p as Note
     } else {
-        GREATEST
+        GREATEST_NOTE
     }
 }
 
-// One more; the greatest word stays.
+// One more; the greatest note stays.
 pub fn one_more(n: Note) -> Note
     ensures { λ r. ⌜ r ≡ oneMore n ⌝ }
 {
-    if n < GREATEST { n + 1 } else { GREATEST }
+    if n < GREATEST_NOTE {
+        n + 1
+    } else {
+        GREATEST_NOTE
+    }
+}
+
+// The number behind n; the greatest one stays.
+pub fn next_number(n: Word) -> Word
+    ensures { λ r. ⌜ r ≡ oneMore n ⌝ }
+{
+    if n < GREATEST_NUMBER {
+        n + 1
+    } else {
+        GREATEST_NUMBER
+    }
 }
 
 // Thing n: of a sort, at a place, within thing k.

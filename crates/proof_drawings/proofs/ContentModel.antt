@@ -21,7 +21,7 @@ use Rattle.check_limits.specs.Limits.{elementFits}
 use Rattle.check_occurrences.specs.Occurrences.{ofKind}
 use Rattle.check_model.specs.Checks.{Pool, check1, check2, lowest}
 use Rattle.text_passes.proofs.FillLaws.{AtMost, none, some, Block, Fits}
-use Rattle.draw_things.specs.Things.{room, isNode, sort, within, source, participant, participantMultiplicity, process, oneMore}
+use Rattle.draw_things.specs.Things.{room, isNode, sort, within, source, participant, participantMultiplicity, process, greatestNote, oneMore}
 use Rattle.draw_kinds.specs.Counting.{withinIn, isWith, firstWith, ofSort}
 use Rattle.draw_faults.specs.Amiss.{hasParticipants, isPool, hasPool, isRight, isDrawing}
 use Rattle.draw_limits.specs.Numbers.{countBefore, isElement, maximumOf}
@@ -125,19 +125,19 @@ has-element p h = go (p .elements) (eqb-true (total (ofKind start) (p .elements)
 -- NUMBERS
 more-low : (n : ℕ) → 1 ≤ oneMore n
 unfolding oneMore
-more-low n = go (ltb n greatest)
+more-low n = go (ltb n greatestNote)
   where
-    go : (b : Bool) → 1 ≤ (if b then n + 1 else greatest)
+    go : (b : Bool) → 1 ≤ (if b then n + 1 else greatestNote)
     go true = unfold if_then_else_ in omega arith
     go false = unfold if_then_else_ in omega arith
 
 more-high : (n : ℕ) → oneMore n ≤ n + 1
 unfolding oneMore
-more-high n = go (ltb n greatest) refl
+more-high n = go (ltb n greatestNote) refl
   where
-    go : (b : Bool) → ltb n greatest ≡ b → (if b then n + 1 else greatest) ≤ n + 1
+    go : (b : Bool) → ltb n greatestNote ≡ b → (if b then n + 1 else greatestNote) ≤ n + 1
     go true e = unfold if_then_else_ in omega arith
-    go false e = unfold if_then_else_ in let l = ltb-false n greatest e in omega (arith, l)
+    go false e = unfold if_then_else_ in let l = ltb-false n greatestNote e in omega (arith, l)
 
 limit-high : (v : ℕ) → isLimit v ≡ true → v ≤ instances
 unfolding isLimit

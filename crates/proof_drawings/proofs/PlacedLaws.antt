@@ -12,7 +12,7 @@ use borrow.Author.Tests.{eqb-true, eq-eqb, ne-eqb, ltb-true, ltb-false}
 use Rattle.base_words.specs.Each.{each}
 use Rattle.base_words.specs.Pick.{if_then_else_}
 use Rattle.base_words.specs.Text.{bytes}
-use Rattle.base_words.specs.Words.{at, greatest}
+use Rattle.base_words.specs.Words.{at}
 use Rattle.base_words.proofs.AllLaws.{and-left, and-right}
 use Rattle.base_words.proofs.IterLaws.{iter-keeps}
 use Rattle.xml_skip.specs.declared.Skipped.{Skipped}
@@ -23,7 +23,7 @@ use Rattle.xml_skip.specs.declared.Tag.{Tag}
 use Rattle.xml_skip.specs.declared.Tag.the-variants.{Open, Empty, Fault as TagFault}
 use Rattle.xml_skip.specs.Skipping.{partAt}
 use Rattle.xml_document.specs.Around.{rootAt, lastFrom}
-use Rattle.draw_things.specs.Things.{nothing, definitions, collaboration, participant, participantMultiplicity, process, stranger, room, blockWords, sortPlace, placePlace, withinPlace, sourcePlace, targetPlace, sort, within, narrow, oneMore, added}
+use Rattle.draw_things.specs.Things.{nothing, definitions, collaboration, participant, participantMultiplicity, process, stranger, room, blockWords, sortPlace, placePlace, withinPlace, sourcePlace, targetPlace, sort, within, greatestNote, narrow, oneMore, added}
 use Rattle.draw_things.specs.Names.{Row, rows, unknown, rowOf, isEvent, family, namedIn, namedAt, drawsAnother, drawnAs}
 use Rattle.draw_walk.specs.declared.Outer.{Outer}
 use Rattle.draw_walk.specs.Walk.{Walk, told, walked, entered, noted, counted, outer, Content, byTag, thingBy, byEnd, behind, byPart, contentBy, contentIn, contentAt, thingAt, walk}
@@ -104,7 +104,7 @@ drawn-participant s t p e = rw (ne-eqb s process (λ q. apart collaboration proc
 -- THE THINGS SO FAR: n of them, in the words w
 record Sound (w : List ℕ) (n : ℕ) : Type 0 where
   pub long : length w ≡ blockWords
-  pub few : n ≤ greatest
+  pub few : n ≤ greatestNote
   pub inside : (k : ℕ) → sort w k ≡ participantMultiplicity → (within w k < n) × (sort w (within w k) ≡ participant)
 
 -- thing k is a participant among them, where there is room
@@ -132,28 +132,28 @@ further w n v m r g k =
 still : (w : List ℕ) (n : ℕ) (r : Walk) → Sound w n → r .words ≡ w → r .count ≡ n → Kept w n r
 still w n r s e f = record { sound = subst (Sound (r .words)) (sym f) (subst (λ v. Sound v n) (sym e) s); grown = record { more = omega (arith, f); same = λ j l. ap (λ v. sort v j) e } }
 
-more-least : (n : ℕ) → n ≤ greatest → n ≤ oneMore n
+more-least : (n : ℕ) → n ≤ greatestNote → n ≤ oneMore n
 unfolding oneMore
-more-least n h = go (ltb n greatest)
+more-least n h = go (ltb n greatestNote)
   where
-    go : (b : Bool) → n ≤ (if b then n + 1 else greatest)
+    go : (b : Bool) → n ≤ (if b then n + 1 else greatestNote)
     go true = unfold if_then_else_ in omega arith
     go false = unfold if_then_else_ in h
 
 more-is : (n : ℕ) → n < room → oneMore n ≡ n + 1
 unfolding oneMore
-more-is n h = go (ltb n greatest) refl
+more-is n h = go (ltb n greatestNote) refl
   where
-    go : (b : Bool) → ltb n greatest ≡ b → (if b then n + 1 else greatest) ≡ n + 1
+    go : (b : Bool) → ltb n greatestNote ≡ b → (if b then n + 1 else greatestNote) ≡ n + 1
     go true e = unfold if_then_else_ in refl
-    go false e = absurd (let l = ltb-false n greatest e in omega (arith, l, h))
+    go false e = absurd (let l = ltb-false n greatestNote e in omega (arith, l, h))
 
-more-most : (n : ℕ) → oneMore n ≤ greatest
+more-most : (n : ℕ) → oneMore n ≤ greatestNote
 unfolding oneMore
-more-most n = go (ltb n greatest) refl
+more-most n = go (ltb n greatestNote) refl
   where
-    go : (b : Bool) → ltb n greatest ≡ b → (if b then n + 1 else greatest) ≤ greatest
-    go true e = unfold if_then_else_ in let l = ltb-true n greatest e in omega (arith, l)
+    go : (b : Bool) → ltb n greatestNote ≡ b → (if b then n + 1 else greatestNote) ≤ greatestNote
+    go true e = unfold if_then_else_ in let l = ltb-true n greatestNote e in omega (arith, l)
     go false e = unfold if_then_else_ in omega arith
 
 -- ONE MORE THING

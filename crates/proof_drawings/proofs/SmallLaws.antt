@@ -19,7 +19,7 @@ use Rattle.base_kinds.specs.Kinds.{kindOf}
 use Rattle.base_table.specs.Places.{kindPlace, elementWords, always, default}
 use Rattle.base_table.specs.Table.{kindIn}
 use Rattle.check_limits.specs.Limits.{partsFit, elementFits}
-use Rattle.draw_things.specs.Things.{oneMore, target, messageFlow, kind}
+use Rattle.draw_things.specs.Things.{greatestNote, oneMore, target, messageFlow, kind}
 use Rattle.draw_kinds.specs.Counting.{sourceIn, targetIn, isWith, firstWith, ofSort, countSort}
 use Rattle.draw_conditions.specs.declared.Term.{Term}
 use Rattle.draw_conditions.specs.declared.Condition.{Condition}
@@ -56,10 +56,10 @@ put-kind x v k = record { small = λ j l. set-kind x v j l (k .small j l) }
 -- what is stored
 more-small : (n : ℕ) → oneMore n ≤ greatest
 unfolding oneMore
-more-small n = go (ltb n greatest) refl
+more-small n = go (ltb n greatestNote) refl
   where
-    go : (b : Bool) → ltb n greatest ≡ b → (if b then n + 1 else greatest) ≤ greatest
-    go true e = unfold if_then_else_ in let l = ltb-true n greatest e in omega (arith, l)
+    go : (b : Bool) → ltb n greatestNote ≡ b → (if b then n + 1 else greatestNote) ≤ greatest
+    go true e = unfold if_then_else_ in let l = ltb-true n greatestNote e in omega (arith, l)
     go false e = unfold if_then_else_ in omega arith
 
 count-most : (f : ℕ → Bool) (n : ℕ) → sum (λ j. oneIf (f j)) n ≤ n

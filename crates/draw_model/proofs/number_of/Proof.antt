@@ -11,4 +11,4 @@ number-of-spec =
     (tie.spec
     (λ c κs. search needs)
     (λ c κs. search needs)
-    (λ c. rw (c .before .count-pools .ensures) at (c .one-more .ensures)))
+    (λ c. rw (c .before .count-pools .ensures) at (c .next-number .ensures)))

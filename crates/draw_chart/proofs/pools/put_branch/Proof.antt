@@ -26,4 +26,4 @@ put-branch-spec =
     (λ c. search needs)
     (λ c κs. search needs)
     (λ c. search needs)
-    (λ c. puts-as _ (pick-yes _ _ _ _ (flag-yes _ _ (c .before .before .before .before .before .before .before .before .before .before .before .before .is-with .ensures) (c .before .before .before .before .before .before .before .before .before .before .before .if1 .left)) (rw (c .before .before .before .before .before .before .before .one-more .ensures, c .before .before .before .before .before .before .before .before .before .before .count-with .ensures, c .before .before .before .before .before .before .place-of2 .ensures, c .before .before .before .before .before .before .before .before .place-of .ensures, c .before .before .before .before .before .before .before .before .before .target-of .ensures))) (c .before .before .put-line .ensures)))
+    (λ c. puts-as _ (pick-yes _ _ _ _ (flag-yes _ _ (c .before .before .before .before .before .before .before .before .before .before .before .before .is-with .ensures) (c .before .before .before .before .before .before .before .before .before .before .before .if1 .left)) (rw (c .before .before .before .before .before .before .before .next-number .ensures, c .before .before .before .before .before .before .before .before .before .before .count-with .ensures, c .before .before .before .before .before .before .place-of2 .ensures, c .before .before .before .before .before .before .before .before .place-of .ensures, c .before .before .before .before .before .before .before .before .before .target-of .ensures))) (c .before .before .put-line .ensures)))

@@ -24,4 +24,4 @@ put-edge-spec =
     (λ c. search needs)
     (λ c κs. search needs)
     (λ c. search needs)
-    (λ c. puts-as _ (pick-yes _ _ _ _ (flag-yes _ _ (c .before .before .before .before .before .before .before .before .before .before .is-of .ensures) (c .before .before .before .before .before .before .before .before .before .if1 .left)) (rw (c .before .before .before .before .before .before .before .before .one-more .ensures, c .before .before .before .before .before .before .before .edge-of .ensures, c .before .before .before .before .before .before .place-of .ensures))) (c .before .before .put-line .ensures)))
+    (λ c. puts-as _ (pick-yes _ _ _ _ (flag-yes _ _ (c .before .before .before .before .before .before .before .before .before .before .is-of .ensures) (c .before .before .before .before .before .before .before .before .before .if1 .left)) (rw (c .before .before .before .before .before .before .before .before .next-number .ensures, c .before .before .before .before .before .before .before .edge-of .ensures, c .before .before .before .before .before .before .place-of .ensures))) (c .before .before .put-line .ensures)))

@@ -14,4 +14,4 @@ put-element-spec =
     (λ c. search needs)
     (λ c κs. search needs)
     (λ c. search needs)
-    (λ c. puts-as _ (rw (c .before .before .before .before .before .before .one-more .ensures)) (c .before .before .put-line .ensures)))
+    (λ c. puts-as _ (rw (c .before .before .before .before .before .before .next-number .ensures)) (c .before .before .put-line .ensures)))

@@ -17,4 +17,4 @@ put-pool-spec =
     (λ c κs. search needs)
     (λ c κs. search needs)
     (λ c. search needs)
-    (λ c. puts-as _ (rw (c .before .before .before .before .before .before .before .before .before .before .before .one-more .ensures, c .before .before .before .before .before .before .before .before .before .before .place-of .ensures)) (then (c .before .before .before .before .before .before .put-line .ensures) (c .before .before .put-inside .ensures))))
+    (λ c. puts-as _ (rw (c .before .before .before .before .before .before .before .before .before .before .before .next-number .ensures, c .before .before .before .before .before .before .before .before .before .before .place-of .ensures)) (then (c .before .before .before .before .before .before .put-line .ensures) (c .before .before .put-inside .ensures))))

@@ -9,4 +9,4 @@ column-spec =
     (λ c. search needs)
     (λ c. search needs)
     (λ c κs. search needs)
-    (λ c. c .word .ensures))
+    (λ c. c .note-at .ensures))

@@ -12,4 +12,4 @@ first-edge-of-spec =
     (λ c κs. search needs)
     (λ c κs. search needs)
     (λ c κs. search needs)
-    (λ c. rw (c .before .count-before-first .ensures, c .before .before .within-of .ensures) at (c .one-more .ensures)))
+    (λ c. rw (c .before .count-before-first .ensures, c .before .before .within-of .ensures) at (c .next-number .ensures)))

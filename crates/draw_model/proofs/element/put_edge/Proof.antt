@@ -17,4 +17,4 @@ put-edge-spec =
     (λ c κs. search needs)
     (λ c κs. search needs)
     (λ c. search needs)
-    (λ c. rw (c .before .before .put2 .ensures, c .before .before .before .before .before .before .before .put .ensures, c .before .before .before .one-more .ensures, c .before .before .before .before .before .before .before .before .before .word .ensures) refl))
+    (λ c. rw (c .before .before .put2 .ensures, c .before .before .before .before .before .before .before .put .ensures, c .before .before .before .next-number .ensures, c .before .before .before .before .before .before .before .before .before .word .ensures) refl))
