@@ -1,2 +1,3 @@
 pub mod AmissLaws
+pub mod UnsettledLaws
 pub mod PointsHold

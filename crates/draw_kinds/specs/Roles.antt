@@ -1,13 +1,15 @@
 -- WHICH OF THE FIFTEEN KINDS A NODE IS (R15, R16, R23). w is the things drawn, their flows joined; n their count. 0: no kind of ours. (RULES: nodes)
-use Prim.Native.Nat.{ℕ}
+use Prim.Native.Nat.{ℕ, _+_, _-_, _<_, min}
+use mathlib.Core.Path.{_≡_}
 use mathlib.Core.Bool.{Bool, _&&_}
 use mathlib.Core.List.{List}
 use lib.Dec.{eqb, leb}
 use Rattle.base_words.specs.Blocks.{Drawing}
 use Rattle.base_words.specs.Iter.{iter}
 use Rattle.base_words.specs.Pick.{if_then_else_}
+use Rattle.base_words.specs.Seek.{seek}
 use Rattle.base_kinds.specs.Kinds as kinds
-use Rattle.draw_things.specs.Things.{sort, source, isNode, withSource, sequenceFlow, messageEventDefinition, terminateEventDefinition, startEvent, endEvent, intermediateCatchEvent, intermediateThrowEvent, task, sendTask, receiveTask, parallelGateway, exclusiveGateway, eventBasedGateway, branch}
+use Rattle.draw_things.specs.Things.{sort, source, kind, isNode, withSource, sequenceFlow, messageEventDefinition, terminateEventDefinition, startEvent, endEvent, intermediateCatchEvent, intermediateThrowEvent, task, sendTask, receiveTask, parallelGateway, exclusiveGateway, eventBasedGateway, branch}
 use Rattle.draw_kinds.specs.declared.Shape.{Shape}
 use Rattle.draw_kinds.specs.Counting.{sourceIn, targetIn, withinIn, countWith, firstWith}
 
@@ -28,6 +30,10 @@ terminatesOf w n k = countWith terminateEventDefinition withinIn k w n
 -- What is drawn round a node.
 unfoldable pub shapeOf : Drawing → ℕ → ℕ → Shape
 shapeOf w n k = record { ins = flowsIn w n k; outs = flowsOut w n k; messages = messagesOf w n k; terminates = terminatesOf w n k }
+
+-- d is what the things before the last of so many draw round node k, each a thing's
+abbrev pub Before : Drawing → ℕ → ℕ → Shape → Type 0
+Before w many k d = (0 < many) × (d .ins < many) × (d .outs < many) × (d .messages < many) × (d .terminates < many) × (d ≡ shapeOf w (many - 1) k)
 
 -- "A start has 0 flows in and 1 out, an end 1 and 0, the others 1 and 1." (RULES: nodes)
 unfoldable pub flows : ℕ → ℕ → Shape → Bool
@@ -93,3 +99,16 @@ settled n k w = if isNode (sort w k) then withSource w k (kindDrawn w n k) else 
 
 unfoldable pub roles : ℕ → Drawing → Drawing
 roles n w = iter (settled n) w n
+
+-- A node of no kind is 21, whatever the others are: kinds may be settled up to the first one, itself with them. (RULES: nodes)
+unfoldable pub isUnsettled : Drawing → ℕ → Bool
+isUnsettled w k = isNode (sort w k) && eqb (kind w k) 0
+
+unfoldable pub firstUnsettled : ℕ → Drawing → ℕ
+firstUnsettled n w = seek (isUnsettled (roles n w)) n
+
+unfoldable pub areSettled : ℕ → Drawing → Bool
+areSettled n w = leb n (firstUnsettled n w)
+
+unfoldable pub settledUpTo : ℕ → Drawing → Drawing
+settledUpTo n w = iter (settled n) w (min (firstUnsettled n w + 1) n)

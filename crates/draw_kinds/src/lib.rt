@@ -1,11 +1,13 @@
 // Which of the kinds of document 01 a node of a drawing is: what stands round it, counted.
 ghost use mathlib.Core.Path.{_≡_};
-ghost use Rattle.draw_kinds.specs.Roles.{shapeOf, flows, defines, when, startDrawn, endDrawn, intermediate, activity, splits, joins, gateway, kindBy, caughtAs, kindDrawn, settled, roles};
+ghost use Rattle.draw_kinds.specs.Roles.{shapeOf, Before, flows, defines, when, startDrawn, endDrawn, intermediate, activity, splits, joins, gateway, kindBy, caughtAs, kindDrawn, settled, roles, isUnsettled, areSettled, settledUpTo};
+ghost use Rattle.draw_things.specs.Things.{sort, sequenceFlow, messageEventDefinition, terminateEventDefinition, intermediateCatchEvent};
+ghost use Rattle.base_words.specs.Pick.{if_then_else_};
+ghost use Rattle.base_words.specs.Sum.{oneIf};
+ghost use Prim.Native.Nat.{_-_, _≤_};
+ghost use lib.Dec.{eqb};
 use base_words::Word;
-use counting::SOURCE_IN;
 use counting::TARGET_IN;
-use counting::WITHIN_IN;
-use counting::count_with;
 use counting::first_with;
 use draw_links::is_node_at;
 use draw_things::things::END_EVENT;
@@ -22,9 +24,12 @@ use draw_things::things::SEQUENCE_FLOW;
 use draw_things::things::START_EVENT;
 use draw_things::things::TASK;
 use draw_things::things::TERMINATE_EVENT_DEFINITION;
+use draw_things::things::kind_of_thing;
 use draw_things::things::set_source;
 use draw_things::things::sort_of;
 use draw_things::things::source_of;
+use draw_things::things::target_of;
+use draw_things::things::within_of;
 
 pub mod counting;
 mod kinds;
@@ -37,19 +42,85 @@ pub struct Shape {
     pub terminates: Word,
 }
 
+fn one_if(same: bool) -> Word
+    ensures { λ r. ⌜ (r ≡ oneIf same) × (r ≤ 1) ⌝ }
+{
+    if same { 1 } else { 0 }
+}
+
+fn with_flow(w: &[Note], many: Note, k: Note, d: Shape) -> Shape
+    requires { ⌜ Before (now w) many k d × (sort (now w) (many - 1) ≡ sequenceFlow) ⌝ }
+    ensures { λ r. ⌜ r ≡ shapeOf (now (w .entry)) many k ⌝ }
+{
+    let into = one_if(target_of(w, many - 1) == k);
+    let out = one_if(source_of(w, many - 1) == k);
+    Shape {
+        ins: d.ins + into,
+        outs: d.outs + out,
+        messages: d.messages,
+        terminates: d.terminates,
+    }
+}
+
+fn with_message(w: &[Note], many: Note, k: Note, d: Shape) -> Shape
+    requires { ⌜ Before (now w) many k d × (sort (now w) (many - 1) ≡ messageEventDefinition) ⌝ }
+    ensures { λ r. ⌜ r ≡ shapeOf (now (w .entry)) many k ⌝ }
+{
+    let inside = one_if(within_of(w, many - 1) == k);
+    Shape {
+        ins: d.ins,
+        outs: d.outs,
+        messages: d.messages + inside,
+        terminates: d.terminates,
+    }
+}
+
+fn with_terminate(w: &[Note], many: Note, k: Note, d: Shape) -> Shape
+    requires { ⌜ Before (now w) many k d × (sort (now w) (many - 1) ≡ terminateEventDefinition) ⌝ }
+    ensures { λ r. ⌜ r ≡ shapeOf (now (w .entry)) many k ⌝ }
+{
+    let inside = one_if(within_of(w, many - 1) == k);
+    Shape {
+        ins: d.ins,
+        outs: d.outs,
+        messages: d.messages,
+        terminates: d.terminates + inside,
+    }
+}
+
+// The last of so many things added to what those before it draw round node k.
+fn with_thing(w: &[Note], many: Note, k: Note, d: Shape) -> Shape
+    requires { ⌜ Before (now w) many k d ⌝ }
+    ensures { λ r. ⌜ r ≡ shapeOf (now (w .entry)) many k ⌝ }
+{
+    let s = sort_of(w, many - 1);
+    if s == SEQUENCE_FLOW {
+        return with_flow(w, many, k, d);
+    }
+    if s == MESSAGE_EVENT_DEFINITION {
+        return with_message(w, many, k, d);
+    }
+    if s == TERMINATE_EVENT_DEFINITION {
+        return with_terminate(w, many, k, d);
+    }
+    d
+}
+
 fn shape_of(w: &[Note], n: Note, k: Note) -> Shape
     ensures { λ r. ⌜ r ≡ shapeOf (now (w .entry)) n k ⌝ }
 {
-    let ins = count_with(SEQUENCE_FLOW, TARGET_IN, k, w, n);
-    let outs = count_with(SEQUENCE_FLOW, SOURCE_IN, k, w, n);
-    let messages = count_with(MESSAGE_EVENT_DEFINITION, WITHIN_IN, k, w, n);
-    let terminates = count_with(TERMINATE_EVENT_DEFINITION, WITHIN_IN, k, w, n);
-    Shape {
-        ins: ins,
-        outs: outs,
-        messages: messages,
-        terminates: terminates,
+    let mut d = Shape {
+        ins: 0,
+        outs: 0,
+        messages: 0,
+        terminates: 0,
+    };
+    let mut many: Note = 0;
+    while many < n {
+        many += 1;
+        d = with_thing(w, many, k, d);
     }
+    d
 }
 
 fn flows(i: Word, o: Word, d: Shape) -> bool
@@ -176,10 +247,21 @@ fn caught_as(w: &[Note], n: Note, k: Note) -> Note
     kinds::INTER_RCV
 }
 
+// The same where it is asked for: of a catch event.
+fn caught_by(s: Note, w: &[Note], n: Note, k: Note) -> Note
+    ensures { λ r. ⌜ r ≡ (if eqb s intermediateCatchEvent then caughtAs (now (w .entry)) n k else 0) ⌝ }
+{
+    if s == INTERMEDIATE_CATCH_EVENT {
+        return caught_as(w, n, k);
+    }
+    0
+}
+
 fn kind_drawn(w: &[Note], n: Note, k: Note) -> Note
     ensures { λ r. ⌜ r ≡ kindDrawn (now (w .entry)) n k ⌝ }
 {
-    kind_by(sort_of(w, k), caught_as(w, n, k), shape_of(w, n, k))
+    let s = sort_of(w, k);
+    kind_by(s, caught_by(s, w, n, k), shape_of(w, n, k))
 }
 
 fn settle(w: &mut [Note], n: Note, k: Note)
@@ -200,4 +282,25 @@ pub fn roles(w: &mut [Note], n: Note)
         settle(w, n, k);
         k += 1;
     }
+}
+
+fn is_unsettled(w: &[Note], k: Note) -> bool
+    ensures { λ r. ⌜ r ≡ isUnsettled (now (w .entry)) k ⌝ }
+{
+    is_node_at(w, k) && kind_of_thing(w, k) == 0
+}
+
+// The same up to the first node of no kind, and whether there is none.
+pub fn settle_kinds(w: &mut [Note], n: Note) -> bool
+    ensures { λ r. ⌜ (r ≡ areSettled n (now (w .entry))) × (now (w .exit) ≡ settledUpTo n (now (w .entry))) ⌝ }
+{
+    let mut k: Note = 0;
+    while k < n {
+        settle(w, n, k);
+        if is_unsettled(w, k) {
+            return false;
+        }
+        k += 1;
+    }
+    true
 }
