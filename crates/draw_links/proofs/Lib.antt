@@ -1,3 +1,4 @@
 pub mod LinkLaws
+pub mod NoteLaws
 pub mod TestLaws
 pub mod PointsHold

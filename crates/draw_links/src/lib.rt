@@ -2,13 +2,16 @@
 ghost use mathlib.Core.Bool.{_&&_, _||_};
 ghost use mathlib.Core.Path.{_≡_};
 ghost use lib.Dec.{eqb};
-ghost use Rattle.draw_things.specs.Things.{sort, within, source, place, isNode, participant, messageFlow, sequenceFlow};
+ghost use Rattle.base_words.specs.Seek.{seek};
+ghost use Rattle.draw_things.specs.Things.{sort, within, source, place, isNode, participant, messageFlow, process, sequenceFlow};
 ghost use Rattle.xml_markup.specs.Spans.{attribute};
-ghost use Rattle.draw_links.specs.Links.{hasId, mayName, meant, named, joined, owned, linked, links};
+ghost use Rattle.draw_links.specs.Links.{hasId, mayName, orNone, meant, named, joined, owned, linked, links};
+ghost use Rattle.draw_links.specs.Notes.{NotedAt, Noted};
 use draw_things::things::MESSAGE_FLOW;
 use draw_things::things::Note;
 use draw_things::things::PARTICIPANT;
 use draw_things::things::PROCESS;
+use draw_things::things::ROOM;
 use draw_things::things::SEQUENCE_FLOW;
 use draw_things::things::is_node;
 use draw_things::things::place_of;
@@ -17,11 +20,15 @@ use draw_things::things::set_target;
 use draw_things::things::sort_of;
 use draw_things::things::source_of;
 use draw_things::things::within_of;
+use ids::has_noted_id;
+use ids::note_ids;
 use text_lexer::piece;
 use text_numerals::same;
 use xml_markup::Attribute;
 use xml_markup::spans::attribute;
 use xml_markup::spans::local_of;
+
+pub mod ids;
 
 // An attribute of a thing.
 pub fn attribute_of(text: &[u8], w: &[Note], k: Note, name: &[u8]) -> Attribute
@@ -114,19 +121,112 @@ pub fn named(text: &[u8], w: &[Note], n: Note, k: Note, name: &[u8]) -> Note
     meant(text, w, n, k, local_of(piece(text, from, to)))
 }
 
-fn join(text: &[u8], w: &mut [Note], n: Note, k: Note)
-    ensures { λ _. ⌜ now (w .exit) ≡ joined (now (text .entry)) n k (now (w .entry)) ⌝ }
+fn is_node_in(w: &[Note], p: Note, j: Note) -> bool
+    ensures { λ r. ⌜ r ≡ isNode (sort (now (w .entry)) j) && eqb (within (now (w .entry)) j) p ⌝ }
 {
-    let from = named(text, w, n, k, b"sourceRef");
-    let to = named(text, w, n, k, b"targetRef");
+    is_node_at(w, j) && within_of(w, j) == p
+}
+
+fn is_node_named(text: &[u8], w: &[Note], ids: &[u16], p: Note, v: &[u8], j: Note) -> bool
+    ensures { λ r. ⌜ (NotedAt (now (text .entry)) (now (w .entry)) (now (ids .entry)) j → r ≡ (isNode (sort (now (w .entry)) j) && eqb (within (now (w .entry)) j) p) && hasId (now (text .entry)) (now (v .entry)) (now (w .entry)) j) ⌝ }
+{
+    is_node_in(w, p, j) && has_noted_id(text, v, w, ids, j)
+}
+
+// The first node of process p with an id; 0 for none.
+fn node_named(text: &[u8], w: &[Note], ids: &[u16], n: Note, p: Note, v: &[u8]) -> Note
+    ensures { λ r. ⌜ (Noted (now (text .entry)) (now (w .entry)) (now (ids .entry)) n → r ≡ orNone n (seek (λ j. (isNode (sort (now (w .entry)) j) && eqb (within (now (w .entry)) j) p) && hasId (now (text .entry)) (now (v .entry)) (now (w .entry)) j) n)) ⌝ }
+{
+    let mut j: Note = 0;
+    while j < n {
+        if is_node_named(text, w, ids, p, v, j) {
+            return j;
+        }
+        j += 1;
+    }
+    0
+}
+
+fn is_end_named(text: &[u8], w: &[Note], ids: &[u16], v: &[u8], j: Note) -> bool
+    ensures { λ r. ⌜ (NotedAt (now (text .entry)) (now (w .entry)) (now (ids .entry)) j → r ≡ (isNode (sort (now (w .entry)) j) || eqb (sort (now (w .entry)) j) participant) && hasId (now (text .entry)) (now (v .entry)) (now (w .entry)) j) ⌝ }
+{
+    is_end(w, j) && has_noted_id(text, v, w, ids, j)
+}
+
+// The first node or participant with an id; 0 for none.
+fn end_named(text: &[u8], w: &[Note], ids: &[u16], n: Note, v: &[u8]) -> Note
+    ensures { λ r. ⌜ (Noted (now (text .entry)) (now (w .entry)) (now (ids .entry)) n → r ≡ orNone n (seek (λ j. (isNode (sort (now (w .entry)) j) || eqb (sort (now (w .entry)) j) participant) && hasId (now (text .entry)) (now (v .entry)) (now (w .entry)) j) n)) ⌝ }
+{
+    let mut j: Note = 0;
+    while j < n {
+        if is_end_named(text, w, ids, v, j) {
+            return j;
+        }
+        j += 1;
+    }
+    0
+}
+
+fn is_process_named(text: &[u8], w: &[Note], ids: &[u16], v: &[u8], j: Note) -> bool
+    ensures { λ r. ⌜ (NotedAt (now (text .entry)) (now (w .entry)) (now (ids .entry)) j → r ≡ eqb (sort (now (w .entry)) j) process && hasId (now (text .entry)) (now (v .entry)) (now (w .entry)) j) ⌝ }
+{
+    sort_of(w, j) == PROCESS && has_noted_id(text, v, w, ids, j)
+}
+
+// The first process with an id; 0 for none.
+fn process_named(text: &[u8], w: &[Note], ids: &[u16], n: Note, v: &[u8]) -> Note
+    ensures { λ r. ⌜ (Noted (now (text .entry)) (now (w .entry)) (now (ids .entry)) n → r ≡ orNone n (seek (λ j. eqb (sort (now (w .entry)) j) process && hasId (now (text .entry)) (now (v .entry)) (now (w .entry)) j) n)) ⌝ }
+{
+    let mut j: Note = 0;
+    while j < n {
+        if is_process_named(text, w, ids, v, j) {
+            return j;
+        }
+        j += 1;
+    }
+    0
+}
+
+fn meant_by(text: &[u8], w: &[Note], ids: &[u16], n: Note, k: Note, v: &[u8]) -> Note
+    ensures { λ r. ⌜ (Noted (now (text .entry)) (now (w .entry)) (now (ids .entry)) n → r ≡ meant (now (text .entry)) (now (w .entry)) n k (now (v .entry))) ⌝ }
+{
+    let s = sort_of(w, k);
+    if s == SEQUENCE_FLOW {
+        return node_named(text, w, ids, n, within_of(w, k), v);
+    }
+    if s == MESSAGE_FLOW {
+        return end_named(text, w, ids, n, v);
+    }
+    if s == PARTICIPANT {
+        return process_named(text, w, ids, n, v);
+    }
+    meant(text, w, n, k, v)
+}
+
+// The thing that an attribute of thing k names, by the notes of ids.
+fn named_by(text: &[u8], w: &[Note], ids: &[u16], n: Note, k: Note, name: &[u8]) -> Note
+    ensures { λ r. ⌜ (Noted (now (text .entry)) (now (w .entry)) (now (ids .entry)) n → r ≡ named (now (text .entry)) (now (w .entry)) n k (now (name .entry))) ⌝ }
+{
+    let a = attribute_of(text, w, k, name);
+    let Attribute::Is(from, to) = a else {
+        return 0;
+    };
+    meant_by(text, w, ids, n, k, local_of(piece(text, from, to)))
+}
+
+fn join(text: &[u8], w: &mut [Note], ids: &[u16], n: Note, k: Note)
+    ensures { λ _. ⌜ (Noted (now (text .entry)) (now (w .entry)) (now (ids .entry)) n → now (w .exit) ≡ joined (now (text .entry)) n k (now (w .entry))) ⌝ }
+{
+    let from = named_by(text, w, ids, n, k, b"sourceRef");
+    let to = named_by(text, w, ids, n, k, b"targetRef");
     set_source(w, k, from);
     set_target(w, k, to);
 }
 
-fn own(text: &[u8], w: &mut [Note], n: Note, k: Note)
-    ensures { λ _. ⌜ now (w .exit) ≡ owned (now (text .entry)) n k (now (w .entry)) ⌝ }
+fn own(text: &[u8], w: &mut [Note], ids: &[u16], n: Note, k: Note)
+    ensures { λ _. ⌜ (Noted (now (text .entry)) (now (w .entry)) (now (ids .entry)) n → now (w .exit) ≡ owned (now (text .entry)) n k (now (w .entry))) ⌝ }
 {
-    let process = named(text, w, n, k, b"processRef");
+    let process = named_by(text, w, ids, n, k, b"processRef");
     set_source(w, k, process);
 }
 
@@ -137,15 +237,25 @@ fn is_flow(w: &[Note], k: Note) -> bool
     s == SEQUENCE_FLOW || s == MESSAGE_FLOW
 }
 
-fn link(text: &[u8], w: &mut [Note], n: Note, k: Note)
-    ensures { λ _. ⌜ now (w .exit) ≡ linked (now (text .entry)) n k (now (w .entry)) ⌝ }
+fn link(text: &[u8], w: &mut [Note], ids: &[u16], n: Note, k: Note)
+    ensures { λ _. ⌜ (Noted (now (text .entry)) (now (w .entry)) (now (ids .entry)) n → now (w .exit) ≡ linked (now (text .entry)) n k (now (w .entry))) ⌝ }
 {
     if is_flow(w, k) {
-        join(text, w, n, k);
+        join(text, w, ids, n, k);
         return;
     }
     if sort_of(w, k) == PARTICIPANT {
-        own(text, w, n, k);
+        own(text, w, ids, n, k);
+    }
+}
+
+fn link_all(text: &[u8], w: &mut [Note], ids: &[u16], n: Note)
+    ensures { λ _. ⌜ (Noted (now (text .entry)) (now (w .entry)) (now (ids .entry)) n → now (w .exit) ≡ links (now (text .entry)) n (now (w .entry))) ⌝ }
+{
+    let mut k: Note = 0;
+    while k < n {
+        link(text, w, ids, n, k);
+        k += 1;
     }
 }
 
@@ -153,9 +263,7 @@ fn link(text: &[u8], w: &mut [Note], n: Note, k: Note)
 pub fn links(text: &[u8], w: &mut [Note], n: Note)
     ensures { λ _. ⌜ now (w .exit) ≡ links (now (text .entry)) n (now (w .entry)) ⌝ }
 {
-    let mut k: Note = 0;
-    while k < n {
-        link(text, w, n, k);
-        k += 1;
-    }
+    let mut ids = [0; ROOM];
+    note_ids(text, w, n, &mut ids);
+    link_all(text, w, &ids, n);
 }

@@ -16,4 +16,4 @@ join-spec =
     (λ c κs. search needs)
     (λ c κs. search needs)
     (λ c. search needs)
-    (λ c. rw (c .before .before .set-target .ensures, c .before .before .before .before .before .before .set-source .ensures, c .before .before .before .before .before .before .before .before .before .before .before .named .ensures, c .before .before .before .before .before .before .before .before .named2 .ensures) refl))
+    (λ c h. rw (c .before .before .set-target .ensures, c .before .before .before .before .before .before .set-source .ensures, c .before .before .before .before .before .before .before .before .before .before .before .named-by .ensures h, c .before .before .before .before .before .before .before .before .named-by2 .ensures h) refl))

@@ -1,30 +1,14 @@
-use Prim.Native.Nat.{_-_, _≤_}
-use Rattle.draw_links.specs.Links.{linked, links}
-use Rattle.base_words.proofs.IterLaws.{iter-done, iter-more, iter-none}
-use Rattle.base_words.specs.Iter.{iter}
-use lib.ListN.{length}
-use mathlib.Core.Path.{_≡_}
 use borrow.Author.Needs.{needs}
 use Rattle.draw_links.proofs.links.Statement.{statement}
 use Rattle.draw_links.proofs.links.Tie as tie
 
-abbrev Inv-loop : tie.InvT-loop
-Inv-loop text w₁ n k₀ w k = (k ≤ n) × (length w ≡ length w₁) × (w ≡ iter (linked text n) w₁ k)
-
-abbrev μ-loop : tie.MeasureT-loop
-μ-loop text w₁ n k₀ w k = n - k
-
 pub links-spec : {M : Type 1} → statement M
-unfolding links
 links-spec =
     tie.close
     (tie.spec
-    Inv-loop
-    μ-loop
-    (λ c. (search needs, search needs, iter-none _ _))
+    (λ c. search needs)
     (λ c κs. search needs)
     (λ c. search needs)
+    (λ c κs. search needs)
     (λ c. search needs)
-    (λ c. (search needs, search needs, iter-more _ _ _ _ _ (c .before .before .before .before .before .loop .inv .2) (c .before .before .link .ensures)))
-    (λ c. search needs)
-    (λ c. iter-done _ _ _ _ _ (c .loop-test .left) (c .before .loop .inv .0) (c .before .loop .inv .2)))
+    (λ c. c .before .before .link-all .ensures (c .before .before .before .before .before .before .note-ids .ensures)))

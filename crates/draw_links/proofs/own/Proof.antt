@@ -13,4 +13,4 @@ own-spec =
     (λ c κs. search needs)
     (λ c κs. search needs)
     (λ c. search needs)
-    (λ c. rw (c .before .before .set-source .ensures, c .before .before .before .before .named .ensures) refl))
+    (λ c h. rw (c .before .before .set-source .ensures, c .before .before .before .before .named-by .ensures h) refl))
