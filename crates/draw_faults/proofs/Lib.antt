@@ -1,3 +1,5 @@
 pub mod AmissLaws
+pub mod OnceLaws
+pub mod RepeatLaws
 pub mod UnsettledLaws
 pub mod PointsHold

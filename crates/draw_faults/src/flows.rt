@@ -1,14 +1,15 @@
 // What is amiss with flows: R17, R21, R23, R24.
-ghost use mathlib.Core.Bool.{_&&_};
+ghost use mathlib.Core.Bool.{true, _&&_};
 ghost use mathlib.Core.Path.{_≡_};
 ghost use Rattle.draw_things.specs.Things.{place, within, source, target};
 ghost use Rattle.draw_conditions.specs.Conditions.{conditionAt};
 ghost use Rattle.draw_faults.specs.Amiss.{isOfKind, isSplit, isLoose, isWrongBranch, isWrongForm, isWrongCondition, maySend, mayReceive, isWrongMessage};
+ghost use Rattle.draw_faults.specs.Once.{Plain};
 use super::nodes::is_of_kind;
 use super::nodes::is_receiver;
 use super::nodes::is_sender;
 use super::nodes::is_split;
-use super::pools::is_outside;
+use super::pools::is_outside_by;
 use base_kinds::moves::EVENT_BASED;
 use base_words::Word;
 use draw_conditions::ABSENT;
@@ -86,27 +87,34 @@ pub fn is_wrong_condition(text: &[u8], w: &[Note], k: Note) -> bool
     of_sort(CONDITION_EXPRESSION, w, k) && is_wrong_form(form_of(text, w, k), w, k)
 }
 
-fn may_send(text: &[u8], w: &[Note], j: Note) -> bool
-    ensures { λ r. ⌜ r ≡ maySend (now (text .entry)) (now (w .entry)) j ⌝ }
+fn may_send(plain: bool, n: Note, text: &[u8], w: &[Note], j: Note) -> bool
+    ensures { λ r. ⌜ ((plain ≡ true → Plain (now (text .entry)) (now (w .entry)) n) → r ≡ maySend (now (text .entry)) (now (w .entry)) j) ⌝ }
 {
-    is_sender(w, j) || is_outside(text, w, j)
+    is_sender(w, j) || is_outside_by(plain, n, text, w, j)
 }
 
-fn may_receive(text: &[u8], w: &[Note], j: Note) -> bool
-    ensures { λ r. ⌜ r ≡ mayReceive (now (text .entry)) (now (w .entry)) j ⌝ }
+fn may_receive(plain: bool, n: Note, text: &[u8], w: &[Note], j: Note) -> bool
+    ensures { λ r. ⌜ ((plain ≡ true → Plain (now (text .entry)) (now (w .entry)) n) → r ≡ mayReceive (now (text .entry)) (now (w .entry)) j) ⌝ }
 {
-    is_receiver(w, j) || is_outside(text, w, j)
+    is_receiver(w, j) || is_outside_by(plain, n, text, w, j)
 }
 
-fn has_right_ends(text: &[u8], w: &[Note], k: Note) -> bool
-    ensures { λ r. ⌜ r ≡ maySend (now (text .entry)) (now (w .entry)) (source (now (w .entry)) k) && mayReceive (now (text .entry)) (now (w .entry)) (target (now (w .entry)) k) ⌝ }
+fn has_right_ends(plain: bool, n: Note, text: &[u8], w: &[Note], k: Note) -> bool
+    ensures { λ r. ⌜ ((plain ≡ true → Plain (now (text .entry)) (now (w .entry)) n) → r ≡ maySend (now (text .entry)) (now (w .entry)) (source (now (w .entry)) k) && mayReceive (now (text .entry)) (now (w .entry)) (target (now (w .entry)) k)) ⌝ }
 {
-    may_send(text, w, source_of(w, k)) && may_receive(text, w, target_of(w, k))
+    may_send(plain, n, text, w, source_of(w, k)) && may_receive(plain, n, text, w, target_of(w, k))
+}
+
+// Whether a message flow has an end that doesn't send or receive, where it is known whether all participants are plain.
+pub fn is_wrong_message_by(plain: bool, n: Note, text: &[u8], w: &[Note], k: Note) -> bool
+    ensures { λ r. ⌜ ((plain ≡ true → Plain (now (text .entry)) (now (w .entry)) n) → r ≡ isWrongMessage (now (text .entry)) (now (w .entry)) k) ⌝ }
+{
+    of_sort(MESSAGE_FLOW, w, k) && !has_right_ends(plain, n, text, w, k)
 }
 
 // Whether a message flow has an end that doesn't send or receive.
 pub fn is_wrong_message(text: &[u8], w: &[Note], k: Note) -> bool
     ensures { λ r. ⌜ r ≡ isWrongMessage (now (text .entry)) (now (w .entry)) k ⌝ }
 {
-    of_sort(MESSAGE_FLOW, w, k) && !has_right_ends(text, w, k)
+    is_wrong_message_by(false, 0, text, w, k)
 }

@@ -30,7 +30,8 @@ fn is_read_sort(s: Note) -> bool
     s == PROCESS || s == SEQUENCE_FLOW
 }
 
-fn is_read(w: &[Note], j: Note) -> bool
+// Whether thing j is one of the elements read.
+pub fn is_read(w: &[Note], j: Note) -> bool
     ensures { λ r. ⌜ r ≡ isRead (now (w .entry)) j ⌝ }
 {
     is_read_sort(sort_of(w, j))

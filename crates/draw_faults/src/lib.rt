@@ -1,7 +1,10 @@
 // 21: what is amiss in a drawing.
+ghost use Prim.Native.Nat.{ℕ, _<_};
+ghost use mathlib.Core.Bool.{true, false};
 ghost use mathlib.Core.Path.{_≡_};
 ghost use Rattle.base_words.specs.All.{all};
-ghost use Rattle.draw_faults.specs.Amiss.{has, hasParticipants, hasPool, amissAsFlow, amissAsNode, amissAsPool, isAmiss, isRight, isDrawing};
+ghost use Rattle.draw_faults.specs.Amiss.{has, hasParticipants, hasPool, amissAsFlow, amissAsNode, amissAsPool, isAmiss, isRight, isRepeated, isDrawing};
+ghost use Rattle.draw_faults.specs.Once.{Plain};
 use draw_kinds::counting::of_sort;
 use draw_links::attribute_of;
 use draw_things::things::CONDITION_EXPRESSION;
@@ -12,24 +15,26 @@ use draw_things::things::STRANGER;
 use flows::is_loose;
 use flows::is_wrong_branch;
 use flows::is_wrong_condition;
-use flows::is_wrong_message;
-use ids::is_repeated;
+use flows::is_wrong_message_by;
 use nodes::has_wrong_default;
 use nodes::is_of_kind;
 use nodes::is_unheard;
 use nodes::is_untold;
+use pools::first_odd;
 use pools::has_participants;
 use pools::has_pool;
 use pools::is_lost;
 use pools::is_second;
 use pools::is_second_collaboration;
-use pools::is_unowned;
+use pools::is_unowned_by;
+use repeats::first_repeated;
 use xml_markup::Attribute;
 
 pub mod flows;
 pub mod ids;
 pub mod nodes;
 pub mod pools;
+pub mod repeats;
 
 // Whether an attribute of thing k is there.
 pub fn has(text: &[u8], name: &[u8], w: &[Note], k: Note) -> bool
@@ -42,8 +47,8 @@ pub fn has(text: &[u8], name: &[u8], w: &[Note], k: Note) -> bool
     true
 }
 
-fn amiss_as_flow(text: &[u8], w: &[Note], k: Note) -> bool
-    ensures { λ r. ⌜ r ≡ amissAsFlow (now (text .entry)) (now (w .entry)) k ⌝ }
+fn amiss_as_flow(plain: bool, text: &[u8], w: &[Note], n: Note, k: Note) -> bool
+    ensures { λ r. ⌜ ((plain ≡ true → Plain (now (text .entry)) (now (w .entry)) n) → r ≡ amissAsFlow (now (text .entry)) (now (w .entry)) k) ⌝ }
 {
     if is_loose(w, k) {
         return true;
@@ -54,7 +59,7 @@ fn amiss_as_flow(text: &[u8], w: &[Note], k: Note) -> bool
     if is_second(CONDITION_EXPRESSION, w, k) {
         return true;
     }
-    is_wrong_condition(text, w, k) || is_wrong_message(text, w, k)
+    is_wrong_condition(text, w, k) || is_wrong_message_by(plain, n, text, w, k)
 }
 
 fn amiss_as_node(text: &[u8], w: &[Note], n: Note, k: Note) -> bool
@@ -69,8 +74,8 @@ fn amiss_as_node(text: &[u8], w: &[Note], n: Note, k: Note) -> bool
     is_unheard(w, n, k) || is_untold(w, n, k)
 }
 
-fn amiss_as_pool(text: &[u8], w: &[Note], n: Note, k: Note) -> bool
-    ensures { λ r. ⌜ r ≡ amissAsPool (now (text .entry)) (now (w .entry)) n k ⌝ }
+fn amiss_as_pool(owned: bool, text: &[u8], w: &[Note], n: Note, k: Note) -> bool
+    ensures { λ r. ⌜ (owned ≡ hasParticipants (now (w .entry)) n → r ≡ amissAsPool (now (text .entry)) (now (w .entry)) n k) ⌝ }
 {
     if is_second_collaboration(w, k) {
         return true;
@@ -78,35 +83,47 @@ fn amiss_as_pool(text: &[u8], w: &[Note], n: Note, k: Note) -> bool
     if is_lost(text, w, k) {
         return true;
     }
-    is_unowned(w, n, k) || is_second(PARTICIPANT_MULTIPLICITY, w, k)
+    is_unowned_by(owned, w, n, k) || is_second(PARTICIPANT_MULTIPLICITY, w, k)
 }
 
-fn is_amiss(text: &[u8], w: &[Note], n: Note, k: Note) -> bool
-    ensures { λ r. ⌜ r ≡ isAmiss (now (text .entry)) (now (w .entry)) n k ⌝ }
+// Whether thing k is amiss, where its id is not repeated and it is known whether there are participants and all are plain.
+fn is_amiss(owned: bool, plain: bool, text: &[u8], w: &[Note], n: Note, k: Note) -> bool
+    ensures { λ r. ⌜ (owned ≡ hasParticipants (now (w .entry)) n → (plain ≡ true → Plain (now (text .entry)) (now (w .entry)) n) → isRepeated (now (text .entry)) (now (w .entry)) k ≡ false → r ≡ isAmiss (now (text .entry)) (now (w .entry)) n k) ⌝ }
 {
     if of_sort(STRANGER, w, k) {
         return true;
     }
-    if amiss_as_flow(text, w, k) {
+    if amiss_as_flow(plain, text, w, n, k) {
         return true;
     }
-    if amiss_as_node(text, w, n, k) {
-        return true;
-    }
-    amiss_as_pool(text, w, n, k) || is_repeated(text, w, k)
+    amiss_as_node(text, w, n, k) || amiss_as_pool(owned, text, w, n, k)
 }
 
-fn all_right(text: &[u8], w: &[Note], n: Note) -> bool
-    ensures { λ r. ⌜ r ≡ all (isRight (now (text .entry)) (now (w .entry)) n) n ⌝ }
+fn all_right(owned: bool, plain: bool, text: &[u8], w: &[Note], n: Note) -> bool
+    ensures { λ r. ⌜ (owned ≡ hasParticipants (now (w .entry)) n → (plain ≡ true → Plain (now (text .entry)) (now (w .entry)) n) → ((k : ℕ) → k < n → isRepeated (now (text .entry)) (now (w .entry)) k ≡ false) → r ≡ all (isRight (now (text .entry)) (now (w .entry)) n) n) ⌝ }
 {
     let mut k: Note = 0;
     while k < n {
-        if is_amiss(text, w, n, k) {
+        if is_amiss(owned, plain, text, w, n, k) {
             return false;
         }
         k += 1;
     }
     true
+}
+
+// Whether all things are right: what can be asked of all of them at once is asked first.
+fn are_right(text: &[u8], w: &[Note], n: Note) -> bool
+    ensures { λ r. ⌜ r ≡ all (isRight (now (text .entry)) (now (w .entry)) n) n ⌝ }
+{
+    if first_repeated(text, w, n) < n {
+        return false;
+    }
+    let odd = first_odd(text, w, n);
+    if odd < n && is_lost(text, w, odd) {
+        return false;
+    }
+    all_right(has_participants(w, n), n <= odd, text, w, n)
 }
 
 fn has_pools(w: &[Note], n: Note) -> bool
@@ -119,5 +136,5 @@ fn has_pools(w: &[Note], n: Note) -> bool
 pub fn is_drawing(text: &[u8], w: &[Note], n: Note) -> bool
     ensures { λ r. ⌜ r ≡ isDrawing (now (text .entry)) (now (w .entry)) n ⌝ }
 {
-    n as usize <= ROOM && (has_pools(w, n) && all_right(text, w, n))
+    n as usize <= ROOM && (has_pools(w, n) && are_right(text, w, n))
 }

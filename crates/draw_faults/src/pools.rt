@@ -1,6 +1,9 @@
 // What is amiss with pools: R18, R19, R20.
+ghost use mathlib.Core.Bool.{true};
 ghost use mathlib.Core.Path.{_≡_};
+ghost use Rattle.base_words.specs.Seek.{seek};
 ghost use Rattle.draw_faults.specs.Amiss.{isSecondCollaboration, isLost, hasParticipants, isPool, hasPool, isUnowned, isSecond, isOutside};
+ghost use Rattle.draw_faults.specs.Once.{isOdd, Plain};
 use super::has;
 use draw_kinds::counting::SOURCE_IN;
 use draw_kinds::counting::WITHIN_IN;
@@ -86,4 +89,51 @@ pub fn is_outside(text: &[u8], w: &[Note], j: Note) -> bool
     ensures { λ r. ⌜ r ≡ isOutside (now (text .entry)) (now (w .entry)) j ⌝ }
 {
     of_sort(PARTICIPANT, w, j) && !has(text, b"processRef", w, j)
+}
+
+// Whether the source of participant j doesn't say whether it is outside.
+fn is_odd(text: &[u8], w: &[Note], j: Note) -> bool
+    ensures { λ r. ⌜ r ≡ isOdd (now (text .entry)) (now (w .entry)) j ⌝ }
+{
+    if !of_sort(PARTICIPANT, w, j) {
+        return false;
+    }
+    if has(text, b"processRef", w, j) {
+        return source_of(w, j) == 0;
+    }
+    source_of(w, j) != 0
+}
+
+// The first such participant; n where there is none.
+pub fn first_odd(text: &[u8], w: &[Note], n: Note) -> Note
+    ensures { λ r. ⌜ r ≡ seek (isOdd (now (text .entry)) (now (w .entry))) n ⌝ }
+{
+    let mut j: Note = 0;
+    while j < n {
+        if is_odd(text, w, j) {
+            return j;
+        }
+        j += 1;
+    }
+    j
+}
+
+// Whether thing j is a participant without a process, by its source where all participants are plain.
+pub fn is_outside_by(plain: bool, n: Note, text: &[u8], w: &[Note], j: Note) -> bool
+    ensures { λ r. ⌜ ((plain ≡ true → Plain (now (text .entry)) (now (w .entry)) n) → r ≡ isOutside (now (text .entry)) (now (w .entry)) j) ⌝ }
+{
+    if !plain {
+        return is_outside(text, w, j);
+    }
+    if n <= j {
+        return is_outside(text, w, j);
+    }
+    of_sort(PARTICIPANT, w, j) && source_of(w, j) == 0
+}
+
+// Whether process k belongs to no participant, or to two, where it is known whether there are participants.
+pub fn is_unowned_by(owned: bool, w: &[Note], n: Note, k: Note) -> bool
+    ensures { λ r. ⌜ (owned ≡ hasParticipants (now (w .entry)) n → r ≡ isUnowned (now (w .entry)) n k) ⌝ }
+{
+    of_sort(PROCESS, w, k) && (owned && count_with(PARTICIPANT, SOURCE_IN, k, w, n) != 1)
 }

@@ -11,12 +11,12 @@ amiss-as-flow-spec =
     tie.close
     (tie.spec
     (λ c κs. search needs)
-    (λ c. or-here _ _ _ (c .before .is-loose .ensures) (c .if1 .taken))
+    (λ c h. or-here _ _ _ (c .before .is-loose .ensures) (c .if1 .taken))
     (λ c κs. search needs)
-    (λ c. or-on _ _ _ _ (c .before .before .before .is-loose .ensures) (c .before .before .if1 .left) (or-here _ _ _ (c .before .is-wrong-branch .ensures) (c .if2 .taken)))
+    (λ c h. or-on _ _ _ _ (c .before .before .before .is-loose .ensures) (c .before .before .if1 .left) (or-here _ _ _ (c .before .is-wrong-branch .ensures) (c .if2 .taken)))
     (λ c κs. search needs)
-    (λ c. or-on _ _ _ _ (c .before .before .before .before .before .is-loose .ensures) (c .before .before .before .before .if1 .left) (or-on _ _ _ _ (c .before .before .before .is-wrong-branch .ensures) (c .before .before .if2 .left) (or-here _ _ _ (c .before .is-second .ensures) (c .if3 .taken))))
+    (λ c h. or-on _ _ _ _ (c .before .before .before .before .before .is-loose .ensures) (c .before .before .before .before .if1 .left) (or-on _ _ _ _ (c .before .before .before .is-wrong-branch .ensures) (c .before .before .if2 .left) (or-here _ _ _ (c .before .is-second .ensures) (c .if3 .taken))))
     (λ c κs. search needs)
     (λ c κs. search needs)
-    (λ c. or-on _ _ _ _ (c .before .before .before .before .before .before .before .is-loose .ensures) (c .before .before .before .before .before .before .if1 .left) (or-on _ _ _ _ (c .before .before .before .before .before .is-wrong-branch .ensures) (c .before .before .before .before .if2 .left) (or-on _ _ _ _ (c .before .before .before .is-second .ensures) (c .before .before .if3 .left) (or-told _ _ _ (c .before .is-wrong-condition .ensures) (c .if4 .taken)))))
-    (λ c. or-on _ _ _ _ (c .before .before .before .before .before .before .before .before .is-loose .ensures) (c .before .before .before .before .before .before .before .if1 .left) (or-on _ _ _ _ (c .before .before .before .before .before .before .is-wrong-branch .ensures) (c .before .before .before .before .before .if2 .left) (or-on _ _ _ _ (c .before .before .before .before .is-second .ensures) (c .before .before .before .if3 .left) (or-on _ _ _ _ (c .before .before .is-wrong-condition .ensures) (c .before .if4 .left) (c .is-wrong-message .ensures))))))
+    (λ c h. or-on _ _ _ _ (c .before .before .before .before .before .before .before .is-loose .ensures) (c .before .before .before .before .before .before .if1 .left) (or-on _ _ _ _ (c .before .before .before .before .before .is-wrong-branch .ensures) (c .before .before .before .before .if2 .left) (or-on _ _ _ _ (c .before .before .before .is-second .ensures) (c .before .before .if3 .left) (or-told _ _ _ (c .before .is-wrong-condition .ensures) (c .if4 .taken)))))
+    (λ c h. or-on _ _ _ _ (c .before .before .before .before .before .before .before .before .is-loose .ensures) (c .before .before .before .before .before .before .before .if1 .left) (or-on _ _ _ _ (c .before .before .before .before .before .before .is-wrong-branch .ensures) (c .before .before .before .before .before .if2 .left) (or-on _ _ _ _ (c .before .before .before .before .is-second .ensures) (c .before .before .before .if3 .left) (or-on _ _ _ _ (c .before .before .is-wrong-condition .ensures) (c .before .if4 .left) (c .is-wrong-message-by .ensures h))))))

@@ -11,10 +11,10 @@ amiss-as-pool-spec =
     tie.close
     (tie.spec
     (λ c κs. search needs)
-    (λ c. or-here _ _ _ (c .before .is-second-collaboration .ensures) (c .if1 .taken))
+    (λ c h. or-here _ _ _ (c .before .is-second-collaboration .ensures) (c .if1 .taken))
     (λ c κs. search needs)
-    (λ c. or-on _ _ _ _ (c .before .before .before .is-second-collaboration .ensures) (c .before .before .if1 .left) (or-here _ _ _ (c .before .is-lost .ensures) (c .if2 .taken)))
+    (λ c h. or-on _ _ _ _ (c .before .before .before .is-second-collaboration .ensures) (c .before .before .if1 .left) (or-here _ _ _ (c .before .is-lost .ensures) (c .if2 .taken)))
     (λ c κs. search needs)
     (λ c κs. search needs)
-    (λ c. or-on _ _ _ _ (c .before .before .before .before .before .is-second-collaboration .ensures) (c .before .before .before .before .if1 .left) (or-on _ _ _ _ (c .before .before .before .is-lost .ensures) (c .before .before .if2 .left) (or-told _ _ _ (c .before .is-unowned .ensures) (c .if3 .taken))))
-    (λ c. or-on _ _ _ _ (c .before .before .before .before .before .before .is-second-collaboration .ensures) (c .before .before .before .before .before .if1 .left) (or-on _ _ _ _ (c .before .before .before .before .is-lost .ensures) (c .before .before .before .if2 .left) (or-on _ _ _ _ (c .before .before .is-unowned .ensures) (c .before .if3 .left) (c .is-second .ensures)))))
+    (λ c h. or-on _ _ _ _ (c .before .before .before .before .before .is-second-collaboration .ensures) (c .before .before .before .before .if1 .left) (or-on _ _ _ _ (c .before .before .before .is-lost .ensures) (c .before .before .if2 .left) (or-told _ _ _ (c .before .is-unowned-by .ensures h) (c .if3 .taken))))
+    (λ c h. or-on _ _ _ _ (c .before .before .before .before .before .before .is-second-collaboration .ensures) (c .before .before .before .before .before .if1 .left) (or-on _ _ _ _ (c .before .before .before .before .is-lost .ensures) (c .before .before .before .if2 .left) (or-on _ _ _ _ (c .before .before .is-unowned-by .ensures h) (c .before .if3 .left) (c .is-second .ensures)))))

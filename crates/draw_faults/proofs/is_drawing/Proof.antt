@@ -14,6 +14,6 @@ is-drawing-spec =
     (tie.spec
     (λ c κs. search needs)
     (λ c κs. search needs)
-    (λ c. and-yes _ _ _ (le-leb _ _ (c .before .before .before .if1 .taken)) (and-yes _ _ _ (flag-is _ _ _ (c .before .before .has-pools .ensures) (c .before .if2 .taken)) (c .all-right .ensures)))
+    (λ c. and-yes _ _ _ (le-leb _ _ (c .before .before .before .if1 .taken)) (and-yes _ _ _ (flag-is _ _ _ (c .before .before .has-pools .ensures) (c .before .if2 .taken)) (c .are-right .ensures)))
     (λ c. and-yes _ _ _ (le-leb _ _ (c .before .before .if1 .taken)) (and-told _ _ _ (c .before .has-pools .ensures) (c .if2 .left)))
     (λ c. and-told _ _ _ refl (lt-leb _ _ (c .if1 .left))))

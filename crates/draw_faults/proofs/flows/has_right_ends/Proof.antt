@@ -13,5 +13,5 @@ has-right-ends-spec =
     (λ c κs. search needs)
     (λ c κs. search needs)
     (λ c κs. search needs)
-    (λ c. and-yes _ _ _ (flag-is _ _ _ (rw (c .before .before .before .before .source-of .ensures) at (c .before .before .before .may-send .ensures)) (c .before .before .if1 .taken)) (rw (c .before .target-of .ensures) at (c .may-receive .ensures)))
-    (λ c. and-told _ _ _ (rw (c .before .before .source-of .ensures) at (c .before .may-send .ensures)) (c .if1 .left)))
+    (λ c h. and-yes _ _ _ (flag-is _ _ _ (rw (c .before .before .before .before .source-of .ensures) at (c .before .before .before .may-send .ensures h)) (c .before .before .if1 .taken)) (rw (c .before .target-of .ensures) at (c .may-receive .ensures h)))
+    (λ c h. and-told _ _ _ (rw (c .before .before .source-of .ensures) at (c .before .may-send .ensures h)) (c .if1 .left)))

@@ -12,5 +12,5 @@ may-receive-spec =
     (tie.spec
     (λ c κs. search needs)
     (λ c κs. search needs)
-    (λ c. or-told _ _ _ (c .before .is-receiver .ensures) (c .if1 .taken))
-    (λ c. or-no _ _ _ (flag-is _ _ _ (c .before .before .is-receiver .ensures) (c .before .if1 .left)) (c .is-outside .ensures)))
+    (λ c h. or-told _ _ _ (c .before .is-receiver .ensures) (c .if1 .taken))
+    (λ c h. or-no _ _ _ (flag-is _ _ _ (c .before .before .is-receiver .ensures) (c .before .if1 .left)) (c .is-outside-by .ensures h)))
