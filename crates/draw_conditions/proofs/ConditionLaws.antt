@@ -9,8 +9,11 @@ use Rattle.base_words.specs.Pick.{if_then_else_}
 use Rattle.xml_scanner.proofs.Sort.{the-type}
 use Rattle.xml_scanner.specs.declared.Sort.{Sort}
 use Rattle.xml_scanner.specs.declared.Sort.the-variants.{StartTag, EmptyTag, EndTag, Text, Reference, Comment, Data, Instruction, End as TheEnd, Fault}
-use Rattle.xml_markup.specs.declared.Markup.{Markup}
-use Rattle.xml_markup.specs.Markup.{markup}
+use Rattle.xml_markup.proofs.Scan.{the-type as scan-type}
+use Rattle.xml_markup.specs.declared.Scan.{Scan}
+use Rattle.xml_markup.specs.declared.Scan.the-variants.{Past}
+use Rattle.draw_conditions.specs.Outline.{outline}
+use Rattle.draw_conditions.proofs.OutlineLaws.{past-is, past-not}
 use Rattle.draw_conditions.specs.declared.Condition.{Condition}
 use Rattle.draw_conditions.specs.declared.saying.Spot.{Spot}
 use Rattle.draw_conditions.specs.declared.spelled.Class.the-variants.{Blanks}
@@ -34,11 +37,17 @@ none Instruction t q o = refl
 none TheEnd t q o = refl
 none Fault t q o = refl
 
-module _ (t : List ℕ) (p : ℕ) (m : Markup) (em : m ≡ markup t p) (r : Condition) where
-  pub at-none : OneOf others (tagOf the-type (m .sort)) → r ≡ bare absent → r ≡ conditionAt t p
+module _ (t : List ℕ) (p : ℕ) (o : Scan) (eo : o ≡ outline t p) (r : Condition) where
+  -- no markup's end
+  pub at-fault : OneOf (0 ∷ 2 ∷ []) (tagOf scan-type o) → r ≡ bare absent → r ≡ conditionAt t p
   unfolding if_then_else_ saidAt behind isOver conditionOf conditionAt
-  at-none o h = h ∙ sym (rw (← em, none (m .sort) t (m .next) o))
+  at-fault f h = h ∙ sym (rw (← eo, past-not o (λ s q. saidBy s t q) [] f))
 
-  pub at-start : m .sort ≡ StartTag → (s : Spot) → said t s ≡ behind Blanks (said t (spot false (m .next))) → r ≡ conditionOf (said t s) → r ≡ conditionAt t p
-  unfolding saidBy saidAt conditionAt
-  at-start e s f h = h ∙ rw (f, ← em, e)
+  module _ (s : Sort) (q : ℕ) (e : o ≡ Past s q) where
+    pub at-none : OneOf others (tagOf the-type s) → r ≡ bare absent → r ≡ conditionAt t p
+    unfolding if_then_else_ saidAt behind isOver conditionOf conditionAt
+    at-none f h = h ∙ sym (rw (← eo, past-is o (λ s q. saidBy s t q) [] s q e, none s t q f))
+
+    pub at-start : s ≡ StartTag → (z : Spot) → said t z ≡ behind Blanks (said t (spot false q)) → r ≡ conditionOf (said t z) → r ≡ conditionAt t p
+    unfolding saidBy saidAt conditionAt
+    at-start k z f h = h ∙ rw (f, ← eo, past-is o (λ s q. saidBy s t q) [] s q e, k)

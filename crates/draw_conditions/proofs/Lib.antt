@@ -1,3 +1,4 @@
+pub mod OutlineLaws
 pub mod ByteLaws
 pub mod SayingLaws
 pub mod SpelledLaws

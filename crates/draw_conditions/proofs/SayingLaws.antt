@@ -1,12 +1,12 @@
 -- What is said, step by step, as the loop goes. Assumes nothing.
 use mathlib.Core.Path.{_≡_, _∙_, refl, sym}
-use mathlib.Core.Bool.{Bool, true, false}
+use mathlib.Core.Bool.{Bool, true, false, _||_}
 use mathlib.Core.List.{List, [], _∷_}
 use Prim.Native.Char.{code}
 use Prim.Native.Nat.{ℕ, zero, suc, _+_, _<_, _≤_, min}
 use native.Mathlib.Nat.{min-eq-left, min-eq-right}
 use native.Mathlib.Omega.{arith}
-use lib.Dec.{leb, eqb}
+use lib.Dec.{leb, ltb, eqb}
 use lib.ListN.{length}
 use borrow.Author.Tests.{le-leb, lt-leb, lt-ltb, le-ltb}
 use Rattle.base_words.specs.Pick.{if_then_else_}
@@ -15,15 +15,22 @@ use Rattle.base_words.specs.Words.{at}
 use Rattle.text_lexer.proofs.PieceLaws.{by-order}
 use Rattle.xml_scanner.specs.declared.Sort.{Sort}
 use Rattle.xml_scanner.specs.declared.Sort.the-variants.{StartTag, EmptyTag, EndTag, Text, Reference, Comment, Data, Instruction, End as TheEnd, Fault}
-use Rattle.xml_markup.specs.Markup.{beginsAt, markup}
-use Rattle.xml_markup.specs.Spans.{after}
-use Rattle.xml_markup.proofs.MarkupLaws.{Ahead, markup-ahead}
+use Rattle.xml_markup.specs.declared.Scan.{Scan}
+use Rattle.xml_markup.specs.declared.Scan.the-variants.{On as OnScan, Past, Fault as ScanFault}
+use Rattle.xml_markup.specs.Markup.{beginsAt}
+use Rattle.xml_markup.specs.Spans.{after, isCalled}
+use Rattle.xml_markup.proofs.Scan.{the-type as scan-type}
+use types.Run.{OneOf}
+use denote.Enum.Declared.{tagOf}
+use Rattle.xml_skip.specs.Skipping.{depth}
+use Rattle.draw_conditions.specs.Outline.{outline, ifPast}
+use Rattle.draw_conditions.proofs.OutlineLaws.{Ahead, outline-ahead, past-is, past-not}
 use Rattle.xml_document.specs.Decoding.{behindLine, plainAt, decoded}
 use Rattle.draw_conditions.specs.declared.saying.Spot.{Spot}
 use Rattle.draw_conditions.specs.declared.saying.Step.{Step}
 use Rattle.draw_conditions.specs.declared.saying.Step.the-variants.{Byte, On, End}
 use Rattle.draw_conditions.specs.declared.saying.View.the-variants.{Byte as Seen, End as Over}
-use Rattle.draw_conditions.specs.Saying.{Said, spot, forward, plainStep, stepBy, markupStep, textStep, sectionStep, stepAt, further, saidIn, said, seen}
+use Rattle.draw_conditions.specs.Saying.{Said, spot, inside, forward, plainStep, isSkipped, tagStep, stepBy, markupStep, skipBy, skipMarkup, skipStep, textStep, sectionStep, stepAt, further, saidIn, said, seen}
 
 -- n bytes on
 module _ (t : List ℕ) (i n : ℕ) where
@@ -84,10 +91,14 @@ module _ (t : List ℕ) (i : ℕ) (in-text : i < length t) where
   unfolding plainStep
   plain-onward section = plain-ahead
 
-  step-by : (s : Sort) (q : ℕ) → Ahead s i q → Onward i (stepBy s t i q)
+  tag-onward : (d q : ℕ) → i < q → Onward i (tagStep t d i q)
+  unfolding tagStep
+  tag-onward d q h = onward-if i (isSkipped t i) (On (inside d q)) (Byte 0 i (spot false q)) h h
+
+  step-by : (s : Sort) (q : ℕ) → i < q → Onward i (stepBy s t i q)
   unfolding stepBy
-  step-by StartTag q h = h
-  step-by EmptyTag q h = h
+  step-by StartTag q h = tag-onward 1 q h
+  step-by EmptyTag q h = tag-onward 0 q h
   step-by EndTag q h = tt
   step-by Text q h = tt
   step-by Reference q h = h
@@ -97,9 +108,34 @@ module _ (t : List ℕ) (i : ℕ) (in-text : i < length t) where
   step-by TheEnd q h = tt
   step-by Fault q h = tt
 
+  by-outline : (r : Scan) (f : Sort → ℕ → Step) → Ahead i r → ((s : Sort) (q : ℕ) → i < q → Onward i (f s q)) → Onward i (ifPast r f End)
+  unfolding ifPast
+  by-outline (OnScan c) f h k = tt
+  by-outline (Past s q) f h k = k s q h
+  by-outline (ScanFault q) f h k = tt
+
   markup-onward : Onward i (markupStep t i)
   unfolding markupStep
-  markup-onward = step-by (markup t i .sort) (markup t i .next) (markup-ahead t i)
+  markup-onward = by-outline (outline t i) (λ s q. stepBy s t i q) (outline-ahead t i) step-by
+
+  skip-by : (d : ℕ) (s : Sort) (q : ℕ) → i < q → Onward i (skipBy s d q)
+  unfolding skipBy
+  skip-by d StartTag q h = onward-if i (ltb d depth) (On (inside (d + 1) q)) End h tt
+  skip-by d EmptyTag q h = h
+  skip-by d EndTag q h = h
+  skip-by d Text q h = h
+  skip-by d Reference q h = h
+  skip-by d Comment q h = h
+  skip-by d Data q h = h
+  skip-by d Instruction q h = h
+  skip-by d TheEnd q h = tt
+  skip-by d Fault q h = tt
+
+  skip-onward : (d : ℕ) → Onward i (skipStep t d i)
+  unfolding skipStep skipMarkup
+  skip-onward d =
+      onward-if i (eqb (at t i) (code "<")) (ifPast (outline t i) (λ s q. skipBy s d q) End) (On (inside d (forward t i 1)))
+      (by-outline (outline t i) (λ s q. skipBy s d q) (outline-ahead t i) (skip-by d)) (forward-ahead 0)
 
   text-onward : Onward i (textStep t i)
   unfolding textStep
@@ -121,7 +157,7 @@ module _ (t : List ℕ) (s : Spot) where
   step-onward =
       by-order (length t) (s .at)
       (λ h. rw (le-leb (length t) (s .at) h) (unfold if_then_else_ in tt))
-      (λ h. onward-if (s .at) (leb (length t) (s .at)) End _ tt (onward-if (s .at) (s .section) (sectionStep t (s .at)) (textStep t (s .at)) (section-onward t (s .at) h) (text-onward t (s .at) h)))
+      (λ h. onward-if (s .at) (leb (length t) (s .at)) End _ tt (onward-if (s .at) (s .section) (sectionStep t (s .at)) _ (section-onward t (s .at) h) (onward-if (s .at) (ltb 0 (s .deep)) (skipStep t (s .deep) (s .at)) (textStep t (s .at)) (skip-onward t (s .at) h (s .deep)) (text-onward t (s .at) h))))
 
 further-same : (p : ℕ) (f g : Spot → List Said) → ((s : Spot) → p < s .at → f s ≡ g s) → (x : Step) → Onward p x → further x f ≡ further x g
 unfolding further
@@ -160,3 +196,30 @@ module _ (t : List ℕ) (s : Spot) (g : Step) (eg : g ≡ stepAt t s) where
 
   pub on-past : (q : Spot) → g ≡ On q → s .at < q .at
   on-past q e = rw (← eg, e) at (step-onward t s)
+
+-- ONE STEP, by what the calls gave
+module _ (t : List ℕ) (i : ℕ) where
+  pub skipped-first : (r : Bool) → r ≡ isCalled t i (bytes "documentation") → r ≡ true → r ≡ isSkipped t i
+  unfolding isSkipped
+  skipped-first r e h = rw (← e, h)
+
+  pub skipped-second : (r s : Bool) → r ≡ isCalled t i (bytes "documentation") → r ≡ false → s ≡ isCalled t i (bytes "extensionElements") → s ≡ isSkipped t i
+  unfolding isSkipped
+  skipped-second r s e h k = rw (← e, h) k
+
+  module _ (o : Scan) (eo : o ≡ outline t i) where
+    pub markup-none : OneOf (0 ∷ 2 ∷ []) (tagOf scan-type o) → End ≡ markupStep t i
+    unfolding markupStep
+    markup-none f = rw (← eo) (sym (past-not o (λ s q. stepBy s t i q) End f))
+
+    pub markup-past : (s : Sort) (q : ℕ) → o ≡ Past s q → (r : Step) → r ≡ stepBy s t i q → r ≡ markupStep t i
+    unfolding markupStep
+    markup-past s q e r h = rw (← eo) (h ∙ sym (past-is o (λ s q. stepBy s t i q) End s q e))
+
+    pub skip-none : (d : ℕ) → OneOf (0 ∷ 2 ∷ []) (tagOf scan-type o) → End ≡ skipMarkup t d i
+    unfolding skipMarkup
+    skip-none d f = rw (← eo) (sym (past-not o (λ s q. skipBy s d q) End f))
+
+    pub skip-past : (d : ℕ) (s : Sort) (q : ℕ) → o ≡ Past s q → (r : Step) → r ≡ skipBy s d q → r ≡ skipMarkup t d i
+    unfolding skipMarkup
+    skip-past d s q e r h = rw (← eo) (h ∙ sym (past-is o (λ s q. skipBy s d q) End s q e))

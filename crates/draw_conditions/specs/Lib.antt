@@ -1,3 +1,4 @@
+pub mod Outline
 pub mod Saying
 pub mod Words
 pub mod Conditions

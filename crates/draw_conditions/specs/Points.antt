@@ -93,6 +93,19 @@ points =
     strange "`&#13;` is not blank" "d0&#13;=1" ∷
     within "`&#9;`, `&#10;` and `&#32;` are" "d0&#9;=&#10;1&#32;" plain ∷
     strange "nothing above ASCII" "d0=1&#233;" ∷
+    within "documentation in it is skipped whole: before the text" "<documentation>why</documentation>d0=1" plain ∷
+    within "between its tokens" "d0 <documentation>= 2</documentation> = 1" plain ∷
+    within "inside a word too, as a comment" "d<documentation/>0=1" plain ∷
+    within "behind it" "d0=1 <documentation/>" plain ∷
+    within "with a prefix" "<bpmn:documentation a='>'>=</bpmn:documentation>d0=1" plain ∷
+    within "extensionElements, with markup inside" "<extensionElements><a:b c='1'>x<d/>&lt;<!--</a:b>--><![CDATA[</a:b>]]><?e </a:b>?></a:b></extensionElements>d0=1" plain ∷
+    within "both" "d0=<documentation>a</documentation><extensionElements/>1" plain ∷
+    within "one in the other" "<extensionElements><documentation>2</documentation></extensionElements>d0=1" plain ∷
+    within "alone they are no condition" " <documentation>true</documentation> " (bare absent) ∷
+    within "a place behind them" "<documentation/>d16=1" (two equals nothing (number 1) 19) ∷
+    strange "letter case included, in names too" "<Documentation/>true" ∷
+    strange "another element behind them" "<documentation/><a/>true" ∷
+    strange "compared whole" "<documentations/>true" ∷
     strange "an element in it" "true<a/>" ∷
     strange "its text is not ours" "<a>true</a>" ∷
     strange "an element alone" "<a/>" ∷ []

@@ -7,6 +7,7 @@ use base_table::places::BELOW;
 use base_table::places::DEFAULT;
 use base_table::places::EQUALS;
 use base_words::Word;
+use outline::outline;
 use saying::Spot;
 use saying::View;
 use saying::look;
@@ -16,9 +17,10 @@ use spelled::behind;
 use spelled::is_over;
 use spelled::side_at;
 use spelled::spells;
-use xml_markup::scanning::markup;
+use xml_markup::Scan;
 use xml_scanner::Sort;
 
+pub mod outline;
 pub mod saying;
 pub mod spelled;
 
@@ -151,14 +153,17 @@ fn condition_of(text: &[u8], s: Spot) -> Condition
 pub fn condition_at(text: &[u8], p: usize) -> Condition
     ensures { λ r. ⌜ r ≡ conditionAt (now (text .entry)) p ⌝ }
 {
-    let m = markup(text, p);
-    let sort = m.sort;
+    let o = outline(text, p);
+    let Scan::Past(sort, q) = o else {
+        return bare(ABSENT);
+    };
     let Sort::StartTag = sort else {
         return bare(ABSENT);
     };
     let s = Spot {
         section: false,
-        at: m.next,
+        deep: 0,
+        at: q,
     };
     condition_of(text, behind(text, s, Class::Blanks))
 }

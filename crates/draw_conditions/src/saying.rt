@@ -1,18 +1,25 @@
 // What an element says, byte by byte, each with its place.
 ghost use mathlib.Core.Path.{_≡_};
-ghost use Rattle.draw_conditions.specs.Saying.{forward, plainStep, markupStep, textStep, sectionStep, stepAt, said, seen};
+ghost use Prim.Native.Nat.{_-_};
+ghost use Rattle.draw_conditions.specs.Saying.{forward, plainStep, isSkipped, tagStep, stepBy, markupStep, skipBy, skipMarkup, skipStep, textStep, sectionStep, stepAt, said, seen};
+use super::outline::outline;
 use text_lexer::byte;
 use xml_document::decoding::decoded_at;
 use xml_document::decoding::plain_at;
+use xml_markup::Scan;
 use xml_markup::scanning::begins_at;
-use xml_markup::scanning::markup;
+use xml_markup::spans::is_called;
 use xml_scanner::Sort;
 
-// A place, in a CDATA section or not.
+// A place: in a CDATA section or not; so many elements deep in what is skipped.
 pub struct Spot {
     pub section: bool,
+    pub deep: u8,
     pub at: usize,
 }
+
+// What is skipped is so deep at most.
+const DEPTH: u8 = 16;
 
 // One step: a byte that is said, with its place and the spot behind it; something that is passed; or the end.
 pub enum Step {
@@ -48,23 +55,50 @@ fn plain_step(text: &[u8], section: bool, i: usize) -> Step
         i,
         Spot {
             section: section,
+            deep: 0,
             at: d.next,
         },
     )
 }
 
-fn markup_step(text: &[u8], i: usize) -> Step
-    ensures { λ r. ⌜ r ≡ markupStep (now (text .entry)) i ⌝ }
+fn is_skipped(text: &[u8], i: usize) -> bool
+    ensures { λ r. ⌜ r ≡ isSkipped (now (text .entry)) i ⌝ }
 {
-    let m = markup(text, i);
-    let sort = m.sort;
+    is_called(text, i, b"documentation") || is_called(text, i, b"extensionElements")
+}
+
+fn tag_step(text: &[u8], deep: u8, i: usize, q: usize) -> Step
+    ensures { λ r. ⌜ r ≡ tagStep (now (text .entry)) deep i q ⌝ }
+{
+    if is_skipped(text, i) {
+        return Step::On(Spot {
+            section: false,
+            deep: deep,
+            at: q,
+        });
+    }
+    Step::Byte(
+        0,
+        i,
+        Spot {
+            section: false,
+            deep: 0,
+            at: q,
+        },
+    )
+}
+
+fn step_by(sort: Sort, text: &[u8], i: usize, q: usize) -> Step
+    ensures { λ r. ⌜ r ≡ stepBy sort (now (text .entry)) i q ⌝ }
+{
     let behind = Spot {
         section: false,
-        at: m.next,
+        deep: 0,
+        at: q,
     };
     match sort {
-        Sort::StartTag => Step::Byte(0, i, behind),
-        Sort::EmptyTag => Step::Byte(0, i, behind),
+        Sort::StartTag => tag_step(text, 1, i, q),
+        Sort::EmptyTag => tag_step(text, 0, i, q),
         Sort::EndTag => Step::End,
         Sort::Text => Step::End,
         Sort::Reference => {
@@ -74,12 +108,23 @@ fn markup_step(text: &[u8], i: usize) -> Step
         Sort::Comment => Step::On(behind),
         Sort::Data => Step::On(Spot {
             section: true,
+            deep: 0,
             at: forward(text, i, 9),
         }),
         Sort::Instruction => Step::On(behind),
         Sort::End => Step::End,
         Sort::Fault => Step::End,
     }
+}
+
+fn markup_step(text: &[u8], i: usize) -> Step
+    ensures { λ r. ⌜ r ≡ markupStep (now (text .entry)) i ⌝ }
+{
+    let o = outline(text, i);
+    let Scan::Past(sort, q) = o else {
+        return Step::End;
+    };
+    step_by(sort, text, i, q)
 }
 
 fn text_step(text: &[u8], i: usize) -> Step
@@ -101,10 +146,75 @@ fn section_step(text: &[u8], i: usize) -> Step
     if begins_at(text, i, b"]]>") {
         return Step::On(Spot {
             section: false,
+            deep: 0,
             at: forward(text, i, 3),
         });
     }
     plain_step(text, true, i)
+}
+
+fn less(deep: u8) -> u8
+    ensures { λ r. ⌜ r ≡ deep - 1 ⌝ }
+{
+    if deep == 0 { 0 } else { deep - 1 }
+}
+
+fn skip_by(sort: Sort, deep: u8, q: usize) -> Step
+    ensures { λ r. ⌜ r ≡ skipBy sort deep q ⌝ }
+{
+    let same = Spot {
+        section: false,
+        deep: deep,
+        at: q,
+    };
+    match sort {
+        Sort::StartTag => {
+            if deep < DEPTH {
+                return Step::On(Spot {
+                    section: false,
+                    deep: deep + 1,
+                    at: q,
+                });
+            }
+            Step::End
+        }
+        Sort::EmptyTag => Step::On(same),
+        Sort::EndTag => Step::On(Spot {
+            section: false,
+            deep: less(deep),
+            at: q,
+        }),
+        Sort::Text => Step::On(same),
+        Sort::Reference => Step::On(same),
+        Sort::Comment => Step::On(same),
+        Sort::Data => Step::On(same),
+        Sort::Instruction => Step::On(same),
+        Sort::End => Step::End,
+        Sort::Fault => Step::End,
+    }
+}
+
+fn skip_markup(text: &[u8], deep: u8, i: usize) -> Step
+    ensures { λ r. ⌜ r ≡ skipMarkup (now (text .entry)) deep i ⌝ }
+{
+    let o = outline(text, i);
+    let Scan::Past(sort, q) = o else {
+        return Step::End;
+    };
+    skip_by(sort, deep, q)
+}
+
+fn skip_step(text: &[u8], deep: u8, i: usize) -> Step
+    ensures { λ r. ⌜ r ≡ skipStep (now (text .entry)) deep i ⌝ }
+{
+    if byte(text, i) == b'<' {
+        return skip_markup(text, deep, i);
+    }
+    Step::On(Spot {
+        section: false,
+        deep: deep,
+        at: forward(text, i, 1),
+    })
 }
 
 fn step_at(text: &[u8], s: Spot) -> Step
@@ -115,6 +225,9 @@ fn step_at(text: &[u8], s: Spot) -> Step
     }
     if s.section {
         return section_step(text, s.at);
+    }
+    if 0 < s.deep {
+        return skip_step(text, s.deep, s.at);
     }
     text_step(text, s.at)
 }
@@ -139,4 +252,19 @@ pub(super) fn look(text: &[u8], s: Spot) -> View
         }
     }
     View::End
+}
+
+// Past what says nothing: the same is said from there, and looked at without passing it again.
+pub(super) fn arrive(text: &[u8], s: Spot) -> Spot
+    ensures { λ r. ⌜ said (now (text .entry)) r ≡ said (now (text .entry)) s ⌝ }
+{
+    let mut at = s;
+    while at.at < text.len() {
+        let step = step_at(text, at);
+        let Step::On(next) = step else {
+            return at;
+        };
+        at = next;
+    }
+    at
 }

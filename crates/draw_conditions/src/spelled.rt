@@ -10,6 +10,7 @@ ghost use Rattle.draw_conditions.specs.Words.{isOf, behind, letters, spe
 use super::Term;
 use super::saying::Spot;
 use super::saying::View;
+use super::saying::arrive;
 use super::saying::look;
 use base_table::places::A_FIELD;
 use base_words::GREATEST;
@@ -80,7 +81,7 @@ pub(super) fn behind(text: &[u8], s: Spot, class: Class) -> Spot
             return at;
         };
         if !is_of(class, b) {
-            return at;
+            return arrive(text, at);
         }
         at = next;
     }

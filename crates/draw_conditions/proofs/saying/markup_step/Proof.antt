@@ -1,34 +1,14 @@
-use mathlib.Core.Path.{refl}
-use Rattle.draw_conditions.specs.Saying.{stepBy, markupStep}
+use Rattle.draw_conditions.proofs.SayingLaws.{markup-none, markup-past}
 use borrow.Author.Needs.{needs}
 use Rattle.draw_conditions.proofs.saying.markup_step.Statement.{statement}
 use Rattle.draw_conditions.proofs.saying.markup_step.Tie as tie
 
 pub markup-step-spec : {M : Type 1} → statement M
-unfolding stepBy markupStep
 markup-step-spec =
     tie.close
     (tie.spec
     (λ c κs. search needs)
     (λ c. search needs)
-    (λ c. search needs)
-    (λ c. search needs)
-    (λ c. search needs)
-    (λ c. search needs)
+    (λ c. markup-none _ _ _ (c .before .outline .ensures) (c .match .keys2))
     (λ c κs. search needs)
-    (λ c. search needs)
-    (λ c. search needs)
-    (λ c κs. search needs)
-    (λ c. search needs)
-    (λ c. search needs)
-    (λ c. search needs)
-    (λ c. rw (← c .before .before .markup .ensures, c .enum-told .given .1) refl)
-    (λ c. rw (← c .before .before .markup .ensures, c .enum-told2 .given .1) refl)
-    (λ c. rw (← c .before .before .markup .ensures, c .enum-told3 .given .1) refl)
-    (λ c. rw (← c .before .before .markup .ensures, c .enum-told4 .given .1) refl)
-    (λ c. rw (← c .before .before .before .markup .ensures, c .before .enum-told5 .given .1, ← c .decoded-at .ensures) refl)
-    (λ c. rw (← c .before .before .markup .ensures, c .enum-told6 .given .1) refl)
-    (λ c. rw (← c .before .before .before .markup .ensures, c .before .enum-told7 .given .1, ← c .forward .ensures) refl)
-    (λ c. rw (← c .before .before .markup .ensures, c .enum-told8 .given .1) refl)
-    (λ c. rw (← c .before .before .markup .ensures, c .enum-told9 .given .1) refl)
-    (λ c. rw (← c .before .before .markup .ensures, c .enum-told10 .given .1) refl))
+    (λ c. markup-past _ _ _ (c .before .before .before .before .outline .ensures) _ _ (c .before .before .o .given .1) _ (c .step-by .ensures)))

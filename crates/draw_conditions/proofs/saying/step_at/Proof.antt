@@ -1,4 +1,4 @@
-use borrow.Author.Tests.{le-leb, lt-leb}
+use borrow.Author.Tests.{le-leb, lt-leb, le-ltb, lt-ltb}
 use mathlib.Core.Path.{refl}
 use Rattle.base_words.proofs.PickLaws.{pick-no, pick-yes}
 use Rattle.draw_conditions.specs.Saying.{stepAt}
@@ -15,4 +15,6 @@ step-at-spec =
     (λ c κs. search needs)
     (λ c. pick-no _ _ _ _ (lt-leb _ _ (c .before .before .if1 .left)) (pick-yes _ _ _ _ (c .before .if2 .taken) (c .section-step .ensures)))
     (λ c κs. search needs)
-    (λ c. pick-no _ _ _ _ (lt-leb _ _ (c .before .before .if1 .left)) (pick-no _ _ _ _ (c .before .if2 .left) (c .text-step .ensures))))
+    (λ c. pick-no _ _ _ _ (lt-leb _ _ (c .before .before .before .before .if1 .left)) (pick-no _ _ _ _ (c .before .before .before .if2 .left) (pick-yes _ _ _ _ (lt-ltb _ _ (c .before .if3 .taken)) (c .skip-step .ensures))))
+    (λ c κs. search needs)
+    (λ c. pick-no _ _ _ _ (lt-leb _ _ (c .before .before .before .before .if1 .left)) (pick-no _ _ _ _ (c .before .before .before .if2 .left) (pick-no _ _ _ _ (le-ltb _ _ (c .before .if3 .left)) (c .text-step .ensures)))))

@@ -26,6 +26,7 @@ behind-spec =
     (λ c. search needs)
     (λ c. behind-over _ _ _ (c .before .before .look .ensures) _ (c .enum-told .given .1) ∙ c .before .before .before .loop .inv)
     (λ c κs. search needs)
-    (λ c. behind-here _ _ _ (c .before .before .before .before .before .look .ensures) _ _ _ (c .before .before .before .v .given .1) _ (flag-no _ _ (c .before .is-of .ensures) (c .if1 .taken)) ∙ c .before .before .before .before .before .before .loop .inv)
+    (λ c κs. search needs)
+    (λ c. c .arrive .ensures ∙ behind-here _ _ _ (c .before .before .before .before .before .before .look .ensures) _ _ _ (c .before .before .before .before .v .given .1) _ (flag-no _ _ (c .before .before .is-of .ensures) (c .before .if1 .taken)) ∙ c .before .before .before .before .before .before .before .loop .inv)
     (λ c. shorter _ _ _ (c .before .before .before .before .before .look .ensures) _ _ _ (c .before .before .before .v .given .1))
     (λ c. sym (behind-on _ _ _ (c .before .before .before .before .before .look .ensures) _ _ _ (c .before .before .before .v .given .1) _ (flag-yes _ _ (c .before .is-of .ensures) (c .if1 .left))) ∙ c .before .before .before .before .before .before .loop .inv))
