@@ -125,13 +125,19 @@ static void character(struct walk *w, size_t place, uint32_t code) {
 
 static bool content(struct walk *w, struct span name, enum role role, unsigned owner, unsigned depth);
 
+/* in a condition these two are passed over, as everywhere, and no other element stands */
+static bool is_data(const struct walk *w, struct span name) {
+    struct span local = behind_colon(&w->xml, name);
+    return is(&w->xml, local, "documentation") || is(&w->xml, local, "extensionElements");
+}
+
 /* an element: depth is how deep its parent is in what is skipped, 0 where that is read into */
 static bool element(struct walk *w, struct span name, enum role inside, unsigned owner, unsigned depth) {
     size_t place = w->xml.at;
     bool empty;
     enum role role = depth ? PASSED : role_of(w, name, inside);
     if (depth == DEEPEST) return fault(&w->xml, place);
-    if (inside == CONDITION_TEXT) w->amiss = true;
+    if (inside == CONDITION_TEXT && !is_data(w, name)) w->amiss = true;
     if (!tag(&w->xml, name.to, role == MULTIPLICITY ? maximum_counts : NULL, &empty)) return false;
     if (!depth) note(w, role, inside, place, owner);
     if (empty) return true;

@@ -487,7 +487,7 @@ static void put_tag(struct pen *o, const char *tag, struct pair *pairs, unsigned
 
 static void put_end(struct pen *o, const char *tag) { put(o, "</%s%s%s>", o->prefix, tag, now(o, 3) ? " " : ""); }
 
-/* a condition's characters, each as itself, by its number or in CDATA */
+/* a condition's characters, each as itself, by its number or in CDATA; between them what is left out */
 static void put_condition(struct pen *o, const char *text) {
     put_gap(o, true);
     put(o, "<%sconditionExpression xsi:type=\"x\">", o->prefix);
@@ -495,6 +495,7 @@ static void put_condition(struct pen *o, const char *text) {
     if (cdata) put(o, "<![CDATA[");
     for (; *text; text++) {
         if (!cdata && now(o, 5)) put(o, any(o->k, 50) ? "<!-- -->" : "<?c d?>");
+        if (!cdata && now(o, 3)) put_nested(o, any(o->k, 50) ? "documentation" : "extensionElements", 1 + below(o->k, any(o->k, 90) ? 4 : 15));
         if (!cdata && *text == '<') put(o, any(o->k, 50) ? "&lt;" : "&#60;");
         else if (*text == '\n') put(o, now(o, 40) ? "\r\n" : now(o, 40) ? "\r" : now(o, 20) && !cdata ? "&#10;" : "\n");
         else if (!cdata && *text > 32 && *text < 127 && now(o, 8)) put(o, any(o->k, 50) ? "&#%u;" : "&#x%X;", *text);
