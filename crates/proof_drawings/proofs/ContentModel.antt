@@ -27,27 +27,13 @@ use Rattle.draw_faults.specs.Amiss.{hasParticipants, isPool, hasPool, isRight, 
 use Rattle.draw_limits.specs.Numbers.{countBefore, isElement, maximumOf}
 use Rattle.draw_limits.specs.Excess.{isLimit, isFifthPool, isNodeBeyond, isFlowBeyond, isMessageBeyond, isMaximumBeyond, isBeyond, firstBeyond}
 use Rattle.draw_model.specs.Drawn.{elementDrawn}
-use Rattle.draw_model.specs.Content.{elementIf, elementsOf, limitOf, processOf, numberOf, poolDrawn, poolIf, content, isUnfit, firstUnfit}
+use Rattle.draw_model.specs.Content.{elementIf, elementsOf, limitOf, processOf, numberOf, poolDrawn, poolIf, content}
 use Rattle.draw_read.proofs.RoomLaws.{content-fits}
 use Rattle.proof_ends.proofs.Models.{Every, Right, Fit, Model}
+use Rattle.proof_drawings.proofs.TestLaws.{and-then, or-left, or-right, not-not, more-low, more-high}
 use Rattle.proof_drawings.proofs.SmallLaws.{element-right}
-
--- TESTS
-and-then : (a b : Bool) → a ≡ true → a && b ≡ false → b ≡ false
-and-then true b h e = e
-and-then false b h e = absurd (false≢true h)
-
-or-left : (a b : Bool) → a || b ≡ false → a ≡ false
-or-left true b e = absurd (false≢true (sym e))
-or-left false b e = refl
-
-or-right : (a b : Bool) → a || b ≡ false → b ≡ false
-or-right true b e = absurd (false≢true (sym e))
-or-right false b e = e
-
-not-not : (b : Bool) → not b ≡ false → b ≡ true
-not-not true e = refl
-not-not false e = sym e
+use Rattle.proof_drawings.proofs.SettledLaws.{Settled}
+use Rattle.proof_drawings.proofs.Fitting.{drawing-few, never-unfit}
 
 none-more : (k : ℕ) → suc k ≡ 0 → ⊥
 none-more k e = omega (arith, e)
@@ -123,22 +109,6 @@ has-element p h = go (p .elements) (eqb-true (total (ofKind start) (p .elements)
     go (x ∷ xs) e = omega arith
 
 -- NUMBERS
-more-low : (n : ℕ) → 1 ≤ oneMore n
-unfolding oneMore
-more-low n = go (ltb n greatestNote)
-  where
-    go : (b : Bool) → 1 ≤ (if b then n + 1 else greatestNote)
-    go true = unfold if_then_else_ in omega arith
-    go false = unfold if_then_else_ in omega arith
-
-more-high : (n : ℕ) → oneMore n ≤ n + 1
-unfolding oneMore
-more-high n = go (ltb n greatestNote) refl
-  where
-    go : (b : Bool) → ltb n greatestNote ≡ b → (if b then n + 1 else greatestNote) ≤ n + 1
-    go true e = unfold if_then_else_ in omega arith
-    go false e = unfold if_then_else_ in let l = ltb-false n greatestNote e in omega (arith, l)
-
 limit-high : (v : ℕ) → isLimit v ≡ true → v ≤ instances
 unfolding isLimit
 limit-high v e = leb-true v instances (and-right (leb 1 v) (leb v instances) e)
@@ -165,10 +135,9 @@ near-fit p a b =
 pub record Placed (w : List ℕ) : Type 0 where
   pub inside : (k : ℕ) → sort w k ≡ participantMultiplicity → sort w (within w k) ≡ participant
 
-module _ (t w : List ℕ) (n : ℕ) (drawn : isDrawing t w n ≡ true) (beyond : ltb (firstBeyond t w n) n ≡ false) (unfit : ltb (firstUnfit t w n) n ≡ false) (placed : Placed w) where
+module _ (t w : List ℕ) (n : ℕ) (drawn : isDrawing t w n ≡ true) (beyond : ltb (firstBeyond t w n) n ≡ false) (settled : Settled w n) (placed : Placed w) where
   few-things : n ≤ greatest
-  unfolding isDrawing
-  few-things = let l = leb-true n room (and-left (leb n room) _ drawn) in omega (arith, l)
+  few-things = let l = drawing-few t w n drawn in omega (arith, l)
 
   abbrev owned : Bool
   owned = hasParticipants w n
@@ -185,15 +154,8 @@ module _ (t w : List ℕ) (n : ℕ) (drawn : isDrawing t w n ≡ true) (beyond :
   unfolding isElement
   its-process p k e = eqb-true (within w k) p (and-left (eqb (within w k) p) _ (and-right (isNode (sort w k)) _ e))
 
-  none-unfit : (k : ℕ) → k < n → isUnfit t w n k ≡ false
-  unfolding firstUnfit
-  none-unfit k l = let s = sought (isUnfit t w n) n in s .2 k (omega (arith, l, ltb-false (seek (isUnfit t w n) n) n unfit))
-
   element-fits : (p k : ℕ) → k < n → isElement p w k ≡ true → elementFits (elementDrawn t w n k) ≡ true
-  unfolding isUnfit
-  element-fits p k l e =
-      not-not (elementFits (elementDrawn t w n k))
-      (and-then (isElement (within w k) w k) _ (subst (λ (q : ℕ). isElement q w k ≡ true) (sym (its-process p k e)) e) (none-unfit k l))
+  element-fits p k l e = never-unfit t w n drawn beyond settled k l (subst (λ (q : ℕ). isElement q w k ≡ true) (sym (its-process p k e)) e)
 
   elements-right : (p : ℕ) → Every Right (elementsOf t w n p)
   unfolding elementsOf elementIf

@@ -1,5 +1,12 @@
+pub mod TestLaws
 pub mod TermLaws
 pub mod SmallLaws
+pub mod Shapes
+pub mod SettledLaws
+pub mod SaidLaws
+pub mod KindShapes
+pub mod GuardShapes
+pub mod Fitting
 pub mod ContentModel
 pub mod PlacedLaws
 pub mod Answers

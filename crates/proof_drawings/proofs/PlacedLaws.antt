@@ -31,7 +31,9 @@ use Rattle.draw_links.specs.Links.{joined, owned, linked, links}
 use Rattle.draw_kinds.specs.Roles.{settled, roles}
 use Rattle.draw_read.specs.Drawings as drawings
 use Rattle.proof_roundtrip.proofs.BlankLaws.{zero-word}
+use Rattle.proof_drawings.proofs.TestLaws.{more-is}
 use Rattle.proof_drawings.proofs.TermLaws.{either}
+use Rattle.proof_drawings.proofs.SettledLaws.{Settled, settled-things}
 use Rattle.proof_drawings.proofs.ContentModel.{Placed}
 
 apart : (a b : ℕ) → eqb a b ≡ false → a ≡ b → ⊥
@@ -139,14 +141,6 @@ more-least n h = go (ltb n greatestNote)
     go : (b : Bool) → n ≤ (if b then n + 1 else greatestNote)
     go true = unfold if_then_else_ in omega arith
     go false = unfold if_then_else_ in h
-
-more-is : (n : ℕ) → n < room → oneMore n ≡ n + 1
-unfolding oneMore
-more-is n h = go (ltb n greatestNote) refl
-  where
-    go : (b : Bool) → ltb n greatestNote ≡ b → (if b then n + 1 else greatestNote) ≡ n + 1
-    go true e = unfold if_then_else_ in refl
-    go false e = absurd (let l = ltb-false n greatestNote e in omega (arith, l, h))
 
 more-most : (n : ℕ) → oneMore n ≤ greatestNote
 unfolding oneMore
@@ -353,3 +347,7 @@ unfolding drawings.thingsOf drawings.settledBy drawings.walked
 things-placed t =
     let s = walk-sound t (replicate blockWords 0) empty-sound in
     roles-placed _ _ (links-placed t _ _ (record { inside = λ k e. s .inside k e .1 }))
+
+pub things-settled : (t : List ℕ) → drawings.walked t .count ≤ room → Settled (drawings.thingsOf t) (drawings.walked t .count)
+unfolding drawings.thingsOf drawings.settledBy drawings.walked
+things-settled t few = settled-things t _ (walk t (replicate blockWords 0) .words) (walk-sound t (replicate blockWords 0) empty-sound .long) few

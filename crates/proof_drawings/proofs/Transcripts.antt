@@ -31,8 +31,9 @@ use Rattle.proof_demands.proofs.Numbers.{fresh-number}
 use Rattle.proof_demands.proofs.FirstDemand.{check-passed}
 use Rattle.proof_demands.proofs.NeverBad.{never-bad}
 use Rattle.proof_demands.proofs.TextsAndTables.{write-fits, read-what-was-written}
+use Rattle.proof_drawings.proofs.Fitting.{drawing-few}
 use Rattle.proof_drawings.proofs.ContentModel.{content-model}
-use Rattle.proof_drawings.proofs.PlacedLaws.{things-placed}
+use Rattle.proof_drawings.proofs.PlacedLaws.{things-placed, things-settled}
 use Rattle.proof_drawings.proofs.Answers.{drawn-clear, drawn-is}
 
 -- the model that a drawing means
@@ -43,7 +44,7 @@ drawnModel text = content text (thingsOf text) (walked text .count)
 module _ (text t : List ℕ) (h : drawInto text t .number ≡ 0) where
   -- its content is a model within its limits, with no check broken and room for what its endSnds become, and the table is that model's as it is rewritten
   pub accepted : Model (drawnModel text)
-  accepted = let c = drawn-clear text t h in content-model text (thingsOf text) (walked text .count) (c .drawn) (c .beyond) (c .unfit) (things-placed text) (c .sound)
+  accepted = let c = drawn-clear text t h in content-model text (thingsOf text) (walked text .count) (c .drawn) (c .beyond) (things-settled text (drawing-few text (thingsOf text) (walked text .count) (c .drawn))) (things-placed text) (c .sound)
 
   pub accepted-sound : lowest (drawnModel text) ≡ 0
   accepted-sound = drawn-clear text t h .sound
