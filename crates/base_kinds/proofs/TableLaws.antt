@@ -1,11 +1,13 @@
 -- The tables as the code has them, and what callers know of every row. Assumes nothing.
 use mathlib.Core.Path.{_≡_, refl, sym, _∙_, ap}
-use mathlib.Core.Bool.{true}
+use mathlib.Core.Bool.{Bool, true, false}
 use mathlib.Core.List.{map}
-use Prim.Native.Nat.{ℕ, _≤_, _<_}
+use Prim.Native.Nat.{ℕ, _*_, _/_, _%_, _^_, _≤_, _<_}
 use native.Mathlib.Omega.{arith}
-use lib.Dec.{leb}
-use borrow.Author.Tests.{leb-true}
+use lib.Dec.{leb, ltb, eqb}
+use borrow.Author.Tests.{leb-true, ltb-true, ltb-false, eqb-true}
+use Rattle.base_words.specs.All.{all}
+use Rattle.base_words.proofs.AllLaws.{all-at}
 use Rattle.base_words.specs.Each.{each}
 use lib.ListN.{length, getD, length-map, List·getD-map, List·getD-eq-default}
 use Rattle.base_kinds.specs.declared.Kind.{Kind}
@@ -16,6 +18,22 @@ use Rattle.base_words.proofs.ListLaws.{getD-in, each-at}
 pub column : {A : Type 0} (f : Kind → A) (k : ℕ) (r : A) → r ≡ getD (map f kinds) k (f noKind) → r ≡ f (kindOf k)
 unfolding kindOf
 column f k r e = e ∙ List·getD-map f kinds k noKind
+
+-- the same from a column of digits, which is the table's by computation: the digit of k, or 0 behind the last
+abbrev digit : ℕ → ℕ → ℕ
+digit column k = (column / 2 ^ (4 * k)) % 16
+
+digits-by : (f : Kind → ℕ) (column : ℕ) → all (λ k. eqb (digit column k) (f (kindOf k))) (length kinds) ≡ true → f noKind ≡ 0 → (k r : ℕ) → (k < length kinds → r ≡ digit column k) × (length kinds ≤ k → r ≡ 0) → (b : Bool) → ltb k (length kinds) ≡ b → r ≡ f (kindOf k)
+unfolding kindOf
+digits-by f column same none k r h true e =
+    let inside = ltb-true k (length kinds) e in
+    h .0 inside ∙ eqb-true _ _ (all-at _ (length kinds) same k inside)
+digits-by f column same none k r h false e =
+    let outside = ltb-false k (length kinds) e in
+    h .1 outside ∙ sym none ∙ ap f (sym (List·getD-eq-default kinds noKind outside))
+
+pub digits : (f : Kind → ℕ) (column : ℕ) → all (λ k. eqb (digit column k) (f (kindOf k))) (length kinds) ≡ true → f noKind ≡ 0 → (k r : ℕ) → (k < length kinds → r ≡ digit column k) × (length kinds ≤ k → r ≡ 0) → r ≡ f (kindOf k)
+digits f column same none k r h = digits-by f column same none k r h (ltb k (length kinds)) refl
 
 -- the same by the row of k, which is inside
 pub column-in : {A : Type 0} (f : Kind → A) (k row : ℕ) (d : A) → RowOf k row → getD (map f kinds) row d ≡ f (kindOf k)

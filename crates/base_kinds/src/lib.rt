@@ -1,8 +1,9 @@
 // The table of kinds. A kind is 1 to 15; any other number has the row of none.
 ghost use mathlib.Core.Path.{_≡_};
-ghost use Rattle.base_kinds.specs.Kinds.{kindOf, RowOf, used};
+ghost use Prim.Native.Nat.{_*_, _/_, _%_, _^_, _<_, _≤_};
+ghost use lib.ListN.{length};
+ghost use Rattle.base_kinds.specs.Kinds.{kinds, kindOf, RowOf, used};
 use base_words::Word;
-use base_words::word;
 
 pub mod moves;
 
@@ -73,62 +74,72 @@ const PARTS_OF: [[u8; PARTS]; ROWS] = [
     *b"ENSX", // taskSnd
 ];
 
-// The columns of numbers, in the same order: 0 NONE, 1 ONE, 2 MANY but for the letters.
-const LETTERS_OF: [Word; ROWS] = [0, 5, 8, 3, 9, 6, 8, 8, 10, 8, 7, 7, 8, 4, 7, 7];
+// The columns of numbers, a digit for each kind, that of none the last: 0 NONE, 1 ONE, 2 MANY but for the letters. A list would be put on the stack before one is read.
+const LETTERS_OF: u64 = 0x7748_778a_8869_3850;
 
-const ENTRIES: [Word; ROWS] = [0, 1, 0, 1, 1, 1, 1, 1, 1, 1, 2, 2, 1, 1, 1, 1];
+const ENTRIES: u64 = 0x1111_2211_1111_1010;
 
-const EXITS: [Word; ROWS] = [0, 1, 1, 0, 0, 0, 1, 1, 2, 2, 1, 1, 2, 1, 1, 1];
+const EXITS: u64 = 0x1112_1122_1100_0110;
 
-const TASK: [Word; ROWS] = [0, 0, 0, 0, 0, 0, 0, 0, 0, 0, 0, 0, 0, 1, 1, 1];
+const TASK: u64 = 0x1110_0000_0000_0000;
 
-const CONDITIONS: [Word; ROWS] = [0, 0, 0, 0, 0, 0, 0, 0, 0, 0, 0, 0, 2, 1, 1, 1];
+const CONDITIONS: u64 = 0x1112_0000_0000_0000;
 
-const RECEIVES: [Word; ROWS] = [0, 0, 1, 0, 0, 0, 1, 0, 2, 0, 0, 0, 0, 0, 1, 0];
+const RECEIVES: u64 = 0x0100_0002_0100_0100;
 
-const SENDS: [Word; ROWS] = [0, 0, 0, 0, 0, 1, 0, 1, 0, 0, 0, 0, 0, 0, 0, 1];
+const SENDS: u64 = 0x1000_0000_1010_0000;
+
+// The digit of kind k.
+fn cell(column: u64, k: Word) -> Word
+    ensures { λ r. ⌜ (k < length kinds → r ≡ (column / 2 ^ (4 * k)) % 16) × (length kinds ≤ k → r ≡ 0) ⌝ }
+{
+    if (k as usize) < ROWS {
+        return ((column >> (4 * k)) % 16) as Word;
+    }
+    0
+}
 
 // What the row of kind k has in a column.
 pub fn letters_of(k: Word) -> Word
     ensures { λ r. ⌜ r ≡ kindOf k .letters ⌝ }
 {
-    word(&LETTERS_OF, k as usize)
+    cell(LETTERS_OF, k)
 }
 
 pub fn entries_of(k: Word) -> Word
     ensures { λ r. ⌜ r ≡ kindOf k .entries ⌝ }
 {
-    word(&ENTRIES, k as usize)
+    cell(ENTRIES, k)
 }
 
 pub fn exits_of(k: Word) -> Word
     ensures { λ r. ⌜ r ≡ kindOf k .exits ⌝ }
 {
-    word(&EXITS, k as usize)
+    cell(EXITS, k)
 }
 
 pub fn task_of(k: Word) -> Word
     ensures { λ r. ⌜ r ≡ kindOf k .task ⌝ }
 {
-    word(&TASK, k as usize)
+    cell(TASK, k)
 }
 
 pub fn conditions_of(k: Word) -> Word
     ensures { λ r. ⌜ r ≡ kindOf k .conditions ⌝ }
 {
-    word(&CONDITIONS, k as usize)
+    cell(CONDITIONS, k)
 }
 
 pub fn receives_of(k: Word) -> Word
     ensures { λ r. ⌜ r ≡ kindOf k .receives ⌝ }
 {
-    word(&RECEIVES, k as usize)
+    cell(RECEIVES, k)
 }
 
 pub fn sends_of(k: Word) -> Word
     ensures { λ r. ⌜ r ≡ kindOf k .sends ⌝ }
 {
-    word(&SENDS, k as usize)
+    cell(SENDS, k)
 }
 
 // The row of kind k; that of none where k is no kind.
