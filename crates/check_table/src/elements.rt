@@ -1,11 +1,11 @@
 // Whether an element is within the limits: a kind, and what its row of the table of kinds says.
 ghost use mathlib.Core.Path.{_≡_};
-ghost use lib.ListN.{drop};
+ghost use lib.ListN.{drop, length};
 ghost use Prim.Native.Nat.{_+_, _≤_};
 ghost use Rattle.base_words.specs.Words.{at};
 ghost use Rattle.base_words.specs.Counts.{branches, assignments};
 ghost use Rattle.base_kinds.specs.Kinds.{many, kindOf, used};
-ghost use Rattle.base_table.specs.Places.{entriesPlace, exitsPlace, expressionWords, messageWords, assignmentWords};
+ghost use Rattle.base_table.specs.Places.{entriesPlace, exitsPlace, expressionWords, messageWords, assignmentWords, elementWords};
 ghost use Rattle.check_limits.specs.Limits.{things, conditionFits, messageFits, assignmentFits, countFits, edgeFits, edgesFit, taskFits, conditionsFit, messagesFit, assignmentsFit, partsFit, elementFits};
 use super::parts::assignment_fits;
 use super::parts::condition_fits;
@@ -28,6 +28,7 @@ use base_table::condition_at;
 use base_table::kind_in;
 use base_table::places::ASSIGNMENT_COUNT;
 use base_table::places::ASSIGNMENT_WORDS;
+use base_table::places::ELEMENT_WORDS;
 use base_table::places::ENTRIES;
 use base_table::places::EXITS;
 use base_table::places::EXPRESSION_WORDS;
@@ -224,8 +225,7 @@ fn parts_fit(kind: Word, el: &[Word]) -> bool
     assignments_fit(el)
 }
 
-// Whether an element is within the limits.
-pub fn element_fits(el: &[Word]) -> bool
+fn row_fits(el: &[Word]) -> bool
     ensures { λ r. ⌜ r ≡ elementFits (now (el .entry)) ⌝ }
 {
     let kind = kind_in(el);
@@ -233,4 +233,12 @@ pub fn element_fits(el: &[Word]) -> bool
         return false;
     }
     parts_fit(kind, el)
+}
+
+// Whether an element is within the limits; its words are cut out, so that the compiler knows how many there are.
+pub fn element_fits(el: &[Word]) -> bool
+    requires { ⌜ elementWords ≤ length (now el) ⌝ }
+    ensures { λ r. ⌜ r ≡ elementFits (now (el .entry)) ⌝ }
+{
+    row_fits(&el[..ELEMENT_WORDS])
 }

@@ -38,6 +38,7 @@ use elements::element_fits;
 
 // An element of a table is no endSnd.
 fn held_fits(el: &[Word]) -> bool
+    requires { ⌜ elementWords ≤ length (now el) ⌝ }
     ensures { λ r. ⌜ r ≡ heldFits (now (el .entry)) ⌝ }
 {
     if !element_fits(el) {
@@ -46,7 +47,7 @@ fn held_fits(el: &[Word]) -> bool
     kind_in(el) != END_SND
 }
 
-// Element j, cut out whole: so the compiler knows how long it is.
+// Element j, cut out whole.
 fn element_in(x: &[Word], j: Word) -> bool
     requires { ⌜ elementWords * j + elementWords ≤ length (now x) ⌝ }
     ensures { λ r. ⌜ r ≡ heldFits (drop (elementWords * j) (now (x .entry))) ⌝ }

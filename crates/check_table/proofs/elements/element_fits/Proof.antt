@@ -1,16 +1,10 @@
+use lib.Seq.{length-take-le}
+use mathlib.Core.Path.{sym}
 use borrow.Author.Needs.{needs}
-use Rattle.check_table.proofs.ElementLaws.{element-no, element-yes}
+use Rattle.base_table.specs.Places.{elementWords}
+use Rattle.check_table.proofs.ElementLaws.{element-cut}
 use Rattle.check_table.proofs.elements.element_fits.Statement.{statement}
 use Rattle.check_table.proofs.elements.element_fits.Tie as tie
 
-ruleset L = (needs)
-
 pub element-fits-spec : {M : Type 1} → statement M
-element-fits-spec =
-    tie.close
-    (tie.spec
-    (λ c κs. search L)
-    (λ c κs. search L)
-    (λ c. element-no _ _ _ (c .before .before .kind-in .ensures) (c .before .letters-of .ensures) (c .if1 .taken))  -- returns
-    (λ c κs. search L)
-    (λ c. element-yes _ _ _ (c .before .before .before .kind-in .ensures) (c .before .before .letters-of .ensures) _ (c .before .if1 .left) (c .parts-fit .ensures)))  -- returns-2
+element-fits-spec = tie.close (tie.spec (λ c. sym (length-take-le elementWords (c .before .before .args .el .now) (c .before .before .pre))) (λ c κs. search needs) (λ c. element-cut _ _ (c .row-fits .ensures)))
