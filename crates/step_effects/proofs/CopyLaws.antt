@@ -1,8 +1,8 @@
 -- What a step sees, filled word by word, is the list of its instance's words and behind it the list of those that all share; what it stores back.
 -- Assumes nothing.
 use Prim.Native.Nat.{ℕ, _+_, _-_, _≤_, _<_}
-use mathlib.Core.Path.{_≡_, sym, _∙_, ap}
-use mathlib.Core.Bool.{true, false}
+use mathlib.Core.Path.{_≡_, refl, sym, _∙_, ap}
+use mathlib.Core.Bool.{Bool, true, false}
 use mathlib.Core.List.{List, _++_}
 use native.Mathlib.Nat.{zero-add}
 use native.Mathlib.Omega.{arith}
@@ -70,12 +70,12 @@ committed s h y v w p i to q made e₁ e₂ e₃ e₄ e₅ = e₅ ∙ rw (e₄, 
 
 -- WHAT A MOVE SEES
 module _ (s : List ℕ) (m : Move) (p i : ℕ) (r : List ℕ) where
-  pub sees-made : eqb (m .also) making ≡ true → r ≡ writes (λ k. at s (sharedPlace + k)) (replicate copyWords 0) instanceWords sharedWords
+  sees-made : eqb (m .also) making ≡ true → r ≡ writes (λ k. at s (sharedPlace + k)) (replicate copyWords 0) instanceWords sharedWords
       → r ≡ before m (instanceOf s p i) (sharedOf s)
   unfolding before sharedOf if_then_else_
   sees-made e h = h ∙ seen-blank (λ k. at s (sharedPlace + k)) (λ k. at s (sharedPlace + k)) instanceWords sharedWords ∙ rw e
 
-  pub sees-own : eqb (m .also) making ≡ false → (own : List ℕ) → own ≡ writes (λ k. at s (instancePlace p i + k)) (replicate copyWords 0) 0 instanceWords
+  sees-own : eqb (m .also) making ≡ false → (own : List ℕ) → own ≡ writes (λ k. at s (instancePlace p i + k)) (replicate copyWords 0) 0 instanceWords
       → r ≡ writes (λ k. at s (sharedPlace + k)) own instanceWords sharedWords
       → r ≡ before m (instanceOf s p i) (sharedOf s)
   unfolding before sharedOf instanceOf if_then_else_
@@ -83,3 +83,14 @@ module _ (s : List ℕ) (m : Move) (p i : ℕ) (r : List ℕ) where
       h ∙ ap (λ (l : List ℕ). writes (λ k. at s (sharedPlace + k)) l instanceWords sharedWords) o
       ∙ seen-own (λ k. at s (instancePlace p i + k)) (λ k. at s (sharedPlace + k)) instanceWords sharedWords
       ∙ rw e
+
+  -- by the copy of its own words, or none
+  module _ (own : List ℕ) (made : eqb (m .also) making ≡ true → own ≡ replicate copyWords 0)
+      (kept : eqb (m .also) making ≡ false → own ≡ writes (λ k. at s (instancePlace p i + k)) (replicate copyWords 0) 0 instanceWords)
+      (h : r ≡ writes (λ k. at s (sharedPlace + k)) own instanceWords sharedWords) where
+    sees-by : (b : Bool) → eqb (m .also) making ≡ b → r ≡ before m (instanceOf s p i) (sharedOf s)
+    sees-by true e = sees-made e (rw (made e) at h)
+    sees-by false e = sees-own e own (kept e) h
+
+    pub sees : r ≡ before m (instanceOf s p i) (sharedOf s)
+    sees = sees-by (eqb (m .also) making) refl

@@ -1,10 +1,13 @@
 // What a step sees of the instances of a state, copied out of them, and stored back.
 ghost use mathlib.Core.Path.{_≡_};
 ghost use Prim.Native.Nat.{_+_, _≤_};
-ghost use lib.ListN.{length, replicate};
+ghost use mathlib.Core.Bool.{true, false};
+ghost use lib.Dec.{eqb};
+ghost use lib.ListN.{length};
 ghost use Rattle.base_words.specs.Words.{at, greatest};
 ghost use Rattle.base_words.specs.Writes.{writes};
-ghost use Rattle.base_state.specs.Places.{instancePlace, instanceWords, sharedPlace, sharedWords, copyWords};
+ghost use Rattle.base_kinds.specs.Moves.{making};
+ghost use Rattle.base_state.specs.Places.{instancePlace, instanceWords, copyWords};
 ghost use Rattle.meaning.specs.Step.{instanceOf, sharedOf, before};
 ghost use Rattle.step_effects.specs.Effects.{storedIn, madeBy};
 use base_kinds::moves::MAKES;
@@ -59,33 +62,25 @@ fn move_words(s: &[Word], from: usize, z: &mut [Word], to: usize, n: usize)
     move_across(s, from, z, to, n);
 }
 
-// An instance, with room behind it for what all share.
-fn copy_of(s: &[Word], p: Word, i: Word) -> [Word; COPY_WORDS]
-    ensures { λ r. ⌜ r ≡ writes (λ k. at (now (s .entry)) (instancePlace p i + k)) (replicate copyWords 0) 0 instanceWords ⌝ }
+// The words of an instance, to the first of h; where a move makes the instance, h is left as it is.
+fn copy_own(s: &[Word], m: Move, p: Word, i: Word, h: &mut [Word])
+    ensures { λ _. ⌜ (eqb (m .also) making ≡ true → now (h .exit) ≡ now (h .entry)) × (eqb (m .also) making ≡ false → now (h .exit) ≡ writes (λ k. at (now (s .entry)) (instancePlace p i + k)) (now (h .entry)) 0 instanceWords) ⌝ }
 {
+    if m.also == MAKES {
+        return;
+    }
     let from = FIRST_INSTANCE + POOL_INSTANCES * (p as usize) + INSTANCE_WORDS * (i as usize);
-    let mut h: [Word; COPY_WORDS] = [0; COPY_WORDS];
-    move_words(s, from, &mut h, 0, INSTANCE_WORDS);
-    h
+    move_words(s, from, h, 0, INSTANCE_WORDS);
 }
 
-// What all share, behind an instance.
-fn with_shared(s: &[Word], own: [Word; COPY_WORDS]) -> [Word; COPY_WORDS]
-    ensures { λ r. ⌜ r ≡ writes (λ k. at (now (s .entry)) (sharedPlace + k)) own instanceWords sharedWords ⌝ }
-{
-    let mut h = own;
-    move_words(s, SHARED, &mut h, INSTANCE_WORDS, SHARED_WORDS);
-    h
-}
-
-// What a move sees: where it makes an instance, all words of that are 0.
+// What a move sees, an instance and behind it what all share: where it makes the instance, all words of that are 0.
 pub fn copy_before(s: &[Word], m: Move, p: Word, i: Word) -> [Word; COPY_WORDS]
     ensures { λ r. ⌜ r ≡ before m (instanceOf (now (s .entry)) p i) (sharedOf (now (s .entry))) ⌝ }
 {
-    if m.also == MAKES {
-        return with_shared(s, [0; COPY_WORDS]);
-    }
-    with_shared(s, copy_of(s, p, i))
+    let mut h: [Word; COPY_WORDS] = [0; COPY_WORDS];
+    copy_own(s, m, p, i, &mut h);
+    move_words(s, SHARED, &mut h, INSTANCE_WORDS, SHARED_WORDS);
+    h
 }
 
 // Stores an instance and the stores behind it, and how many its pool has made.
