@@ -22,6 +22,7 @@ use Rattle.step_names.specs.declared.Scan.{Scan}
 use Rattle.step_names.specs.Names.{offered, stepName, namedBy, accepted}
 use Rattle.step_list.specs.Listing.{places, valuesAt, moveAt, byPlace, byBranch, byPhase, chosen}
 use Rattle.step_names.specs.Parts.{scan, withValues, byMessage}
+use Rattle.step_names.proofs.ScanLaws.{Passed, passed-more}
 use Rattle.step_list.specs.Scanned.{stirs, still, scanPhase, scanElement, scanInstance, scanMade, scanPool, scanned}
 
 named-ext : (f g : Tuple → Name) (ms : List Tuple) → ((v : Tuple) → f v ≡ g v) → namedBy f ms ≡ namedBy g ms
@@ -102,6 +103,15 @@ module _ (t s q : List ℕ) (p i e k : ℕ) (r : Scan) where
   pub element-stirs : stirs (elementAt t p e) (instanceAt s p i) i (madeCount s p) ≡ true → r ≡ scan (joined (scanPhase t s q p i e) phases) k → r ≡ scan (scanElement t s q p i e) k
   unfolding scanElement if_then_else_
   element-stirs test w = rw test w
+
+-- A LOOP'S NEXT ELEMENT, scanned or passed over: left is what is left of k behind it
+module _ (t s q : List ℕ) (p i e k m left : ℕ) (before : Passed (scanElement t s q p i) e k m) where
+  pub more-stirring : (r : Scan) → stirs (elementAt t p e) (instanceAt s p i) i (madeCount s p) ≡ true → r ≡ scan (joined (scanPhase t s q p i e) phases) m → r .found ≡ false → left ≡ r .left → Passed (scanElement t s q p i) (e + 1) k left
+  more-stirring r test w none l = rw l (passed-more (scanElement t s q p i) e k m r before (element-stirs t s q p i e m r test w) none)
+
+  pub more-idle : stirs (elementAt t p e) (instanceAt s p i) i (madeCount s p) ≡ false → left ≡ m → Passed (scanElement t s q p i) (e + 1) k left
+  unfolding scan
+  more-idle test l = rw l (passed-more (scanElement t s q p i) e k m (scan [] m) before (element-idle t s q p i e m (scan [] m) test refl) refl)
 
 -- AN INSTANCE, passed over or not
 module _ (t s q : List ℕ) (p i k : ℕ) (r : Scan) (b : Bool) (e : b ≡ still s p i) where

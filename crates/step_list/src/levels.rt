@@ -5,7 +5,7 @@ ghost use Rattle.base_words.specs.Each.{joined};
 ghost use Rattle.base_kinds.specs.Moves.{phases};
 ghost use Rattle.step_list.specs.Listing.{byBranch};
 ghost use Rattle.step_names.specs.Parts.{scan, acceptedOn};
-ghost use Rattle.step_list.specs.Scanned.{scanPhase, scanElement, scanInstance, scanMade, scanPool, scanned};
+ghost use Rattle.step_list.specs.Scanned.{scanPhase, scanInstance, scanMade, scanPool, scanned};
 use super::parts::move_at;
 use super::stirring::is_still;
 use super::stirring::stirs_at;
@@ -105,24 +105,7 @@ fn scan_phases(
     passed(left)
 }
 
-// Element e, which is passed over where it cannot move.
-fn scan_element(
-    t: &[Word; TABLE_WORDS],
-    z: &[Word; STATE_WORDS],
-    p: Word,
-    i: Word,
-    e: Word,
-    k: usize,
-) -> Scan
-    ensures { λ r. ⌜ r ≡ scan (scanElement (now (t .entry)) (instancesOf (now (z .entry))) (queuesOf (now (z .entry))) p i e) k ⌝ }
-{
-    if !stirs_at(t, z, p, i, e) {
-        return passed(k);
-    }
-    scan_phases(t, z, p, i, e, k)
-}
-
-// The elements in instance i.
+// The elements in instance i; one that cannot move is passed over.
 fn scan_instance(
     t: &[Word; TABLE_WORDS],
     z: &[Word; STATE_WORDS],
@@ -136,11 +119,13 @@ fn scan_instance(
     let mut left = k;
     let mut e: Word = 0;
     while e < count {
-        let r = scan_element(t, z, p, i, e, left);
-        if r.found {
-            return r;
+        if stirs_at(t, z, p, i, e) {
+            let r = scan_phases(t, z, p, i, e, left);
+            if r.found {
+                return r;
+            }
+            left = r.left;
         }
-        left = r.left;
         e += 1;
     }
     passed(left)

@@ -10,7 +10,7 @@ can-stir-spec =
     tie.close
     (tie.spec
     (λ c κs. search L)
-    (λ c. stirs-making _ _ _ _ _ (c .before .kind-in .ensures) (c .if1 .taken))  -- returns
+    (λ c. stirs-making _ _ _ _ _ (c .before .word-in .ensures) (c .if1 .taken))  -- returns
     (λ c κs. search L)
-    (λ c. stirs-made _ _ _ _ _ (c .before .before .before .kind-in .ensures) _ (c .before .before .if1 .left) (c .before .if2 .taken) (c .is-idle .ensures))  -- returns-2
-    (λ c. stirs-unmade _ _ _ _ _ (c .before .before .kind-in .ensures) (c .before .if1 .left) (c .if2 .left)))  -- returns-3
+    (λ c. stirs-made _ _ _ _ _ (c .before .before .before .word-in .ensures) _ (c .before .before .if1 .left) (c .before .if2 .taken) (c .is-idle .ensures))  -- returns-2
+    (λ c. stirs-unmade _ _ _ _ _ (c .before .before .word-in .ensures) (c .before .if1 .left) (c .if2 .left)))  -- returns-3

@@ -12,6 +12,7 @@ is-bare-spec =
     tie.close
     (tie.spec
     (λ c. search L)
+    (λ c. search L)
     (λ c κs. search L)
     (λ c κs. search L)
-    (λ c. rw (← c .before .edge-at .ensures) (eqb-same _ _ _ (c .tokens-on .ensures))))  -- returns
+    (λ c. rw (← c .before .word-in .ensures) (eqb-same _ _ _ (c .tokens-on .ensures))))  -- returns

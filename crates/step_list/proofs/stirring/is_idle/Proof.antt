@@ -18,6 +18,6 @@ is-idle-spec =
     (λ c κs. search L)
     (λ c. and-no _ _ (and-false-left _ _ (flag-is _ _ _ (c .before .are-bare .ensures) (not-true _ (c .if1 .taken)))))  -- returns
     (λ c κs. search L)
-    (λ c. rw (← c .before .before .before .before .task-in .ensures) (and-no _ _ (and-false-right (all _ _) _ (ne-eqb-by _ _ _ (c .before .active-count .ensures) (c .if2 .taken)))))  -- returns-2
+    (λ c. rw (← c .before .before .before .before .word-in .ensures) (and-no _ _ (and-false-right (all _ _) _ (ne-eqb-by _ _ _ (c .before .active-count .ensures) (c .if2 .taken)))))  -- returns-2
     (λ c κs. search L)
-    (λ c. rw (← c .before .before .before .before .before .task-in .ensures) (and-yes _ _ _ (and-true _ _ (flag-is _ _ _ (c .before .before .before .before .are-bare .ensures) (not-false _ (c .before .before .before .if1 .left))) (eq-eqb-by _ _ _ (c .before .before .active-count .ensures) (c .before .if2 .left))) (eqb-same _ _ _ (c .ready-count .ensures)))))  -- returns-3
+    (λ c. rw (← c .before .before .before .before .before .word-in .ensures) (and-yes _ _ _ (and-true _ _ (flag-is _ _ _ (c .before .before .before .before .are-bare .ensures) (not-false _ (c .before .before .before .if1 .left))) (eq-eqb-by _ _ _ (c .before .before .active-count .ensures) (c .before .if2 .left))) (eqb-same _ _ _ (c .ready-count .ensures)))))  -- returns-3

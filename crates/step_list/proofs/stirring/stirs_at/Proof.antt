@@ -12,5 +12,4 @@ stirs-at-spec =
     (λ c κs. search L)
     (λ c κs. search L)
     (λ c κs. search L)
-    (λ c κs. search L)
-    (λ c. rw (← c .before .before .before .before .instances-in .ensures, ← c .before .before .before .element-at .ensures, ← c .before .before .instance-at .ensures, ← c .before .made-count .ensures) (c .can-stir .ensures)))  -- returns
+    (λ c. rw (← c .before .before .before .instances-in .ensures, ← c .before .before .instance-at .ensures, ← c .before .made-count .ensures) (c .can-stir .ensures)))  -- returns
