@@ -16,6 +16,7 @@ ghost use Rattle.step_poll.specs.Poll.{Polling};
 ghost use Rattle.step_names.specs.Names.{blank};
 ghost use Rattle.text_read.specs.Notation.{readInto};
 ghost use Rattle.draw_read.specs.Drawings.{drawInto};
+ghost use Rattle.draw_diagnose.specs.Diagnosis.{diagnosed};
 ghost use Rattle.write_buffer.specs.Buffers.{lesser, lastPlace};
 ghost use Rattle.write_shown.specs.Shown.{shownTable};
 ghost use Rattle.log_repair.specs.Repair.{Repair, repairedTo};
@@ -33,6 +34,7 @@ use base_words::numbers::NOT_NESTED;
 use base_words::numbers::OTHER_VERSION;
 use base_words::numbers::TOO_SHORT;
 use check_lowest::number_at;
+use draw_diagnose::Diagnosis;
 use log_judge::Judged;
 use log_repair::Repaired;
 use meaning::Answer;
@@ -252,6 +254,14 @@ pub fn draw(text: &[u8], t: &mut [Word; TABLE_WORDS]) -> Reading
     ensures { λ r. ⌜ record { number = r .number; beside = r .beside; table = now (t .exit) } ≡ drawInto (now (text .entry)) (now (t .entry)) ⌝ }
 {
     draw_read::draw_into(text, t)
+}
+
+// Why a drawing is refused: the number that `draw` gives; with 21 the rule that is broken, with 4 the check, and the place of the first thing that breaks it; with 28 the place of the pool without room, with 3 and 20 the
+// place that `draw` gives; else 0 and 0.
+pub fn diagnose(text: &[u8]) -> Diagnosis
+    ensures { λ d. ⌜ d ≡ diagnosed (now (text .entry)) ⌝ }
+{
+    draw_diagnose::diagnose(text)
 }
 
 // The answer of a writing: a number, and beside 0 the length of the text.

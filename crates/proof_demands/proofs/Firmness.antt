@@ -10,6 +10,7 @@ use Rattle.meaning.specs.declared.Tuple.{Tuple}
 use Rattle.step_list.specs.declared.Listed.{Listed}
 use Rattle.text_read.specs.declared.Reading.{Reading}
 use Rattle.text_read.specs.Notation.{ReadInto}
+use Rattle.draw_diagnose.specs.declared.Diagnosis.{Diagnosis}
 use Rattle.step_poll.specs.declared.Polled.{Polled}
 use Rattle.log_judge.specs.declared.Judged.{Judged}
 use Rattle.log_repair.specs.declared.Repaired.{Repaired}
@@ -31,6 +32,7 @@ use Rattle.engine.proofs.list.Reads as list
 use Rattle.engine.proofs.run.Reads as run
 use Rattle.engine.proofs.read.Reads as read
 use Rattle.engine.proofs.draw.Reads as draw
+use Rattle.engine.proofs.diagnose.Reads as diagnose
 use Rattle.engine.proofs.write.Reads as write
 use Rattle.engine.proofs.poll.Reads as poll
 use Rattle.engine.proofs.judge.Reads as judge
@@ -49,6 +51,9 @@ check-firm κ t t₁ t₂ r₁ r₂ p₁ p₂ = p₁ ∙ sym p₂
 
 pub nested-firm : (κ : One) (t t₁ t₂ : Lent) (r₁ r₂ : Verdict) → nested.Post κ (t, tt) r₁ (t₁, tt) → nested.Post κ (t, tt) r₂ (t₂, tt) → r₁ ≡ r₂
 nested-firm κ t t₁ t₂ r₁ r₂ p₁ p₂ = p₁ ∙ sym p₂
+
+pub diagnose-firm : (κ : One) (text text₁ text₂ : Lent) (r₁ r₂ : Diagnosis) → diagnose.Post κ (text, tt) r₁ (text₁, tt) → diagnose.Post κ (text, tt) r₂ (text₂, tt) → r₁ ≡ r₂
+diagnose-firm κ text text₁ text₂ r₁ r₂ p₁ p₂ = p₁ ∙ sym p₂
 
 module _ (κ : Two) where
   pub fresh-firm : (t z t₁ t₂ z₁ z₂ : Lent) (v v₁ v₂ : ℕ) (r₁ r₂ : ℕ)

@@ -9,6 +9,7 @@ use Rattle.meaning.specs.declared.Answer.{Answer}
 use Rattle.meaning.specs.declared.Tuple.{Tuple}
 use Rattle.step_list.specs.declared.Listed.{Listed}
 use Rattle.text_read.specs.declared.Reading.{Reading}
+use Rattle.draw_diagnose.specs.declared.Diagnosis.{Diagnosis}
 use Rattle.step_poll.specs.declared.Polled.{Polled}
 use Rattle.log_judge.specs.declared.Judged.{Judged}
 use Rattle.log_repair.specs.declared.Repaired.{Repaired}
@@ -24,6 +25,7 @@ use Rattle.engine.proofs.list.Reads as list
 use Rattle.engine.proofs.run.Reads as run
 use Rattle.engine.proofs.read.Reads as read
 use Rattle.engine.proofs.draw.Reads as draw
+use Rattle.engine.proofs.diagnose.Reads as diagnose
 use Rattle.engine.proofs.write.Reads as write
 use Rattle.engine.proofs.poll.Reads as poll
 use Rattle.engine.proofs.judge.Reads as judge
@@ -32,7 +34,7 @@ use Rattle.engine.proofs.resume.Reads as resume
 use Rattle.engine.proofs.repair.Reads as repair
 use Rattle.engine.proofs.figures.Reads as figures
 use Rattle.engine.proofs.nested.Reads as nested
-use Rattle.proof_demands.specs.Promises.{Checks, Freshens, Steps, Posts, Lists, Runs, Reads, Draws, Writes, Polls, Figures, Judges, Replays, Resumes, Repairs, Nests}
+use Rattle.proof_demands.specs.Promises.{Checks, Freshens, Steps, Posts, Lists, Runs, Reads, Draws, Diagnoses, Writes, Polls, Figures, Judges, Replays, Resumes, Repairs, Nests}
 use Rattle.proof_demands.specs.Demands.{Allowed}
 
 -- a slice or an array that is lent, the desk's records, and the lifetimes of one, of two, of three and of four
@@ -59,6 +61,9 @@ Four = List ℕ × Three
 
 pub check-promise : (κ : One) (t t₁ : Lent) (r : Verdict) → check.Post κ (t, tt) r (t₁, tt) ≡ Checks (now t) r
 check-promise κ t t₁ r = refl
+
+pub diagnose-promise : (κ : One) (text text₁ : Lent) (r : Diagnosis) → diagnose.Post κ (text, tt) r (text₁, tt) ≡ Diagnoses (now text) r
+diagnose-promise κ text text₁ r = refl
 
 module _ (κ : Two) where
   pub fresh-promise : (t z t₁ z₁ : Lent) (v v₁ : ℕ) (r : ℕ) → fresh.Post κ (t, (v, (z, tt))) r (t₁, (v₁, (z₁, tt))) ≡ Freshens (now t) v (now z) r (now z₁)

@@ -10,6 +10,8 @@ use Rattle.step_list.specs.declared.Listed.{Listed}
 use Rattle.text_read.specs.declared.Reading.{Reading}
 use Rattle.text_read.specs.Notation.{ReadInto, readInto}
 use Rattle.draw_read.specs.Drawings.{drawInto}
+use Rattle.draw_diagnose.specs.declared.Diagnosis.{Diagnosis}
+use Rattle.draw_diagnose.specs.Diagnosis.{diagnosed}
 use Rattle.engine.specs.declared.Verdict.{Verdict}
 use Rattle.engine.specs.declared.Ran.{Ran}
 use Rattle.engine.specs.declared.Written.{Written}
@@ -49,6 +51,9 @@ Reads text t r y = _≡_ {A = ReadInto} (record { number = r .number; beside = r
 
 abbrev pub Draws : List ℕ → List ℕ → Reading → List ℕ → Type 0
 Draws text t r y = _≡_ {A = ReadInto} (record { number = r .number; beside = r .beside; table = y }) (drawInto text t)
+
+abbrev pub Diagnoses : List ℕ → Diagnosis → Type 0
+Diagnoses text r = r ≡ diagnosed text
 
 abbrev pub Writes : List ℕ → List ℕ → Written → List ℕ → Type 0
 Writes t out r y = _≡_ {A = WrittenTo} (record { number = r .number; length = r .length; buffer = y }) (writtenTo t out)
