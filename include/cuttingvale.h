@@ -128,6 +128,7 @@ enum cv_stack {
     CV_STACK_FIGURES = 2112,
     CV_STACK_READ = 4032,
     CV_STACK_DRAW = 75904,
+    CV_STACK_DIAGNOSE = 145000,
     CV_STACK_WRITE = 1536,
     CV_STACK_POLL = 2752,
     CV_STACK_JUDGE = 59264,
@@ -171,6 +172,28 @@ enum cv_number {
     CV_NOT_NESTED = 29     /* nested: the pool with the number beside it is not nested */
 };
 
+/* The rules of a drawing, of which 21 says that one is broken, causes before what follows from them: of those that are broken cv_diagnose tells the first, at the leftmost element that breaks it. */
+enum cv_rule {
+    CV_RULE_RUN = 1,              /* an element is run where it stands, and no attribute says that it runs otherwise */
+    CV_RULE_ID = 2,               /* no two elements have one id */
+    CV_RULE_COLLABORATION = 3,    /* there is at most one collaboration */
+    CV_RULE_PROCESS_REF = 4,      /* a processRef names a process */
+    CV_RULE_OWNER = 5,            /* where there are participants, each process is that of exactly one */
+    CV_RULE_MULTIPLICITY = 6,     /* a participant has at most one participantMultiplicity */
+    CV_RULE_SEQUENCE_FLOW = 7,    /* a sequence flow joins two nodes of its own process */
+    CV_RULE_MESSAGE_FLOW = 8,     /* each end of a message flow is a node or a participant */
+    CV_RULE_KIND = 9,             /* a node has the definitions, entries and exits of a kind */
+    CV_RULE_DEFAULT = 10,         /* the default of an exclusive split is one of its own flows */
+    CV_RULE_MESSAGE_ENDS = 11,    /* a message flow goes from a sender to a receiver, or from or to a participant outside */
+    CV_RULE_SENDER = 12,          /* a sender has exactly one message flow */
+    CV_RULE_RECEIVER = 13,        /* so has a receiver */
+    CV_RULE_EVENT_GATEWAY = 14,   /* a flow behind an event gateway leads to a message catch event */
+    CV_RULE_ONE_CONDITION = 15,   /* a flow has at most one condition */
+    CV_RULE_CONDITION = 16,       /* a condition is in the notation, and stands on a flow that leaves an exclusive split */
+    CV_RULE_POOL = 17,            /* there is a pool; the place is the root's */
+    CV_RULE_RECORDED = 18         /* no more than 6,554 elements are recorded; the place is the root's */
+};
+
 /* A message: its length, 0 to 4, and its values; what stands behind them is ignored, and 0 in an answer. */
 typedef struct { uint32_t length, values[4]; } cv_tuple;
 
@@ -191,6 +214,9 @@ typedef struct { uint32_t number; cv_name name; } cv_listed;
 typedef struct { uint32_t number; uint16_t steps; uint32_t left; } cv_ran;
 /* beside: the place where the number is 2, 3 or 20, from 0, the lowest check broken where it is 4 */
 typedef struct { uint32_t number; size_t beside; } cv_reading;
+/* the number that cv_draw gives; the rule where it is 21, the check where it is 4, else 0; and the place of the `<` of what breaks it: with 4 of the pool (2, 3), the message flow (6) or the gateway (7), with 28 of the pool without
+   room, with 3 and 20 the place that cv_draw gives; of a pool, where its participant or, without one, its process stands */
+typedef struct { uint32_t number; size_t rule, place; } cv_diagnosis;
 typedef struct { uint32_t number; size_t length; } cv_written;
 /* the number of the first refusal, 0 where there was none, and how many items were accepted before it */
 typedef struct { uint32_t number; size_t accepted; } cv_polled;
@@ -201,7 +227,7 @@ typedef struct { uint32_t number; size_t length, kept, dropped; } cv_repaired;
 
 CV_STATIC_ASSERT(sizeof(cv_tuple) == 20 && sizeof(cv_name) == 40 && sizeof(cv_record) == 12, "cuttingvale.h: a tuple is 20 bytes, a name 40, a record 12");
 CV_STATIC_ASSERT(sizeof(cv_verdict) == 8 && sizeof(cv_answer) == 32 && sizeof(cv_listed) == 44 && sizeof(cv_ran) == 12, "cuttingvale.h: answers of words");
-CV_STATIC_ASSERT(sizeof(cv_reading) == 16 && sizeof(cv_written) == 16 && sizeof(cv_polled) == 16 && sizeof(cv_judged) == 24 && sizeof(cv_repaired) == 32, "cuttingvale.h: for a 64-bit machine");
+CV_STATIC_ASSERT(sizeof(cv_reading) == 16 && sizeof(cv_diagnosis) == 24 && sizeof(cv_written) == 16 && sizeof(cv_polled) == 16 && sizeof(cv_judged) == 24 && sizeof(cv_repaired) == 32, "cuttingvale.h: for a 64-bit machine");
 
 /* Checks a table: 10 for a broken limit or an unused place not 0, then 4, else 0. */
 cv_verdict cv_check(const uint32_t *table, size_t table_words);
@@ -234,6 +260,9 @@ cv_reading cv_read(const uint8_t *text, size_t length, uint32_t *table, size_t t
 /* Reads a drawing, BPMN 2.0 XML, into the table: 1, 20, 21, 3, 4 or 28 (10 for a wrong length of the table), and the table stays; else 0, and every word
    of it is the model's. */
 cv_reading cv_draw(const uint8_t *text, size_t length, uint32_t *table, size_t table_words);
+
+/* Why a drawing is refused, for people: the number that cv_draw gives to it, and what breaks it. Needs no table; 0, 0 and 0 where nothing does. */
+cv_diagnosis cv_diagnose(const uint8_t *text, size_t length);
 
 /* Writes a table's text, one line with its newline: 10, or 5 where the buffer is shorter than it, and the buffer stays; else 0 and its length, at most CV_TEXT_MOST. */
 cv_written cv_write(const uint32_t *table, size_t table_words, uint8_t *buffer, size_t length);

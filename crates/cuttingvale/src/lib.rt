@@ -3,6 +3,7 @@ ghost use mathlib.Core.Path.{_≡_};
 ghost use Rattle.meaning.specs.Tuples.{empty};
 ghost use Rattle.step_poll.specs.Poll.{Polling};
 ghost use Rattle.step_names.specs.Names.{blank};
+ghost use Rattle.draw_diagnose.specs.Diagnosis.{diagnosed};
 ghost use Rattle.log_repair.specs.Repair.{Repair, repairedTo};
 ghost use Rattle.write_lines.specs.Lines.{stepLine};
 ghost use Rattle.log_write.specs.Xes.{header, eventText, footer};
@@ -13,6 +14,7 @@ use base_table::places::TABLE_WORDS;
 use base_words::Word;
 use base_words::numbers::BAD;
 use base_words::numbers::TOO_MANY;
+use draw_diagnose::Diagnosis;
 use engine::Ran;
 use engine::Verdict;
 use engine::Written;
@@ -253,6 +255,14 @@ pub extern "C" fn cv_draw(
         };
     }
     engine::draw(text, table)
+}
+
+// The text's length comes with it: there is no other length to be wrong.
+#[no_mangle]
+pub extern "C" fn cv_diagnose(text: &[u8]) -> Diagnosis
+    ensures { λ d. ⌜ d ≡ diagnosed (now (text .entry)) ⌝ }
+{
+    engine::diagnose(text)
 }
 
 #[no_mangle]

@@ -10,6 +10,7 @@ use Rattle.step_poll.specs.Poll.{Polling}
 use Rattle.state_figures.specs.Figures.{Figured}
 use Rattle.text_read.specs.declared.Reading.{Reading}
 use Rattle.text_read.specs.Notation.{ReadInto}
+use Rattle.draw_diagnose.specs.declared.Diagnosis.{Diagnosis}
 use Rattle.log_judge.specs.declared.Judged.{Judged}
 use Rattle.log_repair.specs.declared.Repaired.{Repaired}
 use Rattle.engine.specs.declared.Verdict.{Verdict}
@@ -32,6 +33,7 @@ use Rattle.cuttingvale.proofs.cv_run.Reads as run
 use Rattle.cuttingvale.proofs.cv_figures.Reads as figures
 use Rattle.cuttingvale.proofs.cv_read.Reads as read
 use Rattle.cuttingvale.proofs.cv_draw.Reads as draw
+use Rattle.cuttingvale.proofs.cv_diagnose.Reads as diagnose
 use Rattle.cuttingvale.proofs.cv_write.Reads as write
 use Rattle.cuttingvale.proofs.cv_poll.Reads as poll
 use Rattle.cuttingvale.proofs.cv_judge.Reads as judge
@@ -77,6 +79,9 @@ pub repair-firm : (κ : Two) (x out x₁ x₂ out₁ out₂ : Lent) (r₁ r₂ :
     → (r₁ ≡ r₂) × (now out₁ ≡ now out₂)
 repair-firm κ x out x₁ x₂ out₁ out₂ r₁ r₂ p₁ p₂ =
     let p = p₁ ∙ sym p₂ in (ap (λ (o : Repair). record { number = o .number; length = o .length; kept = o .kept; dropped = o .dropped }) p, ap (λ (o : Repair). o .buffer) p)
+
+pub diagnose-firm : (κ : One) (x x₁ x₂ : Lent) (r₁ r₂ : Diagnosis) → diagnose.Post κ (x, tt) r₁ (x₁, tt) → diagnose.Post κ (x, tt) r₂ (x₂, tt) → r₁ ≡ r₂
+diagnose-firm κ x x₁ x₂ r₁ r₂ p₁ p₂ = p₁ ∙ sym p₂
 
 -- A TABLE AND A STATE
 module _ (κ : Two) (t t₁ t₂ z z₁ z₂ : Lent) (n n₁ n₂ m m₁ m₂ : ℕ) where

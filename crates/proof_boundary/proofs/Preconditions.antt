@@ -21,6 +21,7 @@ use Rattle.engine.proofs.run as run
 use Rattle.engine.proofs.figures as figures
 use Rattle.engine.proofs.read as read
 use Rattle.engine.proofs.draw as draw
+use Rattle.engine.proofs.diagnose as diagnose
 use Rattle.engine.proofs.write as write
 use Rattle.engine.proofs.poll as poll
 use Rattle.engine.proofs.judge as judge
@@ -41,6 +42,7 @@ use Rattle.cuttingvale.proofs.cv_run as cv-run
 use Rattle.cuttingvale.proofs.cv_figures as cv-figures
 use Rattle.cuttingvale.proofs.cv_read as cv-read
 use Rattle.cuttingvale.proofs.cv_draw as cv-draw
+use Rattle.cuttingvale.proofs.cv_diagnose as cv-diagnose
 use Rattle.cuttingvale.proofs.cv_write as cv-write
 use Rattle.cuttingvale.proofs.cv_poll as cv-poll
 use Rattle.cuttingvale.proofs.cv_judge as cv-judge
@@ -70,6 +72,7 @@ module _ {M : Type 1} (𝓤 : URA M) (H : Heap 𝓤) (A : Atoms 𝓤) (mem : Mem
       × AsksNothing figures.signature (figures.spec 𝓤 H A mem run-of)
       × AsksNothing read.signature (read.spec 𝓤 H A mem run-of)
       × AsksNothing draw.signature (draw.spec 𝓤 H A mem run-of)
+      × AsksNothing diagnose.signature (diagnose.spec 𝓤 H A mem run-of)
       × AsksNothing write.signature (write.spec 𝓤 H A mem run-of)
       × AsksNothing poll.signature (poll.spec 𝓤 H A mem run-of)
       × AsksNothing judge.signature (judge.spec 𝓤 H A mem run-of)
@@ -78,6 +81,7 @@ module _ {M : Type 1} (𝓤 : URA M) (H : Heap 𝓤) (A : Atoms 𝓤) (mem : Mem
       × AsksNothing repair.signature (repair.spec 𝓤 H A mem run-of)
       × AsksNothing nested.signature (nested.spec 𝓤 H A mem run-of)
   engine-asks-nothing = (
+    λ κs a. (refl, λ g. refl),
     λ κs a. (refl, λ g. refl),
     λ κs a. (refl, λ g. refl),
     λ κs a. (refl, λ g. refl),
@@ -118,6 +122,7 @@ module _ {M : Type 1} (𝓤 : URA M) (H : Heap 𝓤) (A : Atoms 𝓤) (mem : Mem
       × AsksNothing cv-figures.signature (cv-figures.spec 𝓤 H A mem run-of)
       × AsksNothing cv-read.signature (cv-read.spec 𝓤 H A mem run-of)
       × AsksNothing cv-draw.signature (cv-draw.spec 𝓤 H A mem run-of)
+      × AsksNothing cv-diagnose.signature (cv-diagnose.spec 𝓤 H A mem run-of)
       × AsksNothing cv-write.signature (cv-write.spec 𝓤 H A mem run-of)
       × AsksNothing cv-poll.signature (cv-poll.spec 𝓤 H A mem run-of)
       × AsksNothing cv-judge.signature (cv-judge.spec 𝓤 H A mem run-of)
@@ -132,6 +137,7 @@ module _ {M : Type 1} (𝓤 : URA M) (H : Heap 𝓤) (A : Atoms 𝓤) (mem : Mem
       × AsksNothing cv-version.signature (cv-version.spec 𝓤 H A mem run-of)
       × AsksNothing cv-abi-4.signature (cv-abi-4.spec 𝓤 H A mem run-of)
   boundary-asks-nothing = (
+    λ κs a. (refl, λ g. refl),
     λ κs a. (refl, λ g. refl),
     λ κs a. (refl, λ g. refl),
     λ κs a. (refl, λ g. refl),

@@ -12,6 +12,7 @@ use Rattle.step_poll.specs.Poll.{Polling}
 use Rattle.state_figures.specs.Figures.{Figured}
 use Rattle.text_read.specs.declared.Reading.{Reading}
 use Rattle.text_read.specs.Notation.{ReadInto}
+use Rattle.draw_diagnose.specs.declared.Diagnosis.{Diagnosis}
 use Rattle.log_judge.specs.declared.Judged.{Judged}
 use Rattle.log_repair.specs.declared.Repaired.{Repaired}
 use Rattle.engine.specs.declared.Verdict.{Verdict}
@@ -36,6 +37,7 @@ use Rattle.cuttingvale.proofs.cv_run.Reads as run
 use Rattle.cuttingvale.proofs.cv_figures.Reads as figures
 use Rattle.cuttingvale.proofs.cv_read.Reads as read
 use Rattle.cuttingvale.proofs.cv_draw.Reads as draw
+use Rattle.cuttingvale.proofs.cv_diagnose.Reads as diagnose
 use Rattle.cuttingvale.proofs.cv_write.Reads as write
 use Rattle.cuttingvale.proofs.cv_poll.Reads as poll
 use Rattle.cuttingvale.proofs.cv_judge.Reads as judge
@@ -49,7 +51,7 @@ use Rattle.cuttingvale.proofs.cv_repair.Reads as repair
 use Rattle.cuttingvale.proofs.cv_nested.Reads as nested
 use Rattle.cuttingvale.proofs.version.cv_version.Reads as version
 use Rattle.cuttingvale.proofs.version.cv_abi_4.Reads as abi
-use Rattle.proof_demands.specs.Promises.{Repairs}
+use Rattle.proof_demands.specs.Promises.{Diagnoses, Repairs}
 use Rattle.proof_demands.proofs.Promises.{Lent, Desk, None, One, Two, Three, Four}
 
 -- A TABLE
@@ -77,6 +79,9 @@ module _ (κ : Two) (t t₁ : Lent) (n n₁ : ℕ) (x x₁ : Lent) where
 -- no block with a length beside it: as the engine's
 pub repair-promise : (κ : Two) (x out x₁ out₁ : Lent) (r : Repaired) → repair.Post κ (x, (out, tt)) r (x₁, (out₁, tt)) ≡ Repairs (now x) (now out) r (now out₁)
 repair-promise κ x out x₁ out₁ r = refl
+
+pub diagnose-promise : (κ : One) (x x₁ : Lent) (r : Diagnosis) → diagnose.Post κ (x, tt) r (x₁, tt) ≡ Diagnoses (now x) r
+diagnose-promise κ x x₁ r = refl
 
 -- A TABLE AND A STATE
 module _ (κ : Two) (t t₁ z z₁ : Lent) (n n₁ m m₁ : ℕ) where
