@@ -4,6 +4,7 @@ ghost use Prim.Native.Nat.{_≤_};
 ghost use Rattle.check_occurrences.specs.Occurrences.{conditionCount, receivedCount, sentCount, conditionForm, isDefault, defaultOnce, bindsField, bindsAnew, templateOnce, boundOnce};
 ghost use Rattle.base_words.specs.All.{all};
 ghost use Rattle.base_words.specs.Sum.{sum};
+ghost use Rattle.base_words.specs.Words.{at};
 ghost use Rattle.base_table.specs.Table.{itemAt};
 use base_kinds::conditions_of;
 use base_kinds::count_by;
@@ -11,17 +12,25 @@ use base_kinds::receives_of;
 use base_kinds::sends_of;
 use base_table::condition_at;
 use base_table::exit_count;
-use base_table::item_at;
 use base_table::kind_in;
 use base_table::message_length;
 use base_table::places::BINDING;
 use base_table::places::DEFAULT;
+use base_table::places::EXPRESSION_WORDS;
+use base_table::places::FIRST_ITEM;
 use base_table::places::FORM;
 use base_table::places::LEFT;
+use base_table::places::MESSAGE_WORDS;
+use base_table::places::MESSAGES;
 use base_table::places::OPERAND_NUMBER;
 use base_words::Word;
 use base_words::counts::NAMED;
 use base_words::word;
+
+// The words of an item that are looked at.
+const ITEM_FORM: Word = FORM as Word;
+
+const BOUND: Word = (LEFT + OPERAND_NUMBER) as Word;
 
 pub fn condition_count(el: &[Word]) -> Word
     ensures { λ r. ⌜ r ≡ conditionCount (now (el .entry)) ⌝ }
@@ -75,15 +84,25 @@ pub fn default_once(el: &[Word]) -> bool
     defaults_below(el, condition_count(el)) <= 1
 }
 
+// Word k of item i of template j: its form, or the field that it binds.
+fn item_word(el: &[Word], j: Word, i: Word, k: Word) -> Word
+    ensures { λ r. ⌜ r ≡ at (itemAt (now (el .entry)) j i) k ⌝ }
+{
+    let place = MESSAGES
+        + MESSAGE_WORDS * (j as usize)
+        + FIRST_ITEM
+        + EXPRESSION_WORDS * (i as usize);
+    word(el, place + (k as usize))
+}
+
 // 1 where item i of template j binds field d.
 fn item_binds(el: &[Word], j: Word, i: Word, d: Word) -> usize
     ensures { λ r. ⌜ (r ≡ bindsField d (itemAt (now (el .entry)) j i)) × (r ≤ 1) ⌝ }
 {
-    let x = item_at(el, j, i);
-    if word(x, FORM) != BINDING {
+    if item_word(el, j, i, ITEM_FORM) != BINDING {
         return 0;
     }
-    if word(x, LEFT + OPERAND_NUMBER) != d {
+    if item_word(el, j, i, BOUND) != d {
         return 0;
     }
     1
@@ -105,11 +124,10 @@ fn bound_below(el: &[Word], j: Word, d: Word, count: Word) -> usize
 fn binds_anew(el: &[Word], j: Word, i: Word) -> bool
     ensures { λ r. ⌜ r ≡ bindsAnew (now (el .entry)) j i ⌝ }
 {
-    let x = item_at(el, j, i);
-    if word(x, FORM) != BINDING {
+    if item_word(el, j, i, ITEM_FORM) != BINDING {
         return true;
     }
-    let d = word(x, LEFT + OPERAND_NUMBER);
+    let d = item_word(el, j, i, BOUND);
     if NAMED <= d {
         return true;
     }

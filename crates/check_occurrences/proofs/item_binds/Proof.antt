@@ -10,9 +10,7 @@ item-binds-spec =
     tie.close
     (tie.spec
     (λ c κs. search L)
+    (λ c. (binds-none _ _ _ (c .before .item-word .ensures) (c .if1 .taken), search L))
     (λ c κs. search L)
-    (λ c. (binds-none _ _ _ (rw (c .before .before .item-at .ensures) at (c .before .word .ensures)) (c .if1 .taken), search L))
-    (λ c. search L)
-    (λ c κs. search L)
-    (λ c. (binds-other _ _ _ (rw (c .before .before .before .before .item-at .ensures) at (c .before .before .before .word .ensures)) _ (c .before .before .if1 .left) (rw (c .before .before .before .before .item-at .ensures) at (c .before .word2 .ensures)) (c .if2 .taken), search L))
-    (λ c. (binds-this _ _ _ (rw (c .before .before .before .before .item-at .ensures) at (c .before .before .before .word .ensures)) _ (c .before .before .if1 .left) (rw (c .before .before .before .before .item-at .ensures) at (c .before .word2 .ensures)) (c .if2 .left), search L)))
+    (λ c. (binds-other _ _ _ (c .before .before .before .item-word .ensures) _ (c .before .before .if1 .left) (c .before .item-word2 .ensures) (c .if2 .taken), search L))
+    (λ c. (binds-this _ _ _ (c .before .before .before .item-word .ensures) _ (c .before .before .if1 .left) (c .before .item-word2 .ensures) (c .if2 .left), search L)))
