@@ -77,19 +77,25 @@ fn first_count(el: &[Word]) -> Word
     0
 }
 
+// What an element has is read before a mark is set: then the compiler reads each word once.
 fn mark_edges(s: &mut [Word], el: &[Word])
     ensures { λ _. ⌜ now (s .exit) ≡ tally (now (s .entry)) (marksOf (edgeRegions (now (el .entry)))) ⌝ }
 {
-    mark_list(s, EXITS_FROM, el, EXITS as Word, exit_count(el));
-    mark_list(s, ENTRIES_FROM, el, ENTRIES as Word, entry_count(el));
-    mark_list(s, FIRSTS_FROM, el, ENTRIES as Word, first_count(el));
+    let exits = exit_count(el);
+    let entries = entry_count(el);
+    let firsts = first_count(el);
+    mark_list(s, EXITS_FROM, el, EXITS as Word, exits);
+    mark_list(s, ENTRIES_FROM, el, ENTRIES as Word, entries);
+    mark_list(s, FIRSTS_FROM, el, ENTRIES as Word, firsts);
 }
 
 fn mark_head(s: &mut [Word], el: &[Word])
     ensures { λ _. ⌜ now (s .exit) ≡ tally (now (s .entry)) (marksOf (headRegions (now (el .entry)))) ⌝ }
 {
-    mark(s, TASKS_FROM, TASKS, wide(task_in(el)));
-    mark(s, STARTS_FROM, START_RCV, wide(kind_in(el)));
+    let task = task_in(el);
+    let kind = kind_in(el);
+    mark(s, TASKS_FROM, TASKS, wide(task));
+    mark(s, STARTS_FROM, START_RCV, wide(kind));
 }
 
 fn mark_name(s: &mut [Word], from: Word, el: &[Word], j: Word)
@@ -112,8 +118,10 @@ fn mark_some(s: &mut [Word], from: Word, el: &[Word], n: Word)
 fn mark_names(s: &mut [Word], el: &[Word])
     ensures { λ _. ⌜ now (s .exit) ≡ tally (now (s .entry)) (marksOf (nameRegions (now (el .entry)))) ⌝ }
 {
-    mark_some(s, RECEIVED_FROM, el, received_count(el));
-    mark_some(s, SENT_FROM, el, sent_count(el));
+    let received = received_count(el);
+    let sent = sent_count(el);
+    mark_some(s, RECEIVED_FROM, el, received);
+    mark_some(s, SENT_FROM, el, sent);
 }
 
 // 1 for what is not kept.
@@ -129,8 +137,10 @@ fn broken(kept: bool) -> usize
 fn mark_flags(s: &mut [Word], el: &[Word])
     ensures { λ _. ⌜ now (s .exit) ≡ tally (now (s .entry)) (marksOf (flagRegions (now (el .entry)))) ⌝ }
 {
-    mark(s, DEFAULTS_FROM, 1, broken(default_once(el)));
-    mark(s, BINDS_FROM, 1, broken(bound_once(el)));
+    let defaults = broken(default_once(el));
+    let binds = broken(bound_once(el));
+    mark(s, DEFAULTS_FROM, 1, defaults);
+    mark(s, BINDS_FROM, 1, binds);
 }
 
 // One element more in the summary of its pool.

@@ -12,14 +12,14 @@ unfolding edgeRegions
 mark-edges-spec =
     tie.close
     (tie.spec
-    (λ c. search L)
     (λ c κs. search L)
-    (λ c κs. search L)
-    (λ c. search L)
     (λ c κs. search L)
     (λ c κs. search L)
     (λ c. search L)
     (λ c κs. search L)
+    (λ c. search L)
     (λ c κs. search L)
     (λ c. search L)
-    (λ c. then-region _ _ _ _ _ (then-region _ _ _ _ _ (last-region _ _ _ (edges-by _ _ _ _ _ _ _ (c .before .before .mark-list3 .ensures) (c .before .before .before .first-count .ensures))) (edges-by _ _ _ _ _ _ _ (c .before .before .before .before .before .before .before .mark-list2 .ensures) (c .before .before .before .before .before .before .before .before .entry-count .ensures))) (edges-by _ _ _ _ _ _ _ (c .before .before .before .before .before .before .before .before .before .before .before .before .mark-list .ensures) (c .before .before .before .before .before .before .before .before .before .before .before .before .before .exit-count .ensures))))  -- returns
+    (λ c κs. search L)
+    (λ c. search L)
+    (λ c. then-region _ _ _ _ _ (then-region _ _ _ _ _ (last-region _ _ _ (edges-by _ _ _ _ _ _ _ (c .before .before .mark-list3 .ensures) (c .before .before .before .before .before .before .before .before .before .before .before .before .first-count .ensures))) (edges-by _ _ _ _ _ _ _ (c .before .before .before .before .before .before .mark-list2 .ensures) (c .before .before .before .before .before .before .before .before .before .before .before .before .before .entry-count .ensures))) (edges-by _ _ _ _ _ _ _ (c .before .before .before .before .before .before .before .before .before .before .mark-list .ensures) (c .before .before .before .before .before .before .before .before .before .before .before .before .before .before .exit-count .ensures))))  -- returns

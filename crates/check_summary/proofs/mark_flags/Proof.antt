@@ -21,4 +21,4 @@ mark-flags-spec =
     (λ c κs. search L)
     (λ c κs. search L)
     (λ c. search L)
-    (λ c. then-region _ _ _ _ _ (last-region _ _ _ (one-number _ _ _ _ _ _ (c .before .before .mark2 .ensures) (c .before .before .before .broken2 .ensures ∙ ap (λ b. oneIf (not b)) (c .before .before .before .before .bound-once .ensures)))) (one-number _ _ _ _ _ _ (c .before .before .before .before .before .before .before .before .mark .ensures) (c .before .before .before .before .before .before .before .before .before .broken .ensures ∙ ap (λ b. oneIf (not b)) (c .before .before .before .before .before .before .before .before .before .before .default-once .ensures)))))  -- returns
+    (λ c. then-region _ _ _ _ _ (last-region _ _ _ (one-number _ _ _ _ _ _ (c .before .before .mark2 .ensures) (c .before .before .before .before .before .before .before .before .broken2 .ensures ∙ ap (λ b. oneIf (not b)) (c .before .before .before .before .before .before .before .before .before .bound-once .ensures)))) (one-number _ _ _ _ _ _ (c .before .before .before .before .before .before .mark .ensures) (c .before .before .before .before .before .before .before .before .before .before .broken .ensures ∙ ap (λ b. oneIf (not b)) (c .before .before .before .before .before .before .before .before .before .before .before .default-once .ensures)))))  -- returns

@@ -19,4 +19,4 @@ mark-head-spec =
     (λ c κs. search L)
     (λ c κs. search L)
     (λ c. search L)
-    (λ c. then-region _ _ _ _ _ (last-region _ _ _ (one-number _ _ _ _ _ _ (c .before .before .mark2 .ensures) (c .before .before .before .wide2 .ensures ∙ c .before .before .before .before .kind-in .ensures))) (one-number _ _ _ _ _ _ (c .before .before .before .before .before .before .before .before .mark .ensures) (c .before .before .before .before .before .before .before .before .before .wide .ensures ∙ c .before .before .before .before .before .before .before .before .before .before .task-in .ensures))))  -- returns
+    (λ c. then-region _ _ _ _ _ (last-region _ _ _ (one-number _ _ _ _ _ _ (c .before .before .mark2 .ensures) (c .before .before .before .wide2 .ensures ∙ c .before .before .before .before .before .before .before .before .before .before .kind-in .ensures))) (one-number _ _ _ _ _ _ (c .before .before .before .before .before .before .before .mark .ensures) (c .before .before .before .before .before .before .before .before .wide .ensures ∙ c .before .before .before .before .before .before .before .before .before .before .before .task-in .ensures))))  -- returns

@@ -17,4 +17,4 @@ mark-names-spec =
     (λ c κs. search L)
     (λ c κs. search L)
     (λ c. search L)
-    (λ c. then-region _ _ _ _ _ (last-region _ _ _ (names-by _ _ _ _ _ _ (c .before .before .mark-some2 .ensures) (c .before .before .before .sent-count .ensures))) (names-by _ _ _ _ _ _ (c .before .before .before .before .before .before .before .mark-some .ensures) (c .before .before .before .before .before .before .before .before .received-count .ensures))))  -- returns
+    (λ c. then-region _ _ _ _ _ (last-region _ _ _ (names-by _ _ _ _ _ _ (c .before .before .mark-some2 .ensures) (c .before .before .before .before .before .before .before .before .sent-count .ensures))) (names-by _ _ _ _ _ _ (c .before .before .before .before .before .before .mark-some .ensures) (c .before .before .before .before .before .before .before .before .before .received-count .ensures))))  -- returns
