@@ -7,7 +7,7 @@ use native.Mathlib.Decide.{ℕ-discrete}
 use native.Mathlib.Omega.{arith}
 use lib.Dec.{eqb, ltb}
 use lib.ListN.{length}
-use borrow.Author.Tests.{eq-eqb}
+use borrow.Author.Tests.{eq-eqb, ne-eqb}
 use Rattle.base_words.specs.Each.{each}
 use Rattle.base_words.specs.Pick.{if_then_else_}
 use Rattle.base_words.proofs.PickLaws.{pick-yes}
@@ -26,13 +26,9 @@ use Rattle.draw_read.specs.Drawings.{notRun, answer, checkedAs, fittedBy, meant
 use Rattle.draw_diagnose.specs.declared.Broken.{Broken}
 use Rattle.draw_diagnose.specs.declared.Diagnosis.{Diagnosis}
 use Rattle.draw_diagnose.specs.Rules.{brokenIn}
-use Rattle.draw_diagnose.specs.Diagnosis.{told, diagnosedBy, diagnosed}
+use Rattle.draw_diagnose.specs.Diagnosis.{checkBroken, noneFree, told, diagnosedBy, diagnosed}
+use Rattle.proof_diagnose.proofs.Choices.{choice}
 use Rattle.proof_diagnose.proofs.Causes.{no-rule-drawn}
-
-choice : {A : Type 0} (P : A → Type 0) (b : Bool) (x y : A) → P x → P y → P (if b then x else y)
-unfolding if_then_else_
-choice P true x y p q = p
-choice P false x y p q = q
 
 module _ (a : Reading) (t w : List ℕ) (n : ℕ) where
   abbrev Same : Diagnosis → Type 0
@@ -45,6 +41,10 @@ module _ (a : Reading) (t w : List ℕ) (n : ℕ) where
   rule-of-21 : a .number ≡ notRun → diagnosedBy a t w n .rule ≡ brokenIn t w n .rule
   unfolding diagnosedBy if_then_else_
   rule-of-21 e = rw (eq-eqb (a .number) notRun e) refl
+
+  rule-of-others : (a .number ≡ notRun → ⊥) → (a .number ≡ checkBroken → ⊥) → diagnosedBy a t w n .rule ≡ 0
+  unfolding diagnosedBy if_then_else_
+  rule-of-others p q = rw (ne-eqb (a .number) notRun p, ne-eqb (a .number) checkBroken q) (choice (λ (d : Diagnosis). d .rule ≡ 0) (eqb (a .number) noneFree) _ _ refl refl)
 
 pub diagnosed-number : (text : List ℕ) → diagnosed text .number ≡ answered text .number
 unfolding diagnosed
@@ -102,3 +102,11 @@ module _ (text : List ℕ) where
       some : Dec (brokenIn text things n .rule ≡ 0) → diagnosedBy (answered text) text things n .rule ≡ brokenIn text things n .rule → answered text .number ≡ notRun → 0 < diagnosedBy (answered text) text things n .rule
       some (yes z) r a = absurd (not-21 (no-rule-drawn text things n z) a)
       some (no m) r a = omega (arith, m, r)
+
+  -- and no rule and no check where it is neither 21 nor 4
+  pub no-rule-else : (diagnosed text .number ≡ notRun → ⊥) → (diagnosed text .number ≡ checkBroken → ⊥) → diagnosed text .rule ≡ 0
+  unfolding diagnosed
+  no-rule-else p q =
+      rule-of-others (answered text) text things n
+      (λ e. p (same-number (answered text) text things n ∙ e))
+      (λ e. q (same-number (answered text) text things n ∙ e))

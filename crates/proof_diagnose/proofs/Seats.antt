@@ -4,24 +4,28 @@ use mathlib.Core.Path.{_≡_, refl, sym, _∙_, ap, ap₂}
 use mathlib.Core.Bool.{Bool, true, false, not, _&&_, false≢true}
 use mathlib.Core.List.{List, [], _∷_, _++_}
 use native.Mathlib.Omega.{arith}
-use lib.Dec.{eqb, ltb}
-use borrow.Author.Tests.{eqb-true}
+use lib.Dec.{eqb, leb, ltb}
+use lib.ListN.{length}
+use borrow.Author.Tests.{eqb-true, ltb-true, lt-leb}
+use Rattle.base_words.specs.Counts.{elements}
 use Rattle.base_words.specs.Each.{joined, total, each}
 use Rattle.base_words.specs.Pick.{if_then_else_}
 use Rattle.base_words.specs.Sum.{sum, hit, oneIf}
 use Rattle.base_words.proofs.EachLaws.{total-append}
+use Rattle.base_words.proofs.PickLaws.{and-false-right}
 use Rattle.base_kinds.specs.Kinds as kinds
 use Rattle.base_table.specs.Table.{kindIn}
 use Rattle.check_occurrences.specs.Occurrences.{ofKind}
 use Rattle.check_model.specs.Checks.{Pool, check2, check3}
+use Rattle.text_ends.specs.Rewriting.{isEndSnd, endSends, unusedCount, roomFor, hasRoom}
 use Rattle.draw_things.specs.Things.{isNode, sort, within, kind, branch, participantMultiplicity}
 use Rattle.draw_kinds.specs.Counting.{withinIn, firstWith}
 use Rattle.draw_faults.specs.Amiss.{isOfKind}
-use Rattle.draw_limits.specs.Numbers.{countBefore, isElement, maximumOf}
+use Rattle.draw_limits.specs.Numbers.{countBefore, isElement, isOf, anElement, maximumOf}
 use Rattle.draw_model.specs.Drawn.{elementDrawn}
 use Rattle.draw_model.specs.Content.{elementIf, elementsOf, limitOf, processOf, poolDrawn}
 use Rattle.draw_diagnose.specs.Seats.{isKindIn, countKind, isMisstarted, isMany, isUnasked}
-use Rattle.proof_map.proofs.Picked.{as-none, none-of}
+use Rattle.proof_map.proofs.Picked.{as-none, none-of, as-many}
 use Rattle.proof_map.proofs.KindLaws.{kind-drawn}
 
 not-not : (b : Bool) → b ≡ not (not b)
@@ -86,3 +90,21 @@ many-told owned t w n k = go (ltb (firstWith participantMultiplicity withinIn k 
         by : (z : Bool) → (if z then true else eqb (total (ofKind kinds.start) (elementsOf t w n (processOf owned w k))) 0) ≡ false → not (eqb (countKind kinds.start (processOf owned w k) w n) 0) ≡ true
         by true h = absurd (false≢true (sym h))
         by false h = with-starts h
+
+-- a pool has too many elements for 28 exactly where its nodes and the ends of its message end events are more than 32; where it is told for that, its model has no room
+module _ (t w : List ℕ) (n p : ℕ) where
+  elements-many : length (elementsOf t w n p) ≡ countBefore (isOf anElement p w) n
+  unfolding elementsOf elementIf isOf if_then_else_
+  elements-many = as-many (isElement p w) (elementDrawn t w n) n
+
+  ends-many : endSends (elementsOf t w n p) ≡ countKind kinds.endSnd p w n
+  unfolding endSends isEndSnd ofKind
+  ends-many = kinds-many t w n p kinds.endSnd (omega arith)
+
+pub elements-told : (owned : Bool) (t w : List ℕ) (n k : ℕ)
+    → ltb elements (countBefore (isOf anElement (processOf owned w k) w) n + countKind kinds.endSnd (processOf owned w k) w n) ≡ true → hasRoom (poolDrawn owned t w n k) ≡ false
+unfolding hasRoom roomFor poolDrawn
+elements-told owned t w n k e =
+    let p = processOf owned w k in
+    let l = ltb-true elements (countBefore (isOf anElement p w) n + countKind kinds.endSnd p w n) e in
+    and-false-right (leb (endSends (elementsOf t w n p)) (unusedCount (elementsOf t w n p))) _ (lt-leb (length (elementsOf t w n p) + endSends (elementsOf t w n p)) elements (omega (arith, l, elements-many t w n p, ends-many t w n p)))

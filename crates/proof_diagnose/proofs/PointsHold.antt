@@ -1,0 +1,27 @@
+-- Every row of the table of points holds. Assumes nothing.
+use mathlib.Core.Path.{_≡_, refl}
+use mathlib.Core.Bool.{true}
+use Rattle.base_words.specs.All.{all}
+use Rattle.base_words.specs.Each.{each}
+use Rattle.base_words.specs.Pick.{if_then_else_}
+use Rattle.base_words.specs.Seek.{seek}
+use Rattle.base_words.specs.Sum.{sum}
+use Rattle.text_lexer.specs.Lexer.{between, isLetter, isDigit, past}
+use Rattle.text_numerals.specs.Numerals.{sameBytes}
+use Rattle.xml_characters.specs.Names.{isBlank, isControl, beginsName, isName}
+use Rattle.xml_scanner.specs.Openings.{behindLess, behindBracket, inOpening}
+use Rattle.xml_scanner.specs.Passages.{inComment, inData, inTarget, inInstruction}
+use Rattle.xml_scanner.specs.Tags.{closing, behind, named as namedIn, behindBlank, isQuote, equals, isReference, inValue, inValueReference, inTag, behindEnd, inEnd, inReference}
+use Rattle.xml_scanner.specs.Moves.{atBegin, step}
+use Rattle.xml_markup.specs.Tokens.{endOf, wholeInTag, wholeInInstruction, whole, moveTo, moved, ifOn, ifAttribute, isNamed, foundFrom, found}
+use Rattle.xml_markup.specs.Spans.{isOf, run, after, behindColon, localFrom, localOf, quoteAt, valueAt, valueOf, attribute}
+use Rattle.draw_things.specs.Things.{isNode}
+use Rattle.draw_links.specs.Links.{ifIs, hasId, mayName, orNone, meant, named}
+use Rattle.draw_kinds.specs.Counting.{isWith, countWith, ofSort, countSort}
+use Rattle.draw_faults.specs.Amiss.{has, isSecond, isStrange, isReadSort, isRead, isTaken, isRepeated, hasParticipants, isPool, isSecondCollaboration, isLost, isUnowned, isSecondMultiplicity, isOfKind, isOfNoKind, isSplit, hasWrongDefault, sends, receives, isSender, isReceiver, isUnheard, isUntold, isLoose, isWrongBranch, isSecondCondition, isWrongForm, isWrongCondition, isOutside, maySend, mayReceive, isWrongMessage, hasPool}
+use Rattle.draw_diagnose.specs.Rules.{isAdrift, breaksPools, breaksNodes, breaksFlows, breaks}
+use Rattle.proof_diagnose.specs.Points.{Point, isFirst, points}
+
+pub points-hold : each (λ (p : Point). p .tried) points ≡ true
+unfolding all each if_then_else_ seek sum between isLetter isDigit past sameBytes isBlank isControl beginsName isName behindLess behindBracket inOpening inComment inData inTarget inInstruction closing behind namedIn behindBlank isQuote equals isReference inValue inValueReference inTag behindEnd inEnd inReference atBegin step endOf wholeInTag wholeInInstruction whole moveTo moved ifOn ifAttribute isNamed foundFrom found isOf run after behindColon localFrom localOf quoteAt valueAt valueOf attribute isNode ifIs hasId mayName orNone meant named isWith countWith ofSort countSort has isSecond isStrange isReadSort isRead isTaken isRepeated hasParticipants isPool isSecondCollaboration isLost isUnowned isSecondMultiplicity isOfKind isOfNoKind isSplit hasWrongDefault sends receives isSender isReceiver isUnheard isUntold isLoose isWrongBranch isSecondCondition isWrongForm isWrongCondition isOutside maySend mayReceive isWrongMessage hasPool isAdrift breaksPools breaksNodes breaksFlows breaks isFirst
+points-hold = refl
