@@ -1,16 +1,14 @@
 -- THE MODEL THAT A DRAWING MEANS: its pools, as participants stand, with their elements as nodes stand.
 -- t is the text, w the things of a drawing in which nothing is amiss or beyond, n their count, k a thing.
 use Prim.Native.Nat.{ℕ}
-use mathlib.Core.Bool.{Bool, not, _&&_}
+use mathlib.Core.Bool.{Bool}
 use mathlib.Core.List.{List, [], _∷_}
 use lib.Dec.{ltb}
 use Rattle.base_words.specs.Blocks.{Bytes, Element, Drawing}
 use Rattle.base_words.specs.Each.{joined}
 use Rattle.base_words.specs.Pick.{if_then_else_}
-use Rattle.base_words.specs.Seek.{seek}
-use Rattle.check_limits.specs.Limits.{elementFits}
 use Rattle.check_model.specs.Checks.{Pool}
-use Rattle.draw_things.specs.Things.{oneMore, within, source, participantMultiplicity}
+use Rattle.draw_things.specs.Things.{oneMore, source, participantMultiplicity}
 use Rattle.draw_kinds.specs.Counting.{withinIn, firstWith}
 use Rattle.draw_faults.specs.Amiss.{hasParticipants, isPool}
 use Rattle.draw_limits.specs.Numbers.{countBefore, isElement, maximumOf}
@@ -41,10 +39,3 @@ poolIf owned t w n k = if isPool owned w k then poolDrawn owned t w n k ∷ [] e
 
 unfoldable pub content : Bytes → Drawing → ℕ → List Pool
 content t w n = joined (poolIf (hasParticipants w n) t w n) n
-
--- A node whose element is not within the limits: a case that should not come up where nothing is amiss or beyond, and that is refused if it does.
-unfoldable pub isUnfit : Bytes → Drawing → ℕ → ℕ → Bool
-isUnfit t w n k = isElement (within w k) w k && not (elementFits (elementDrawn t w n k))
-
-unfoldable pub firstUnfit : Bytes → Drawing → ℕ → ℕ
-firstUnfit t w n = seek (isUnfit t w n) n

@@ -1,15 +1,12 @@
 // The model that a drawing means, kept by a pass as that of a text is: marked in tallies, or stored in a table.
 ghost use mathlib.Core.Path.{_≡_};
-ghost use Rattle.check_limits.specs.Limits.{elementFits};
 ghost use Prim.Native.Nat.{_+_, _<_};
 ghost use lib.ListN.{length};
 ghost use Rattle.base_words.specs.Words.{greatest};
 ghost use Rattle.text_passes.specs.Passes.{keptElement, keptAll, summed, placed, keptPool};
-ghost use Rattle.draw_model.specs.Drawn.{elementDrawn};
-ghost use Rattle.draw_model.specs.Content.{elementIf, elementsOf, limitOf, processOf, numberOf, poolDrawn, poolIf, content, isUnfit, firstUnfit};
+ghost use Rattle.draw_model.specs.Content.{elementIf, elementsOf, limitOf, processOf, numberOf, poolDrawn, poolIf, content};
 use base_table::places::ELEMENT_WORDS;
 use base_words::Word;
-use check_table::elements::element_fits;
 use draw_faults::pools::has_participants;
 use draw_faults::pools::is_pool;
 use draw_kinds::counting::WITHIN_IN;
@@ -21,7 +18,6 @@ use draw_things::things::Note;
 use draw_things::things::PARTICIPANT_MULTIPLICITY;
 use draw_things::things::next_number;
 use draw_things::things::source_of;
-use draw_things::things::within_of;
 use element::element_drawn;
 use text_ends::NOTED_WORDS;
 use text_passes::keep::keep_counted;
@@ -163,38 +159,4 @@ pub fn keep_content(fills: bool, text: &[u8], w: &[Note], n: Note, v: &mut [Word
         i = keep_next_pool(fills, owned, text, w, n, k, i, v);
         k += 1;
     }
-}
-
-fn is_within(x: &[Word; ELEMENT_WORDS]) -> bool
-    ensures { λ r. ⌜ r ≡ elementFits (now (x .entry)) ⌝ }
-{
-    element_fits(x)
-}
-
-fn is_fit(text: &[u8], w: &[Note], n: Note, k: Note) -> bool
-    ensures { λ r. ⌜ r ≡ elementFits (elementDrawn (now (text .entry)) (now (w .entry)) n k) ⌝ }
-{
-    let mut x = [0; ELEMENT_WORDS];
-    element_drawn(text, w, n, k, &mut x);
-    is_within(&x)
-}
-
-fn is_unfit(text: &[u8], w: &[Note], n: Note, k: Note) -> bool
-    ensures { λ r. ⌜ r ≡ isUnfit (now (text .entry)) (now (w .entry)) n k ⌝ }
-{
-    is_element(within_of(w, k), w, k) && !is_fit(text, w, n, k)
-}
-
-// The first node whose element is not within the limits, n where there is none.
-pub fn first_unfit(text: &[u8], w: &[Note], n: Note) -> Note
-    ensures { λ r. ⌜ r ≡ firstUnfit (now (text .entry)) (now (w .entry)) n ⌝ }
-{
-    let mut k: Note = 0;
-    while k < n {
-        if is_unfit(text, w, n, k) {
-            return k;
-        }
-        k += 1;
-    }
-    k
 }

@@ -30,8 +30,8 @@ use Rattle.draw_walk.specs.Walk.{Walk, walk, told}
 use Rattle.draw_walk.specs.declared.Walked.{Walked}
 use Rattle.draw_faults.specs.Amiss.{isDrawing}
 use Rattle.draw_limits.specs.Excess.{firstBeyond, beyondAt}
-use Rattle.draw_model.specs.Content.{content, firstUnfit}
-use Rattle.draw_read.specs.Drawings.{drawingMost, tooLong, notXml, notRun, answer, checkedAs, fittedBy, meantBy, walked, settledBy, thingsOf, judged, answered, filledBy, drawInto}
+use Rattle.draw_model.specs.Content.{content}
+use Rattle.draw_read.specs.Drawings.{drawingMost, tooLong, notXml, notRun, answer, checkedAs, meantBy, walked, settledBy, thingsOf, judged, answered, filledBy, drawInto}
 use Rattle.draw_read.proofs.RoomLaws.{content-fits}
 
 abbrev with-table : Reading → List ℕ → ReadInto
@@ -64,24 +64,20 @@ module _ (text w : List ℕ) (n : ℕ) where
       go true false e = absurd (let z : _≡_ {A = ℕ} 28 0 = unfold if_then_else_ in e in omega (arith, z))
       go false b e = absurd (let z : _≡_ {A = ℕ} 4 0 = unfold if_then_else_ in e in omega (arith, z))
 
-  fitted-zero : fittedBy text w n .number ≡ 0 → each hasRoom (content text w n) ≡ true
-  unfolding fittedBy
-  fitted-zero = go (ltb (firstUnfit text w n) n)
-    where
-      go : (b : Bool) → (if b then answer excessive (place w (firstUnfit text w n)) else checkedAs (content text w n)) .number ≡ 0 → each hasRoom (content text w n) ≡ true
-      go true e = absurd (let z : _≡_ {A = ℕ} 3 0 = unfold if_then_else_ in e in omega (arith, z))
-      go false e = room-zero (lowest (content text w n)) (each hasRoom (content text w n)) (unfold if_then_else_ checkedAs in e)
+  checked-zero : checkedAs (content text w n) .number ≡ 0 → each hasRoom (content text w n) ≡ true
+  unfolding checkedAs
+  checked-zero = room-zero (lowest (content text w n)) (each hasRoom (content text w n))
 
   not-beyond : meantBy text w n .number ≡ 0 → (ltb (firstBeyond text w n) n ≡ false) × (each hasRoom (content text w n) ≡ true)
   unfolding meantBy if_then_else_
   not-beyond = go (isDrawing text w n) (ltb (firstBeyond text w n) n) refl
     where
       go : (a b : Bool) → ltb (firstBeyond text w n) n ≡ b
-          → (if not a then answer notRun 0 else if b then answer excessive (beyondAt text w (firstBeyond text w n)) else fittedBy text w n) .number ≡ 0
+          → (if not a then answer notRun 0 else if b then answer excessive (beyondAt text w (firstBeyond text w n)) else checkedAs (content text w n)) .number ≡ 0
           → (ltb (firstBeyond text w n) n ≡ false) × (each hasRoom (content text w n) ≡ true)
       go false b e h = absurd (omega (arith, h))
       go true true e h = absurd (omega (arith, h))
-      go true false e h = (e, fitted-zero h)
+      go true false e h = (e, checked-zero h)
 
   module _ (t : List ℕ) (a : Reading) (e : a ≡ meantBy text w n) where
     pub table-stays : (a .number ≡ 0 → ⊥) → with-table a t ≡ filledBy (meantBy text w n) (content text w n) t

@@ -14,13 +14,13 @@ use Rattle.text_read.specs.declared.Reading.{Reading}
 use Rattle.text_read.specs.Notation.{ReadInto, tableOf, rewritten, hasRoom, answerFor}
 use Rattle.xml_skip.specs.declared.Skipped.{Skipped}
 use Rattle.xml_skip.specs.declared.Skipped.the-variants.{Past, Fault}
-use Rattle.draw_things.specs.Things.{blockWords, place}
+use Rattle.draw_things.specs.Things.{blockWords}
 use Rattle.draw_walk.specs.Walk.{Walk, walk}
 use Rattle.draw_links.specs.Links.{links}
 use Rattle.draw_kinds.specs.Roles.{roles}
 use Rattle.draw_faults.specs.Amiss.{isDrawing}
 use Rattle.draw_limits.specs.Excess.{firstBeyond, beyondAt}
-use Rattle.draw_model.specs.Content.{content, firstUnfit}
+use Rattle.draw_model.specs.Content.{content}
 
 -- bytes of a drawing
 abbrev pub drawingMost : ℕ
@@ -44,18 +44,12 @@ answer number beside = record { number = number; beside = beside }
 unfoldable pub checkedAs : List Pool → Reading
 checkedAs ps = answerFor (lowest ps) (each hasRoom ps)
 
--- 3 at a node whose element is not within the limits: a case that should not come up where nothing is beyond them, and that is refused if it does
-unfoldable pub fittedBy : Bytes → Drawing → ℕ → Reading
-fittedBy text w n =
-    if ltb (firstUnfit text w n) n then answer excessive (place w (firstUnfit text w n))
-    else checkedAs (content text w n)
-
 -- 21 beside 0; "no 21": 3 at the first thing that is beyond the limits
 unfoldable pub meantBy : Bytes → Drawing → ℕ → Reading
 meantBy text w n =
     if not (isDrawing text w n) then answer notRun 0
     else if ltb (firstBeyond text w n) n then answer excessive (beyondAt text w (firstBeyond text w n))
-    else fittedBy text w n
+    else checkedAs (content text w n)
 
 -- what the walk meets, then with the ends of flows and the kinds of nodes
 unfoldable pub walked : Bytes → Walk

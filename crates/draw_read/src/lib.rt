@@ -9,7 +9,7 @@ ghost use Rattle.text_read.specs.Notation.{tableOf, rewritten, hasRoom};
 ghost use Rattle.draw_model.specs.Content.{content};
 ghost use Rattle.draw_limits.specs.Excess.{firstBeyond};
 ghost use Rattle.xml_skip.specs.declared.Skipped.the-variants.{Fault};
-ghost use Rattle.draw_read.specs.Drawings.{notXml, answer, checkedAs, fittedBy, meantBy, settledBy, filledBy, drawInto};
+ghost use Rattle.draw_read.specs.Drawings.{notXml, answer, checkedAs, meantBy, settledBy, filledBy, drawInto};
 use base_table::places::TABLE_WORDS;
 use base_words::Word;
 use base_words::clear;
@@ -23,11 +23,9 @@ use draw_kinds::roles;
 use draw_limits::beyond_at;
 use draw_limits::first_beyond;
 use draw_links::links;
-use draw_model::first_unfit;
 use draw_model::keep_content;
 use draw_things::things::BLOCK_WORDS;
 use draw_things::things::Note;
-use draw_things::things::place_of;
 use draw_walk::walk;
 use text_ends::JUDGED_WORDS;
 use text_read::Reading;
@@ -56,16 +54,6 @@ fn checked(text: &[u8], w: &[Note], n: Note) -> Reading
     answer_for(&m)
 }
 
-fn fitted(text: &[u8], w: &[Note], n: Note) -> Reading
-    ensures { λ a. ⌜ (ltb (firstBeyond (now (text .entry)) (now (w .entry)) n) n ≡ false → a ≡ fittedBy (now (text .entry)) (now (w .entry)) n) ⌝ }
-{
-    let k = first_unfit(text, w, n);
-    if k < n {
-        return answer(EXCESSIVE, place_of(w, k) as usize);
-    }
-    checked(text, w, n)
-}
-
 // The answer to a drawing whose walk met the things w.
 fn meant(text: &[u8], w: &[Note], n: Note) -> Reading
     ensures { λ a. ⌜ a ≡ meantBy (now (text .entry)) (now (w .entry)) n ⌝ }
@@ -77,7 +65,7 @@ fn meant(text: &[u8], w: &[Note], n: Note) -> Reading
     if k < n {
         return answer(EXCESSIVE, beyond_at(text, w, k));
     }
-    fitted(text, w, n)
+    checked(text, w, n)
 }
 
 // The table of a drawing that is not beyond the limits.

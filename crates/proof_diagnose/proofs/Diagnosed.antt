@@ -21,8 +21,8 @@ use Rattle.draw_things.specs.Things.{place}
 use Rattle.draw_walk.specs.Walk.{Walk}
 use Rattle.draw_faults.specs.Amiss.{isDrawing}
 use Rattle.draw_limits.specs.Excess.{firstBeyond, beyondAt}
-use Rattle.draw_model.specs.Content.{content, firstUnfit}
-use Rattle.draw_read.specs.Drawings.{notRun, answer, checkedAs, fittedBy, meantBy, walked, thingsOf, judged, answered}
+use Rattle.draw_model.specs.Content.{content}
+use Rattle.draw_read.specs.Drawings.{notRun, answer, checkedAs, meantBy, walked, thingsOf, judged, answered}
 use Rattle.draw_diagnose.specs.declared.Broken.{Broken}
 use Rattle.draw_diagnose.specs.declared.Diagnosis.{Diagnosis}
 use Rattle.draw_diagnose.specs.Rules.{brokenIn}
@@ -64,17 +64,13 @@ model-other ps =
     (choice Another (each hasRoom ps) 0 28 (λ e. omega (arith, e)) (λ e. omega (arith, e))) (λ e. omega (arith, e))
 
 module _ (t w : List ℕ) (n : ℕ) where
-  fitted-other : Other (fittedBy t w n)
-  unfolding fittedBy
-  fitted-other = choice Other _ _ _ (λ e. omega (arith, e)) (model-other (content t w n))
-
   drawn-other : isDrawing t w n ≡ true → Other (meantBy t w n)
   unfolding meantBy if_then_else_
   drawn-other d = go (isDrawing t w n) d (ltb (firstBeyond t w n) n)
     where
-      go : (a : Bool) → a ≡ true → (b : Bool) → Other (if not a then answer notRun 0 else if b then answer excessive (beyondAt t w (firstBeyond t w n)) else fittedBy t w n)
+      go : (a : Bool) → a ≡ true → (b : Bool) → Other (if not a then answer notRun 0 else if b then answer excessive (beyondAt t w (firstBeyond t w n)) else checkedAs (content t w n))
       go true d true = λ e. omega (arith, e)
-      go true d false = fitted-other
+      go true d false = model-other (content t w n)
       go false d b = absurd (false≢true d)
 
 module _ (text : List ℕ) where

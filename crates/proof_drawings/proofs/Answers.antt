@@ -15,11 +15,10 @@ use Rattle.text_read.specs.declared.Reading.{Reading}
 use Rattle.text_read.specs.Notation.{tableOf, rewritten, hasRoom, answerFor}
 use Rattle.xml_skip.specs.declared.Skipped.{Skipped}
 use Rattle.xml_skip.specs.declared.Skipped.the-variants.{Past, Fault}
-use Rattle.draw_things.specs.Things.{place}
 use Rattle.draw_faults.specs.Amiss.{isDrawing}
 use Rattle.draw_limits.specs.Excess.{firstBeyond, beyondAt}
-use Rattle.draw_model.specs.Content.{content, firstUnfit}
-use Rattle.draw_read.specs.Drawings.{drawingMost, tooLong, notXml, notRun, answer, checkedAs, fittedBy, meantBy, walked, thingsOf, judged, answered, filledBy, drawInto}
+use Rattle.draw_model.specs.Content.{content}
+use Rattle.draw_read.specs.Drawings.{drawingMost, tooLong, notXml, notRun, answer, checkedAs, meantBy, walked, thingsOf, judged, answered, filledBy, drawInto}
 use Rattle.proof_steps.proofs.Choices.{passed}
 use Rattle.proof_demands.specs.Demands.{among}
 use Rattle.proof_drawings.proofs.TermLaws.{either}
@@ -60,10 +59,10 @@ unfolding among if_then_else_
 run-told = refl
 
 meant-told : (text w : List ℕ) (n : ℕ) → Told (meantBy text w n)
-unfolding meantBy fittedBy
+unfolding meantBy
 meant-told text w n =
     either Told _ _ _ (told notRun 0 run-told)
-    (either Told _ _ _ (told excessive _ beyond-told) (either Told _ _ _ (told excessive _ beyond-told) (checked-told (content text w n))))
+    (either Told _ _ _ (told excessive _ beyond-told) (checked-told (content text w n)))
 
 judged-told : (e : Skipped) (a : Reading) → Told a → Told (judged e a)
 unfolding judged
@@ -88,7 +87,6 @@ module _ (text t : List ℕ) where
 pub record Clear (text w : List ℕ) (n : ℕ) (a : Reading) : Type 0 where
   pub drawn : isDrawing text w n ≡ true
   pub beyond : ltb (firstBeyond text w n) n ≡ false
-  pub unfit : ltb (firstUnfit text w n) n ≡ false
   pub sound : lowest (content text w n) ≡ 0
   pub room : each hasRoom (content text w n) ≡ true
   pub is : a ≡ answer 0 0
@@ -110,22 +108,13 @@ unfolding checkedAs answerFor if_then_else_
 checked-is ps e r = ap₂ answerFor e r
 
 module _ (text w : List ℕ) (n : ℕ) where
-  abbrev fitting : Bool → Reading
-  fitting c = if c then answer excessive (place w (firstUnfit text w n)) else checkedAs (content text w n)
-
-  fitted-clear : isDrawing text w n ≡ true → ltb (firstBeyond text w n) n ≡ false → fittedBy text w n .number ≡ 0 → Clear text w n (fittedBy text w n)
-  unfolding fittedBy
-  fitted-clear d b = go (ltb (firstUnfit text w n) n) refl
-    where
-      go : (c : Bool) → ltb (firstUnfit text w n) n ≡ c → fitting c .number ≡ 0 → Clear text w n (fitting c)
-      go true q e = absurd (none-more 2 (unfold if_then_else_ in e))
-      go false q e =
-          unfold if_then_else_ in
-          let s = checked-zero (content text w n) e in
-          record { drawn = d; beyond = b; unfit = q; sound = s .0; room = s .1; is = checked-is (content text w n) (s .0) (s .1) }
+  checked-clear : isDrawing text w n ≡ true → ltb (firstBeyond text w n) n ≡ false → checkedAs (content text w n) .number ≡ 0 → Clear text w n (checkedAs (content text w n))
+  checked-clear d b e =
+      let s = checked-zero (content text w n) e in
+      record { drawn = d; beyond = b; sound = s .0; room = s .1; is = checked-is (content text w n) (s .0) (s .1) }
 
   abbrev meaning : Bool → Bool → Reading
-  meaning a b = if not a then answer notRun 0 else if b then answer excessive (beyondAt text w (firstBeyond text w n)) else fittedBy text w n
+  meaning a b = if not a then answer notRun 0 else if b then answer excessive (beyondAt text w (firstBeyond text w n)) else checkedAs (content text w n)
 
   meant-clear : meantBy text w n .number ≡ 0 → Clear text w n (meantBy text w n)
   unfolding meantBy
@@ -134,7 +123,7 @@ module _ (text w : List ℕ) (n : ℕ) where
       go : (a b : Bool) → isDrawing text w n ≡ a → ltb (firstBeyond text w n) n ≡ b → meaning a b .number ≡ 0 → Clear text w n (meaning a b)
       go false b d q e = absurd (none-more 20 (unfold if_then_else_ in e))
       go true true d q e = absurd (none-more 2 (unfold if_then_else_ in e))
-      go true false d q e = unfold if_then_else_ in fitted-clear d q e
+      go true false d q e = unfold if_then_else_ in checked-clear d q e
 
 pub answered-clear : (text : List ℕ) → answered text .number ≡ 0 → Clear text (thingsOf text) (walked text .count) (answered text)
 unfolding answered

@@ -43,12 +43,12 @@ every-append : {A : Type 0} (P : A → Type 0) (xs ys : List A) → Every P xs �
 every-append P [] ys d e = e
 every-append P (x ∷ xs) ys d e = (d .0, every-append P xs ys (d .1) e)
 
-every-joined : {A : Type 0} (P : A → Type 0) (f : ℕ → List A) (n : ℕ) → ((k : ℕ) → k < n → Every P (f k)) → Every P (joined f n)
+pub every-joined : {A : Type 0} (P : A → Type 0) (f : ℕ → List A) (n : ℕ) → ((k : ℕ) → k < n → Every P (f k)) → Every P (joined f n)
 unfolding joined
 every-joined P f zero h = omega arith
 every-joined P f (suc n) h = every-append P (joined f n) (f n) (every-joined P f n (λ k l. h k (omega (arith, l)))) (h n (omega arith))
 
-every-one : {A : Type 0} (P : A → Type 0) (b : Bool) (x : A) → (b ≡ true → P x) → Every P (if b then x ∷ [] else [])
+pub every-one : {A : Type 0} (P : A → Type 0) (b : Bool) (x : A) → (b ≡ true → P x) → Every P (if b then x ∷ [] else [])
 unfolding if_then_else_
 every-one P true x p = (p refl, omega arith)
 every-one P false x p = omega arith

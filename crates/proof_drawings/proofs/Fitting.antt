@@ -260,7 +260,7 @@ module _ (t w : List ℕ) (n : ℕ) (drawn : isDrawing t w n ≡ true) (beyond :
     kind-is : c ≡ kindDrawn w n k
     kind-is = settled .kinds k l node
 
-    its : Drawable c (sort w k) (flowsIn w n k) (flowsOut w n k)
+    pub its : Drawable c (sort w k) (flowsIn w n k) (flowsOut w n k)
     its = subst (λ (v : ℕ). Drawable v (sort w k) (flowsIn w n k) (flowsOut w n k)) (sym kind-is) (drawn-right w n k (λ e. not-none (kind-is ∙ e)) (λ e. not-branch (kind-is ∙ e)))
 
     -- its row
@@ -352,7 +352,7 @@ module _ (t w : List ℕ) (n : ℕ) (drawn : isDrawing t w n ≡ true) (beyond :
             record { few = omega arith; count = still list h; low = λ j r. absurd (omega (arith, r)); high = λ j r. absurd (omega (arith, r)); none = λ i r u. still i (omega (arith, r, h)) }
 
     -- tasks and starts, by their kinds
-    task-test : isTask (things.within w k) w k ≡ eqb (kindOf c .task) one
+    pub task-test : isTask (things.within w k) w k ≡ eqb (kindOf c .task) one
     unfolding isTask
     task-test =
         ap (λ (b : Bool). leb things.task (sort w k) && (leb (sort w k) things.receiveTask && b)) (eq-eqb (things.within w k) (things.within w k) refl)

@@ -24,4 +24,4 @@ meant-spec =
     (λ c κs. search L)
     (λ c. pick-no _ _ _ _ (was _ _ (c .before .before .before .before .before .is-drawing .ensures) (c .before .before .before .before .if1 .left)) (pick-yes _ _ _ _ (lt-ltb-by _ _ _ (c .before .before .before .first-beyond .ensures) (c .before .before .if2 .taken)) (rw (c .before .beyond-at .ensures, c .before .before .before .first-beyond .ensures) at (c .answer2 .ensures))))  -- returns-2
     (λ c κs. search L)
-    (λ c. pick-no _ _ _ _ (was _ _ (c .before .before .before .before .is-drawing .ensures) (c .before .before .before .if1 .left)) (pick-no _ _ _ _ (le-ltb-by _ _ _ (c .before .before .first-beyond .ensures) (c .before .if2 .left)) (c .fitted .ensures (le-ltb-by _ _ _ (c .before .before .first-beyond .ensures) (c .before .if2 .left))))))  -- returns-3
+    (λ c. pick-no _ _ _ _ (was _ _ (c .before .before .before .before .is-drawing .ensures) (c .before .before .before .if1 .left)) (pick-no _ _ _ _ (le-ltb-by _ _ _ (c .before .before .first-beyond .ensures) (c .before .if2 .left)) (c .checked .ensures (le-ltb-by _ _ _ (c .before .before .first-beyond .ensures) (c .before .if2 .left))))))  -- returns-3
