@@ -74,7 +74,7 @@ pub fn is_digit(b: u8) -> bool
     between(b'0', b'9', b)
 }
 
-fn is_letter(b: u8) -> bool
+pub fn is_letter(b: u8) -> bool
     ensures { λ r. ⌜ r ≡ isLetter b ⌝ }
 {
     between(b'a', b'z', b) || between(b'A', b'Z', b)

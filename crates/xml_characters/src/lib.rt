@@ -1,8 +1,8 @@
 // The classes of bytes of an XML text; its references and the characters that they say.
 ghost use mathlib.Core.Path.{_≡_};
-ghost use Rattle.text_lexer.specs.Lexer.{isLetter};
 ghost use Rattle.xml_characters.specs.Names.{isBlank, isControl, beginsName, isName};
 use text_lexer::is_digit;
+use text_lexer::is_letter;
 
 pub mod references;
 
@@ -22,15 +22,6 @@ pub fn is_control(b: u8) -> bool
     ensures { λ r. ⌜ r ≡ isControl b ⌝ }
 {
     b < 32 && !is_blank(b)
-}
-
-fn is_letter(b: u8) -> bool
-    ensures { λ r. ⌜ r ≡ isLetter b ⌝ }
-{
-    if b < b'a' {
-        return b'A' <= b && b <= b'Z';
-    }
-    b <= b'z'
 }
 
 pub fn begins_name(b: u8) -> bool
