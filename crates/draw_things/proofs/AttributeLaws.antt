@@ -18,11 +18,10 @@ use Rattle.xml_markup.specs.declared.Cursor.{Cursor}
 use Rattle.xml_markup.specs.declared.Scan.{Scan}
 use Rattle.xml_markup.specs.declared.Scan.the-variants.{On}
 use Rattle.xml_markup.specs.declared.Whole.{Whole}
-use Rattle.xml_markup.specs.declared.Whole.the-variants.{Attribute}
+use Rattle.xml_markup.specs.declared.Whole.the-variants.{Nothing, Attribute}
 use Rattle.xml_markup.specs.Tokens.{whole, moved, ifOn, ifAttribute}
-use Rattle.text_lexer.specs.Lexer.{past}
-use Rattle.xml_markup.specs.Staying.{stays}
-use Rattle.xml_markup.proofs.StayLaws.{in-state, run-stay}
+use Rattle.xml_markup.specs.Leaps.{Leads}
+use Rattle.xml_markup.proofs.LeapLaws.{leads-to}
 use Rattle.xml_markup.proofs.TokenLaws.{is-attribute, not-attribute, not-on}
 use Rattle.draw_things.specs.Names.{differs, valueBytes, valueBehind, differsAt, differsFrom}
 
@@ -60,15 +59,15 @@ module _ (t : List ℕ) (c : Cursor) (i : ℕ) (h : i < length t) where
     another-stops m = rw (drop-cons t i 0 h, e, ← eb, ← er) (not-on _ _ _ m)
 
 -- bytes that are passed together
-module _ (t : List ℕ) (c : Cursor) where
-  another-step : (b : ℕ) (s : List ℕ) (i : ℕ) → i < length t → stays (c .state) (at t i) ≡ true → differsFrom t c (b ∷ s) i ≡ differsFrom t c s (i + 1)
-  unfolding differsFrom differsAt ifAttribute ifOn if_then_else_
-  another-step b s i h e =
-      let k = in-state (c .mark) (at t i) i (i + 1) (c .state) e in
-      rw (k .nothing, k .goes) refl
+no-name : (t : List ℕ) (c : Cursor) (i : ℕ) → whole (c .state) (at t i) ≡ Nothing → differsAt t c i ≡ false
+unfolding differsAt ifAttribute
+no-name t c i w = rw w refl
 
-  pub another-stay : (i j : ℕ) → j ≡ past (stays (c .state)) (drop i t) i → differsFrom t c (drop i t) i ≡ differsFrom t c (drop j t) j
-  another-stay = run-stay t (stays (c .state)) (differsFrom t c) another-step
+pub another-leap : (t : List ℕ) {c d : Cursor} {i j : ℕ} → Leads t c i d j → differsFrom t c (drop i t) i ≡ differsFrom t d (drop j t) j
+another-leap t {c = c} {i = i} l =
+    leads-to t (λ (f : Cursor) (k : ℕ). differsFrom t c (drop i t) i ≡ differsFrom t f (drop k t) k)
+    (λ f next k h w o g p. p ∙ another-on t f k h (no-name t f k w) (at t k) refl (moved f (at t k) k (k + 1)) refl next g)
+    l refl
 
 pub another-end : (t : List ℕ) (c : Cursor) (i : ℕ) → length t ≤ i → differsFrom t c (drop i t) i ≡ false
 unfolding differsFrom

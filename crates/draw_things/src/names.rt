@@ -17,13 +17,13 @@ use xml_markup::Attribute;
 use xml_markup::Cursor;
 use xml_markup::Scan;
 use xml_markup::Whole;
+use xml_markup::leaping::leap;
+use xml_markup::leaping::leap_begin;
 use xml_markup::spans::bytes_of;
 use xml_markup::spans::local_of;
 use xml_markup::spans::name_at;
 use xml_markup::spans::quote_at;
 use xml_markup::spans::value_at;
-use xml_markup::staying::stay;
-use xml_markup::tokens::begun;
 use xml_markup::tokens::moved;
 use xml_markup::tokens::whole;
 
@@ -229,8 +229,9 @@ fn differs_at(text: &[u8], c: Cursor, i: usize) -> bool
 fn draws_another(text: &[u8], p: usize) -> bool
     ensures { λ r. ⌜ r ≡ drawsAnother (now (text .entry)) p ⌝ }
 {
-    let mut c = begun(p);
-    let mut i = p;
+    let b = leap_begin(text, p);
+    let mut c = b.cursor;
+    let mut i = b.place;
     while i < text.len() {
         if differs_at(text, c, i) {
             return true;
@@ -239,9 +240,10 @@ fn draws_another(text: &[u8], p: usize) -> bool
         let Scan::On(next) = a else {
             return false;
         };
-        c = next;
-        let s = next.state;
-        i = stay(s, text, i + 1);
+        let l = leap(next, text, i + 1);
+        let d = l.cursor;
+        c = d;
+        i = l.place;
     }
     false
 }

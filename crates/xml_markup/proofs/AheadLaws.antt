@@ -29,13 +29,11 @@ use Rattle.xml_markup.specs.declared.Found.{Found}
 use Rattle.xml_markup.specs.declared.Found.the-variants.{Behind, Nowhere}
 use Rattle.xml_markup.specs.Tokens.{whole, moved, ifOn, ifAttribute, isNamed, foundFrom, begun, found, isFound, twice, isFaulty}
 use Rattle.xml_markup.specs.Markup.{advance, scanFrom}
-use Rattle.xml_markup.specs.Staying.{stays}
 use Rattle.xml_markup.specs.Ahead.{numbered, keyOf, keyAt, Rising, Kept, More, With, New, Reached, isFaultyElse, tried, Ahead, Sure}
 use Rattle.xml_markup.proofs.Whole.{the-type as whole-type}
 use Rattle.xml_markup.proofs.TokenLaws.{is-attribute, found-here, found-on, found-end}
 use Rattle.xml_markup.proofs.ScanLaws.{scan-on}
 use Rattle.xml_markup.proofs.CutLaws.{rest-of}
-use Rattle.xml_markup.proofs.StayLaws.{in-state}
 
 same-true : (a b : List ℕ) → sameBytes a b ≡ true → a ≡ b
 unfolding sameBytes
@@ -176,17 +174,6 @@ module _ (t : List ℕ) (start : ℕ) (c : Cursor) (i : ℕ) where
   pub second-not : ifAttribute (whole (c .state) (at t i)) (twice (part t 0 i) start (c .mark)) false ≡ false → advance t start c i ≡ tried t start c i
   second-not e = advance-tried (λ w. sym (is-attribute _ _ _ w) ∙ e)
 
-  module _ (h : i < length t) (e : stays (c .state) (at t i) ≡ true) where
-    still : tried t start c i ≡ On c
-    unfolding tried isFaultyElse if_then_else_
-    still =
-        let k = in-state (c .mark) (at t i) i (i + 1) (c .state) e in
-        rw (lt-leb (length t) i h, k .nothing, k .plain, k .goes) refl
-
-    no-name : whole (c .state) (at t i) ≡ Attribute → ⊥
-    unfolding ifAttribute
-    no-name w = false≢true (ap (λ (x : Whole). ifAttribute x true false) (sym (in-state (c .mark) (at t i) i (i + 1) (c .state) e .nothing) ∙ w))
-
 -- a name that is not this one is not named
 pub other-named : (t name : List ℕ) (c : Cursor) (i : ℕ) → (part t (c .mark) i ≡ name → ⊥) → isNamed t name c i ≡ false
 unfolding isNamed ifAttribute
@@ -257,9 +244,6 @@ module _ (t : List ℕ) (start : ℕ) where
   unfolding found
   reached-begun name m l k new = refl
 
-  pub reached-run : (c : Cursor) (i j : ℕ) → j ≡ past (stays (c .state)) (drop i t) i → Reached t start c i → Reached t start c j
-  reached-run c i j = run-to t (stays (c .state)) (Reached t start c) (λ k h e r. reached-byte t start c k h r c (tried-moved t start c k c (still t start c k h e))) i j
-
   module _ (c : Cursor) (p : ℕ) where
     module _ (v : List ℕ) (n : ℕ) (d : Cursor) (i : ℕ) (a : Ahead t start c p v n d i) (h : i < length t) (next : Cursor) (e : tried t start d i ≡ On next) (u : List ℕ) (m : ℕ) (more : More (keyAt t) v n u m) (with : whole (d .state) (at t i) ≡ Attribute → With (keyAt t) (keyOf (part t (d .mark) i)) v n u m) where
       other : (name : List ℕ) → (Kept (keyAt t) u m (keyOf name) → ⊥) → isNamed t name d i ≡ false
@@ -282,12 +266,6 @@ module _ (t : List ℕ) (start : ℕ) where
             new = λ name new out. new-byte t start d i h (a .reached) next (tried-moved t start d i next e) name (a .new name new (λ k. out (more .kept (keyOf name) k))) (other name out);
             same = λ all. a .same (λ name k. all name (more .kept (keyOf name) k)) ∙ scan-on t start d i h (advance t start d i) refl next (advance-tried t start d i (λ w. once t start i (d .mark) (omega arith) (a .new (part t (d .mark) i) (all (part t (d .mark) i) (with w .is)) (with w .was))) ∙ e);
           }
-
-    pub ahead-run : (v : List ℕ) (n : ℕ) (d : Cursor) (i j : ℕ) → j ≡ past (stays (d .state)) (drop i t) i → Ahead t start c p v n d i → Ahead t start c p v n d j
-    ahead-run v n d i j =
-        run-to t (stays (d .state)) (Ahead t start c p v n d)
-        (λ k h e a. ahead-byte v n d k a h d (still t start d k h e) v n (record { rising = a .rising; fits = a .fits; kept = λ x y. y }) (λ w. absurd (no-name t start d k h e w)))
-        i j
 
     pub ahead-none : (v : List ℕ) → Reached t start c p → Ahead t start c p v 0 c p
     ahead-none v r = record { rising = λ a b h l. absurd (omega arith); fits = omega arith; on = omega arith; reached = r; new = λ name new out. new; same = λ all. refl }

@@ -7,4 +7,5 @@ pub mod MarkupLaws
 pub mod CutLaws
 pub mod ShelfLaws
 pub mod AheadLaws
+pub mod LeapLaws
 pub mod PointsHold

@@ -8,11 +8,10 @@ use native.Mathlib.Omega.{arith}
 use lib.Dec.{ltb, eqb}
 use lib.ListN.{length, drop, getD, length-drop}
 use lib.Seq.{drop-cons}
-use borrow.Author.Tests.{lt-leb, le-ltb, ne-eqb, lt-ltb}
+use borrow.Author.Tests.{lt-leb, le-ltb, eq-eqb, ne-eqb, lt-ltb}
 use Rattle.base_words.specs.Pick.{if_then_else_}
 use Rattle.base_words.specs.Words.{at}
 use Rattle.text_lexer.specs.Lexer.{between, isLetter, isDigit, past}
-use Rattle.text_lexer.proofs.PastLaws.{past-from}
 use Rattle.text_lexer.proofs.PieceLaws.{by-order}
 use Rattle.xml_characters.specs.Names.{isControl, beginsName, isName}
 use Rattle.xml_scanner.specs.declared.InEnd.{InEnd}
@@ -26,7 +25,7 @@ use Rattle.xml_scanner.specs.Moves.{step}
 use Rattle.xml_markup.specs.declared.Cursor.{Cursor}
 use Rattle.xml_markup.specs.declared.Scan.the-variants.{On}
 use Rattle.xml_markup.specs.declared.Whole.the-variants.{Nothing}
-use Rattle.xml_markup.specs.Tokens.{endOf, wholeInTag, whole, moveTo, moved, ifOn, ifAttribute, isNamed, foundFrom, isFaulty}
+use Rattle.xml_markup.specs.Tokens.{endOf, wholeInTag, whole, moveTo, moved, ifOn, isFaulty}
 use Rattle.xml_markup.specs.Markup.{advance, scanFrom}
 use Rattle.xml_markup.specs.Staying.{isPlain, staysInTag, staysInEnd, stays}
 
@@ -36,9 +35,22 @@ unfolding isName beginsName isLetter isDigit between
 low-name b h =
     rw (lt-leb 97 b (omega arith), lt-leb 65 b (omega arith), ne-eqb b 95 (λ e. omega (arith, e)), ne-eqb b 58 (λ e. omega (arith, e)), lt-leb 128 b (omega arith), lt-leb 48 b (omega arith), ne-eqb b 45 (λ e. omega (arith, e)), ne-eqb b 46 (λ e. omega (arith, e)))
 
-high-control : (b : ℕ) → 32 ≤ b → isControl b ≡ false
+pub high-control : (b : ℕ) → 32 ≤ b → isControl b ≡ false
 unfolding isControl
 high-control b h = rw (le-ltb b 32 h)
+
+-- a byte that is looked for before the others
+pub plain-quote : (q b : ℕ) → b ≡ q → false ≡ isPlain q b
+unfolding isPlain if_then_else_
+plain-quote q b e = rw (eq-eqb b q e) (go (ltb b 32))
+  where
+    go : (x : Bool) → false ≡ (if x then false else false)
+    go true = refl
+    go false = refl
+
+pub plain-high : (q b : ℕ) → (b ≡ q → ⊥) → 60 < b → true ≡ isPlain q b
+unfolding isPlain if_then_else_
+plain-high q b n h = rw (le-ltb b 32 (omega arith), ne-eqb b q n, ne-eqb b 38 (λ e. omega (arith, e)), ne-eqb b 60 (λ e. omega (arith, e))) refl
 
 name-control : (b : ℕ) → isName b ≡ true → isControl b ≡ false
 name-control b e = by-order 32 b (high-control b) (λ h. absurd (false≢true (sym (low-name b h) ∙ e)))
@@ -130,19 +142,6 @@ module _ (t : List ℕ) (start : ℕ) (c : Cursor) where
 
   pub scan-stay : (i j : ℕ) → j ≡ past (stays (c .state)) (drop i t) i → scanFrom t start c (drop i t) i ≡ scanFrom t start c (drop j t) j
   scan-stay = run-stay t (stays (c .state)) (scanFrom t start c) scan-step
-
-module _ (t name : List ℕ) (c : Cursor) where
-  found-step : (b : ℕ) (s : List ℕ) (i : ℕ) → i < length t → stays (c .state) (at t i) ≡ true → foundFrom t name c (b ∷ s) i ≡ foundFrom t name c s (i + 1)
-  unfolding foundFrom isNamed ifAttribute ifOn if_then_else_
-  found-step b s i h e =
-      let k = in-state (c .mark) (at t i) i (i + 1) (c .state) e in
-      rw (k .nothing, k .goes) refl
-
-  pub found-stay : (i j : ℕ) → j ≡ past (stays (c .state)) (drop i t) i → foundFrom t name c (drop i t) i ≡ foundFrom t name c (drop j t) j
-  found-stay = run-stay t (stays (c .state)) (foundFrom t name c) found-step
-
-pub stay-ahead : (f : ℕ → Bool) (s : List ℕ) (i j : ℕ) → j ≡ past f s i → i ≤ j
-stay-ahead f s i j e = rw e (past-from f s i)
 
 -- a state that no byte leaves where it is
 pub past-none : (s : List ℕ) (i : ℕ) → i ≡ past (λ b. false) s i

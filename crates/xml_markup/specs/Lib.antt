@@ -4,3 +4,4 @@ pub mod Spans
 pub mod Points
 pub mod Staying
 pub mod Ahead
+pub mod Leaps

@@ -16,12 +16,12 @@ use super::Reach;
 use super::Scan;
 use super::Taken;
 use super::Whole;
+use super::leaping::leap;
+use super::leaping::leap_begin;
 use super::shelf::PLACES;
 use super::shelf::count_between;
 use super::shelf::keep;
 use super::shelf::kept_at;
-use super::staying::stay;
-use super::tokens::begun;
 use super::tokens::moved;
 use super::tokens::reserved;
 use super::tokens::speaks;
@@ -109,17 +109,19 @@ fn first_met(all: &[u8], text: &[u8], start: usize, v: &[usize], n: usize) -> us
     ensures { λ r. ⌜ (r ≡ 4294967296 → Rising (keyAt (now (all .entry))) (now (v .entry)) n → (name : List ℕ) → Kept (keyAt (now (all .entry))) (now (v .entry)) n (keyOf name) → found (now (text .entry)) name start ≡ Nowhere) ⌝ }
 {
     let mut first = PLACES;
-    let mut c = begun(start);
-    let mut i = start;
+    let b = leap_begin(text, start);
+    let mut c = b.cursor;
+    let mut i = b.place;
     while i < text.len() {
         first = lesser(first, met_at(all, text, c, i, v, n));
         let a = moved(c, byte(text, i), i, i + 1);
         let Scan::On(next) = a else {
             return first;
         };
-        c = next;
-        let s = next.state;
-        i = stay(s, text, i + 1);
+        let l = leap(next, text, i + 1);
+        let d = l.cursor;
+        c = d;
+        i = l.place;
     }
     first
 }
@@ -150,9 +152,10 @@ fn read_ahead(text: &[u8], start: usize, c: Cursor, p: usize, most: usize, v: &m
             };
         };
         n = m;
-        here = next;
-        let s = next.state;
-        i = stay(s, text, i + 1);
+        let l = leap(next, text, i + 1);
+        let d = l.cursor;
+        here = d;
+        i = l.place;
     }
     Reach {
         cursor: here,

@@ -3,6 +3,7 @@ use xml_scanner::Sort;
 use xml_scanner::State;
 
 pub mod ahead;
+pub mod leaping;
 pub mod scanning;
 pub mod shelf;
 pub mod spans;
@@ -21,6 +22,12 @@ pub enum Whole {
 pub struct Cursor {
     pub state: State,
     pub mark: usize,
+}
+
+// Where a markup's next byte stands, and its place.
+pub struct Stand {
+    pub cursor: Cursor,
+    pub place: usize,
 }
 
 // A markup read so far; or its sort and the place behind it; or the place of the fault.

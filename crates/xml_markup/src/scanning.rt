@@ -12,8 +12,8 @@ use super::Whole;
 use super::ahead::FEW;
 use super::ahead::read_new;
 use super::ahead::tried;
-use super::staying::stay;
-use super::tokens::begun;
+use super::leaping::leap;
+use super::leaping::leap_begin;
 use super::tokens::twice;
 use super::tokens::whole;
 use text_lexer::byte;
@@ -50,16 +50,20 @@ fn advance(text: &[u8], start: usize, c: Cursor, i: usize) -> Scan
 fn scan(text: &[u8], p: usize) -> Scan
     ensures { λ r. ⌜ r ≡ scan (now (text .entry)) p ⌝ }
 {
-    let mut c = begun(p);
-    let mut i = p;
-    let mut most = FEW;
+    let b = leap_begin(text, p);
+    let g = b.cursor;
+    let f = read_new(text, p, g, b.place, FEW);
+    let mut c = f.cursor;
+    let mut i = f.place;
+    let mut most = f.most;
     while i < text.len() {
         let a = advance(text, p, c, i);
         let Scan::On(next) = a else {
             return a;
         };
-        let s = next.state;
-        let r = read_new(text, p, next, stay(s, text, i + 1), most);
+        let l = leap(next, text, i + 1);
+        let e = l.cursor;
+        let r = read_new(text, p, e, l.place, most);
         let d = r.cursor;
         c = d;
         i = r.place;
@@ -79,6 +83,9 @@ pub fn begins_at(text: &[u8], i: usize, word: &[u8]) -> bool
 fn closes_data(text: &[u8], i: usize) -> bool
     ensures { λ r. ⌜ r ≡ closesData (now (text .entry)) i ⌝ }
 {
+    if byte(text, i) != b']' {
+        return false;
+    }
     begins_at(text, i, b"]]>")
 }
 

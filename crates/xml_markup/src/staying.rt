@@ -9,13 +9,17 @@ use xml_scanner::InEnd;
 use xml_scanner::InTag;
 use xml_scanner::State;
 
+// Most bytes of values are letters, so they are looked for first.
 fn is_plain(q: u8, b: u8) -> bool
     ensures { λ r. ⌜ r ≡ isPlain q b ⌝ }
 {
-    if b < 32 {
+    if b == q {
         return false;
     }
-    if b == q {
+    if b'<' < b {
+        return true;
+    }
+    if b < 32 {
         return false;
     }
     if b == b'&' {
@@ -24,7 +28,7 @@ fn is_plain(q: u8, b: u8) -> bool
     b != b'<'
 }
 
-fn plain_from(q: u8, text: &[u8], from: usize) -> usize
+pub fn plain_from(q: u8, text: &[u8], from: usize) -> usize
     ensures { λ r. ⌜ r ≡ past (isPlain q) (drop from (now (text .entry))) from ⌝ }
 {
     let mut i = from;

@@ -8,7 +8,8 @@ use super::Cursor;
 use super::Found;
 use super::Scan;
 use super::Whole;
-use super::staying::stay;
+use super::leaping::leap;
+use super::leaping::leap_begin;
 use text_lexer::byte;
 use text_lexer::piece;
 use text_numerals::same;
@@ -119,8 +120,9 @@ pub fn begun(p: usize) -> Cursor
 pub fn found(text: &[u8], name: &[u8], start: usize) -> Found
     ensures { λ r. ⌜ r ≡ found (now (text .entry)) (now (name .entry)) start ⌝ }
 {
-    let mut c = begun(start);
-    let mut i = start;
+    let b = leap_begin(text, start);
+    let mut c = b.cursor;
+    let mut i = b.place;
     while i < text.len() {
         if is_named(text, name, c, i) {
             return Found::Behind(i);
@@ -129,9 +131,10 @@ pub fn found(text: &[u8], name: &[u8], start: usize) -> Found
         let Scan::On(next) = a else {
             return Found::Nowhere;
         };
-        c = next;
-        let s = next.state;
-        i = stay(s, text, i + 1);
+        let l = leap(next, text, i + 1);
+        let d = l.cursor;
+        c = d;
+        i = l.place;
     }
     Found::Nowhere
 }

@@ -1,9 +1,9 @@
-use mathlib.Core.Path.{_≡_, _∙_, refl, sym}
-use Prim.Native.Nat.{_-_, _+_}
+use mathlib.Core.Path.{_≡_, _∙_, sym}
+use Prim.Native.Nat.{_-_}
 use lib.ListN.{length, drop}
 use Rattle.draw_things.specs.Names.{differsFrom, drawsAnother}
-use Rattle.draw_things.proofs.AttributeLaws.{another-here, another-on, another-stops, another-stay, another-end}
-use Rattle.xml_markup.proofs.StayLaws.{stay-ahead}
+use Rattle.draw_things.proofs.AttributeLaws.{another-here, another-on, another-stops, another-leap, another-end}
+use Rattle.xml_markup.proofs.LeapLaws.{on-leap}
 use native.Mathlib.Omega.{arith}
 use borrow.Author.Needs.{needs}
 use Rattle.draw_things.proofs.names.draws_another.Statement.{statement}
@@ -23,7 +23,7 @@ draws-another-spec =
     Inv-loop
     μ-loop
     (λ c κs. search needs)
-    (λ c. rw (c .begun .ensures) refl)
+    (λ c. sym (another-leap _ (c .before .leap-begin .ensures)))
     (λ c κs. search needs)
     (λ c. sym (another-here _ _ _ (c .before .before .loop-test .taken) (sym (c .before .differs-at .ensures) ∙ c .if1 .taken)) ∙ c .before .before .before .loop .inv)
     (λ c κs. search needs)
@@ -33,6 +33,6 @@ draws-another-spec =
     (λ c. sym (another-stops _ _ _ (c .before .before .before .before .before .loop-test .taken) (sym (c .before .before .before .before .differs-at .ensures) ∙ c .before .before .before .if1 .left) _ (c .before .before .byte .ensures) _ (c .before .moved .ensures) (c .match .keys2)) ∙ c .before .before .before .before .before .before .loop .inv)
     (λ c. search needs)
     (λ c κs. search needs)
-    (λ c. omega (arith, stay-ahead _ _ _ _ (c .stay .ensures)))
-    (λ c. sym (another-on _ _ _ (c .before .before .before .before .before .before .before .before .loop-test .taken) (sym (c .before .before .before .before .before .before .before .differs-at .ensures) ∙ c .before .before .before .before .before .before .if1 .left) _ (c .before .before .before .before .before .byte .ensures) _ (c .before .before .before .before .moved .ensures) _ (c .before .before .a .given .1) ∙ another-stay _ _ (c .before .before .before .before .before .before .before .before .before .loop .i + 1) _ (c .stay .ensures)) ∙ c .before .before .before .before .before .before .before .before .before .loop .inv)
+    (λ c. omega (arith, on-leap _ (c .before .leap .ensures)))
+    (λ c. sym (another-on _ _ _ (c .before .before .before .before .before .before .before .before .before .loop-test .taken) (sym (c .before .before .before .before .before .before .before .before .differs-at .ensures) ∙ c .before .before .before .before .before .before .before .if1 .left) _ (c .before .before .before .before .before .before .byte .ensures) _ (c .before .before .before .before .before .moved .ensures) _ (c .before .before .before .a .given .1) ∙ another-leap _ (c .before .leap .ensures)) ∙ c .before .before .before .before .before .before .before .before .before .before .loop .inv)
     (λ c. sym (another-end _ _ _ (c .loop-test .left)) ∙ c .before .loop .inv))

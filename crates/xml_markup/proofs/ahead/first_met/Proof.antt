@@ -1,11 +1,11 @@
 use mathlib.Core.Path.{_≡_, _∙_, refl, sym}
 use mathlib.Core.List.{List}
-use Prim.Native.Nat.{ℕ, _-_, _+_, _≤_}
+use Prim.Native.Nat.{ℕ, _-_, _≤_}
 use native.Mathlib.Omega.{arith}
 use lib.ListN.{length, drop}
 use Rattle.xml_markup.specs.Tokens.{foundFrom, found}
 use Rattle.xml_markup.specs.Ahead.{keyOf, keyAt, Rising, Kept}
-use Rattle.xml_markup.proofs.StayLaws.{found-stay, stay-ahead}
+use Rattle.xml_markup.proofs.LeapLaws.{on-leap, found-leap}
 use Rattle.xml_markup.proofs.TokenLaws.{found-on, found-stops, found-end}
 use borrow.Author.Needs.{needs}
 use Rattle.xml_markup.proofs.ahead.first_met.Statement.{statement}
@@ -19,13 +19,13 @@ abbrev μ-loop : tie.MeasureT-loop
 
 loop-holds : tie.Need-loop-holds Inv-loop μ-loop
 unfolding found
-loop-holds c = (search needs, λ e up name k. rw (c .begun .ensures) refl)
+loop-holds c = (search needs, λ e up name k. sym (found-leap _ name (c .before .leap-begin .ensures)))
 
 returns : tie.Need-returns Inv-loop μ-loop
 returns c e up name k = sym (c .before .before .before .before .before .before .loop .inv .1 (omega (arith, e, c .before .before .before .lesser .ensures .0, c .before .before .before .before .before .before .loop .inv .0)) up name k) ∙ found-stops _ _ _ _ (c .before .before .before .before .before .loop-test .taken) (c .before .before .before .before .met-at .ensures .1 (omega (arith, e, c .before .before .before .lesser .ensures .1, c .before .before .before .before .met-at .ensures .0)) up name k) _ (c .before .before .byte .ensures) _ (c .before .moved .ensures) (c .match .keys2)
 
 loop-again : tie.Need-loop-again Inv-loop μ-loop
-loop-again c = (omega (arith, c .before .before .before .before .before .before .lesser .ensures .0, c .before .before .before .before .before .before .before .before .before .loop .inv .0), λ e up name k. sym (found-on _ _ _ _ (c .before .before .before .before .before .before .before .before .loop-test .taken) (c .before .before .before .before .before .before .before .met-at .ensures .1 (omega (arith, e, c .before .before .before .before .before .before .lesser .ensures .1, c .before .before .before .before .before .before .before .met-at .ensures .0)) up name k) _ (c .before .before .before .before .before .byte .ensures) _ (c .before .before .before .before .moved .ensures) _ (c .before .before .a .given .1) ∙ found-stay _ _ _ (c .before .before .before .before .before .before .before .before .before .loop .i + 1) _ (c .stay .ensures)) ∙ c .before .before .before .before .before .before .before .before .before .loop .inv .1 (omega (arith, e, c .before .before .before .before .before .before .lesser .ensures .0, c .before .before .before .before .before .before .before .before .before .loop .inv .0)) up name k)
+loop-again c = (omega (arith, c .before .before .before .before .before .before .before .lesser .ensures .0, c .before .before .before .before .before .before .before .before .before .before .loop .inv .0), λ e up name k. sym (found-on _ _ _ _ (c .before .before .before .before .before .before .before .before .before .loop-test .taken) (c .before .before .before .before .before .before .before .before .met-at .ensures .1 (omega (arith, e, c .before .before .before .before .before .before .before .lesser .ensures .1, c .before .before .before .before .before .before .before .before .met-at .ensures .0)) up name k) _ (c .before .before .before .before .before .before .byte .ensures) _ (c .before .before .before .before .before .moved .ensures) _ (c .before .before .before .a .given .1) ∙ found-leap _ name (c .before .leap .ensures)) ∙ c .before .before .before .before .before .before .before .before .before .before .loop .inv .1 (omega (arith, e, c .before .before .before .before .before .before .before .lesser .ensures .0, c .before .before .before .before .before .before .before .before .before .before .loop .inv .0)) up name k)
 
 pub first-met-spec : {M : Type 1} → statement M
 first-met-spec =
@@ -44,6 +44,6 @@ first-met-spec =
     returns
     (λ c. search needs)
     (λ c κs. search needs)
-    (λ c. omega (arith, stay-ahead _ _ _ _ (c .stay .ensures)))
+    (λ c. omega (arith, on-leap _ (c .before .leap .ensures)))
     loop-again
     (λ c e up name k. sym (c .before .loop .inv .1 e up name k) ∙ found-end _ _ _ _ (c .loop-test .left)))
