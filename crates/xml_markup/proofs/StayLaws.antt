@@ -1,6 +1,6 @@
 -- Bytes that leave a markup where it is. Assumes nothing.
 use mathlib.Core.Path.{_≡_, _∙_, refl, sym, ap}
-use mathlib.Core.Bool.{Bool, true, false, not, false≢true}
+use mathlib.Core.Bool.{Bool, true, false, not, _&&_, false≢true}
 use mathlib.Core.List.{List, [], _∷_}
 use Prim.Native.Nat.{ℕ, _+_, _<_, _≤_}
 use native.Mathlib.Numerals.{add-one}
@@ -13,21 +13,28 @@ use Rattle.base_words.specs.Pick.{if_then_else_}
 use Rattle.base_words.specs.Words.{at}
 use Rattle.text_lexer.specs.Lexer.{between, isLetter, isDigit, past}
 use Rattle.text_lexer.proofs.PieceLaws.{by-order}
-use Rattle.xml_characters.specs.Names.{isControl, beginsName, isName}
+use Rattle.xml_characters.specs.Names.{isBlank, isControl, beginsName, isName}
+use Rattle.xml_scanner.specs.declared.InComment.{InComment}
+use Rattle.xml_scanner.specs.declared.InComment.the-variants.{Inside, Dash, Dashes}
+use Rattle.xml_scanner.specs.declared.InData.{InData}
+use Rattle.xml_scanner.specs.declared.InData.the-variants.{Inside as InsideData, Bracket, Brackets}
+use Rattle.xml_scanner.specs.declared.InInstruction.{InInstruction}
+use Rattle.xml_scanner.specs.declared.InInstruction.the-variants.{Opened as InstructionOpened, Target, TargetMark, Inside as InsideInstruction, Mark}
 use Rattle.xml_scanner.specs.declared.InEnd.{InEnd}
 use Rattle.xml_scanner.specs.declared.InEnd.the-variants.{Opened, Name as EndName, Behind as EndBehind}
 use Rattle.xml_scanner.specs.declared.InTag.{InTag}
 use Rattle.xml_scanner.specs.declared.InTag.the-variants.{Name, Blank, Attribute as InAttribute, Named, Equals, Value, Reference, Behind, Slash}
 use Rattle.xml_scanner.specs.declared.State.{State}
 use Rattle.xml_scanner.specs.declared.State.the-variants.{Begin, Opening, Comment, Data, Instruction, Tag, EndTag, Reference as AtReference}
-use Rattle.xml_scanner.specs.Tags.{inValue, inTag, inEnd}
+use Rattle.xml_scanner.specs.Passages.{inComment, inData, inInstruction}
+use Rattle.xml_scanner.specs.Tags.{behindBlank, inValue, inTag, inEnd}
 use Rattle.xml_scanner.specs.Moves.{step}
 use Rattle.xml_markup.specs.declared.Cursor.{Cursor}
 use Rattle.xml_markup.specs.declared.Scan.the-variants.{On}
 use Rattle.xml_markup.specs.declared.Whole.the-variants.{Nothing}
-use Rattle.xml_markup.specs.Tokens.{endOf, wholeInTag, whole, moveTo, moved, ifOn, isFaulty}
+use Rattle.xml_markup.specs.Tokens.{endOf, wholeInTag, wholeInInstruction, whole, moveTo, moved, ifOn, isFaulty}
 use Rattle.xml_markup.specs.Markup.{advance, scanFrom}
-use Rattle.xml_markup.specs.Staying.{isPlain, staysInTag, staysInEnd, stays}
+use Rattle.xml_markup.specs.Staying.{isPlain, staysInComment, staysInData, staysInInstruction, staysInTag, staysInEnd, stays}
 
 -- no byte of a name is below 32
 low-name : (b : ℕ) → b < 32 → isName b ≡ false
@@ -55,6 +62,24 @@ plain-high q b n h = rw (le-ltb b 32 (omega arith), ne-eqb b q n, ne-eqb b 38 (�
 name-control : (b : ℕ) → isName b ≡ true → isControl b ≡ false
 name-control b e = by-order 32 b (high-control b) (λ h. absurd (false≢true (sym (low-name b h) ∙ e)))
 
+blank-control : (b : ℕ) → isBlank b ≡ true → isControl b ≡ false
+unfolding isControl
+blank-control b e = rw e (go (ltb b 32))
+  where
+    go : (x : Bool) → x && not true ≡ false
+    go true = refl
+    go false = refl
+
+-- what is plain is not the byte that ends it, and no control
+plain-not : (v b : ℕ) → isPlain v b ≡ true → (eqb b v ≡ false) × (isControl b ≡ false)
+unfolding isPlain if_then_else_
+plain-not v b e = go (ltb b 32) refl (eqb b v) refl e
+  where
+    go : (x : Bool) → ltb b 32 ≡ x → (y : Bool) → eqb b v ≡ y → (if x then false else if y then false else if eqb b 38 then false else not (eqb b 60)) ≡ true → (eqb b v ≡ false) × (isControl b ≡ false)
+    go true ex y ey h = absurd (false≢true h)
+    go false ex true ey h = absurd (false≢true h)
+    go false ex false ey h = (ey, by-order 32 b (high-control b) (λ l. absurd (false≢true (sym ex ∙ lt-ltb b 32 l))))
+
 -- what such a byte does
 pub record Stays (s : State) (m b i q : ℕ) : Type 0 where
   pub goes : moved (record { state = s; mark = m }) b i q ≡ On (record { state = s; mark = m })
@@ -78,10 +103,30 @@ module _ (m b i q : ℕ) where
             plain = by-order 32 b (high-control b) (λ l. absurd (false≢true (sym ex ∙ lt-ltb b 32 l)));
           }
 
+  in-comment : (s : InComment) → staysInComment s b ≡ true → Stays (Comment s) m b i q
+  unfolding staysInComment moved moveTo step inComment whole if_then_else_
+  in-comment Inside e = let k = plain-not 45 b e in record { goes = rw (k .0) refl; nothing = refl; plain = k .1 }
+  in-comment Dash e = absurd (false≢true e)
+  in-comment Dashes e = absurd (false≢true e)
+
+  in-data : (s : InData) → staysInData s b ≡ true → Stays (Data s) m b i q
+  unfolding staysInData moved moveTo step inData whole if_then_else_
+  in-data InsideData e = let k = plain-not 93 b e in record { goes = rw (k .0) refl; nothing = refl; plain = k .1 }
+  in-data Bracket e = absurd (false≢true e)
+  in-data Brackets e = absurd (false≢true e)
+
+  in-instruction : (s : InInstruction) → staysInInstruction s b ≡ true → Stays (Instruction s) m b i q
+  unfolding staysInInstruction moved moveTo step inInstruction whole wholeInInstruction if_then_else_
+  in-instruction InstructionOpened e = absurd (false≢true e)
+  in-instruction Target e = absurd (false≢true e)
+  in-instruction TargetMark e = absurd (false≢true e)
+  in-instruction InsideInstruction e = let k = plain-not 63 b e in record { goes = rw (k .0) refl; nothing = refl; plain = k .1 }
+  in-instruction Mark e = absurd (false≢true e)
+
   in-tag : (s : InTag) → staysInTag s b ≡ true → Stays (Tag s) m b i q
-  unfolding staysInTag moved moveTo step inTag whole wholeInTag endOf if_then_else_
+  unfolding staysInTag moved moveTo step inTag behindBlank whole wholeInTag endOf if_then_else_
   in-tag Name e = record { goes = rw e refl; nothing = refl; plain = name-control b e }
-  in-tag Blank e = absurd (false≢true e)
+  in-tag Blank e = record { goes = rw e refl; nothing = refl; plain = blank-control b e }
   in-tag InAttribute e = record { goes = rw e refl; nothing = rw e refl; plain = name-control b e }
   in-tag Named e = absurd (false≢true e)
   in-tag Equals e = absurd (false≢true e)
@@ -100,9 +145,9 @@ module _ (m b i q : ℕ) where
   unfolding stays
   in-state Begin e = absurd (false≢true e)
   in-state (Opening s) e = absurd (false≢true e)
-  in-state (Comment s) e = absurd (false≢true e)
-  in-state (Data s) e = absurd (false≢true e)
-  in-state (Instruction s) e = absurd (false≢true e)
+  in-state (Comment s) e = in-comment s e
+  in-state (Data s) e = in-data s e
+  in-state (Instruction s) e = in-instruction s e
   in-state (Tag s) e = in-tag s e
   in-state (EndTag s) e = in-end s e
   in-state AtReference e = absurd (false≢true e)

@@ -2,10 +2,13 @@
 ghost use mathlib.Core.Path.{_≡_};
 ghost use lib.ListN.{drop};
 ghost use Rattle.text_lexer.specs.Lexer.{past};
-ghost use Rattle.xml_markup.specs.Staying.{isPlain, staysInTag, staysInEnd, stays};
+ghost use Rattle.xml_markup.specs.Staying.{isPlain, staysInComment, staysInData, staysInInstruction, staysInTag, staysInEnd, stays};
 use super::Class;
 use super::spans::run;
+use xml_scanner::InComment;
+use xml_scanner::InData;
 use xml_scanner::InEnd;
+use xml_scanner::InInstruction;
 use xml_scanner::InTag;
 use xml_scanner::State;
 
@@ -41,12 +44,44 @@ pub fn plain_from(q: u8, text: &[u8], from: usize) -> usize
     i
 }
 
+fn stay_in_comment(s: InComment, text: &[u8], i: usize) -> usize
+    ensures { λ r. ⌜ r ≡ past (staysInComment s) (drop i (now (text .entry))) i ⌝ }
+{
+    match s {
+        InComment::Inside => plain_from(b'-', text, i),
+        InComment::Dash => i,
+        InComment::Dashes => i,
+    }
+}
+
+fn stay_in_data(s: InData, text: &[u8], i: usize) -> usize
+    ensures { λ r. ⌜ r ≡ past (staysInData s) (drop i (now (text .entry))) i ⌝ }
+{
+    match s {
+        InData::Inside => plain_from(b']', text, i),
+        InData::Bracket => i,
+        InData::Brackets => i,
+    }
+}
+
+fn stay_in_instruction(s: InInstruction, text: &[u8], i: usize) -> usize
+    ensures { λ r. ⌜ r ≡ past (staysInInstruction s) (drop i (now (text .entry))) i ⌝ }
+{
+    match s {
+        InInstruction::Opened => i,
+        InInstruction::Target => i,
+        InInstruction::TargetMark => i,
+        InInstruction::Inside => plain_from(b'?', text, i),
+        InInstruction::Mark => i,
+    }
+}
+
 fn stay_in_tag(s: InTag, text: &[u8], i: usize) -> usize
     ensures { λ r. ⌜ r ≡ past (staysInTag s) (drop i (now (text .entry))) i ⌝ }
 {
     match s {
         InTag::Name => run(Class::Name, text, i),
-        InTag::Blank => i,
+        InTag::Blank => run(Class::Blanks, text, i),
         InTag::Attribute => run(Class::Name, text, i),
         InTag::Named => i,
         InTag::Equals => i,
@@ -74,9 +109,9 @@ pub fn stay(s: State, text: &[u8], i: usize) -> usize
     match s {
         State::Begin => i,
         State::Opening(o) => i,
-        State::Comment(c) => i,
-        State::Data(d) => i,
-        State::Instruction(x) => i,
+        State::Comment(c) => stay_in_comment(c, text, i),
+        State::Data(d) => stay_in_data(d, text, i),
+        State::Instruction(x) => stay_in_instruction(x, text, i),
         State::Tag(t) => stay_in_tag(t, text, i),
         State::EndTag(e) => stay_in_end(e, text, i),
         State::Reference => i,

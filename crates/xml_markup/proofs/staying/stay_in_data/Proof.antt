@@ -1,0 +1,18 @@
+use Rattle.xml_markup.proofs.StayLaws.{past-none}
+use Rattle.xml_markup.specs.Staying.{staysInData}
+use borrow.Author.Needs.{needs}
+use Rattle.xml_markup.proofs.staying.stay_in_data.Statement.{statement}
+use Rattle.xml_markup.proofs.staying.stay_in_data.Tie as tie
+
+pub stay-in-data-spec : {M : Type 1} → statement M
+unfolding staysInData
+stay-in-data-spec =
+    tie.close
+    (tie.spec
+    (λ c. search needs)
+    (λ c κs. search needs)
+    (λ c. search needs)
+    (λ c. search needs)
+    (λ c. rw (c .before .enum-told .given .1) (c .plain-from .ensures))
+    (λ c. rw (c .enum-told2 .given .1) (past-none _ _))
+    (λ c. rw (c .enum-told3 .given .1) (past-none _ _)))
