@@ -22,6 +22,7 @@ function branches(gate,    i, id, all, first, c) {
         if (!first) first = i
         c = condition_of(i)
         if (c != "" && c != "true") all = 0
+        # that nothing sets it and the branch never opens: theorems drawn-unset and drawn-never of docs/THEOREMS.md
         if (attribute(tags[i], "id") != reference(tags[gate], "default") && match(c, /[ds][0-9]+/))
             note(i, "its condition \047" c "\047 asks for " substr(c, RSTART, RLENGTH) ", which nothing in a drawing sets: no message carries values and no task assigns, so this branch never opens")
     }
