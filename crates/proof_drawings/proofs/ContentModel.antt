@@ -113,8 +113,12 @@ limit-high : (v : ℕ) → isLimit v ≡ true → v ≤ instances
 unfolding isLimit
 limit-high v e = leb-true v instances (and-right (leb 1 v) (leb v instances) e)
 
+limit-low : (v : ℕ) → isLimit v ≡ true → 1 ≤ v
+unfolding isLimit
+limit-low v e = leb-true 1 v (and-left (leb 1 v) (leb v instances) e)
+
 -- what is known of a pool by itself
-record Near (p : Pool) : Type 0 where
+pub record Near (p : Pool) : Type 0 where
   pub number-low : 1 ≤ p .number
   pub number-high : p .number ≤ poolNumbers
   pub limit-high : p .limit ≤ instances
@@ -139,7 +143,7 @@ module _ (t w : List ℕ) (n : ℕ) (drawn : isDrawing t w n ≡ true) (beyond :
   few-things : n ≤ greatest
   few-things = let l = drawing-few t w n drawn in omega (arith, l)
 
-  abbrev owned : Bool
+  abbrev pub owned : Bool
   owned = hasParticipants w n
 
   some-pool : hasPool owned w n ≡ true
@@ -170,11 +174,10 @@ module _ (t w : List ℕ) (n : ℕ) (drawn : isDrawing t w n ≡ true) (beyond :
       or-left (isMaximumBeyond t w k) _
       (or-right (isMessageBeyond w k) _ (or-right (isFlowBeyond w k) _ (or-right (isNodeBeyond w n k) _ (or-right (isFifthPool owned w k) _ (none-beyond k l)))))
 
-  maximum-high : (m : ℕ) → m < n → ofSort participantMultiplicity w m ≡ true → not (eqb (source w (within w m)) 0) ≡ true → maximumOf t w m ≤ instances
+  maximum-right : (m : ℕ) → m < n → ofSort participantMultiplicity w m ≡ true → not (eqb (source w (within w m)) 0) ≡ true → isLimit (maximumOf t w m) ≡ true
   unfolding isMaximumBeyond
-  maximum-high m l s h =
-      limit-high (maximumOf t w m)
-      (not-not (isLimit (maximumOf t w m)) (and-then (not (eqb (source w (within w m)) 0)) _ h (and-then (ofSort participantMultiplicity w m) _ s (not-maximum m l))))
+  maximum-right m l s h =
+      not-not (isLimit (maximumOf t w m)) (and-then (not (eqb (source w (within w m)) 0)) _ h (and-then (ofSort participantMultiplicity w m) _ s (not-maximum m l)))
 
   has-process : (b : Bool) (k m : ℕ) → isPool b w k ≡ true → sort w m ≡ participantMultiplicity → within w m ≡ k → not (eqb (source w k) 0) ≡ true
   unfolding isPool if_then_else_ ofSort
@@ -185,7 +188,7 @@ module _ (t w : List ℕ) (n : ℕ) (drawn : isDrawing t w n ≡ true) (beyond :
       absurd (omega (arith, a, b))
 
   module _ (k : ℕ) where
-    abbrev its : ℕ
+    abbrev pub its : ℕ
     its = firstWith participantMultiplicity withinIn k w n
 
     found : its < n → (sort w its ≡ participantMultiplicity) × (within w its ≡ k)
@@ -196,12 +199,18 @@ module _ (t w : List ℕ) (n : ℕ) (drawn : isDrawing t w n ≡ true) (beyond :
           eqb-true (within w its) k (and-right (eqb (sort w its) participantMultiplicity) (eqb (within w its) k) b),
         )
 
-    its-limit : isPool owned w k ≡ true → its < n → maximumOf t w its ≤ instances
+    its-right : isPool owned w k ≡ true → its < n → isLimit (maximumOf t w its) ≡ true
     unfolding ofSort
-    its-limit h l =
+    its-right h l =
         let f = found l in
-        maximum-high its l (ap (λ (s : ℕ). eqb s participantMultiplicity) (f .0))
+        maximum-right its l (ap (λ (s : ℕ). eqb s participantMultiplicity) (f .0))
         (subst (λ (j : ℕ). not (eqb (source w j) 0) ≡ true) (sym (f .1)) (has-process owned k its h (f .0) (f .1)))
+
+    pub its-limit : isPool owned w k ≡ true → its < n → maximumOf t w its ≤ instances
+    its-limit h l = limit-high (maximumOf t w its) (its-right h l)
+
+    pub its-low : isPool owned w k ≡ true → its < n → 1 ≤ maximumOf t w its
+    its-low h l = limit-low (maximumOf t w its) (its-right h l)
 
     limit-most : isPool owned w k ≡ true → limitOf t w n k ≤ instances
     unfolding limitOf
@@ -225,7 +234,7 @@ module _ (t w : List ℕ) (n : ℕ) (drawn : isDrawing t w n ≡ true) (beyond :
   unfolding numberOf
   number-least k = more-low _
 
-  pool-near : (k : ℕ) → k < n → isPool owned w k ≡ true → Near (poolDrawn owned t w n k)
+  pub pool-near : (k : ℕ) → k < n → isPool owned w k ≡ true → Near (poolDrawn owned t w n k)
   unfolding poolDrawn
   pool-near k l h =
       record { number-low = number-least k; number-high = number-most k l h; limit-high = limit-most k h; every = elements-right (processOf owned w k) }
@@ -236,7 +245,7 @@ module _ (t w : List ℕ) (n : ℕ) (drawn : isDrawing t w n ≡ true) (beyond :
       every-joined Near (λ k. if isPool owned w k then poolDrawn owned t w n k ∷ [] else []) n
       (λ k l. every-one Near (isPool owned w k) (poolDrawn owned t w n k) (λ h. pool-near k l h))
 
-  content-some : 0 < length (content t w n)
+  pub content-some : 0 < length (content t w n)
   unfolding content poolIf hasPool
   content-some =
       let l = ltb-true (seek (isPool owned w) n) n some-pool in
