@@ -1,0 +1,13 @@
+pub mod Lists
+pub mod Runs
+pub mod Numbers
+pub mod Texts
+pub mod Branches
+pub mod Elements
+pub mod ReadBack
+pub mod Contents
+pub mod Short
+pub mod Spelled
+pub mod Accepted
+pub mod PointsHold
+pub mod DrawnPoint
