@@ -6,7 +6,7 @@ use mathlib.Core.List.{List, map}
 use native.Mathlib.Omega.{arith}
 use lib.Dec.{eqb, ltb}
 use lib.ListN.{length, take, replicate}
-use borrow.Author.Tests.{eq-eqb, ne-eqb, lt-ltb, le-ltb}
+use borrow.Author.Tests.{eq-eqb, ne-eqb, lt-ltb, le-ltb, lt-leb}
 use Rattle.base_words.specs.Each.{each}
 use Rattle.base_words.specs.Pick.{if_then_else_}
 use Rattle.base_words.specs.Words.{at}
@@ -25,10 +25,14 @@ use Rattle.text_read.specs.declared.Reading.{Reading}
 use Rattle.text_read.specs.Notation.{ReadInto, tableOf, rewritten, hasRoom, answerFor}
 use Rattle.xml_skip.specs.declared.Skipped.{Skipped}
 use Rattle.xml_skip.specs.declared.Skipped.the-variants.{Past, Fault}
-use Rattle.draw_things.specs.Things.{blockWords, place}
+use Rattle.draw_things.specs.Things.{room, blockWords, place}
 use Rattle.draw_walk.specs.Walk.{Walk, walk, told}
 use Rattle.draw_walk.specs.declared.Walked.{Walked}
+use Rattle.draw_links.specs.Links.{links}
+use Rattle.draw_kinds.specs.Roles.{roles, areSettled, settledUpTo}
+use Rattle.draw_kinds.proofs.KindLaws.{kinds-all}
 use Rattle.draw_faults.specs.Amiss.{isDrawing}
+use Rattle.draw_faults.proofs.UnsettledLaws.{unsettled-amiss}
 use Rattle.draw_limits.specs.Excess.{firstBeyond, beyondAt}
 use Rattle.draw_model.specs.Content.{content}
 use Rattle.draw_read.specs.Drawings.{drawingMost, tooLong, notXml, notRun, answer, checkedAs, meantBy, walked, settledBy, thingsOf, judged, answered, filledBy, drawInto}
@@ -110,6 +114,23 @@ module _ (text t : List ℕ) where
     pub walk-done : (q : ℕ) (w : List ℕ) (u : ReadInto) → r .end ≡ Past q → w ≡ settledBy text n v → u ≡ filledBy (meantBy text w n) (content text w n) t → u ≡ drawInto text t
     unfolding drawInto answered judged told thingsOf if_then_else_
     walk-done q w u f s e = rw (← walk-met, le-ltb drawingMost (length text) short, f, ← s) e
+
+    pub walk-amiss : (q : ℕ) (a : Reading) → r .end ≡ Past q → isDrawing text (settledBy text n v) n ≡ false → a ≡ answer notRun 0 → with-table a t ≡ drawInto text t
+    unfolding drawInto answered judged told thingsOf meantBy filledBy if_then_else_
+    walk-amiss q a f d e = rw (← walk-met, le-ltb drawingMost (length text) short, f, d, e) refl
+
+-- what shows a drawing to be amiss before it is judged: more things than there is room for, or a node of no kind
+pub settled-amiss : (text w u : List ℕ) (n : ℕ) → u ≡ links text n w → areSettled n u ≡ false → isDrawing text (settledBy text n w) n ≡ false
+unfolding settledBy
+settled-amiss text w u n e h = ap (λ (x : List ℕ). isDrawing text (roles n x) n) (sym e) ∙ unsettled-amiss text u n h
+
+pub too-many : (text w : List ℕ) (n : ℕ) → room < n → isDrawing text w n ≡ false
+unfolding isDrawing
+too-many text w n h = rw (lt-leb n room h)
+
+pub settled-right : (text w u x : List ℕ) (n : ℕ) → u ≡ links text n w → areSettled n u ≡ true → x ≡ settledUpTo n u → x ≡ settledBy text n w
+unfolding settledBy
+settled-right text w u x n e h f = f ∙ kinds-all n u h ∙ ap (roles n) e
 
 -- an end that is past, or at fault
 is-past : Skipped → Bool

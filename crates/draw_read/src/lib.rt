@@ -7,6 +7,7 @@ ghost use lib.Dec.{ltb};
 ghost use Rattle.base_words.specs.Each.{each};
 ghost use Rattle.text_read.specs.Notation.{tableOf, rewritten, hasRoom};
 ghost use Rattle.draw_model.specs.Content.{content};
+ghost use Rattle.draw_faults.specs.Amiss.{isDrawing};
 ghost use Rattle.draw_limits.specs.Excess.{firstBeyond};
 ghost use Rattle.xml_skip.specs.declared.Skipped.the-variants.{Fault};
 ghost use Rattle.draw_read.specs.Drawings.{notXml, answer, checkedAs, meantBy, settledBy, filledBy, drawInto};
@@ -19,13 +20,14 @@ use base_words::numbers::NOT_RUN;
 use base_words::numbers::NOT_XML;
 use base_words::numbers::TOO_LONG;
 use draw_faults::is_drawing;
-use draw_kinds::roles;
+use draw_kinds::settle_kinds;
 use draw_limits::beyond_at;
 use draw_limits::first_beyond;
 use draw_links::links;
 use draw_model::keep_content;
 use draw_things::things::BLOCK_WORDS;
 use draw_things::things::Note;
+use draw_things::things::ROOM;
 use draw_walk::walk;
 use text_ends::JUDGED_WORDS;
 use text_read::Reading;
@@ -88,11 +90,15 @@ fn judge(text: &[u8], w: &[Note], n: Note, t: &mut [Word; TABLE_WORDS]) -> Readi
     a
 }
 
-fn settle(text: &[u8], w: &mut [Note], n: Note)
-    ensures { λ _. ⌜ now (w .exit) ≡ settledBy (now (text .entry)) n (now (w .entry)) ⌝ }
+// Joins flows and settles kinds; no where that shows what is drawn to be amiss.
+fn settle(text: &[u8], w: &mut [Note], n: Note) -> bool
+    ensures { λ r. ⌜ (r ≡ true → now (w .exit) ≡ settledBy (now (text .entry)) n (now (w .entry))) × (r ≡ false → isDrawing (now (text .entry)) (settledBy (now (text .entry)) n (now (w .entry))) n ≡ false) ⌝ }
 {
+    if n as usize > ROOM {
+        return false;
+    }
     links(text, w, n);
-    roles(w, n);
+    settle_kinds(w, n)
 }
 
 fn stopped(end: Skipped) -> Reading
@@ -118,6 +124,8 @@ pub fn draw_into(text: &[u8], t: &mut [Word; TABLE_WORDS]) -> Reading
     let Skipped::Past(_) = end else {
         return stopped(end);
     };
-    settle(text, &mut w, n);
+    if !settle(text, &mut w, n) {
+        return answer(NOT_RUN, 0);
+    }
     judge(text, &w, n, t)
 }

@@ -1,16 +1,16 @@
-use Rattle.draw_read.specs.Drawings.{settledBy}
+use Rattle.draw_read.proofs.AnswerLaws.{settled-amiss, settled-right, too-many}
+use mathlib.Core.Bool.{false≢true}
+use mathlib.Core.Path.{sym, _∙_}
 use borrow.Author.Needs.{needs}
 use Rattle.draw_read.proofs.settle.Statement.{statement}
 use Rattle.draw_read.proofs.settle.Tie as tie
 
-ruleset L = (needs)
-
 pub settle-spec : {M : Type 1} → statement M
-unfolding settledBy
 settle-spec =
     tie.close
     (tie.spec
-    (λ c κs. search L)
-    (λ c κs. search L)
-    (λ c. search L)
-    (λ c. rw (c .before .before .before .before .before .before .links .ensures) at (c .before .before .roles .ensures)))  -- returns
+    (λ c. ((λ e. absurd (false≢true e)), λ e. too-many _ _ _ (c .if1 .taken)))
+    (λ c κs. search needs)
+    (λ c κs. search needs)
+    (λ c. search needs)
+    (λ c. ((λ e. settled-right _ _ _ _ _ (c .before .before .before .before .before .before .links .ensures) (sym (c .before .before .settle-kinds .ensures .0) ∙ e) (c .before .before .settle-kinds .ensures .1)), λ e. settled-amiss _ _ _ _ (c .before .before .before .before .before .before .links .ensures) (sym (c .before .before .settle-kinds .ensures .0) ∙ e))))
