@@ -5,9 +5,8 @@ use Rattle.base_words.specs.Iter.{iter}
 use Rattle.base_words.specs.Pick.{if_then_else_}
 use Rattle.base_words.specs.Seek.{seek}
 use Rattle.base_words.specs.Sum.{sum}
-use Rattle.base_words.specs.Each.{total, each, tab, joined, those}
+use Rattle.base_words.specs.Each.{each, joined, those}
 use Rattle.base_words.specs.All.{all}
-use Rattle.base_kinds.specs.Kinds.{kindOf}
 use Rattle.text_lexer.specs.Lexer.{among, between, isBlank, isSign, isDigit, isLetter, isWord, past, tokenOf, tokenHere, tokenAt, ifWord, ifSign, ifAssign, ifEnd, signBehind}
 use Rattle.text_numerals.specs.Numerals.{valueFrom, leadingZero, numberOf, sameBytes, isFieldLetter, fieldBehind, fieldFrom, fieldOf, asNumber, asField, operandOf, grown, digitsFrom, numberBy, numeralAt, operandAt, ifValue, ifTooLarge, ifNumber, ifField, ifOutOfRange}
 use Rattle.xml_characters.specs.Names.{isBlank as isBlank-of-xml-characters-names, isControl, beginsName, isName}
@@ -34,13 +33,13 @@ use Rattle.draw_conditions.specs.Words.{isOf as isOf-of-draw-conditions-words, 
 use Rattle.draw_conditions.specs.Conditions.{alone, leftmost, both, formOf, second as second-of-draw-conditions-conditions, joined as joined-of-draw-conditions-conditions, compared, conditionOf, conditionAt}
 use Rattle.draw_faults.specs.Amiss.{has, isSecond, isStrange, isReadSort, isRead, isTaken, isRepeated, hasParticipants, isPool, isSecondCollaboration, isLost, isUnowned, isSecondMultiplicity, isOfKind, isOfNoKind, isSplit, hasWrongDefault, sends, receives, isSender, isReceiver, isUnheard, isUntold, isLoose, isWrongBranch, isSecondCondition, isWrongForm, isWrongCondition, isOutside, maySend, mayReceive, isWrongMessage, amissAsFlow, amissAsNode, amissAsPool, isAmiss, isRight, hasPool, isDrawing}
 use Rattle.draw_limits.specs.Numbers.{countBefore, isElement, isTask, isEdge, isStart, isBeforeFirst, isOf as isOf-of-draw-limits-numbers, taskOf, edgeOf, firstEdgeOf, messageOf, maximumOf, defaultOf}
-use Rattle.draw_model.specs.Content.{elementIf, elementsOf, limitOf, processOf, numberOf as numberOf-of-draw-model-content, poolDrawn, poolIf, content, isUnfit, firstUnfit}
-use Rattle.draw_read.specs.Drawings.{checkedAs, fittedBy, meantBy, walked, settledBy, thingsOf, judged as judged-of-draw-read-drawings, answered, filledBy, drawInto}
-use Rattle.write_decimals.specs.Decimals.{shownFrom, shown, foldDigits}
-use Rattle.write_shown.specs.Shown.{lead, separated, shownField, shownOperand, shownPair, shownExpression, shownItem, shownCondition, shownTuple, shownMessage, shownEntries, shownExits, shownGuarded, shownGuardedList, shownReceiving, shownReceivingList, shownMode, shownAssignment, shownAssignments, shownTask, shownPart, shownParts, shownElement, shownElements, shownLimit, shownPool, shownPools, shownTable}
+use Rattle.draw_model.specs.Content.{processOf}
+use Rattle.draw_read.specs.Drawings.{walked, settledBy, thingsOf}
+use Rattle.write_decimals.specs.Decimals.{shownFrom, shown}
+use Rattle.write_shown.specs.Shown.{shownField}
 use Rattle.proof_spelling.specs.Spelling.{saidOn, collaborationIn, collaborationOf, parted, firstAt, foremost, numberedFlows, flowsBefore, edge, startsBefore, firstEdge, tasksBefore, work, received, sent, flowsInto, flowsFrom, entries, exits, operand, comparison, condition, guard, guarded, choices, caught, catches, elementBy, element, elementsIn, elements, pool, poolsFrom, spell}
 use Rattle.proof_spelling.specs.Points.{Point, points}
 
 pub points-hold : map (λ (p : Point). spell (collaborationOf (p .text))) points ≡ map (λ (p : Point). p .says) points
-unfolding iter if_then_else_ seek sum total each tab joined those all kindOf among between isBlank isSign isDigit isLetter isWord past tokenOf tokenHere tokenAt ifWord ifSign ifAssign ifEnd signBehind valueFrom leadingZero numberOf sameBytes isFieldLetter fieldBehind fieldFrom fieldOf asNumber asField operandOf grown digitsFrom numberBy numeralAt operandAt ifValue ifTooLarge ifNumber ifField ifOutOfRange isBlank-of-xml-characters-names isControl beginsName isName digit base more numberFrom numbered characterOf isCharacter behindLess behindBracket inOpening inComment inData inTarget inInstruction closing behind named behindBlank isQuote equals isReference inValue inValueReference inTag behindEnd inEnd inReference atBegin step endOf wholeInTag wholeInInstruction whole moveTo moved ifOn ifAttribute isNamed foundFrom found isFound twice first lower saysXml isDeclaration reserved isFaulty advance scanFrom scan beginsAt closesData opensMarkup textFrom placed markup isOf run after hasSecond nameFrom nameAt bytesOf opensName second opener behindColon localFrom localOf isCalled sameName quoteAt valueAt valueOf attribute partBy partOf partFor partAt tagBy tagOf behind-of-xml-skip-skipping byTag elementBy-of-xml-skip-skipping byPart contentBy contentIn contentAt elementAt skipped otherBy otherOf opensData tagFor tagAt outsideAt further outsideIn outside rootBy rootAt lastBy lastFrom narrow behindLine plainAt referredAt decodedAt isNode narrow-of-draw-things-things oneMore added rows rowFrom rowNamed rowOf isFalse isOne differs valueBytes valueBehind differsAt differsFrom drawsAnother isEvent family namedIn namedAt drawnAs told isNumber judged multiplicityBy multiplicity isPassed passed tagFrom entered noted counted byTag-of-draw-walk-walk thingBy byEnd behind-of-draw-walk-walk byPart-of-draw-walk-walk contentBy-of-draw-walk-walk contentIn-of-draw-walk-walk contentAt-of-draw-walk-walk thingAt walk ifIs hasId mayName orNone meant named-of-draw-links-links joined-of-draw-links-links owned linked links isWith countWith firstWith ofSort countSort flowsIn flowsOut messagesOf terminatesOf shapeOf flows defines when startDrawn endDrawn intermediate activity splits joins gateway kindBy caughtAs kindDrawn settled roles forward plainStep stepBy markupStep textStep sectionStep stepAt further-of-draw-conditions-saying saidIn said seen saidBy saidAt isOf-of-draw-conditions-words behind-of-draw-conditions-words letters spelt goesOn grown-of-draw-conditions-words placeOf isOver sideOf sideAt alone leftmost both formOf second-of-draw-conditions-conditions joined-of-draw-conditions-conditions compared conditionOf conditionAt has isSecond isStrange isReadSort isRead isTaken isRepeated hasParticipants isPool isSecondCollaboration isLost isUnowned isSecondMultiplicity isOfKind isOfNoKind isSplit hasWrongDefault sends receives isSender isReceiver isUnheard isUntold isLoose isWrongBranch isSecondCondition isWrongForm isWrongCondition isOutside maySend mayReceive isWrongMessage amissAsFlow amissAsNode amissAsPool isAmiss isRight hasPool isDrawing countBefore isElement isTask isEdge isStart isBeforeFirst isOf-of-draw-limits-numbers taskOf edgeOf firstEdgeOf messageOf maximumOf defaultOf elementIf elementsOf limitOf processOf numberOf-of-draw-model-content poolDrawn poolIf content isUnfit firstUnfit checkedAs fittedBy meantBy walked settledBy thingsOf judged-of-draw-read-drawings answered filledBy drawInto shownFrom shown foldDigits lead separated shownField shownOperand shownPair shownExpression shownItem shownCondition shownTuple shownMessage shownEntries shownExits shownGuarded shownGuardedList shownReceiving shownReceivingList shownMode shownAssignment shownAssignments shownTask shownPart shownParts shownElement shownElements shownLimit shownPool shownPools shownTable saidOn collaborationIn collaborationOf parted firstAt foremost numberedFlows flowsBefore edge startsBefore firstEdge tasksBefore work received sent flowsInto flowsFrom entries exits operand comparison condition guard guarded choices caught catches elementBy element elementsIn elements pool poolsFrom spell
+unfolding iter if_then_else_ seek sum each joined those all among between isBlank isSign isDigit isLetter isWord past tokenOf tokenHere tokenAt ifWord ifSign ifAssign ifEnd signBehind valueFrom leadingZero numberOf sameBytes isFieldLetter fieldBehind fieldFrom fieldOf asNumber asField operandOf grown digitsFrom numberBy numeralAt operandAt ifValue ifTooLarge ifNumber ifField ifOutOfRange isBlank-of-xml-characters-names isControl beginsName isName digit base more numberFrom numbered characterOf isCharacter behindLess behindBracket inOpening inComment inData inTarget inInstruction closing behind named behindBlank isQuote equals isReference inValue inValueReference inTag behindEnd inEnd inReference atBegin step endOf wholeInTag wholeInInstruction whole moveTo moved ifOn ifAttribute isNamed foundFrom found isFound twice first lower saysXml isDeclaration reserved isFaulty advance scanFrom scan beginsAt closesData opensMarkup textFrom placed markup isOf run after hasSecond nameFrom nameAt bytesOf opensName second opener behindColon localFrom localOf isCalled sameName quoteAt valueAt valueOf attribute partBy partOf partFor partAt tagBy tagOf behind-of-xml-skip-skipping byTag elementBy-of-xml-skip-skipping byPart contentBy contentIn contentAt elementAt skipped otherBy otherOf opensData tagFor tagAt outsideAt further outsideIn outside rootBy rootAt lastBy lastFrom narrow behindLine plainAt referredAt decodedAt isNode narrow-of-draw-things-things oneMore added rows rowFrom rowNamed rowOf isFalse isOne differs valueBytes valueBehind differsAt differsFrom drawsAnother isEvent family namedIn namedAt drawnAs told isNumber judged multiplicityBy multiplicity isPassed passed tagFrom entered noted counted byTag-of-draw-walk-walk thingBy byEnd behind-of-draw-walk-walk byPart-of-draw-walk-walk contentBy-of-draw-walk-walk contentIn-of-draw-walk-walk contentAt-of-draw-walk-walk thingAt walk ifIs hasId mayName orNone meant named-of-draw-links-links joined-of-draw-links-links owned linked links isWith countWith firstWith ofSort countSort flowsIn flowsOut messagesOf terminatesOf shapeOf flows defines when startDrawn endDrawn intermediate activity splits joins gateway kindBy caughtAs kindDrawn settled roles forward plainStep stepBy markupStep textStep sectionStep stepAt further-of-draw-conditions-saying saidIn said seen saidBy saidAt isOf-of-draw-conditions-words behind-of-draw-conditions-words letters spelt goesOn grown-of-draw-conditions-words placeOf isOver sideOf sideAt alone leftmost both formOf second-of-draw-conditions-conditions joined-of-draw-conditions-conditions compared conditionOf conditionAt has isSecond isStrange isReadSort isRead isTaken isRepeated hasParticipants isPool isSecondCollaboration isLost isUnowned isSecondMultiplicity isOfKind isOfNoKind isSplit hasWrongDefault sends receives isSender isReceiver isUnheard isUntold isLoose isWrongBranch isSecondCondition isWrongForm isWrongCondition isOutside maySend mayReceive isWrongMessage amissAsFlow amissAsNode amissAsPool isAmiss isRight hasPool isDrawing countBefore isElement isTask isEdge isStart isBeforeFirst isOf-of-draw-limits-numbers taskOf edgeOf firstEdgeOf messageOf maximumOf defaultOf processOf walked settledBy thingsOf shownFrom shown shownField saidOn collaborationIn collaborationOf parted firstAt foremost numberedFlows flowsBefore edge startsBefore firstEdge tasksBefore work received sent flowsInto flowsFrom entries exits operand comparison condition guard guarded choices caught catches elementBy element elementsIn elements pool poolsFrom spell
 points-hold = refl

@@ -2,19 +2,14 @@
 -- `draw` and `read` of the spelled text agree in number, in the check beside 4 and in the table. Assumes nothing.
 use Prim.Native.Nat.{ℕ, suc, _≤_, _<_}
 use mathlib.Core.Path.{_≡_, refl, sym, _∙_, ap, subst}
-use mathlib.Core.Bool.{Bool, true, false, not, _&&_, false≢true}
+use mathlib.Core.Bool.{Bool, true, false, not}
 use mathlib.Core.List.{List, map}
-use native.Mathlib.Decide.{decLt}
-use native.Mathlib.Omega.{arith}
 use lib.Dec.{eqb, ltb}
 use lib.ListN.{length}
 use borrow.Author.Tests.{eqb-true, le-ltb}
 use Rattle.base_words.specs.Counts.{textMost}
 use Rattle.base_words.specs.Each.{each}
 use Rattle.base_words.specs.Pick.{if_then_else_}
-use Rattle.base_words.specs.Seek.{seek}
-use Rattle.base_words.proofs.AllLaws.{and-left, and-right}
-use Rattle.base_words.proofs.SeekLaws.{sought}
 use Rattle.base_words.proofs.PickLaws.{pick-no}
 use Rattle.check_model.specs.Checks.{Pool, lowest}
 use Rattle.text_readers.specs.Reading.{excessive}
@@ -23,17 +18,12 @@ use Rattle.text_read.specs.declared.Reading.{Reading}
 use Rattle.text_read.specs.Notation.{Got, ReadInto, model, tableOf, rewritten, hasRoom, checked, answerFor, judged as judgedText, readInto}
 use Rattle.xml_skip.specs.declared.Skipped.{Skipped}
 use Rattle.xml_skip.specs.declared.Skipped.the-variants.{Past, Fault}
-use Rattle.check_limits.specs.Limits.{elementFits}
-use Rattle.draw_things.specs.Things.{place, within}
 use Rattle.draw_walk.specs.Walk.{Walk}
 use Rattle.draw_faults.specs.Amiss.{isDrawing}
 use Rattle.draw_limits.specs.Excess.{firstBeyond, beyondAt}
-use Rattle.draw_limits.specs.Numbers.{isElement}
-use Rattle.draw_model.specs.Drawn.{elementDrawn}
-use Rattle.draw_model.specs.Content.{content, isUnfit, firstUnfit}
-use Rattle.draw_read.specs.Drawings.{drawingMost, tooLong, notXml, notRun, answer, checkedAs, fittedBy, meantBy, walked, thingsOf, judged, answered, filledBy, drawInto}
-use Rattle.proof_drawings.proofs.SettledLaws.{Settled}
-use Rattle.proof_drawings.proofs.Fitting.{drawing-few, never-unfit}
+use Rattle.draw_model.specs.Content.{content}
+use Rattle.draw_read.specs.Drawings.{drawingMost, tooLong, notXml, notRun, answer, checkedAs, meantBy, walked, thingsOf, judged, answered, filledBy, drawInto}
+use Rattle.proof_drawings.proofs.Fitting.{drawing-few}
 use Rattle.proof_drawings.proofs.PlacedLaws.{things-placed, things-settled}
 use Rattle.proof_spelling.specs.Spelling.{Participant, Collaboration, collaborationIn, collaborationOf, elementsIn, spell}
 use Rattle.proof_spelling.proofs.Contents.{content-read}
@@ -46,17 +36,8 @@ pub record Judged (text w : List ℕ) (n : ℕ) (a : Reading) : Type 0 where
   pub is : a ≡ checkedAs (content text w n)
 
 module _ (text w : List ℕ) (n : ℕ) where
-  fitted-judged : isDrawing text w n ≡ true → ltb (firstBeyond text w n) n ≡ false → (fittedBy text w n .number ≡ excessive → ⊥) → Judged text w n (fittedBy text w n)
-  unfolding fittedBy
-  fitted-judged d b no-3 = go (ltb (firstUnfit text w n) n) no-3
-    where
-      go : (c : Bool) → ((if c then answer excessive (place w (firstUnfit text w n)) else checkedAs (content text w n)) .number ≡ excessive → ⊥)
-          → Judged text w n (if c then answer excessive (place w (firstUnfit text w n)) else checkedAs (content text w n))
-      go true h = absurd (h (unfold if_then_else_ in refl))
-      go false h = record { drawn = d; beyond = b; is = unfold if_then_else_ in refl }
-
   abbrev meaning : Bool → Bool → Reading
-  meaning a b = if not a then answer notRun 0 else if b then answer excessive (beyondAt text w (firstBeyond text w n)) else fittedBy text w n
+  meaning a b = if not a then answer notRun 0 else if b then answer excessive (beyondAt text w (firstBeyond text w n)) else checkedAs (content text w n)
 
   meant-judged : (meantBy text w n .number ≡ notRun → ⊥) → (meantBy text w n .number ≡ excessive → ⊥) → Judged text w n (meantBy text w n)
   unfolding meantBy
@@ -65,7 +46,7 @@ module _ (text w : List ℕ) (n : ℕ) where
       go : (a b : Bool) → isDrawing text w n ≡ a → ltb (firstBeyond text w n) n ≡ b → (meaning a b .number ≡ notRun → ⊥) → (meaning a b .number ≡ excessive → ⊥) → Judged text w n (meaning a b)
       go false b d q no-21 no-3 = absurd (no-21 (unfold if_then_else_ in refl))
       go true true d q no-21 no-3 = absurd (no-3 (unfold if_then_else_ in refl))
-      go true false d q no-21 no-3 = unfold if_then_else_ in fitted-judged d q no-3
+      go true false d q no-21 no-3 = record { drawn = d; beyond = q; is = unfold if_then_else_ in refl }
 
 abbrev given : List ℕ → Bool → Skipped → Reading
 given text b e = if b then answer tooLong 0 else judged e (meantBy text (thingsOf text) (walked text .count))
@@ -81,18 +62,6 @@ answered-judged text = go (ltb drawingMost (length text)) (walked text .end)
     go false (Fault q) no-1 no-20 no-21 no-3 = absurd (no-20 (unfold if_then_else_ judged in refl))
 
 -- the same of a text that is walked to its end, of a drawing in which nothing is amiss or beyond
-fitted : (text w : List ℕ) (n : ℕ) → isDrawing text w n ≡ true → ltb (firstBeyond text w n) n ≡ false → Settled w n → ltb (firstUnfit text w n) n ≡ false
-unfolding firstUnfit
-fitted text w n d b settled = le-ltb (seek (isUnfit text w n) n) n (go (decLt (seek (isUnfit text w n) n) n))
-  where
-    go : Dec (seek (isUnfit text w n) n < n) → n ≤ seek (isUnfit text w n) n
-    go (no u) = omega (arith, u)
-    go (yes u) =
-        let k : ℕ = seek (isUnfit text w n) n in
-        let e : isElement (within w k) w k && not (elementFits (elementDrawn text w n k)) ≡ true = unfold isUnfit in sought (isUnfit text w n) n .1 u in
-        let f = never-unfit text w n d b settled k u (and-left (isElement (within w k) w k) _ e) in
-        absurd (false≢true (ap not (sym f) ∙ and-right (isElement (within w k) w k) (not (elementFits (elementDrawn text w n k))) e))
-
 pub passed-judged : (text : List ℕ) (q : ℕ) → ltb drawingMost (length text) ≡ false → walked text .end ≡ Past q → isDrawing text (thingsOf text) (walked text .count) ≡ true
     → ltb (firstBeyond text (thingsOf text) (walked text .count)) (walked text .count) ≡ false → Judged text (thingsOf text) (walked text .count) (answered text)
 passed-judged text q l e d b = record { drawn = d; beyond = b; is = whole ∙ ap (λ (s : Skipped). judged s (meantBy text (thingsOf text) (walked text .count))) e ∙ walked-on ∙ meant }
@@ -105,11 +74,9 @@ passed-judged text q l e d b = record { drawn = d; beyond = b; is = whole ∙ ap
 
     meant : meantBy text (thingsOf text) (walked text .count) ≡ checkedAs (content text (thingsOf text) (walked text .count))
     meant =
-        unfold meantBy fittedBy in
+        unfold meantBy in
         sym (pick-no (not (isDrawing text (thingsOf text) (walked text .count))) _ _ _ (ap not d)
-        (pick-no (ltb (firstBeyond text (thingsOf text) (walked text .count)) (walked text .count)) _ _ _ b
-        (pick-no (ltb (firstUnfit text (thingsOf text) (walked text .count)) (walked text .count)) _ _ _
-        (fitted text (thingsOf text) (walked text .count) d b (things-settled text (drawing-few text (thingsOf text) (walked text .count) d))) refl)))
+        (pick-no (ltb (firstBeyond text (thingsOf text) (walked text .count)) (walked text .count)) _ _ _ b refl))
 
 -- what is checked of a model is the same of a drawing and of a text
 checked-same : (ps : List Pool) (t : List ℕ) → checked (lowest ps) ps t ≡ filledBy (checkedAs ps) ps t
