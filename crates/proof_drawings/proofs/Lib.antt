@@ -8,6 +8,7 @@ pub mod KindShapes
 pub mod GuardShapes
 pub mod Fitting
 pub mod ContentModel
+pub mod OnlyChecks
 pub mod PlacedLaws
 pub mod Answers
 pub mod Transcripts
