@@ -31,7 +31,7 @@ use text_lexer::piece;
 use xml_characters::is_control;
 
 // The most names that are looked at together, and how many at first: few tags have more.
-const NAMES: usize = 512;
+const NAMES: usize = 352;
 
 pub const FEW: usize = 24;
 
