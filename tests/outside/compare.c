@@ -136,6 +136,18 @@ static void read_rewritten(void) {
     same_words("read", "table of the rewritten text", ours.table, table, REF_TABLE_WORDS);
 }
 
+/* how often each rule was told */
+static unsigned rules[32];
+
+static void diagnose_both(const uint8_t *lent_here) {
+    ref_diagnosis b = ref_diagnose(lent_here, text_length);
+    cv_diagnosis a = cv_diagnose(lent_here, text_length);
+    same("diagnose", "number", a.number, b.number);
+    same("diagnose", "rule", a.rule, b.rule);
+    same("diagnose", "place", a.place, b.place);
+    if (b.number == 21) rules[b.rule]++;
+}
+
 /* The number due is the generator's; what was drawn is also what its text gives. */
 static void draw_both(int due) {
     static word table[REF_TABLE_WORDS];
@@ -151,6 +163,7 @@ static void draw_both(int due) {
     same("draw", "number", a.number, b.number);
     same("draw", "beside", a.beside, b.beside);
     same_blocks("draw");
+    diagnose_both(lent_here);
     if (b.number) return;
     ref_written w = ref_write(theirs.table, written, sizeof written);
     same("draw", "text", w.number, 0);
@@ -382,6 +395,7 @@ static void wrong_lengths(struct random *r) {
     same("write", "no buffer", cv_write(TABLE, NULL, 0).number, ref_write(theirs.table, theirs.buffer, 0).number);
     same("draw", "wrong length", cv_draw((const uint8_t *)text, text_length, ours.table, n).number, 10);
     same("draw", "no text", cv_draw(NULL, 0, TABLE).number, 20);
+    same("diagnose", "no text", cv_diagnose(NULL, 0).number, 20);
     same("judge", "wrong length", cv_judge(ours.table, n, CV_VERSION_10, (const uint8_t *)text, text_length).number, 10);
     same("judge", "no table, and another version", cv_judge(NULL, 0, 15, NULL, 0).number, 10);
     same("judge", "no log", cv_judge(TABLE, CV_VERSION_20, NULL, 0).number, ref_judge(theirs.table, REF_VERSION_20, NULL, 0).number);
@@ -394,7 +408,7 @@ static void wrong_lengths(struct random *r) {
     same("log_step", "no buffer", cv_log_step(name, (cv_answer){0}, 1, NULL, 0).number, 5);
     same("log_post", "no buffer", cv_log_post(0, none, 1, NULL, 0).number, 5);
     same("log_end", "no buffer", cv_log_end(NULL, 0).number, 5);
-    calls += 38;
+    calls += 39;
     same_blocks("a call with a wrong length or none");
 }
 
@@ -632,6 +646,7 @@ static int compare_drawings(uint64_t cases, uint64_t seed) {
     }
     printf("%llu drawings, no difference; ", (unsigned long long)cases);
     print_numbers("numbers:", given);
+    print_numbers("; rules:", rules);
     putchar('\n');
     return 0;
 }
@@ -1065,6 +1080,18 @@ static void time_drawing(const char *name) {
     same("draw", "beside", a.beside, b.beside);
 }
 
+static void time_diagnosis(const char *name) {
+    clock_t start = clock();
+    ref_diagnosis b = ref_diagnose((const uint8_t *)text, text_length);
+    double reference = since(start);
+    start = clock();
+    cv_diagnosis a = cv_diagnose((const uint8_t *)text, text_length);
+    told("diagnose", name, a.number, reference, since(start));
+    same("diagnose", "number", a.number, b.number);
+    same("diagnose", "rule", a.rule, b.rule);
+    same("diagnose", "place", a.place, b.place);
+}
+
 static void time_text(const char *name) {
     clock_t start = clock();
     ref_reading b = ref_read((const uint8_t *)text, text_length, theirs.table);
@@ -1140,6 +1167,9 @@ static void count_drawing(const char *name) {
     counted("draw", name, a.number);
 }
 
+/* a diagnosis is for people, and the header's bound is none of it */
+static void count_diagnosis(const char *name) { (void)name; }
+
 static void count_text(const char *name) {
     count_from();
     cv_reading a = cv_read((const uint8_t *)text, text_length, TABLE);
@@ -1165,9 +1195,9 @@ static void count_repair(const char *name) {
 }
 
 /* the texts that hold as much of one thing as fits, each in the calls that read it; repairs of the logs as they are, and without their last bytes */
-static void each_worst(void (*drawing)(const char *), void (*log)(const char *), void (*replay)(const char *), void (*repair)(const char *), void (*notation)(const char *)) {
+static void each_worst(void (*drawing)(const char *), void (*diagnosis)(const char *), void (*log)(const char *), void (*replay)(const char *), void (*repair)(const char *), void (*notation)(const char *)) {
     const char *name;
-    for (unsigned k = 0; (name = worst_text(k, text, &text_length)); k++) drawing(name);
+    for (unsigned k = 0; (name = worst_text(k, text, &text_length)); k++) drawing(name), diagnosis(name);
     ref_read((const uint8_t *)worst_model, strlen(worst_model), theirs.table);
     memcpy(ours.table, theirs.table, REF_TABLE_WORDS * sizeof *ours.table);
     for (unsigned k = 0; (name = worst_log(k, text, &text_length)); k++) {
@@ -1179,13 +1209,13 @@ static void each_worst(void (*drawing)(const char *), void (*log)(const char *),
 }
 
 static int time_worst(void) {
-    each_worst(time_drawing, time_log, time_replay, time_repair, time_text);
+    each_worst(time_drawing, time_diagnosis, time_log, time_replay, time_repair, time_text);
     for (unsigned branches = 2; branches < BRANCHES; branches++) time_nesting(branches);
     return 0;
 }
 
 static int count_worst(void) {
-    each_worst(count_drawing, count_log, count_replay, count_repair, count_text);
+    each_worst(count_drawing, count_diagnosis, count_log, count_replay, count_repair, count_text);
     return 0;
 }
 
@@ -1288,7 +1318,7 @@ static void session_line(struct random *r) {
     } else puts(chance(r, 30) ? "list 1 " : chance(r, 50) ? "stap" : chance(r, 50) ? "fresh 010" : chance(r, 50) ? "judge <log><trace/></log>" : "replay <log><trace/></log>");
 }
 
-/* A line that reads a model: a text or, now and then, a drawing. */
+/* A line that reads a model: a text or, now and then, a drawing, which is diagnosed before. */
 static bool print_model(struct random *r) {
     bool drawing = chance(r, 15);
     int due;
@@ -1298,9 +1328,11 @@ static bool print_model(struct random *r) {
     if (!drawing && chance(r, 25)) text_length = spoiled_text(r, text, text_length);
     for (size_t k = 0; k < text_length; k++)
         if (text[k] == '\n') text[k] = ' ';
-    printf(drawing ? "draw " : "read ");
-    fwrite(text, 1, text_length, stdout);
-    putchar('\n');
+    for (unsigned k = 0; k <= drawing; k++) {
+        printf(k < drawing ? "diagnose " : drawing ? "draw " : "read ");
+        fwrite(text, 1, text_length, stdout);
+        putchar('\n');
+    }
     return drawing;
 }
 

@@ -166,6 +166,12 @@ static void do_read(const char *text, size_t n, bool drawing) {
     print_done(make_fresh(REF_VERSION_20));
 }
 
+/* needs no model */
+static void do_diagnose(const char *text, size_t n) {
+    ref_diagnosis d = ref_diagnose((const uint8_t *)text, n);
+    d.number ? printf("refused %u %zu %zu\n", d.number, d.rule, d.place) : printf("ok\n");
+}
+
 static void print_judged(ref_judged j) {
     if (!j.number) puts("lawful");
     else if (j.number == 23) printf("refused 23 %zu\n", j.beside);
@@ -412,6 +418,10 @@ static void do_line(const char *s, size_t n) {
     }
     if (n >= 7 && memcmp(s, "repair ", 7) == 0) {
         do_repair(s + 7, n - 7);
+        return;
+    }
+    if (n >= 9 && memcmp(s, "diagnose ", 9) == 0) {
+        do_diagnose(s + 9, n - 9);
         return;
     }
     bool batch = n >= 6 && memcmp(s, "batch ", 6) == 0, empty = n == 5 && memcmp(s, "batch", 5) == 0;

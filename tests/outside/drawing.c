@@ -4,7 +4,8 @@
 #include "layout.h"
 #include "xml.h"
 
-enum { ITEMS = 10000 };
+/* the most that fit in a drawing; how many elements the engine records, of which each that is right has ten bytes or more, so that a drawing with others is wrong in one of them */
+enum { ITEMS = 10000, RECORDED = 6554 };
 
 /* What an element is where it stands: UNKNOWN is one that is not run, PASSED one that says nothing about the run. */
 enum role { UNKNOWN, PASSED, DEFINITIONS, COLLABORATION, PARTICIPANT, MULTIPLICITY, MESSAGE_FLOW, PROCESS, SEQUENCE_FLOW, CONDITION_TEXT, MESSAGE_EVENT,
@@ -41,10 +42,12 @@ struct item {
     size_t place;
     struct span id, source, target, process, fallback, maximum;
     unsigned many, messages, terminates, expressions;
-    struct span text; /* of a condition, in the characters */
+    size_t second_many, expression, second_expression; /* their places */
+    bool foreign;                                      /* an element in its condition */
+    struct span text;                                  /* of a condition, in the characters */
     /* worked out from references */
     int from, to, pool;
-    unsigned in, out, sent, received, number;
+    unsigned in, out, sent, received, owners, number;
     bool behind, conditioned, ranged;
     word condition[EXPRESSION_WORDS];
     size_t excess;
@@ -53,7 +56,8 @@ struct item {
 struct walk {
     struct xml xml;
     bool amiss;
-    unsigned count, collaborations;
+    unsigned count, collaborations, things, recorded;
+    size_t root, strange, second_collaboration; /* places, SIZE_MAX where there is none */
     struct item items[ITEMS];
     uint8_t characters[XML_MOST + 1];
     size_t places[XML_MOST + 1], character_count;
@@ -102,20 +106,33 @@ static void note_item(struct walk *w, enum role role, size_t place, unsigned own
 }
 
 /* what a start tag says, an item of its own or a part of the one it stands in */
+static bool is_strange(const struct walk *w, enum role role, enum role inside) {
+    for (unsigned k = 0; inside == PROCESS && k < sizeof fixed / sizeof *fixed; k++) {
+        struct span v = value_of(&w->xml, fixed[k][0]);
+        if (v.there && !is(&w->xml, v, fixed[k][1])) return true;
+    }
+    return role == UNKNOWN;
+}
+
 static void note(struct walk *w, enum role role, enum role inside, size_t place, unsigned owner) {
     struct item *x = &w->items[owner];
-    if (inside == PROCESS)
-        for (unsigned k = 0; k < sizeof fixed / sizeof *fixed; k++) {
-            struct span v = value_of(&w->xml, fixed[k][0]);
-            if (v.there && !is(&w->xml, v, fixed[k][1])) w->amiss = true;
-        }
+    bool strange = is_strange(w, role, inside), recorded = w->things < RECORDED;
+    if (role == PASSED && !strange) return;
+    w->things++;
+    if (strange || !recorded) w->amiss = true;
+    if (strange && recorded && place < w->strange) w->strange = place;
     if (is_item(role)) note_item(w, role, place, owner);
-    else if (role == COLLABORATION) w->collaborations++;
-    else if (role == UNKNOWN) w->amiss = true;
+    else if (role == COLLABORATION && w->collaborations++ == 1) w->second_collaboration = place;
     else if (role == MESSAGE_EVENT) x->messages++;
     else if (role == TERMINATE_EVENT) x->terminates++;
-    else if (role == MULTIPLICITY) x->many++, x->maximum = value_of(&w->xml, "maximum");
-    else if (role == CONDITION_TEXT) x->expressions++, x->text = (struct span){w->character_count, w->character_count, true};
+    else if (role == MULTIPLICITY) {
+        if (x->many++ == 1) x->second_many = place;
+        x->maximum = value_of(&w->xml, "maximum");
+    } else if (role == CONDITION_TEXT) {
+        *(x->expressions++ ? &x->second_expression : &x->expression) = place;
+        x->text = (struct span){w->character_count, w->character_count, true};
+    }
+    if (recorded) w->recorded = w->count;
 }
 
 static void character(struct walk *w, size_t place, uint32_t code) {
@@ -137,7 +154,7 @@ static bool element(struct walk *w, struct span name, enum role inside, unsigned
     bool empty;
     enum role role = depth ? PASSED : role_of(w, name, inside);
     if (depth == DEEPEST) return fault(&w->xml, place);
-    if (inside == CONDITION_TEXT && !is_data(w, name)) w->amiss = true;
+    if (inside == CONDITION_TEXT && !is_data(w, name)) w->amiss = w->items[owner].foreign = true;
     if (!tag(&w->xml, name.to, role == MULTIPLICITY ? maximum_counts : NULL, &empty)) return false;
     if (!depth) note(w, role, inside, place, owner);
     if (empty) return true;
@@ -185,7 +202,12 @@ static bool content(struct walk *w, struct span name, enum role role, unsigned o
 static bool walked(struct walk *w, const uint8_t *text, size_t length) {
     struct span name;
     bool empty;
-    if (!begun(&w->xml, text, length) || !around(&w->xml, "definitions", &name) || !tag(&w->xml, name.to, NULL, &empty)) return false;
+    w->character_count = 0;
+    w->amiss = false, w->count = w->collaborations = w->recorded = 0, w->things = 1;
+    w->strange = w->second_collaboration = SIZE_MAX;
+    if (!begun(&w->xml, text, length) || !around(&w->xml, "definitions", &name)) return false;
+    w->root = w->xml.at;
+    if (!tag(&w->xml, name.to, NULL, &empty)) return false;
     return (empty || content(w, name, DEFINITIONS, 0, 0)) && around(&w->xml, NULL, &name);
 }
 
@@ -265,11 +287,9 @@ static bool event_is_known(const struct item *x) {
     return definitions == 1 || x->role == START_EVENT || x->role == END_EVENT;
 }
 
-/* its kind's entries and exits, and exactly one message flow where it sends or receives */
-static bool node_stands(const struct item *x) {
+/* its kind's definitions, entries and exits */
+static bool has_kind(const struct item *x) {
     if (is_event(x->role) && !event_is_known(x)) return false;
-    if (sends(x) && x->sent != 1) return false;
-    if (receives(x) && x->received != 1) return false;
     switch (x->role) {
     case START_EVENT: return x->in == 0 && x->out == 1;
     case END_EVENT: return x->in == 1 && x->out == 0;
@@ -279,6 +299,9 @@ static bool node_stands(const struct item *x) {
     default: return x->in == 1 && x->out == 1;
     }
 }
+
+/* and exactly one message flow where it sends or receives */
+static bool node_stands(const struct item *x) { return has_kind(x) && !(sends(x) && x->sent != 1) && !(receives(x) && x->received != 1); }
 
 static bool is_blank_text(const uint8_t *s, struct span x) {
     for (size_t k = x.from; k < x.to; k++)
@@ -457,12 +480,12 @@ static void fill(const struct walk *w, word *t) {
     }
 }
 
+/* of the last drawing that was looked at */
+static struct walk w;
+
 ref_reading ref_draw(const uint8_t *text, size_t length, word *t) {
-    static struct walk w;
     static word drawn[REF_TABLE_WORDS];
     if (length > XML_MOST) return (ref_reading){1, 0};
-    w.character_count = 0;
-    w.amiss = false, w.count = w.collaborations = 0;
     if (!walked(&w, text, length)) return (ref_reading){20, w.xml.place};
     if (!stands(&w)) return (ref_reading){21, 0};
     size_t leftmost = SIZE_MAX;
@@ -478,4 +501,147 @@ ref_reading ref_draw(const uint8_t *text, size_t length, word *t) {
     if (!rewritten(drawn)) return (ref_reading){28, 0};
     memcpy(t, drawn, sizeof drawn);
     return (ref_reading){0, 0};
+}
+
+/* WHY A DRAWING IS REFUSED. The ends of flows and the processes of participants, as far as there are such. */
+static int named_node(int k) { return k >= 0 && is_node(w.items[k].role) ? k : -1; }
+
+static void join(struct item *x) {
+    int a = named(&w, x->source), b = named(&w, x->target);
+    if (x->role == SEQUENCE_FLOW) {
+        a = named_node(a), b = named_node(b);
+        if (a >= 0 && w.items[a].owner == x->owner) w.items[x->from = a].out++;
+        if (b >= 0 && w.items[b].owner == x->owner) w.items[x->to = b].in++;
+    } else {
+        if (a >= 0 && (named_node(a) == a || w.items[a].role == PARTICIPANT)) w.items[x->from = a].sent++;
+        if (b >= 0 && (named_node(b) == b || w.items[b].role == PARTICIPANT)) w.items[x->to = b].received++;
+    }
+}
+
+static void join_all(void) {
+    for (unsigned k = 0; k < w.count; k++) {
+        struct item *x = &w.items[k];
+        if (x->role == SEQUENCE_FLOW || x->role == MESSAGE_FLOW) join(x);
+        if (x->role != PARTICIPANT || !x->process.there) continue;
+        int p = named(&w, x->process);
+        if (p >= 0 && w.items[p].role == PROCESS) w.items[x->from = p].owners++;
+    }
+}
+
+static bool any_participant(void) {
+    for (unsigned k = 0; k < w.count; k++)
+        if (w.items[k].role == PARTICIPANT) return true;
+    return false;
+}
+
+static bool is_pool(const struct item *x, bool participants) { return participants ? x->role == PARTICIPANT && x->from >= 0 : x->role == PROCESS; }
+
+/* THE RULES of an item: where it breaks one, SIZE_MAX where it does not */
+static size_t where(bool broken, size_t place) { return broken ? place : SIZE_MAX; }
+
+static bool is_repeated(unsigned k) {
+    for (unsigned j = 0; j < k && w.items[k].id.there; j++)
+        if (equal(&w.xml, w.items[j].id, w.items[k].id)) return true;
+    return false;
+}
+
+static bool has_wrong_default(unsigned k) {
+    const struct item *x = &w.items[k];
+    if (x->role != EXCLUSIVE || !splits(x) || !x->fallback.there) return false;
+    int f = named(&w, x->fallback);
+    return f < 0 || w.items[f].role != SEQUENCE_FLOW || w.items[f].from != (int)k;
+}
+
+static bool is_wrong_message(const struct item *x) {
+    if (x->role != MESSAGE_FLOW || x->from < 0 || x->to < 0) return false;
+    const struct item *a = &w.items[x->from], *b = &w.items[x->to];
+    return !(sends(a) || is_outside(a)) || !(receives(b) || is_outside(b));
+}
+
+static bool leads_wrong(const struct item *x) {
+    return x->role == SEQUENCE_FLOW && w.items[x->from].role == BY_EVENT && !is_catch(&w.items[x->to]);
+}
+
+static size_t broken_by(unsigned rule, unsigned k) {
+    struct item *x = &w.items[k];
+    bool open = x->from < 0 || x->to < 0;
+    switch (rule) {
+    case 2: return where(is_repeated(k), x->place);
+    case 4: return where(x->role == PARTICIPANT && x->process.there && x->from < 0, x->place);
+    case 5: return where(x->role == PROCESS && any_participant() && x->owners != 1, x->place);
+    case 6: return where(x->many > 1, x->second_many);
+    case 7: return where(x->role == SEQUENCE_FLOW && open, x->place);
+    case 8: return where(x->role == MESSAGE_FLOW && open, x->place);
+    case 9: return where(is_node(x->role) && !has_kind(x), x->place);
+    case 10: return where(has_wrong_default(k), x->place);
+    case 11: return where(is_wrong_message(x), x->place);
+    case 12: return where(is_node(x->role) && sends(x) && x->sent != 1, x->place);
+    case 13: return where(is_node(x->role) && receives(x) && x->received != 1, x->place);
+    case 14: return where(leads_wrong(x), x->place);
+    case 15: return where(x->expressions > 1, x->second_expression);
+    case 16: return where(x->role == SEQUENCE_FLOW && (x->foreign || !condition_stands(&w, x)), x->expression);
+    default: return SIZE_MAX;
+    }
+}
+
+/* the first rule that is broken, and the leftmost place; the drawing's own are those of its root */
+static ref_diagnosis why_not_run(void) {
+    bool participants, pools = false;
+    w.count = w.recorded;
+    join_all();
+    for (unsigned rule = 1; rule <= 16; rule++) {
+        size_t leftmost = rule == 1 ? w.strange : rule == 3 ? w.second_collaboration : SIZE_MAX;
+        for (unsigned k = 0; k < w.count && leftmost == SIZE_MAX; k++) leftmost = broken_by(rule, k);
+        if (leftmost < SIZE_MAX) return (ref_diagnosis){21, rule, leftmost};
+    }
+    participants = any_participant();
+    for (unsigned k = 0; k < w.count; k++) pools |= is_pool(&w.items[k], participants);
+    return (ref_diagnosis){21, pools ? 18 : 17, w.root};
+}
+
+/* WHERE A CHECK IS BROKEN: the pool, the message flow, the gateway; check 0: the pool without room. */
+struct tally { unsigned starts, plain, elements, edges, end_sends; };
+
+static struct tally tally_of(unsigned process) {
+    struct tally t = {0};
+    for (unsigned k = process + 1; k < w.count; k++) {
+        const struct item *x = &w.items[k];
+        if (x->owner != process) continue;
+        t.starts += x->role == START_EVENT, t.plain += is_start(x);
+        if (x->behind) continue;
+        t.edges += x->role == SEQUENCE_FLOW, t.elements += is_node(x->role);
+        t.end_sends += x->role == END_EVENT && x->messages;
+    }
+    t.edges += t.plain;
+    return t;
+}
+
+static bool is_seat(unsigned check, unsigned k) {
+    const struct item *x = &w.items[k];
+    unsigned defaults = 0;
+    if (check == 6) return x->role == MESSAGE_FLOW && is_node(w.items[x->from].role) && is_node(w.items[x->to].role) && w.items[x->from].owner == w.items[x->to].owner;
+    if (check == 7) {
+        for (unsigned j = 0; x->role == EXCLUSIVE && splits(x) && j < w.count; j++)
+            defaults += w.items[j].role == SEQUENCE_FLOW && w.items[j].from == (int)k && w.items[j].condition[0] == DEFAULT;
+        return defaults > 1;
+    }
+    bool participants = any_participant();
+    if (!is_pool(x, participants)) return false;
+    struct tally t = tally_of(participants ? (unsigned)x->from : k);
+    if (check == 2) return t.starts != 1;
+    if (check == 3) return x->many && t.plain;
+    return t.elements + t.end_sends > ELEMENTS || t.edges + t.end_sends > EDGES;
+}
+
+ref_diagnosis ref_diagnose(const uint8_t *text, size_t length) {
+    static word unused[REF_TABLE_WORDS];
+    ref_reading r = ref_draw(text, length, unused);
+    if (r.number == 21) {
+        walked(&w, text, length);
+        return why_not_run();
+    }
+    if (r.number != 4 && r.number != 28) return (ref_diagnosis){r.number, 0, r.beside};
+    for (unsigned k = 0; k < w.count; k++)
+        if (is_seat(r.beside, k)) return (ref_diagnosis){r.number, r.beside, w.items[k].place};
+    return (ref_diagnosis){r.number, r.beside, 0};
 }

@@ -78,6 +78,12 @@ static void a_drawing(void) {
     is("draw, no text", r.number, CV_NOT_XML), is("its place", r.beside, 0);
     r = cv_draw(bytes("<definitions><process><task/></process></definitions>"), 53, TABLE);
     is("draw, a task alone", r.number, CV_NOT_RUN), is("beside it", r.beside, 0);
+    cv_diagnosis d = cv_diagnose(bytes("<definitions><process><task/></process></definitions>"), 53);
+    is("diagnose, a task alone", d.number, CV_NOT_RUN), is("its rule", d.rule, CV_RULE_KIND), is("its place", d.place, 22);
+    d = cv_diagnose(bytes("<definitions><process/></definitions>"), 37);
+    is("diagnose, no start", d.number, CV_CHECK_BROKEN), is("its check", d.rule, 2), is("its place", d.place, 13);
+    is("diagnose, no text", cv_diagnose(NULL, 0).number, CV_NOT_XML), is("diagnose, too long", cv_diagnose(buffer, CV_DRAWING_MOST + 1).number, CV_TOO_LONG);
+    is("diagnose", cv_diagnose(bytes(drawing), strlen(drawing)).number, CV_ACCEPTED);
     is("draw", cv_draw(bytes(drawing), strlen(drawing), TABLE).number, CV_ACCEPTED), is("its pools", table[0], 1);
     is("read again", read_text(model).number, CV_ACCEPTED);
 }

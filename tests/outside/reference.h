@@ -18,6 +18,8 @@ typedef struct { ref_word number; ref_name name; } ref_listed;
 typedef struct { ref_word number; uint16_t steps; ref_word left; } ref_ran;
 typedef struct { ref_word number; size_t beside; } ref_reading;
 typedef struct { ref_word number; size_t length; } ref_written;
+/* the number of a drawing, the rule or check that is broken, the place of what breaks it */
+typedef struct { ref_word number; size_t rule, place; } ref_diagnosis;
 typedef struct { ref_word number; size_t accepted; } ref_polled;
 /* beside: the place of 23, the event's ordinal of 24; own: the number of that event's step or post */
 typedef struct { ref_word number; size_t beside; ref_word own; } ref_judged;
@@ -39,6 +41,8 @@ ref_word ref_figures(const ref_word *table, const ref_word *state, ref_record *r
 ref_reading ref_read(const uint8_t *text, size_t length, ref_word *table);
 /* document 02's first request: the text is a drawing */
 ref_reading ref_draw(const uint8_t *text, size_t length, ref_word *table);
+/* why it is refused */
+ref_diagnosis ref_diagnose(const uint8_t *text, size_t length);
 ref_written ref_write(const ref_word *table, uint8_t *buffer, size_t length);
 /* an item: 1 for a post, else a step; pool or name, instance, element, phase, branch, length, 4 values */
 ref_polled ref_poll(const ref_word *table, ref_word *state, ref_record *records, size_t pools, const ref_word *items, size_t count);

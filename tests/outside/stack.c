@@ -36,6 +36,7 @@ static void run(void) { cv_run(TABLE, STATE, DESK, 100); }
 static void figures(void) { cv_figures(TABLE, STATE, DESK); }
 static void read_text(void) { cv_read(TEXT, TABLE); }
 static void draw_text(void) { cv_draw(TEXT, TABLE); }
+static void diagnose(void) { cv_diagnose(TEXT); }
 static void write_text(void) { cv_write(TABLE, buffer, sizeof buffer); }
 static void poll(void) { cv_poll(TABLE, STATE, DESK, items, CV_POLL_WORDS, CV_ITEMS); }
 static void judge(void) { cv_judge(TABLE, CV_VERSION_20, TEXT); }
@@ -52,7 +53,7 @@ static void log_end(void) { cv_log_end(buffer, sizeof buffer); }
 static struct { const char *call; void (*ask)(void); size_t says, most; } calls[] = {
     {"check", check, CV_STACK_CHECK, 0}, {"fresh", fresh, CV_STACK_FRESH, 0}, {"step", step, CV_STACK_STEP, 0}, {"post", post, CV_STACK_POST, 0},
     {"list", list, CV_STACK_LIST, 0}, {"run", run, CV_STACK_RUN, 0}, {"figures", figures, CV_STACK_FIGURES, 0}, {"read", read_text, CV_STACK_READ, 0},
-    {"draw", draw_text, CV_STACK_DRAW, 0}, {"write", write_text, CV_STACK_WRITE, 0}, {"poll", poll, CV_STACK_POLL, 0}, {"judge", judge, CV_STACK_JUDGE, 0},
+    {"draw", draw_text, CV_STACK_DRAW, 0}, {"diagnose", diagnose, CV_STACK_DIAGNOSE, 0}, {"write", write_text, CV_STACK_WRITE, 0}, {"poll", poll, CV_STACK_POLL, 0}, {"judge", judge, CV_STACK_JUDGE, 0},
     {"repair", repair, CV_STACK_REPAIR, 0}, {"nested", nested, CV_STACK_NESTED, 0}, {"replay", replay, CV_STACK_REPLAY, 0}, {"resume", resume, CV_STACK_RESUME, 0},
     {"log_begin", log_begin, CV_STACK_LOG, 0}, {"log_step", log_step, CV_STACK_LOG, 0}, {"log_post", log_post, CV_STACK_LOG, 0}, {"log_end", log_end, CV_STACK_LOG, 0},
 };
@@ -104,7 +105,7 @@ static void on_model(const struct setting *s) {
     memcpy(text, s->log, length = s->log_length);
     measure(judge), measure(repair);
     memcpy(text, s->drawing, length = s->drawing_length);
-    measure(draw_text);
+    measure(draw_text), measure(diagnose);
 }
 
 int main(void) {
@@ -114,7 +115,7 @@ int main(void) {
         if (!settings[k].longest) on_model(&settings[k]);
         else memcpy(text, settings[k].text, length = settings[k].length), measure(read_text);
     for (unsigned k = 0; (of = worst_notation(k, text, &length)); k++) measure(read_text);
-    for (unsigned k = 0; (of = worst_text(k, text, &length)); k++) measure(draw_text);
+    for (unsigned k = 0; (of = worst_text(k, text, &length)); k++) measure(draw_text), measure(diagnose);
     cv_read((const uint8_t *)worst_model, strlen(worst_model), TABLE);
     for (unsigned k = 0; (of = worst_log(k, text, &length)); k++) {
         measure(judge), measure(replay), measure(repair), cv_fresh(TABLE, CV_VERSION_20, STATE), measure(resume);

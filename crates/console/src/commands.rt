@@ -41,6 +41,7 @@ use text_lexer::piece;
 use text_numerals::same;
 use text_read::Reading;
 use tool_print::tell;
+use tool_print::tell_diagnosed;
 use tool_print::tell_judged;
 use tool_print::tell_repaired;
 use tool_print::tell_run;
@@ -256,6 +257,19 @@ fn is_repair(line: &[u8]) -> bool {
     same(piece(line, 0, REPAIR), b"repair ")
 }
 
+// diagnose
+
+// The bytes of `diagnose` and its blank.
+const DIAGNOSE: usize = 9;
+
+fn is_diagnose(line: &[u8]) -> bool {
+    same(piece(line, 0, DIAGNOSE), b"diagnose ")
+}
+
+fn do_diagnose(line: &[u8]) {
+    tell_diagnosed(engine::diagnose(piece(line, DIAGNOSE, line.len())));
+}
+
 // fresh, state
 
 fn do_fresh(
@@ -335,7 +349,7 @@ fn on_table(line: &[u8], loaded: bool, t: &[Word; TABLE_WORDS]) {
     bad_line();
 }
 
-// The commands on a state as a whole, then those on a table.
+// The commands on a state as a whole, and why a drawing is refused, then those on a table.
 fn on_state(
     line: &[u8],
     loaded: bool,
@@ -353,6 +367,10 @@ fn on_state(
     }
     if is_command(line, b"figures", b"") {
         do_figures(loaded, t, z, rs);
+        return;
+    }
+    if is_diagnose(line) {
+        do_diagnose(line);
         return;
     }
     on_table(line, loaded, t);

@@ -2,7 +2,7 @@
 // word; answers go to standard output.
 //
 // The commands and their answers stand in docs/CONSOLE.md, which `bin/console --help` prints. A line that is empty or starts with `#` answers nothing.
-// A command other than read, draw, clear, table and repair before one of the first four made a table: no model. Any other line: bad line.
+// A command other than read, draw, clear, table, repair and diagnose before one of the first four made a table: no model. Any other line: bad line.
 use base_state::places::STATE_WORDS;
 use base_table::places::TABLE_WORDS;
 use base_words::Word;

@@ -23,6 +23,7 @@ use base_words::counts::TEXT_MOST;
 use base_words::numbers::AT_FAULT;
 use base_words::numbers::NOT_A_LOG;
 use base_words::wide;
+use draw_diagnose::Diagnosis;
 use engine::Ran;
 use libc::STDOUT_FILENO;
 use log_judge::Judged;
@@ -206,6 +207,28 @@ pub fn tell_repaired(text: &[u8]) -> Word
         return tell_lost(r.number);
     }
     tell_mended(r, &out)
+}
+
+fn tell_broken(d: Diagnosis) -> Word
+    ensures { λ k. ⌜ k ≡ d .number ⌝ }
+{
+    tell_named(b"refused ", d.number as usize);
+    tell_named(b" ", d.rule);
+    tell_named(b" ", d.place);
+    tell(b"\n");
+    d.number
+}
+
+// Says why a drawing is refused: its number, the rule or check that is broken, and the place; gives back the number.
+pub fn tell_diagnosed(d: Diagnosis) -> Word
+    ensures { λ k. ⌜ k ≡ d .number ⌝ }
+{
+    let number = d.number;
+    if number == 0 {
+        tell(b"ok\n");
+        return number;
+    }
+    tell_broken(d)
 }
 
 // The line of a step that was taken.
