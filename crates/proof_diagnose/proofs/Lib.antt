@@ -6,3 +6,5 @@ pub mod Seats
 pub mod Gateways
 pub mod Told
 pub mod PointsHold
+pub mod Messages
+pub mod Branches
