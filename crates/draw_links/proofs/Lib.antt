@@ -1,4 +1,5 @@
 pub mod LinkLaws
 pub mod NoteLaws
+pub mod TargetLaws
 pub mod TestLaws
 pub mod PointsHold

@@ -1,22 +1,18 @@
 -- An id compared where its note says that it stands, and what is named by the notes. Assumes nothing.
-use Prim.Native.Nat.{ℕ, suc, _+_, _-_, _≤_, _<_}
-use mathlib.Core.Path.{_≡_, refl, sym, _∙_, ap, subst}
-use mathlib.Core.Bool.{Bool, true, false, not, _&&_, _||_}
+use Prim.Native.Nat.{ℕ, suc, _+_, _*_, _-_, _≤_, _<_}
+use mathlib.Core.Path.{_≡_, refl, sym, _∙_, ap}
+use mathlib.Core.Bool.{Bool, true, false, _&&_, _||_}
 use mathlib.Core.List.{List, [], _∷_}
-use mathlib.Core.Logic.{⊎-elim}
-use native.Mathlib.Nat.{eq-or-lt-of-le}
 use native.Mathlib.Numerals.{add-one}
 use native.Mathlib.Omega.{arith}
 use lib.Dec.{eqb, ltb}
-use lib.ListN.{length, take, drop, set, length-set, length-drop, drop-of-length-le, List·getD-eq-default}
-use lib.Seq.{drop-cons, take-all, getD-set-same, getD-set-other}
+use lib.ListN.{length, take, drop, length-drop, drop-of-length-le, List·getD-eq-default}
+use lib.Seq.{drop-cons, take-all}
 use borrow.Author.Tests.{eq-eqb, ne-eqb, lt-ltb, le-ltb}
-use Rattle.base_words.specs.Iter.{iter}
 use Rattle.base_words.specs.Pick.{if_then_else_}
 use Rattle.base_words.specs.Seek.{seek}
 use Rattle.base_words.specs.Text.{bytes}
 use Rattle.base_words.specs.Words.{at, part}
-use Rattle.base_words.proofs.IterLaws.{iter-keeps}
 use Rattle.base_words.proofs.PickLaws.{and-false-right}
 use Rattle.text_lexer.specs.Lexer.{past}
 use Rattle.text_lexer.proofs.PastLaws.{past-from}
@@ -27,9 +23,9 @@ use Rattle.xml_markup.specs.declared.Found.{Found}
 use Rattle.xml_markup.specs.declared.Found.the-variants.{Behind, Nowhere}
 use Rattle.xml_markup.specs.Tokens.{found}
 use Rattle.xml_markup.specs.Spans.{isOf, run, after, quoteAt, valueAt, valueOf, attribute}
-use Rattle.draw_things.specs.Things.{sort, place, within, isNode, placePlace, sourcePlace, targetPlace, participant, messageFlow, process, sequenceFlow}
-use Rattle.draw_links.specs.Links.{ifIs, hasId, mayName, orNone, meant, named, joined, owned, linked}
-use Rattle.draw_links.specs.Notes.{far, behindQuote, noteBy, noteOf, NotedAt, Noted, isUpTo}
+use Rattle.draw_things.specs.Things.{sort, place, within, target, isNode, thingWords, targetPlace, participant, messageFlow, process, sequenceFlow}
+use Rattle.draw_links.specs.Links.{ifIs, hasId, mayName, orNone, meant}
+use Rattle.draw_links.specs.Notes.{far, behindQuote, noteBy, noteOf, IdNoted, isUpTo}
 
 -- BYTES UP TO A QUOTE, at the place i of both
 module _ (q : ℕ) (v s : List ℕ) (i : ℕ) (r : Bool) (k : isUpTo q (drop i v) (drop i s) ≡ r) where
@@ -109,8 +105,12 @@ to-the-end t a = take-all (length t - a) (drop a t) (omega (arith, length-drop a
 pub stands-by : (t v s : List ℕ) (a b : ℕ) (r : Bool) → b ≡ at t (a - 1) → s ≡ part t a (length t) → r ≡ isUpTo b v s → r ≡ isUpTo (at t (a - 1)) v (drop a t)
 stands-by t v s a b r e f g = rw (← e, ← to-the-end t a, ← f) g
 
+-- what has a note is held by the block
+in-block : (w : List ℕ) (j a : ℕ) → a ≡ target w j → (a ≡ 0 → ⊥) → thingWords * (j + 1) ≤ length w
+in-block w j a e n = by-order (length w) (targetPlace j) (λ h. absurd (n (e ∙ List·getD-eq-default w 0 h))) (λ h. omega (arith, h))
+
 -- WHAT A NOTE SAYS
-module _ (t v w ids : List ℕ) (j : ℕ) (is : NotedAt t w ids j) (l : j < length ids) where
+module _ (t v w : List ℕ) (j : ℕ) (is : IdNoted t w j) where
   abbrev f₀ : Found
   f₀ = found t (bytes "id") (place w j)
 
@@ -143,34 +143,13 @@ module _ (t v w ids : List ℕ) (j : ℕ) (is : NotedAt t w ids j) (l : j < leng
       let o : a - 1 ≡ quoteAt t i = omega (arith, p) in
       rw e (h ∙ rw (o, p) refl ∙ sym (value-up-to t v (quoteAt t i)))
 
-  pub has-none : (a : ℕ) → a ≡ at ids j → a ≡ 0 → false ≡ hasId t v w j
+  pub has-none : thingWords * (j + 1) ≤ length w → (a : ℕ) → a ≡ target w j → a ≡ 0 → false ≡ hasId t v w j
   unfolding noteOf
-  has-none a e z = noted-none f₀ refl (sym (is l) ∙ sym e ∙ z)
+  has-none l a e z = noted-none f₀ refl (sym (is l) ∙ sym e ∙ z)
 
-  pub has-told : (a : ℕ) (r : Bool) → a ≡ at ids j → (a ≡ 0 → ⊥) → (a ≡ far → ⊥) → r ≡ isUpTo (at t (a - 1)) v (drop a t) → r ≡ hasId t v w j
+  pub has-told : (a : ℕ) (r : Bool) → a ≡ target w j → (a ≡ 0 → ⊥) → (a ≡ far → ⊥) → r ≡ isUpTo (at t (a - 1)) v (drop a t) → r ≡ hasId t v w j
   unfolding noteOf
-  has-told a r e n m h = noted-some f₀ a r refl (sym (is l) ∙ sym e) n m h
-
-pub in-notes : (ids : List ℕ) (j a : ℕ) → a ≡ at ids j → (a ≡ 0 → ⊥) → j < length ids
-in-notes ids j a e n = by-order (length ids) j (λ h. absurd (n (e ∙ List·getD-eq-default ids 0 h))) (λ h. h)
-
--- NOTES ONE BY ONE
-module _ (t w : List ℕ) where
-  pub none-noted : (ids : List ℕ) → Noted t w ids 0
-  none-noted ids j h l = absurd (omega (arith, h))
-
-  pub one-noted : (ids : List ℕ) (n x : ℕ) → n < length ids → x ≡ noteOf t w n → Noted t w ids n → Noted t w (set ids n x) (n + 1)
-  one-noted ids n x room e a j h l =
-      ⊎-elim
-      (λ q. ap (at (set ids n x)) q ∙ getD-set-same ids n x 0 room ∙ e ∙ ap (noteOf t w) (sym q))
-      (λ k. getD-set-other ids n j x 0 (λ q. omega (arith, q, k)) ∙ a j k (omega (arith, l, length-set ids n x)))
-      (eq-or-lt-of-le (let z : j ≤ n = omega (arith, h) in z))
-
-  pub all-noted : (ids : List ℕ) (n i : ℕ) → n ≤ i → Noted t w ids i → Noted t w ids n
-  all-noted ids n i h a j k l = a j (omega (arith, h, k)) l
-
-  pub room-noted : (ids : List ℕ) (n i : ℕ) → length ids ≤ i → Noted t w ids i → Noted t w ids n
-  room-noted ids n i h a j k l = a j (omega (arith, h, l)) l
+  has-told a r e n m h = noted-some f₀ a r refl (sym (is (in-block w j a e n)) ∙ sym e) n m h
 
 -- WHAT IS NAMED, by the sort of the thing that names it
 module _ (t w : List ℕ) (n k : ℕ) (v : List ℕ) (r s : ℕ) (es : s ≡ sort w k) where
@@ -185,26 +164,6 @@ module _ (t w : List ℕ) (n k : ℕ) (v : List ℕ) (r s : ℕ) (es : s ≡ sor
   pub process-meant : (s ≡ sequenceFlow → ⊥) → (s ≡ messageFlow → ⊥) → s ≡ participant → r ≡ orNone n (seek (λ j. eqb (sort w j) process && hasId t v w j) n) → r ≡ meant t w n k v
   unfolding meant mayName if_then_else_
   process-meant a b f h = rw (ne-eqb (sort w k) sequenceFlow (λ q. a (es ∙ q)), ne-eqb (sort w k) messageFlow (λ q. b (es ∙ q)), eq-eqb (sort w k) participant (sym es ∙ f)) h
-
--- NOTES STAY while flows are joined: no place moves
-place-stays : (t : List ℕ) (n k : ℕ) (w : List ℕ) (j : ℕ) → place (linked t n k w) j ≡ place w j
-unfolding linked joined owned
-place-stays t n k w j = go (eqb (sort w k) sequenceFlow || eqb (sort w k) messageFlow) (eqb (sort w k) participant)
-  where
-    source-set : (x : ℕ) → place (set w (sourcePlace k) x) j ≡ place w j
-    source-set x = getD-set-other w (sourcePlace k) (placePlace j) x 0 (λ q. omega (arith, q))
-
-    go : (a b : Bool)
-        → place (if a then set (set w (sourcePlace k) (named t w n k (bytes "sourceRef"))) (targetPlace k) (named t w n k (bytes "targetRef")) else if b then set w (sourcePlace k) (named t w n k (bytes "processRef")) else w) j ≡ place w j
-    go true b = unfold if_then_else_ in getD-set-other (set w (sourcePlace k) (named t w n k (bytes "sourceRef"))) (targetPlace k) (placePlace j) (named t w n k (bytes "targetRef")) 0 (λ q. omega (arith, q)) ∙ source-set _
-    go false true = unfold if_then_else_ in source-set _
-    go false false = unfold if_then_else_ in refl
-
-pub notes-stay : (t w u ids : List ℕ) (n m k : ℕ) → u ≡ iter (linked t m) w k → Noted t w ids n → Noted t u ids n
-notes-stay t w u ids n m k e a = subst (λ (x : List ℕ). Noted t x ids n) (sym e) (iter-keeps (linked t m) w (λ x. Noted t x ids n) k (λ i x l h. stays i x h) a)
-  where
-    stays : (i : ℕ) (x : List ℕ) → Noted t x ids n → Noted t (linked t m i x) ids n
-    stays i x h j p l = h j p l ∙ unfold noteOf in ap (λ (q : ℕ). noteBy t (found t (bytes "id") q)) (sym (place-stays t m i x j))
 
 -- the note of a thing, as it is found
 module _ (t w : List ℕ) (j p : ℕ) (f : Found) (ep : p ≡ place w j) (ef : f ≡ found t (bytes "id") p) where

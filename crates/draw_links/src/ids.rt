@@ -2,12 +2,17 @@
 ghost use mathlib.Core.Path.{_≡_};
 ghost use Prim.Native.Nat.{_-_, _<_};
 ghost use lib.ListN.{drop};
+ghost use Rattle.base_words.specs.All.{all};
 ghost use Rattle.base_words.specs.Words.{at};
 ghost use Rattle.draw_links.specs.Links.{hasId};
-ghost use Rattle.draw_links.specs.Notes.{behindQuote, noteOf, NotedAt, Noted, isUpTo};
+ghost use Rattle.draw_links.specs.Notes.{behindQuote, noteOf, retargeted, noNote, noted, bared, isFree, IdNoted, isUpTo};
 use super::has_id;
+use super::is_flow;
 use draw_things::things::Note;
+use draw_things::things::THING_WORDS;
 use draw_things::things::place_of;
+use draw_things::things::set_target;
+use draw_things::things::target_of;
 use text_lexer::byte;
 use text_lexer::piece;
 use xml_markup::Found;
@@ -33,18 +38,69 @@ fn note_of(text: &[u8], w: &[Note], j: Note) -> u16
     behind_quote(quote_at(text, i))
 }
 
-// Notes the ids of the first n things, as far as there is room.
-pub fn note_ids(text: &[u8], w: &[Note], n: Note, ids: &mut [u16])
-    ensures { λ _. ⌜ Noted (now (text .entry)) (now (w .entry)) (now (ids .exit)) n ⌝ }
+// No tag is gone through for a thing that the block does not hold.
+fn note_id(text: &[u8], w: &mut [Note], k: Note)
+    ensures { λ _. ⌜ now (w .exit) ≡ retargeted (noteOf (now (text .entry))) k (now (w .entry)) ⌝ }
 {
-    let mut j: Note = 0;
-    while j < n {
-        if ids.len() <= j as usize {
-            return;
-        }
-        ids[j as usize] = note_of(text, w, j);
-        j += 1;
+    if w.len() < THING_WORDS * (k as usize + 1) {
+        return;
     }
+    if is_flow(w, k) {
+        return;
+    }
+    let a = note_of(text, w, k);
+    set_target(w, k, a);
+}
+
+// Notes the ids of the first n things.
+pub fn note_ids(text: &[u8], w: &mut [Note], n: Note)
+    ensures { λ _. ⌜ now (w .exit) ≡ noted (now (text .entry)) n (now (w .entry)) ⌝ }
+{
+    let mut k: Note = 0;
+    while k < n {
+        note_id(text, w, k);
+        k += 1;
+    }
+}
+
+fn clear_id(w: &mut [Note], k: Note)
+    ensures { λ _. ⌜ now (w .exit) ≡ retargeted noNote k (now (w .entry)) ⌝ }
+{
+    if is_flow(w, k) {
+        return;
+    }
+    set_target(w, k, 0);
+}
+
+// Takes the notes of ids away again.
+pub fn clear_ids(w: &mut [Note], n: Note)
+    ensures { λ _. ⌜ now (w .exit) ≡ bared n (now (w .entry)) ⌝ }
+{
+    let mut k: Note = 0;
+    while k < n {
+        clear_id(w, k);
+        k += 1;
+    }
+}
+
+fn is_free(w: &[Note], k: Note) -> bool
+    ensures { λ r. ⌜ r ≡ isFree (now (w .entry)) k ⌝ }
+{
+    is_flow(w, k) || target_of(w, k) == 0
+}
+
+// Whether the notes of the first n things can be taken away again.
+pub fn are_free(w: &[Note], n: Note) -> bool
+    ensures { λ r. ⌜ r ≡ all (isFree (now (w .entry))) n ⌝ }
+{
+    let mut k: Note = 0;
+    while k < n {
+        if !is_free(w, k) {
+            return false;
+        }
+        k += 1;
+    }
+    true
 }
 
 fn is_up_to(q: u8, v: &[u8], s: &[u8]) -> bool
@@ -75,20 +131,13 @@ fn stands_at(text: &[u8], a: usize, v: &[u8]) -> bool
     is_up_to(byte(text, a - 1), v, piece(text, a, text.len()))
 }
 
-fn note_at(ids: &[u16], j: Note) -> u16
-    ensures { λ r. ⌜ r ≡ at (now (ids .entry)) j ⌝ }
-{
-    let i = j as usize;
-    if i < ids.len() { ids[i] } else { 0 }
-}
-
 // Whether thing j has an id, by its note.
-pub fn has_noted_id(text: &[u8], v: &[u8], w: &[Note], ids: &[u16], j: Note) -> bool
-    ensures { λ r. ⌜ (NotedAt (now (text .entry)) (now (w .entry)) (now (ids .entry)) j → r ≡ hasId (now (text .entry)) (now (v .entry)) (now (w .entry)) j) ⌝ }
+pub fn has_noted_id(text: &[u8], v: &[u8], w: &[Note], j: Note) -> bool
+    ensures { λ r. ⌜ (IdNoted (now (text .entry)) (now (w .entry)) j → r ≡ hasId (now (text .entry)) (now (v .entry)) (now (w .entry)) j) ⌝ }
 {
-    let a = note_at(ids, j);
+    let a = target_of(w, j);
     if a == 0 {
-        return ids.len() <= j as usize && has_id(text, v, w, j);
+        return w.len() < THING_WORDS * (j as usize + 1) && has_id(text, v, w, j);
     }
     if a == FAR {
         return has_id(text, v, w, j);

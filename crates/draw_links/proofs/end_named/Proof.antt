@@ -15,10 +15,10 @@ use Rattle.draw_links.proofs.end_named.Statement.{statement}
 use Rattle.draw_links.proofs.end_named.Tie as tie
 
 abbrev Inv-loop : tie.InvT-loop
-Inv-loop text w ids n v j₀ j = (j ≤ n) × (Noted text w ids n → seek (λ i. (isNode (sort w i) || eqb (sort w i) participant) && hasId text v w i) j ≡ j)
+Inv-loop text w n v j₀ j = (j ≤ n) × (Noted text w n → seek (λ i. (isNode (sort w i) || eqb (sort w i) participant) && hasId text v w i) j ≡ j)
 
 abbrev μ-loop : tie.MeasureT-loop
-μ-loop text w ids n v j₀ j = n - j
+μ-loop text w n v j₀ j = n - j
 
 pub end-named-spec : {M : Type 1} → statement M
 end-named-spec =

@@ -1,4 +1,5 @@
 use Rattle.draw_links.proofs.TestLaws.{and-told}
+use Rattle.draw_links.proofs.TargetLaws.{process-no-flow}
 use Rattle.base_words.proofs.AllLaws.{eq-eqb-by}
 use Rattle.base_words.proofs.PickLaws.{and-yes, eqb-same}
 use borrow.Author.Tests.{ne-eqb}
@@ -12,5 +13,5 @@ is-process-named-spec =
     (tie.spec
     (λ c κs. search needs)
     (λ c κs. search needs)
-    (λ c h. and-yes _ _ _ (eq-eqb-by _ _ _ (c .before .before .sort-of .ensures) (c .before .if1 .taken)) (c .has-noted-id .ensures h))
+    (λ c h. and-yes _ _ _ (eq-eqb-by _ _ _ (c .before .before .sort-of .ensures) (c .before .if1 .taken)) (c .has-noted-id .ensures (h (process-no-flow _ _ (c .before .before .sort-of .ensures) (c .before .if1 .taken)))))
     (λ c h. and-told _ _ _ (eqb-same _ _ _ (c .before .sort-of .ensures)) (ne-eqb _ _ (c .if1 .left))))

@@ -1,7 +1,7 @@
 use Prim.Native.Nat.{_-_, _≤_}
-use Rattle.draw_links.proofs.NoteLaws.{notes-stay}
+use Rattle.draw_links.proofs.TargetLaws.{notes-stay}
 use Rattle.draw_links.specs.Links.{linked, links}
-use Rattle.draw_links.specs.Notes.{Noted}
+use Rattle.draw_links.specs.Notes.{NotedIf}
 use Rattle.base_words.proofs.IterLaws.{iter-done, iter-more, iter-none}
 use Rattle.base_words.specs.Iter.{iter}
 use lib.ListN.{length}
@@ -11,10 +11,10 @@ use Rattle.draw_links.proofs.link_all.Statement.{statement}
 use Rattle.draw_links.proofs.link_all.Tie as tie
 
 abbrev Inv-loop : tie.InvT-loop
-Inv-loop text w₀ ids n k₀ w k = (k ≤ n) × (length w ≡ length w₀) × (Noted text w₀ ids n → w ≡ iter (linked text n) w₀ k)
+Inv-loop text w₀ noted n k₀ w k = (k ≤ n) × (length w ≡ length w₀) × (NotedIf noted text w₀ n → w ≡ iter (linked text n) w₀ k)
 
 abbrev μ-loop : tie.MeasureT-loop
-μ-loop text w₀ ids n k₀ w k = n - k
+μ-loop text w₀ noted n k₀ w k = n - k
 
 pub link-all-spec : {M : Type 1} → statement M
 unfolding links
@@ -27,6 +27,6 @@ link-all-spec =
     (λ c κs. search needs)
     (λ c. search needs)
     (λ c. search needs)
-    (λ c. (search needs, search needs, λ h. iter-more _ _ _ _ _ (c .before .before .before .before .before .loop .inv .2 h) (c .before .before .link .ensures (notes-stay _ _ _ (c .before .before .before .before .before .before .before .before .before .args .ids .now) _ _ _ (c .before .before .before .before .before .loop .inv .2 h) h))))
+    (λ c. (search needs, search needs, λ h. iter-more _ _ _ _ _ (c .before .before .before .before .before .loop .inv .2 h) (c .before .before .link .ensures (notes-stay _ _ _ _ _ _ _ (c .before .before .before .before .before .loop .inv .2 h) h))))
     (λ c. search needs)
     (λ c h. iter-done _ _ _ _ _ (c .loop-test .left) (c .before .loop .inv .0) (c .before .loop .inv .2 h)))

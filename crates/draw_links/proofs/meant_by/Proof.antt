@@ -1,4 +1,3 @@
-use Rattle.draw_links.proofs.NoteLaws.{end-meant, node-meant, process-meant}
 use borrow.Author.Needs.{needs}
 use Rattle.draw_links.proofs.meant_by.Statement.{statement}
 use Rattle.draw_links.proofs.meant_by.Tie as tie
@@ -8,12 +7,6 @@ meant-by-spec =
     tie.close
     (tie.spec
     (λ c κs. search needs)
-    (λ c κs. search needs)
-    (λ c κs. search needs)
-    (λ c h. node-meant _ _ _ _ _ _ _ (c .before .before .before .sort-of .ensures) _ (c .before .before .if1 .taken) (c .before .within-of .ensures) (c .node-named .ensures h))
-    (λ c κs. search needs)
-    (λ c h. end-meant _ _ _ _ _ _ _ (c .before .before .before .sort-of .ensures) (c .before .before .if1 .left) (c .before .if2 .taken) (c .end-named .ensures h))
-    (λ c κs. search needs)
-    (λ c h. process-meant _ _ _ _ _ _ _ (c .before .before .before .before .sort-of .ensures) (c .before .before .before .if1 .left) (c .before .before .if2 .left) (c .before .if3 .taken) (c .process-named .ensures h))
+    (λ c h. c .meant-noted .ensures (h (c .before .if1 .taken)))
     (λ c κs. search needs)
     (λ c h. c .meant .ensures))

@@ -14,10 +14,10 @@ use Rattle.draw_links.proofs.node_named.Statement.{statement}
 use Rattle.draw_links.proofs.node_named.Tie as tie
 
 abbrev Inv-loop : tie.InvT-loop
-Inv-loop text w ids n p v j₀ j = (j ≤ n) × (Noted text w ids n → seek (λ i. (isNode (sort w i) && eqb (within w i) p) && hasId text v w i) j ≡ j)
+Inv-loop text w n p v j₀ j = (j ≤ n) × (Noted text w n → seek (λ i. (isNode (sort w i) && eqb (within w i) p) && hasId text v w i) j ≡ j)
 
 abbrev μ-loop : tie.MeasureT-loop
-μ-loop text w ids n p v j₀ j = n - j
+μ-loop text w n p v j₀ j = n - j
 
 pub node-named-spec : {M : Type 1} → statement M
 node-named-spec =
