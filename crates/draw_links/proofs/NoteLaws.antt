@@ -65,6 +65,12 @@ module _ (q : ℕ) (v s : List ℕ) (i : ℕ) (r : Bool) (k : isUpTo q (drop i v
       step : isUpTo q (drop i v) (drop i s) ≡ eqb (at s i) q
       step = unfold isUpTo in rw (drop-of-length-le v h, drop-cons s i 0 l)
 
+pub up-otherwise : (t v : List ℕ) (a q : ℕ) → 0 < length v → a < length t → (at t a ≡ at v 0 → ⊥) → false ≡ isUpTo q v (drop a t)
+up-otherwise t v a q h l n = sym step
+  where
+    step : isUpTo q (drop 0 v) (drop a t) ≡ false
+    step = unfold isUpTo in rw (drop-cons v 0 0 h, drop-cons t a 0 l, ne-eqb (at t a) (at v 0) n)
+
 none-taken : (n : ℕ) (s : List ℕ) → n ≡ 0 → take n s ≡ []
 none-taken n s e = rw e
 

@@ -1,6 +1,7 @@
 // Where the ids of things stand, noted so that no tag is gone through again for its id.
 ghost use mathlib.Core.Path.{_≡_};
-ghost use Prim.Native.Nat.{_-_, _<_};
+ghost use mathlib.Core.Bool.{true, false};
+ghost use Prim.Native.Nat.{ℕ, _-_, _<_};
 ghost use lib.ListN.{drop};
 ghost use Rattle.base_words.specs.All.{all};
 ghost use Rattle.base_words.specs.Words.{at};
@@ -131,6 +132,22 @@ fn stands_at(text: &[u8], a: usize, v: &[u8]) -> bool
     is_up_to(byte(text, a - 1), v, piece(text, a, text.len()))
 }
 
+// Whether the byte at a place shows that other bytes stand there, which most do.
+fn begins_otherwise(text: &[u8], a: usize, v: &[u8]) -> bool
+    ensures { λ r. ⌜ (r ≡ true → (q : ℕ) → false ≡ isUpTo q (now (v .entry)) (drop a (now (text .entry)))) ⌝ }
+{
+    if v.len() == 0 {
+        return false;
+    }
+    if text.len() <= a {
+        return false;
+    }
+    if text[a] != v[0] {
+        return true;
+    }
+    false
+}
+
 // Whether thing j has an id, by its note.
 pub fn has_noted_id(text: &[u8], v: &[u8], w: &[Note], j: Note) -> bool
     ensures { λ r. ⌜ (IdNoted (now (text .entry)) (now (w .entry)) j → r ≡ hasId (now (text .entry)) (now (v .entry)) (now (w .entry)) j) ⌝ }
@@ -142,5 +159,9 @@ pub fn has_noted_id(text: &[u8], v: &[u8], w: &[Note], j: Note) -> bool
     if a == FAR {
         return has_id(text, v, w, j);
     }
-    stands_at(text, a as usize, v)
+    let i = a as usize;
+    if begins_otherwise(text, i, v) {
+        return false;
+    }
+    stands_at(text, i, v)
 }

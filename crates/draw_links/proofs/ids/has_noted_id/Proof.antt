@@ -19,4 +19,6 @@ has-noted-id-spec =
     (λ c h. c .has-id2 .ensures)
     (λ c. search needs)
     (λ c κs. search needs)
-    (λ c h. has-told _ _ _ _ h _ _ (c .before .before .before .target-of .ensures) (c .before .before .if1 .left) (c .before .if3 .left) (c .stands-at .ensures)))
+    (λ c h. has-told _ _ _ _ h _ _ (c .before .before .before .before .target-of .ensures) (c .before .before .before .if1 .left) (c .before .before .if3 .left) (c .before .begins-otherwise .ensures (c .if4 .taken) _))
+    (λ c κs. search needs)
+    (λ c h. has-told _ _ _ _ h _ _ (c .before .before .before .before .before .target-of .ensures) (c .before .before .before .before .if1 .left) (c .before .before .before .if3 .left) (c .stands-at .ensures)))
