@@ -14,6 +14,7 @@ use denote.Enum.Declared.{tagOf}
 use Rattle.base_words.specs.Pick.{if_then_else_}
 use Rattle.base_words.specs.Words.{at, part}
 use Rattle.text_lexer.specs.Lexer.{past}
+use Rattle.text_lexer.proofs.PastLaws.{past-from}
 use Rattle.xml_characters.specs.Names.{isControl}
 use Rattle.xml_scanner.specs.declared.Sort.{Sort}
 use Rattle.xml_scanner.specs.declared.Sort.the-variants.{Fault as AFault}
@@ -52,6 +53,10 @@ module _ (t : List ℕ) (c : Cursor) where
 
   pub outline-stay : (i j : ℕ) → j ≡ past (stays (c .state)) (drop i t) i → outlineFrom t c (drop i t) i ≡ outlineFrom t c (drop j t) j
   outline-stay = run-stay t (stays (c .state)) (outlineFrom t c) stay-step
+
+-- a run never goes back
+pub stay-ahead : (f : ℕ → Bool) (s : List ℕ) (i j : ℕ) → j ≡ past f s i → i ≤ j
+stay-ahead f s i j e = rw e (past-from f s i)
 
 -- WHERE IT ENDS: ahead
 abbrev pub Ahead : ℕ → Scan → Type 0

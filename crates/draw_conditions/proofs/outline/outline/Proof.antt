@@ -2,9 +2,8 @@ use mathlib.Core.Path.{_≡_, _∙_, refl, sym}
 use Prim.Native.Nat.{_-_, _+_}
 use native.Mathlib.Omega.{arith}
 use lib.ListN.{length, drop}
-use Rattle.xml_markup.proofs.StayLaws.{stay-ahead}
 use Rattle.draw_conditions.specs.Outline.{outlineFrom, outline}
-use Rattle.draw_conditions.proofs.OutlineLaws.{outline-on, outline-stops, outline-end, outline-stay}
+use Rattle.draw_conditions.proofs.OutlineLaws.{outline-on, outline-stops, outline-end, outline-stay, stay-ahead}
 use borrow.Author.Needs.{needs}
 use Rattle.draw_conditions.proofs.outline.outline.Statement.{statement}
 use Rattle.draw_conditions.proofs.outline.outline.Tie as tie
