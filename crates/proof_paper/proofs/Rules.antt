@@ -44,236 +44,241 @@ only (more p none) = p
 arrive : {v : ℕ} {el : Element} {p b : ℕ} {L : Local} {l l₀ : Label} {σ σ₀ : Local} → l ≡ l₀ → σ ≡ σ₀ → Moves v el p b L l₀ σ₀ → Moves v el p b L l σ
 arrive {v} {el} {p} {b} {L} {l} {l₀} {σ} {σ₀} q s x = subst (λ k. Moves v el p b L k σ) (sym q) (subst (Moves v el p b L l₀) (sym s) x)
 
--- WITHOUT A GUARD
-module _ (v e e′ n : ℕ) (E : List ℕ) (N : Mode) (c : Cond) (A : Assignments) (m : ℕ) (ts : List Item) (xs : List Exp) (G : Type 0) (L : Local) where
-  abbrev parts : List ℕ → List ℕ → Parts
+-- what the rules speak of, by the paper's letters: an element's version, entry, exit and name, its mode, guard, assignments and message, and the instance
+pub record Given (N : Mode) : Type 1 where
+  pub v : ℕ
+  pub e : ℕ
+  pub e′ : ℕ
+  pub n : ℕ
+  pub c : Cond
+  pub A : Assignments
+  pub m : ℕ
+  pub ts : List Item
+  pub xs : List Exp
+  pub G : Type 0
+  pub L : Local
+
+module _ {N : Mode} (w : Given N) where
+  open Given w using (v, e, e′, n, c, A, m, ts, xs, G, L)
+
+  abbrev pub parts : List ℕ → List ℕ → Parts
   parts takes puts = record { takes = takes; puts = puts; task = n; version = v; mode = N; assigns = A; name = m; template = ts; message = xs }
 
-  -- P-Start
-  pub start-to : {l : Label} {σ : Local} → Goes (row 0) (parts (e ∷ []) (e′ ∷ [])) G L l σ → Moves v (start e e′) 0 0 L l σ
-  unfolding if_then_else_ incs decs changed
-  start-to x = arrive (x .says .0) (x .gives ∙ ap (effect (row 0) (parts (e ∷ []) (e′ ∷ [])) L) (none-only (x .says .1))) (P-Start (only (x .fires .taking)) (only (x .fires .putting)))
+  abbrev Back : Move → Element → List ℕ → List ℕ → Type 0
+  Back r E takes puts = (l : Label) (σ : Local) → Moves v E (r .phase) 0 L l σ → Goes r (parts takes puts) G L l σ
 
-  pub start-from : {l : Label} {σ : Local} → Moves v (start e e′) 0 0 L l σ → Goes (row 0) (parts (e ∷ []) (e′ ∷ [])) G L l σ
+  -- row r and the rule of E have the same transitions
+  pub record Alike (r : Move) (E : Element) (takes puts : List ℕ) : Type 0 where
+    pub to : (l : Label) (σ : Local) → Goes r (parts takes puts) G L l σ → Moves v E (r .phase) 0 L l σ
+    pub from : Back r E takes puts
+
+  -- WITHOUT A GUARD
+
+  -- P-Start
+  pub start-rule : Alike (row 0) (start e e′) (e ∷ []) (e′ ∷ [])
   unfolding if_then_else_ incs decs changed
-  start-from (P-Start t r) = record { left = L .σd; fires = plain refl refl refl refl refl (more t none) (never refl) (more r none); says = (refl, Updates.none); gives = refl }
+  start-rule = record { to = λ l σ x. arrive (x .says .0) (x .gives ∙ ap (effect (row 0) (parts (e ∷ []) (e′ ∷ [])) L) (none-only (x .says .1))) (P-Start (only (x .fires .taking)) (only (x .fires .putting))); from = back }
+    where
+      back : Back (row 0) (start e e′) (e ∷ []) (e′ ∷ [])
+      back l σ (P-Start t r) = record { left = L .σd; fires = plain refl refl refl refl refl (more t none) (never refl) (more r none); says = (refl, Updates.none); gives = refl }
 
   -- P-StartRcv
-  pub start-rcv-to : {l : Label} {σ : Local} → Goes (row 1) (parts ([]) (e′ ∷ [])) G L l σ → Moves v (startRcv m ts e′) 0 0 L l σ
+  pub start-rcv-rule : Alike (row 1) (startRcv m ts e′) [] (e′ ∷ [])
   unfolding if_then_else_ incs decs changed
-  start-rcv-to x = arrive (x .says .1) (x .gives ∙ ap (effect (row 1) (parts ([]) (e′ ∷ [])) L) (x .says .3)) (P-StartRcv (x .says .2) (only (x .fires .putting)))
-
-  pub start-rcv-from : {l : Label} {σ : Local} → Moves v (startRcv m ts e′) 0 0 L l σ → Goes (row 1) (parts ([]) (e′ ∷ [])) G L l σ
-  unfolding if_then_else_ incs decs changed
-  start-rcv-from (P-StartRcv {us = us} s r) = record { left = L .σd; fires = plain refl refl refl refl refl none (never refl) (more r none); says = (us, refl, s, refl); gives = refl }
+  start-rcv-rule = record { to = λ l σ x. arrive (x .says .1) (x .gives ∙ ap (effect (row 1) (parts [] (e′ ∷ [])) L) (x .says .3)) (P-StartRcv (x .says .2) (only (x .fires .putting))); from = back }
+    where
+      back : Back (row 1) (startRcv m ts e′) [] (e′ ∷ [])
+      back l σ (P-StartRcv {us = us} s r) = record { left = L .σd; fires = plain refl refl refl refl refl none (never refl) (more r none); says = (us, refl, s, refl); gives = refl }
 
   -- P-End
-  pub end-to : {l : Label} {σ : Local} → Goes (row 2) (parts (e ∷ []) ([])) G L l σ → Moves v (end e) 0 0 L l σ
+  pub end-rule : Alike (row 2) (end e) (e ∷ []) []
   unfolding if_then_else_ incs decs changed
-  end-to x = arrive (x .says .0) (x .gives ∙ ap (effect (row 2) (parts (e ∷ []) ([])) L) (none-only (x .says .1))) (P-End (only (x .fires .taking)))
-
-  pub end-from : {l : Label} {σ : Local} → Moves v (end e) 0 0 L l σ → Goes (row 2) (parts (e ∷ []) ([])) G L l σ
-  unfolding if_then_else_ incs decs changed
-  end-from (P-End t) = record { left = L .σd; fires = plain refl refl refl refl refl (more t none) (never refl) none; says = (refl, Updates.none); gives = refl }
+  end-rule = record { to = λ l σ x. arrive (x .says .0) (x .gives ∙ ap (effect (row 2) (parts (e ∷ []) []) L) (none-only (x .says .1))) (P-End (only (x .fires .taking))); from = back }
+    where
+      back : Back (row 2) (end e) (e ∷ []) []
+      back l σ (P-End t) = record { left = L .σd; fires = plain refl refl refl refl refl (more t none) (never refl) none; says = (refl, Updates.none); gives = refl }
 
   -- P-Terminate
-  pub terminate-to : {l : Label} {σ : Local} → Goes (row 3) (parts (e ∷ []) ([])) G L l σ → Moves v (terminate e) 0 0 L l σ
+  pub terminate-rule : Alike (row 3) (terminate e) (e ∷ []) []
   unfolding if_then_else_ incs decs changed
-  terminate-to x = arrive (x .says .0) (x .gives ∙ ap (effect (row 3) (parts (e ∷ []) ([])) L) (none-only (x .says .1))) (P-Terminate (only (x .fires .taking)))
-
-  pub terminate-from : {l : Label} {σ : Local} → Moves v (terminate e) 0 0 L l σ → Goes (row 3) (parts (e ∷ []) ([])) G L l σ
-  unfolding if_then_else_ incs decs changed
-  terminate-from (P-Terminate t) = record { left = L .σd; fires = plain refl refl refl refl refl (more t none) (never refl) none; says = (refl, Updates.none); gives = refl }
+  terminate-rule = record { to = λ l σ x. arrive (x .says .0) (x .gives ∙ ap (effect (row 3) (parts (e ∷ []) []) L) (none-only (x .says .1))) (P-Terminate (only (x .fires .taking))); from = back }
+    where
+      back : Back (row 3) (terminate e) (e ∷ []) []
+      back l σ (P-Terminate t) = record { left = L .σd; fires = plain refl refl refl refl refl (more t none) (never refl) none; says = (refl, Updates.none); gives = refl }
 
   -- P-EndSnd
-  pub end-snd-to : {l : Label} {σ : Local} → Goes (row 4) (parts (e ∷ []) ([])) G L l σ → Moves v (endSnd e m xs) 0 0 L l σ
+  pub end-snd-rule : Alike (row 4) (endSnd e m xs) (e ∷ []) []
   unfolding if_then_else_ incs decs changed
-  end-snd-to x = arrive (x .says .1) (x .gives ∙ ap (effect (row 4) (parts (e ∷ []) ([])) L) (none-only (x .says .2))) (P-EndSnd (only (x .fires .taking)) (subst (λ F. Evals F xs (x .says .0)) (none-only (x .says .2)) (x .says .3)))
-
-  pub end-snd-from : {l : Label} {σ : Local} → Moves v (endSnd e m xs) 0 0 L l σ → Goes (row 4) (parts (e ∷ []) ([])) G L l σ
-  unfolding if_then_else_ incs decs changed
-  end-snd-from (P-EndSnd {vs = vs} t v) = record { left = L .σd; fires = plain refl refl refl refl refl (more t none) (never refl) none; says = (vs, refl, Updates.none, v); gives = refl }
+  end-snd-rule = record { to = λ l σ x. arrive (x .says .1) (x .gives ∙ ap (effect (row 4) (parts (e ∷ []) []) L) (none-only (x .says .2))) (P-EndSnd (only (x .fires .taking)) (subst (λ F. Evals F xs (x .says .0)) (none-only (x .says .2)) (x .says .3))); from = back }
+    where
+      back : Back (row 4) (endSnd e m xs) (e ∷ []) []
+      back l σ (P-EndSnd {vs = vs} t q) = record { left = L .σd; fires = plain refl refl refl refl refl (more t none) (never refl) none; says = (vs, refl, Updates.none, q); gives = refl }
 
   -- P-InterRcv
-  pub inter-rcv-to : {l : Label} {σ : Local} → Goes (row 5) (parts (e ∷ []) (e′ ∷ [])) G L l σ → Moves v (interRcv e m ts e′) 0 0 L l σ
+  pub inter-rcv-rule : Alike (row 5) (interRcv e m ts e′) (e ∷ []) (e′ ∷ [])
   unfolding if_then_else_ incs decs changed
-  inter-rcv-to x = arrive (x .says .1) (x .gives ∙ ap (effect (row 5) (parts (e ∷ []) (e′ ∷ [])) L) (x .says .3)) (P-InterRcv (only (x .fires .taking)) (x .says .2) (only (x .fires .putting)))
-
-  pub inter-rcv-from : {l : Label} {σ : Local} → Moves v (interRcv e m ts e′) 0 0 L l σ → Goes (row 5) (parts (e ∷ []) (e′ ∷ [])) G L l σ
-  unfolding if_then_else_ incs decs changed
-  inter-rcv-from (P-InterRcv {us = us} t s r) = record { left = L .σd; fires = plain refl refl refl refl refl (more t none) (never refl) (more r none); says = (us, refl, s, refl); gives = refl }
+  inter-rcv-rule = record { to = λ l σ x. arrive (x .says .1) (x .gives ∙ ap (effect (row 5) (parts (e ∷ []) (e′ ∷ [])) L) (x .says .3)) (P-InterRcv (only (x .fires .taking)) (x .says .2) (only (x .fires .putting))); from = back }
+    where
+      back : Back (row 5) (interRcv e m ts e′) (e ∷ []) (e′ ∷ [])
+      back l σ (P-InterRcv {us = us} t s r) = record { left = L .σd; fires = plain refl refl refl refl refl (more t none) (never refl) (more r none); says = (us, refl, s, refl); gives = refl }
 
   -- P-InterSnd
-  pub inter-snd-to : {l : Label} {σ : Local} → Goes (row 6) (parts (e ∷ []) (e′ ∷ [])) G L l σ → Moves v (interSnd e m xs e′) 0 0 L l σ
+  pub inter-snd-rule : Alike (row 6) (interSnd e m xs e′) (e ∷ []) (e′ ∷ [])
   unfolding if_then_else_ incs decs changed
-  inter-snd-to x = arrive (x .says .1) (x .gives ∙ ap (effect (row 6) (parts (e ∷ []) (e′ ∷ [])) L) (none-only (x .says .2))) (P-InterSnd (only (x .fires .taking)) (subst (λ F. Evals F xs (x .says .0)) (none-only (x .says .2)) (x .says .3)) (only (x .fires .putting)))
-
-  pub inter-snd-from : {l : Label} {σ : Local} → Moves v (interSnd e m xs e′) 0 0 L l σ → Goes (row 6) (parts (e ∷ []) (e′ ∷ [])) G L l σ
-  unfolding if_then_else_ incs decs changed
-  inter-snd-from (P-InterSnd {vs = vs} t v r) = record { left = L .σd; fires = plain refl refl refl refl refl (more t none) (never refl) (more r none); says = (vs, refl, Updates.none, v); gives = refl }
+  inter-snd-rule = record { to = λ l σ x. arrive (x .says .1) (x .gives ∙ ap (effect (row 6) (parts (e ∷ []) (e′ ∷ [])) L) (none-only (x .says .2))) (P-InterSnd (only (x .fires .taking)) (subst (λ F. Evals F xs (x .says .0)) (none-only (x .says .2)) (x .says .3)) (only (x .fires .putting))); from = back }
+    where
+      back : Back (row 6) (interSnd e m xs e′) (e ∷ []) (e′ ∷ [])
+      back l σ (P-InterSnd {vs = vs} t q r) = record { left = L .σd; fires = plain refl refl refl refl refl (more t none) (never refl) (more r none); says = (vs, refl, Updates.none, q); gives = refl }
 
   -- P-AndSplit
-  pub and-split-to : {l : Label} {σ : Local} → Goes (row 8) (parts (e ∷ []) (E)) G L l σ → Moves v (andSplit e E) 0 0 L l σ
+  pub and-split-rule : (E : List ℕ) → Alike (row 8) (andSplit e E) (e ∷ []) E
   unfolding if_then_else_ incs decs changed
-  and-split-to x = arrive (x .says .0) (x .gives ∙ ap (effect (row 8) (parts (e ∷ []) (E)) L) (none-only (x .says .1))) (P-AndSplit (only (x .fires .taking)) (x .fires .putting))
-
-  pub and-split-from : {l : Label} {σ : Local} → Moves v (andSplit e E) 0 0 L l σ → Goes (row 8) (parts (e ∷ []) (E)) G L l σ
-  unfolding if_then_else_ incs decs changed
-  and-split-from (P-AndSplit t r) = record { left = L .σd; fires = plain refl refl refl refl refl (more t none) (never refl) r; says = (refl, Updates.none); gives = refl }
+  and-split-rule E = record { to = λ l σ x. arrive (x .says .0) (x .gives ∙ ap (effect (row 8) (parts (e ∷ []) E) L) (none-only (x .says .1))) (P-AndSplit (only (x .fires .taking)) (x .fires .putting)); from = back }
+    where
+      back : Back (row 8) (andSplit e E) (e ∷ []) E
+      back l σ (P-AndSplit t r) = record { left = L .σd; fires = plain refl refl refl refl refl (more t none) (never refl) r; says = (refl, Updates.none); gives = refl }
 
   -- P-AndJoin
-  pub and-join-to : {l : Label} {σ : Local} → Goes (row 9) (parts (E) (e′ ∷ [])) G L l σ → Moves v (andJoin E e′) 0 0 L l σ
+  pub and-join-rule : (E : List ℕ) → Alike (row 9) (andJoin E e′) E (e′ ∷ [])
   unfolding if_then_else_ incs decs changed
-  and-join-to x = arrive (x .says .0) (x .gives ∙ ap (effect (row 9) (parts (E) (e′ ∷ [])) L) (none-only (x .says .1))) (P-AndJoin (x .fires .taking) (only (x .fires .putting)))
-
-  pub and-join-from : {l : Label} {σ : Local} → Moves v (andJoin E e′) 0 0 L l σ → Goes (row 9) (parts (E) (e′ ∷ [])) G L l σ
-  unfolding if_then_else_ incs decs changed
-  and-join-from (P-AndJoin t r) = record { left = L .σd; fires = plain refl refl refl refl refl t (never refl) (more r none); says = (refl, Updates.none); gives = refl }
+  and-join-rule E = record { to = λ l σ x. arrive (x .says .0) (x .gives ∙ ap (effect (row 9) (parts E (e′ ∷ [])) L) (none-only (x .says .1))) (P-AndJoin (x .fires .taking) (only (x .fires .putting))); from = back }
+    where
+      back : Back (row 9) (andJoin E e′) E (e′ ∷ [])
+      back l σ (P-AndJoin t r) = record { left = L .σd; fires = plain refl refl refl refl refl t (never refl) (more r none); says = (refl, Updates.none); gives = refl }
 
   -- P-Task-N2
-  pub task-n2-to : {l : Label} {σ : Local} → (N ≡ a → ⊥) → Goes (row 18) (parts ([]) (e′ ∷ [])) G L l σ → Moves v (task e n N c A e′) 3 0 L l σ
+  pub task-n2-rule : (N ≡ a → ⊥) → Alike (row 18) (task e n N c A e′) [] (e′ ∷ [])
   unfolding if_then_else_ incs decs changed
-  task-n2-to na x = arrive (x .says .0) (x .gives) (P-Task-N2 na (x .fires .lowers-active refl) (x .says .1) (only (x .fires .putting)))
-
-  pub task-n2-from : {l : Label} {σ : Local} → Moves v (task e n N c A e′) 3 0 L l σ → Goes (row 18) (parts ([]) (e′ ∷ [])) G L l σ
-  unfolding if_then_else_ incs decs changed
-  task-n2-from (P-Task-N2 {σd′ = F} y d u r) = record { left = F; fires = record { taking = none; lowers-active = (λ z. d); lowers-ready = never refl; alone = never refl; grants = never refl; putting = more r none; raises-active = never refl; raises-ready = never refl }; says = (refl, u); gives = refl }
+  task-n2-rule na = record { to = λ l σ x. arrive (x .says .0) (x .gives) (P-Task-N2 na (x .fires .lowers-active refl) (x .says .1) (only (x .fires .putting))); from = back }
+    where
+      back : Back (row 18) (task e n N c A e′) [] (e′ ∷ [])
+      back l σ (P-Task-N2 {σd′ = F} y d u r) = record { left = F; fires = record { taking = none; lowers-active = (λ z. d); lowers-ready = never refl; alone = never refl; grants = never refl; putting = more r none; raises-active = never refl; raises-ready = never refl }; says = (refl, u); gives = refl }
 
   -- P-TaskRcv-N2
-  pub task-rcv-n2-to : {l : Label} {σ : Local} → (N ≡ a → ⊥) → Goes (row 19) (parts ([]) ([])) G L l σ → Moves v (taskRcv e n N c A m ts e′) 2 0 L l σ
+  pub task-rcv-n2-rule : (N ≡ a → ⊥) → Alike (row 19) (taskRcv e n N c A m ts e′) [] []
   unfolding if_then_else_ incs decs changed
-  task-rcv-n2-to na x = arrive (x .says .1) (x .gives ∙ ap (effect (row 19) (parts ([]) ([])) L) (x .says .3)) (P-TaskRcv-N2 na (x .fires .lowers-active refl) (x .says .2) (x .fires .raises-ready refl))
-
-  pub task-rcv-n2-from : {l : Label} {σ : Local} → Moves v (taskRcv e n N c A m ts e′) 2 0 L l σ → Goes (row 19) (parts ([]) ([])) G L l σ
-  unfolding if_then_else_ incs decs changed
-  task-rcv-n2-from (P-TaskRcv-N2 {us = us} y d s r) = record { left = L .σd; fires = record { taking = none; lowers-active = (λ z. d); lowers-ready = never refl; alone = never refl; grants = never refl; putting = none; raises-active = never refl; raises-ready = (λ z. r) }; says = (us, refl, s, refl); gives = refl }
+  task-rcv-n2-rule na = record { to = λ l σ x. arrive (x .says .1) (x .gives ∙ ap (effect (row 19) (parts [] []) L) (x .says .3)) (P-TaskRcv-N2 na (x .fires .lowers-active refl) (x .says .2) (x .fires .raises-ready refl)); from = back }
+    where
+      back : Back (row 19) (taskRcv e n N c A m ts e′) [] []
+      back l σ (P-TaskRcv-N2 {us = us} y d s r) = record { left = L .σd; fires = record { taking = none; lowers-active = (λ z. d); lowers-ready = never refl; alone = never refl; grants = never refl; putting = none; raises-active = never refl; raises-ready = (λ z. r) }; says = (us, refl, s, refl); gives = refl }
 
   -- P-TaskRcv-N3
-  pub task-rcv-n3-to : {l : Label} {σ : Local} → (N ≡ a → ⊥) → Goes (row 20) (parts ([]) (e′ ∷ [])) G L l σ → Moves v (taskRcv e n N c A m ts e′) 3 0 L l σ
+  pub task-rcv-n3-rule : (N ≡ a → ⊥) → Alike (row 20) (taskRcv e n N c A m ts e′) [] (e′ ∷ [])
   unfolding if_then_else_ incs decs changed
-  task-rcv-n3-to na x = arrive (x .says .0) (x .gives) (P-TaskRcv-N3 na (x .fires .lowers-ready refl) (x .says .1) (only (x .fires .putting)))
-
-  pub task-rcv-n3-from : {l : Label} {σ : Local} → Moves v (taskRcv e n N c A m ts e′) 3 0 L l σ → Goes (row 20) (parts ([]) (e′ ∷ [])) G L l σ
-  unfolding if_then_else_ incs decs changed
-  task-rcv-n3-from (P-TaskRcv-N3 {σd′ = F} y d u r) = record { left = F; fires = record { taking = none; lowers-active = never refl; lowers-ready = (λ z. d); alone = never refl; grants = never refl; putting = more r none; raises-active = never refl; raises-ready = never refl }; says = (refl, u); gives = refl }
+  task-rcv-n3-rule na = record { to = λ l σ x. arrive (x .says .0) (x .gives) (P-TaskRcv-N3 na (x .fires .lowers-ready refl) (x .says .1) (only (x .fires .putting))); from = back }
+    where
+      back : Back (row 20) (taskRcv e n N c A m ts e′) [] (e′ ∷ [])
+      back l σ (P-TaskRcv-N3 {σd′ = F} y d u r) = record { left = F; fires = record { taking = none; lowers-active = never refl; lowers-ready = (λ z. d); alone = never refl; grants = never refl; putting = more r none; raises-active = never refl; raises-ready = never refl }; says = (refl, u); gives = refl }
 
   -- P-TaskSnd-N2
-  pub task-snd-n2-to : {l : Label} {σ : Local} → (N ≡ a → ⊥) → Goes (row 21) (parts ([]) ([])) G L l σ → Moves v (taskSnd e n N c A m xs e′) 2 0 L l σ
+  pub task-snd-n2-rule : (N ≡ a → ⊥) → Alike (row 21) (taskSnd e n N c A m xs e′) [] []
   unfolding if_then_else_ incs decs changed
-  task-snd-n2-to na x = arrive (x .says .0) (x .gives) (P-TaskSnd-N2 na (x .fires .lowers-active refl) (x .says .1) (x .fires .raises-ready refl))
-
-  pub task-snd-n2-from : {l : Label} {σ : Local} → Moves v (taskSnd e n N c A m xs e′) 2 0 L l σ → Goes (row 21) (parts ([]) ([])) G L l σ
-  unfolding if_then_else_ incs decs changed
-  task-snd-n2-from (P-TaskSnd-N2 {σd′ = F} y d u r) = record { left = F; fires = record { taking = none; lowers-active = (λ z. d); lowers-ready = never refl; alone = never refl; grants = never refl; putting = none; raises-active = never refl; raises-ready = (λ z. r) }; says = (refl, u); gives = refl }
+  task-snd-n2-rule na = record { to = λ l σ x. arrive (x .says .0) (x .gives) (P-TaskSnd-N2 na (x .fires .lowers-active refl) (x .says .1) (x .fires .raises-ready refl)); from = back }
+    where
+      back : Back (row 21) (taskSnd e n N c A m xs e′) [] []
+      back l σ (P-TaskSnd-N2 {σd′ = F} y d u r) = record { left = F; fires = record { taking = none; lowers-active = (λ z. d); lowers-ready = never refl; alone = never refl; grants = never refl; putting = none; raises-active = never refl; raises-ready = (λ z. r) }; says = (refl, u); gives = refl }
 
   -- P-TaskSnd-N3
-  pub task-snd-n3-to : {l : Label} {σ : Local} → (N ≡ a → ⊥) → Goes (row 22) (parts ([]) (e′ ∷ [])) G L l σ → Moves v (taskSnd e n N c A m xs e′) 3 0 L l σ
+  pub task-snd-n3-rule : (N ≡ a → ⊥) → Alike (row 22) (taskSnd e n N c A m xs e′) [] (e′ ∷ [])
   unfolding if_then_else_ incs decs changed
-  task-snd-n3-to na x = arrive (x .says .1) (x .gives ∙ ap (effect (row 22) (parts ([]) (e′ ∷ [])) L) (none-only (x .says .2))) (P-TaskSnd-N3 na (x .fires .lowers-ready refl) (subst (λ F. Evals F xs (x .says .0)) (none-only (x .says .2)) (x .says .3)) (only (x .fires .putting)))
-
-  pub task-snd-n3-from : {l : Label} {σ : Local} → Moves v (taskSnd e n N c A m xs e′) 3 0 L l σ → Goes (row 22) (parts ([]) (e′ ∷ [])) G L l σ
-  unfolding if_then_else_ incs decs changed
-  task-snd-n3-from (P-TaskSnd-N3 {vs = vs} y d v r) = record { left = L .σd; fires = record { taking = none; lowers-active = never refl; lowers-ready = (λ z. d); alone = never refl; grants = never refl; putting = more r none; raises-active = never refl; raises-ready = never refl }; says = (vs, refl, Updates.none, v); gives = refl }
+  task-snd-n3-rule na = record { to = λ l σ x. arrive (x .says .1) (x .gives ∙ ap (effect (row 22) (parts [] (e′ ∷ [])) L) (none-only (x .says .2))) (P-TaskSnd-N3 na (x .fires .lowers-ready refl) (subst (λ F. Evals F xs (x .says .0)) (none-only (x .says .2)) (x .says .3)) (only (x .fires .putting))); from = back }
+    where
+      back : Back (row 22) (taskSnd e n N c A m xs e′) [] (e′ ∷ [])
+      back l σ (P-TaskSnd-N3 {vs = vs} y d q r) = record { left = L .σd; fires = record { taking = none; lowers-active = never refl; lowers-ready = (λ z. d); alone = never refl; grants = never refl; putting = more r none; raises-active = never refl; raises-ready = never refl }; says = (vs, refl, Updates.none, q); gives = refl }
 
   -- WITH A GUARD
   module _ (granted : G → truth (L .σd) c ≡ True) (grant : truth (L .σd) c ≡ True → G) where
     -- P-Task-A
-    pub task-a-to : {l : Label} {σ : Local} → Goes (row 12) (parts (e ∷ []) (e′ ∷ [])) G L l σ → Moves v (task e n a c A e′) 0 0 L l σ
+    pub task-a-rule : Alike (row 12) (task e n a c A e′) (e ∷ []) (e′ ∷ [])
     unfolding if_then_else_ incs decs changed
-    task-a-to x = arrive (x .says .0) (x .gives) (P-Task-A (only (x .fires .taking)) (granted (x .fires .grants refl)) (x .says .1) (only (x .fires .putting)))
-
-    pub task-a-from : {l : Label} {σ : Local} → Moves v (task e n a c A e′) 0 0 L l σ → Goes (row 12) (parts (e ∷ []) (e′ ∷ [])) G L l σ
-    unfolding if_then_else_ incs decs changed
-    task-a-from (P-Task-A {σd′ = F} t g u r) = record { left = F; fires = plain refl refl refl refl refl (more t none) (λ z. grant g) (more r none); says = (refl, u); gives = refl }
+    task-a-rule = record { to = λ l σ x. arrive (x .says .0) (x .gives) (P-Task-A (only (x .fires .taking)) (granted (x .fires .grants refl)) (x .says .1) (only (x .fires .putting))); from = back }
+      where
+        back : Back (row 12) (task e n a c A e′) (e ∷ []) (e′ ∷ [])
+        back l σ (P-Task-A {σd′ = F} t g u r) = record { left = F; fires = plain refl refl refl refl refl (more t none) (λ z. grant g) (more r none); says = (refl, u); gives = refl }
 
     -- P-TaskRcv-A
-    pub task-rcv-a-to : {l : Label} {σ : Local} → Goes (row 13) (parts (e ∷ []) (e′ ∷ [])) G L l σ → Moves v (taskRcv e n a c A m ts e′) 0 0 L l σ
+    pub task-rcv-a-rule : Alike (row 13) (taskRcv e n a c A m ts e′) (e ∷ []) (e′ ∷ [])
     unfolding if_then_else_ incs decs changed
-    task-rcv-a-to x = arrive (x .says .1) (x .gives ∙ ap (effect (row 13) (parts (e ∷ []) (e′ ∷ [])) L) (x .says .3)) (P-TaskRcv-A (only (x .fires .taking)) (granted (x .fires .grants refl)) (x .says .2) (only (x .fires .putting)))
-
-    pub task-rcv-a-from : {l : Label} {σ : Local} → Moves v (taskRcv e n a c A m ts e′) 0 0 L l σ → Goes (row 13) (parts (e ∷ []) (e′ ∷ [])) G L l σ
-    unfolding if_then_else_ incs decs changed
-    task-rcv-a-from (P-TaskRcv-A {us = us} t g s r) = record { left = L .σd; fires = plain refl refl refl refl refl (more t none) (λ z. grant g) (more r none); says = (us, refl, s, refl); gives = refl }
+    task-rcv-a-rule = record { to = λ l σ x. arrive (x .says .1) (x .gives ∙ ap (effect (row 13) (parts (e ∷ []) (e′ ∷ [])) L) (x .says .3)) (P-TaskRcv-A (only (x .fires .taking)) (granted (x .fires .grants refl)) (x .says .2) (only (x .fires .putting))); from = back }
+      where
+        back : Back (row 13) (taskRcv e n a c A m ts e′) (e ∷ []) (e′ ∷ [])
+        back l σ (P-TaskRcv-A {us = us} t g s r) = record { left = L .σd; fires = plain refl refl refl refl refl (more t none) (λ z. grant g) (more r none); says = (us, refl, s, refl); gives = refl }
 
     -- P-TaskSnd-A
-    pub task-snd-a-to : {l : Label} {σ : Local} → Goes (row 14) (parts (e ∷ []) (e′ ∷ [])) G L l σ → Moves v (taskSnd e n a c A m xs e′) 0 0 L l σ
+    pub task-snd-a-rule : Alike (row 14) (taskSnd e n a c A m xs e′) (e ∷ []) (e′ ∷ [])
     unfolding if_then_else_ incs decs changed
-    task-snd-a-to x = arrive (x .says .1) (x .gives) (P-TaskSnd-A (only (x .fires .taking)) (granted (x .fires .grants refl)) (x .says .2) (x .says .3) (only (x .fires .putting)))
-
-    pub task-snd-a-from : {l : Label} {σ : Local} → Moves v (taskSnd e n a c A m xs e′) 0 0 L l σ → Goes (row 14) (parts (e ∷ []) (e′ ∷ [])) G L l σ
-    unfolding if_then_else_ incs decs changed
-    task-snd-a-from (P-TaskSnd-A {vs = vs} {σd′ = F} t g u v r) = record { left = F; fires = plain refl refl refl refl refl (more t none) (λ z. grant g) (more r none); says = (vs, refl, u, v); gives = refl }
+    task-snd-a-rule = record { to = λ l σ x. arrive (x .says .1) (x .gives) (P-TaskSnd-A (only (x .fires .taking)) (granted (x .fires .grants refl)) (x .says .2) (x .says .3) (only (x .fires .putting))); from = back }
+      where
+        back : Back (row 14) (taskSnd e n a c A m xs e′) (e ∷ []) (e′ ∷ [])
+        back l σ (P-TaskSnd-A {vs = vs} {σd′ = F} t g u q r) = record { left = F; fires = plain refl refl refl refl refl (more t none) (λ z. grant g) (more r none); says = (vs, refl, u, q); gives = refl }
 
     -- P-Task-N1
-    pub task-n1-to : {l : Label} {σ : Local} → (N ≡ a → ⊥) → Goes (row 15) (parts (e ∷ []) ([])) G L l σ → Moves v (task e n N c A e′) 1 0 L l σ
+    pub task-n1-rule : (N ≡ a → ⊥) → Alike (row 15) (task e n N c A e′) (e ∷ []) []
     unfolding if_then_else_ incs decs changed
-    task-n1-to na x = arrive (x .says .0) (x .gives ∙ ap (effect (row 15) (parts (e ∷ []) ([])) L) (none-only (x .says .1))) (P-Task-N1 na (only (x .fires .taking)) (granted (x .fires .grants refl)) (x .fires .alone refl) (x .fires .raises-active refl))
-
-    pub task-n1-from : {l : Label} {σ : Local} → Moves v (task e n N c A e′) 1 0 L l σ → Goes (row 15) (parts (e ∷ []) ([])) G L l σ
-    unfolding if_then_else_ incs decs changed
-    task-n1-from (P-Task-N1 y t g i r) = record { left = L .σd; fires = record { taking = more t none; lowers-active = never refl; lowers-ready = never refl; alone = (λ z. i); grants = (λ z. grant g); putting = none; raises-active = (λ z. r); raises-ready = never refl }; says = (refl, Updates.none); gives = refl }
+    task-n1-rule na = record { to = λ l σ x. arrive (x .says .0) (x .gives ∙ ap (effect (row 15) (parts (e ∷ []) []) L) (none-only (x .says .1))) (P-Task-N1 na (only (x .fires .taking)) (granted (x .fires .grants refl)) (x .fires .alone refl) (x .fires .raises-active refl)); from = back }
+      where
+        back : Back (row 15) (task e n N c A e′) (e ∷ []) []
+        back l σ (P-Task-N1 y t g i r) = record { left = L .σd; fires = record { taking = more t none; lowers-active = never refl; lowers-ready = never refl; alone = (λ z. i); grants = (λ z. grant g); putting = none; raises-active = (λ z. r); raises-ready = never refl }; says = (refl, Updates.none); gives = refl }
 
     -- P-TaskRcv-N1
-    pub task-rcv-n1-to : {l : Label} {σ : Local} → (N ≡ a → ⊥) → Goes (row 16) (parts (e ∷ []) ([])) G L l σ → Moves v (taskRcv e n N c A m ts e′) 1 0 L l σ
+    pub task-rcv-n1-rule : (N ≡ a → ⊥) → Alike (row 16) (taskRcv e n N c A m ts e′) (e ∷ []) []
     unfolding if_then_else_ incs decs changed
-    task-rcv-n1-to na x = arrive (x .says .0) (x .gives ∙ ap (effect (row 16) (parts (e ∷ []) ([])) L) (none-only (x .says .1))) (P-TaskRcv-N1 na (only (x .fires .taking)) (granted (x .fires .grants refl)) (x .fires .alone refl) (x .fires .raises-active refl))
-
-    pub task-rcv-n1-from : {l : Label} {σ : Local} → Moves v (taskRcv e n N c A m ts e′) 1 0 L l σ → Goes (row 16) (parts (e ∷ []) ([])) G L l σ
-    unfolding if_then_else_ incs decs changed
-    task-rcv-n1-from (P-TaskRcv-N1 y t g i r) = record { left = L .σd; fires = record { taking = more t none; lowers-active = never refl; lowers-ready = never refl; alone = (λ z. i); grants = (λ z. grant g); putting = none; raises-active = (λ z. r); raises-ready = never refl }; says = (refl, Updates.none); gives = refl }
+    task-rcv-n1-rule na = record { to = λ l σ x. arrive (x .says .0) (x .gives ∙ ap (effect (row 16) (parts (e ∷ []) []) L) (none-only (x .says .1))) (P-TaskRcv-N1 na (only (x .fires .taking)) (granted (x .fires .grants refl)) (x .fires .alone refl) (x .fires .raises-active refl)); from = back }
+      where
+        back : Back (row 16) (taskRcv e n N c A m ts e′) (e ∷ []) []
+        back l σ (P-TaskRcv-N1 y t g i r) = record { left = L .σd; fires = record { taking = more t none; lowers-active = never refl; lowers-ready = never refl; alone = (λ z. i); grants = (λ z. grant g); putting = none; raises-active = (λ z. r); raises-ready = never refl }; says = (refl, Updates.none); gives = refl }
 
     -- P-TaskSnd-N1
-    pub task-snd-n1-to : {l : Label} {σ : Local} → (N ≡ a → ⊥) → Goes (row 17) (parts (e ∷ []) ([])) G L l σ → Moves v (taskSnd e n N c A m xs e′) 1 0 L l σ
+    pub task-snd-n1-rule : (N ≡ a → ⊥) → Alike (row 17) (taskSnd e n N c A m xs e′) (e ∷ []) []
     unfolding if_then_else_ incs decs changed
-    task-snd-n1-to na x = arrive (x .says .0) (x .gives ∙ ap (effect (row 17) (parts (e ∷ []) ([])) L) (none-only (x .says .1))) (P-TaskSnd-N1 na (only (x .fires .taking)) (granted (x .fires .grants refl)) (x .fires .alone refl) (x .fires .raises-active refl))
+    task-snd-n1-rule na = record { to = λ l σ x. arrive (x .says .0) (x .gives ∙ ap (effect (row 17) (parts (e ∷ []) []) L) (none-only (x .says .1))) (P-TaskSnd-N1 na (only (x .fires .taking)) (granted (x .fires .grants refl)) (x .fires .alone refl) (x .fires .raises-active refl)); from = back }
+      where
+        back : Back (row 17) (taskSnd e n N c A m xs e′) (e ∷ []) []
+        back l σ (P-TaskSnd-N1 y t g i r) = record { left = L .σd; fires = record { taking = more t none; lowers-active = never refl; lowers-ready = never refl; alone = (λ z. i); grants = (λ z. grant g); putting = none; raises-active = (λ z. r); raises-ready = never refl }; says = (refl, Updates.none); gives = refl }
 
-    pub task-snd-n1-from : {l : Label} {σ : Local} → Moves v (taskSnd e n N c A m xs e′) 1 0 L l σ → Goes (row 17) (parts (e ∷ []) ([])) G L l σ
+  -- WHERE A LINE HAS A CHOICE: the branch named is the one that stands there
+  abbrev pub receiving : Receipt → Parts
+  receiving g = record { takes = e ∷ []; puts = g .exit ∷ []; task = n; version = v; mode = N; assigns = A; name = g .name; template = g .template; message = xs }
+
+  module _ (b : ℕ) where
+    -- P-XorJoin
+    pub xor-join-to : {l : Label} {σ : Local} {E : List ℕ} (d : ℕ) → Stands d b E → Goes (row 10) (parts (d ∷ []) (e′ ∷ [])) G L l σ → Moves v (xorJoin E e′) 0 b L l σ
     unfolding if_then_else_ incs decs changed
-    task-snd-n1-from (P-TaskSnd-N1 y t g i r) = record { left = L .σd; fires = record { taking = more t none; lowers-active = never refl; lowers-ready = never refl; alone = (λ z. i); grants = (λ z. grant g); putting = none; raises-active = (λ z. r); raises-ready = never refl }; says = (refl, Updates.none); gives = refl }
+    xor-join-to d s x =
+        arrive (x .says .0) (x .gives ∙ ap (effect (row 10) (parts (d ∷ []) (e′ ∷ [])) L) (none-only (x .says .1))) (P-XorJoin s (only (x .fires .taking)) (only (x .fires .putting)))
 
--- WHERE A LINE HAS A CHOICE: the branch named is the one that stands there
-module _ (v e e′ n b : ℕ) (N : Mode) (A : Assignments) (m : ℕ) (ts : List Item) (xs : List Exp) (G : Type 0) (L : Local) where
-  abbrev branching : List ℕ → List ℕ → ℕ → List Item → Parts
-  branching takes puts name template = record { takes = takes; puts = puts; task = n; version = v; mode = N; assigns = A; name = name; template = template; message = xs }
+    pub xor-join-from : {l : Label} {σ : Local} {E : List ℕ} → Moves v (xorJoin E e′) 0 b L l σ → (d : ℕ) × Stands d b E × Goes (row 10) (parts (d ∷ []) (e′ ∷ [])) G L l σ
+    unfolding if_then_else_ incs decs changed
+    xor-join-from (P-XorJoin {e = d} s t r) =
+        (d, s, record { left = L .σd; fires = plain refl refl refl refl refl (more t none) (never refl) (more r none); says = (refl, Updates.none); gives = refl })
 
-  -- P-XorJoin
-  pub xor-join-to : {l : Label} {σ : Local} {E : List ℕ} → Stands e b E → Goes (row 10) (branching (e ∷ []) (e′ ∷ []) m ts) G L l σ → Moves v (xorJoin E e′) 0 b L l σ
-  unfolding if_then_else_ incs decs changed
-  xor-join-to s x =
-      arrive (x .says .0) (x .gives ∙ ap (effect (row 10) (branching (e ∷ []) (e′ ∷ []) m ts) L) (none-only (x .says .1))) (P-XorJoin s (only (x .fires .taking)) (only (x .fires .putting)))
+    -- P-EventG
+    pub event-to : {l : Label} {σ : Local} {bs : List Receipt} (g : Receipt) → Stands g b bs → Goes (row 7) (receiving g) G L l σ → Moves v (eventBased e bs) 0 b L l σ
+    unfolding if_then_else_ incs decs changed
+    event-to g s x =
+        arrive (x .says .1) (x .gives ∙ ap (effect (row 7) (receiving g) L) (x .says .3))
+        (P-EventG s (only (x .fires .taking)) (x .says .2) (only (x .fires .putting)))
 
-  pub xor-join-from : {l : Label} {σ : Local} {E : List ℕ} → Moves v (xorJoin E e′) 0 b L l σ → (d : ℕ) × Stands d b E × Goes (row 10) (branching (d ∷ []) (e′ ∷ []) m ts) G L l σ
-  unfolding if_then_else_ incs decs changed
-  xor-join-from (P-XorJoin {e = d} s t r) =
-      (d, s, record { left = L .σd; fires = plain refl refl refl refl refl (more t none) (never refl) (more r none); says = (refl, Updates.none); gives = refl })
+    pub event-from : {l : Label} {σ : Local} {bs : List Receipt} → Moves v (eventBased e bs) 0 b L l σ → (g : Receipt) × Stands g b bs × Goes (row 7) (receiving g) G L l σ
+    unfolding if_then_else_ incs decs changed
+    event-from (P-EventG {g = g} {us = us} s t y r) =
+        (g, s, record { left = L .σd; fires = plain refl refl refl refl refl (more t none) (never refl) (more r none); says = (us, refl, y, refl); gives = refl })
 
-  -- P-EventG
-  pub event-to : {l : Label} {σ : Local} {bs : List Receipt} (g : Receipt) → Stands g b bs → Goes (row 7) (branching (e ∷ []) (g .exit ∷ []) (g .name) (g .template)) G L l σ → Moves v (eventBased e bs) 0 b L l σ
-  unfolding if_then_else_ incs decs changed
-  event-to g s x =
-      arrive (x .says .1) (x .gives ∙ ap (effect (row 7) (branching (e ∷ []) (g .exit ∷ []) (g .name) (g .template)) L) (x .says .3))
-      (P-EventG s (only (x .fires .taking)) (x .says .2) (only (x .fires .putting)))
+    -- P-XorSplit1 and P-XorSplit2: what the branch's condition grants
+    abbrev Chosen : Choice → List Choice → Type 0
+    Chosen g cs =
+        ((truth (L .σd) (g .condition) ≡ True) × ((j : ℕ) (c : Choice) → Stands c j cs → j < b → (c .condition ≡ default → ⊥) → truth (L .σd) (c .condition) ≡ False))
+        ⊎ ((g .condition ≡ default) × ((j : ℕ) (c : Choice) → Stands c j cs → (j ≡ b → ⊥) → truth (L .σd) (c .condition) ≡ False))
 
-  pub event-from : {l : Label} {σ : Local} {bs : List Receipt} → Moves v (eventBased e bs) 0 b L l σ → (g : Receipt) × Stands g b bs × Goes (row 7) (branching (e ∷ []) (g .exit ∷ []) (g .name) (g .template)) G L l σ
-  unfolding if_then_else_ incs decs changed
-  event-from (P-EventG {g = g} {us = us} s t y r) =
-      (g, s, record { left = L .σd; fires = plain refl refl refl refl refl (more t none) (never refl) (more r none); says = (us, refl, y, refl); gives = refl })
+    pub xor-split-to : {l : Label} {σ : Local} {cs : List Choice} (g : Choice) → Stands g b cs → (G → Chosen g cs) → Goes (row 11) (parts (e ∷ []) (g .exit ∷ [])) G L l σ → Moves v (xorSplit e cs) 0 b L l σ
+    unfolding if_then_else_ incs decs changed
+    xor-split-to g s chosen x =
+        arrive (x .says .0) (x .gives ∙ ap (effect (row 11) (parts (e ∷ []) (g .exit ∷ [])) L) (none-only (x .says .1)))
+        (⊎-elim (λ h. P-XorSplit1 s (only (x .fires .taking)) (h .0) (h .1) (only (x .fires .putting))) (λ h. P-XorSplit2 s (h .0) (only (x .fires .taking)) (h .1) (only (x .fires .putting))) (chosen (x .fires .grants refl)))
 
-  -- P-XorSplit1 and P-XorSplit2: what the branch's condition grants
-  abbrev Chosen : Choice → List Choice → Type 0
-  Chosen g cs =
-      ((truth (L .σd) (g .condition) ≡ True) × ((j : ℕ) (c : Choice) → Stands c j cs → j < b → (c .condition ≡ default → ⊥) → truth (L .σd) (c .condition) ≡ False))
-      ⊎ ((g .condition ≡ default) × ((j : ℕ) (c : Choice) → Stands c j cs → (j ≡ b → ⊥) → truth (L .σd) (c .condition) ≡ False))
-
-  pub xor-split-to : {l : Label} {σ : Local} {cs : List Choice} (g : Choice) → Stands g b cs → (G → Chosen g cs) → Goes (row 11) (branching (e ∷ []) (g .exit ∷ []) m ts) G L l σ → Moves v (xorSplit e cs) 0 b L l σ
-  unfolding if_then_else_ incs decs changed
-  xor-split-to g s chosen x =
-      arrive (x .says .0) (x .gives ∙ ap (effect (row 11) (branching (e ∷ []) (g .exit ∷ []) m ts) L) (none-only (x .says .1)))
-      (⊎-elim (λ h. P-XorSplit1 s (only (x .fires .taking)) (h .0) (h .1) (only (x .fires .putting))) (λ h. P-XorSplit2 s (h .0) (only (x .fires .taking)) (h .1) (only (x .fires .putting))) (chosen (x .fires .grants refl)))
-
-  pub xor-split-from : {l : Label} {σ : Local} {cs : List Choice} → ((g : Choice) → Stands g b cs → Chosen g cs → G) → Moves v (xorSplit e cs) 0 b L l σ → (g : Choice) × Stands g b cs × Goes (row 11) (branching (e ∷ []) (g .exit ∷ []) m ts) G L l σ
-  unfolding if_then_else_ incs decs changed
-  xor-split-from grant (P-XorSplit1 {g = g} s t h o r) =
-      (g, s, record { left = L .σd; fires = plain refl refl refl refl refl (more t none) (λ z. grant g s (inl (h, o))) (more r none); says = (refl, Updates.none); gives = refl })
-  xor-split-from grant (P-XorSplit2 {g = g} s d t h r) =
-      (g, s, record { left = L .σd; fires = plain refl refl refl refl refl (more t none) (λ z. grant g s (inr (d, h))) (more r none); says = (refl, Updates.none); gives = refl })
+    pub xor-split-from : {l : Label} {σ : Local} {cs : List Choice} → ((g : Choice) → Stands g b cs → Chosen g cs → G) → Moves v (xorSplit e cs) 0 b L l σ → (g : Choice) × Stands g b cs × Goes (row 11) (parts (e ∷ []) (g .exit ∷ [])) G L l σ
+    unfolding if_then_else_ incs decs changed
+    xor-split-from grant (P-XorSplit1 {g = g} s t h o r) =
+        (g, s, record { left = L .σd; fires = plain refl refl refl refl refl (more t none) (λ z. grant g s (inl (h, o))) (more r none); says = (refl, Updates.none); gives = refl })
+    xor-split-from grant (P-XorSplit2 {g = g} s d t h r) =
+        (g, s, record { left = L .σd; fires = plain refl refl refl refl refl (more t none) (λ z. grant g s (inr (d, h))) (more r none); says = (refl, Updates.none); gives = refl })
