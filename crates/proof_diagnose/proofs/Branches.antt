@@ -14,7 +14,7 @@ use Rattle.base_words.specs.Counts.{branches}
 use Rattle.base_words.specs.Iter.{iter}
 use Rattle.base_words.specs.Pick.{if_then_else_}
 use Rattle.base_words.specs.Sum.{sum, hit, oneIf}
-use Rattle.base_words.specs.Words.{at, greatest}
+use Rattle.base_words.specs.Words.{at}
 use Rattle.base_words.proofs.AllLaws.{and-left, and-right}
 use Rattle.base_words.proofs.IterLaws.{iter-keeps}
 use Rattle.base_words.proofs.PickLaws.{and-true}
@@ -23,7 +23,7 @@ use Rattle.base_table.specs.Places.{entriesPlace, exitsPlace, messagePlace, ele
 use Rattle.base_table.specs.Table.{kindIn, exitCount, messageName}
 use Rattle.check_occurrences.specs.Occurrences.{receivedCount, asReceived}
 use Rattle.check_model.specs.Checks.{Pool, poolReceives}
-use Rattle.draw_things.specs.Things.{oneMore, isNode, sort, within, source, target, kind, sequenceFlow, messageFlow}
+use Rattle.draw_things.specs.Things.{oneMore, isNode, sort, within, source, target, kind, sequenceFlow, messageFlow, greatestNote}
 use Rattle.draw_kinds.specs.Counting.{targetIn, ofSort, countWith, firstWith}
 use Rattle.draw_faults.specs.Amiss.{isOfKind}
 use Rattle.draw_limits.specs.Numbers.{isElement, edgeOf, messageOf}
@@ -36,7 +36,7 @@ use Rattle.proof_diagnose.proofs.Messages.{Long, set-long, head-long, e
 
 one-more : (a : ℕ) → a < branches → oneMore a ≡ a + 1
 unfolding oneMore if_then_else_
-one-more a l = rw (lt-ltb a greatest (omega (arith, l))) refl
+one-more a l = rw (lt-ltb a greatestNote (omega (arith, l))) refl
 
 record Held (c : ℕ) (x : List ℕ) : Type 0 where
   pub long : Long x

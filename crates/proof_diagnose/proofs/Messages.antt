@@ -15,7 +15,7 @@ use Rattle.base_words.specs.Each.{joined, total}
 use Rattle.base_words.specs.Pick.{if_then_else_}
 use Rattle.base_words.specs.Seek.{seek}
 use Rattle.base_words.specs.Sum.{sum, hit, oneIf}
-use Rattle.base_words.specs.Words.{at, greatest}
+use Rattle.base_words.specs.Words.{at}
 use Rattle.base_words.proofs.AllLaws.{and-left, and-right, all-fails}
 use Rattle.base_words.proofs.EachLaws.{total-append}
 use Rattle.base_words.proofs.IterLaws.{iter-keeps}
@@ -26,7 +26,7 @@ use Rattle.base_table.specs.Places.{kindPlace, entriesPlace, exitsPlace, messag
 use Rattle.base_table.specs.Table.{kindIn, exitCount, messageName}
 use Rattle.check_occurrences.specs.Occurrences.{receivedCount, sentCount, asReceived, asSent}
 use Rattle.check_model.specs.Checks.{Pool, poolReceives, poolSends, notSentThere}
-use Rattle.draw_things.specs.Things.{oneMore, isNode, sort, within, source, target, kind, branch, messageFlow}
+use Rattle.draw_things.specs.Things.{oneMore, isNode, sort, within, source, target, kind, branch, messageFlow, greatestNote}
 use Rattle.draw_kinds.specs.Counting.{sourceIn, targetIn, isWith, countWith, firstWith, ofSort}
 use Rattle.draw_faults.specs.Amiss.{sends, receives, isSender, isReceiver}
 use Rattle.draw_limits.specs.Numbers.{isElement, edgeOf, firstEdgeOf, messageOf}
@@ -45,9 +45,9 @@ set-long x i v e = record { is = length-set x i v ∙ e .is }
 
 pub few-before : (a : ℕ) → oneMore a ≤ branches → a < branches
 unfolding oneMore if_then_else_
-few-before a = go (ltb a greatest)
+few-before a = go (ltb a greatestNote)
   where
-    go : (b : Bool) → (if b then a + 1 else greatest) ≤ branches → a < branches
+    go : (b : Bool) → (if b then a + 1 else greatestNote) ≤ branches → a < branches
     go true l = omega (arith, l)
     go false l = absurd (omega (arith, l))
 

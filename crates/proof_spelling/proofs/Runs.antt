@@ -13,10 +13,10 @@ use Rattle.base_words.specs.Each.{joined}
 use Rattle.base_words.specs.Iter.{iter}
 use Rattle.base_words.specs.Pick.{if_then_else_}
 use Rattle.base_words.specs.Sum.{sum, oneIf}
-use Rattle.base_words.specs.Words.{at, greatest}
+use Rattle.base_words.specs.Words.{at}
 use Rattle.base_words.proofs.PickLaws.{pick-yes}
 use Rattle.base_table.specs.Places.{entriesPlace, exitsPlace, edgePlace, conditionPlace, messagePlace, elementWords}
-use Rattle.draw_things.specs.Things.{room, oneMore, source, target, sequenceFlow}
+use Rattle.draw_things.specs.Things.{room, oneMore, source, target, sequenceFlow, greatestNote}
 use Rattle.draw_kinds.specs.Counting.{ofSort}
 use Rattle.draw_conditions.specs.declared.Term.{Term}
 use Rattle.draw_conditions.specs.declared.Condition.{Condition}
@@ -35,7 +35,7 @@ set-other x i j v h = getD-set-other x i j v 0 h
 
 pub more-is : (v : ℕ) → v ≤ room → oneMore v ≡ v + 1
 unfolding oneMore
-more-is v h = sym (pick-yes (ltb v greatest) (v + 1) (v + 1) greatest (lt-ltb v greatest (omega (arith, h))) refl)
+more-is v h = sym (pick-yes (ltb v greatestNote) (v + 1) (v + 1) greatestNote (lt-ltb v greatestNote (omega (arith, h))) refl)
 
 pub either : {A : Type 0} (P : A → Type 0) (b : Bool) (x y : A) → P x → P y → P (if b then x else y)
 unfolding if_then_else_
