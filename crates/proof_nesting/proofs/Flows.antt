@@ -4,7 +4,7 @@ use Prim.Native.Nat.{ℕ, _+_, _≤_, _<_}
 use mathlib.Core.Path.{_≡_, refl, sym, ap, subst}
 use mathlib.Core.Bool.{true, false}
 use mathlib.Core.List.{List, _++_}
-use mathlib.Core.Logic.{inl, inr}
+use mathlib.Core.Logic.{_⊎_, inl, inr}
 use native.Mathlib.Omega.{arith}
 use lib.Dec.{eqb}
 use borrow.Author.Tests.{eqb-true, eqb-false, eq-eqb, ne-eqb}
@@ -160,6 +160,15 @@ module _ (P : ℕ → List ℕ) (c : ℕ) where
         by-choice (λ (y : ℕ). 1 ≤ y) (eqb (taskIn (P k)) 0) 0 (hit (taskIn (P k)) (taskIn (P k))) (λ e. absurd (n (eqb-true (taskIn (P k)) 0 e)))
         (λ e. let h : hit (taskIn (P k)) (taskIn (P k)) ≡ 1 = ap oneIf (eq-eqb (taskIn (P k)) (taskIn (P k)) refl) in omega arith)
 
+    -- what row m does one way, x at edges, is at most what it does the other, y at edges
+    level : (less more : ℕ) (m : Move) {x y few enough : ℕ} → x ≤ few → enough ≤ y
+        → few + (oneIf (eqb (m .active) less) + oneIf (eqb (m .ready) less)) ≤ enough + (oneIf (eqb (m .active) more) + oneIf (eqb (m .ready) more))
+        → ((m .active ≡ more) ⊎ (m .ready ≡ more) → isTask (kindIn (P k)) ≡ true)
+        → x + counts less (tasked (taskIn (P k))) m ≤ y + counts more (tasked (taskIn (P k))) m
+    level less more m f g row task =
+        let n : (m .active ≡ more) ⊎ (m .ready ≡ more) → 1 ≤ tasked (taskIn (P k)) = λ e. tasked-least (sound .tasks-numbered k there (task e)) in
+        omega (arith, f, g, row, counts-most less (tasked (taskIn (P k))) m tasked-most, counts-least more (tasked (taskIn (P k))) m (λ e. n (inl e)) (λ e. n (inr e)))
+
     module _ (es xs : List ℕ) (p : Enters es) (q : Leaves xs) where
       abbrev pub Right : ℕ → ℕ → ℕ → Type 0
       Right l phase b =
@@ -168,17 +177,7 @@ module _ (P : ℕ → List ℕ) (c : ℕ) where
 
       here : (phase b : ℕ) → Tried (P k) (moveIn (P k) phase) b → Right k phase b
       here phase b t =
-          let m : Move = moveIn (P k) phase in
-          omega (
-            arith,
-            q .few phase b t,
-            p .enough phase b t,
-            counts-most up (tasked (taskIn (P k))) m tasked-most,
-            counts-least down (tasked (taskIn (P k))) m
-                (λ e. tasked-least (sound .tasks-numbered k there (row-lowers (kindIn (P k)) (modeIn (P k)) phase (inl e))))
-                (λ e. tasked-least (sound .tasks-numbered k there (row-lowers (kindIn (P k)) (modeIn (P k)) phase (inr e)))),
-            row-balanced (kindIn (P k)) (modeIn (P k)) phase (t .old),
-          )
+          level up down (moveIn (P k) phase) (q .few phase b t) (p .enough phase b t) (row-balanced (kindIn (P k)) (modeIn (P k)) phase (t .old)) (row-lowers (kindIn (P k)) (modeIn (P k)) phase)
 
       abbrev pub Whole : ℕ → ℕ → ℕ → Type 0
       Whole l phase b =
@@ -187,17 +186,7 @@ module _ (P : ℕ → List ℕ) (c : ℕ) where
 
       here-whole : (phase b : ℕ) → Tried (P k) (moveIn (P k) phase) b → Whole k phase b
       here-whole phase b t =
-          let m : Move = moveIn (P k) phase in
-          omega (
-            arith,
-            p .few phase b t,
-            q .enough phase b t,
-            counts-most down (tasked (taskIn (P k))) m tasked-most,
-            counts-least up (tasked (taskIn (P k))) m
-                (λ e. tasked-least (sound .tasks-numbered k there (row-raises (kindIn (P k)) (modeIn (P k)) phase (inl e))))
-                (λ e. tasked-least (sound .tasks-numbered k there (row-raises (kindIn (P k)) (modeIn (P k)) phase (inr e)))),
-            row-whole (kindIn (P k)) (modeIn (P k)) phase (t .old) (q .goes),
-          )
+          level down up (moveIn (P k) phase) (p .few phase b t) (q .enough phase b t) (row-whole (kindIn (P k)) (modeIn (P k)) phase (t .old) (q .goes)) (row-raises (kindIn (P k)) (modeIn (P k)) phase)
 
       pub same-whole : (l : ℕ) → l ≡ k → (phase b : ℕ) → Tried (P l) (moveIn (P l) phase) b → Whole l phase b
       same-whole l e phase b = subst (λ y. Tried (P y) (moveIn (P y) phase) b → Whole y phase b) (sym e) (here-whole phase b)

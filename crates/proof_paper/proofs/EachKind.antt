@@ -20,7 +20,7 @@ use Rattle.base_table.specs.Table.{kindIn, taskIn, modeIn, entryCount, exitCoun
 use Rattle.check_limits.specs.Limits.{conditionFits, partsFit, elementFits}
 use Rattle.meaning.specs.declared.Truth.the-variants.{True, False}
 use Rattle.meaning.specs.Requirements.{touched, first, branchCount}
-use Rattle.paper.specs.Syntax.{default, Choice, Receipt, Element, start, startRcv, end, terminate, endSnd, interRcv, interSnd, eventBased, andSplit, andJoin, xorJoin, xorSplit, task, taskRcv, taskSnd, Stands, Each, none, more}
+use Rattle.paper.specs.Syntax.{default, Choice, Element, start, startRcv, end, terminate, endSnd, interRcv, interSnd, eventBased, andSplit, andJoin, xorJoin, xorSplit, task, taskRcv, taskSnd, Each, none, more}
 use Rattle.paper.specs.States.{Local}
 use Rattle.paper.specs.Evaluation.{truth}
 use Rattle.paper.specs.Processes.{Label, Moves}
@@ -28,7 +28,7 @@ use Rattle.proof_paper.specs.Decoders.{span, condAt, templateOf, message
 use Rattle.proof_paper.proofs.Spans.{from-here, length-span, stands-from-zero, zero-stands}
 use Rattle.proof_paper.proofs.Changes.{takenEdges, putEdges}
 use Rattle.proof_paper.proofs.Rows.{Parts, Goes}
-use Rattle.proof_paper.proofs.Rules.{row, Given, parts, receiving, Alike, start-rule, start-rcv-rule, end-rule, terminate-rule, end-snd-rule, inter-rcv-rule, inter-snd-rule, and-split-rule, and-join-rule, task-a-rule, task-rcv-a-rule, task-snd-a-rule, task-n1-rule, task-rcv-n1-rule, task-snd-n1-rule, task-n2-rule, task-rcv-n2-rule, task-rcv-n3-rule, task-snd-n2-rule, task-snd-n3-rule, event-to, event-from, xor-join-to, xor-join-from, xor-split-to, xor-split-from}
+use Rattle.proof_paper.proofs.Rules.{row, Given, parts, Alike, Chosen, start-rule, start-rcv-rule, end-rule, terminate-rule, end-snd-rule, inter-rcv-rule, inter-snd-rule, and-split-rule, and-join-rule, task-a-rule, task-rcv-a-rule, task-snd-a-rule, task-n1-rule, task-rcv-n1-rule, task-snd-n1-rule, task-n2-rule, task-rcv-n2-rule, task-rcv-n3-rule, task-snd-n2-rule, task-snd-n3-rule, event-rule, xor-join-rule, xor-split-rule}
 use Rattle.proof_paper.proofs.Words.{condition-fits, guard-plain, mode-is-a, mode-not-a}
 
 -- how many branches an element has
@@ -101,22 +101,18 @@ module _ (v : ℕ) (el : List ℕ) (fits : elementFits el ≡ true) (L : Local) 
   abbrev here : Given (modeAt el)
   here = given 0
 
-  by-parts : (m : Move) (b : ℕ) (E : Element) (takes puts : List ℕ) → elementOf el ≡ E → takenEdges el m b ≡ takes → putEdges el m b ≡ puts
-      → ((l : Label) (σ : Local) → Goes m (parts (given b) takes puts) (Grants el b L) L l σ → Moves v E (m .phase) b L l σ)
-      → ((l : Label) (σ : Local) → Moves v E (m .phase) b L l σ → Goes m (parts (given b) takes puts) (Grants el b L) L l σ)
-      → Same m b
-  by-parts m b E takes puts e t p to from =
+  -- a branch, by its rule
+  by-branch : {m : Move} {b : ℕ} {E : Element} {takes puts : List ℕ} → Alike (given b) m b E takes puts → elementOf el ≡ E → takenEdges el m b ≡ takes → putEdges el m b ≡ puts → Same m b
+  by-branch {m} {b} {E} {takes} {puts} r e t p =
       let q : partsAt v el m b ≡ parts (given b) takes puts = λ i. parts (given b) (t i) (p i) in
       record {
-        to = λ l σ x. subst (λ y. Moves v y (m .phase) b L l σ) (sym e) (to l σ (subst (λ y. Goes m y (Grants el b L) L l σ) q x));
-        from = λ l σ x. subst (λ y. Goes m y (Grants el b L) L l σ) (sym q) (from l σ (subst (λ y. Moves v y (m .phase) b L l σ) e x));
+        to = λ l σ x. subst (λ y. Moves v y (m .phase) b L l σ) (sym e) (r .to l σ (subst (λ y. Goes m y (Grants el b L) L l σ) q x));
+        from = λ l σ x. subst (λ y. Goes m y (Grants el b L) L l σ) (sym q) (r .from l σ (subst (λ y. Moves v y (m .phase) b L l σ) e x));
       }
 
-  -- a row of one branch, by its rule
-  by-rule : {m : Move} {E : Element} {takes puts : List ℕ} → Alike here m E takes puts → width E ≡ 1 → branchCount el m ≡ 1 → elementOf el ≡ E → takenEdges el m 0 ≡ takes → putEdges el m 0 ≡ puts → Agrees m
-  by-rule {m} {E} {takes} {puts} r w c e t p =
-      let s : Same m 0 = by-parts m 0 E takes puts e t p (r .to) (r .from) in
-      (ap width e ∙ w ∙ sym c, (λ b l. let z : 0 ≡ b = omega (arith, c) in subst (Same m) z s))
+  -- a row of one branch
+  by-rule : {m : Move} {E : Element} {takes puts : List ℕ} → Alike here m 0 E takes puts → width E ≡ 1 → branchCount el m ≡ 1 → elementOf el ≡ E → takenEdges el m 0 ≡ takes → putEdges el m 0 ≡ puts → Agrees m
+  by-rule {m} r w c e t p = (ap width e ∙ w ∙ sym c, (λ b l. let z : 0 ≡ b = omega (arith, c) in subst (Same m) z (by-branch r e t p)))
 
   element-is : {k : ℕ} → kindIn el ≡ k → elementOf el ≡ getD (ofEachKind el) k (end 0)
   unfolding elementOf
@@ -158,47 +154,27 @@ module _ (v : ℕ) (el : List ℕ) (fits : elementFits el ≡ true) (L : Local) 
   unfolding entriesOf touched first if_then_else_ branchCount ofEachKind kindOf used width
   xor-join-law k q = (
     ap width (element-is k) ∙ length-span (entryAt el) 0 (entryCount el),
-    (λ b l.
-        by-parts (row 10) b (xorJoin (entriesOf el) (exitAt el 0)) (entryAt el b ∷ []) (exitAt el 0 ∷ []) (element-is k) (just-one (entryAt el) b) (one-exit k refl)
-        (λ m σ x. xor-join-to (given b) b (entryAt el b) (stands-from-zero (entryAt el) (entryCount el) b l) x)
-        (λ m σ x.
-        let (d, s, g) = xor-join-from (given b) b x in
-        let z : d ≡ entryAt el b = zero-stands (entryAt el) d (entryCount el) b s .1 in
-        subst (λ y. Goes (row 10) (parts (given b) (y ∷ []) (exitAt el 0 ∷ [])) (Grants el b L) L m σ) z g)),
+    (λ b l. by-branch (xor-join-rule (given b) b (entryAt el b) (stands-from-zero (entryAt el) (entryCount el) b l)) (element-is k) (just-one (entryAt el) b) (one-exit k refl)),
   )
 
   event-law : Law (row 7)
   unfolding receiptOf touched first if_then_else_ branchCount ofEachKind kindOf used width
   event-law k q = (
     ap width (element-is k) ∙ length-span (receiptOf el) 0 (exitCount el),
-    (λ b l.
-        by-parts (row 7) b (eventBased (entryAt el 0) (span (receiptOf el) 0 (exitCount el))) (entryAt el 0 ∷ []) (exitAt el b ∷ []) (element-is k) (one-entry k refl) (just-one (exitAt el) b)
-        (λ m σ x. event-to (given b) b (receiptOf el b) (stands-from-zero (receiptOf el) (exitCount el) b l) x)
-        (λ m σ x.
-        let (d, s, g) = event-from (given b) b x in
-        let z : d ≡ receiptOf el b = zero-stands (receiptOf el) d (exitCount el) b s .1 in
-        subst (λ (y : Receipt). Goes (row 7) (receiving (given b) y) (Grants el b L) L m σ) z g)),
+    (λ b l. by-branch (event-rule (given b) b (exitAt el b) (stands-from-zero (receiptOf el) (exitCount el) b l)) (element-is k) (one-entry k refl) (just-one (exitAt el) b)),
   )
 
-  abbrev Picked : ℕ → Choice → Type 0
-  Picked b g =
-      ((truth (L .σd) (g .condition) ≡ True) × ((j : ℕ) (c : Choice) → Stands c j (span (choiceOf el) 0 (exitCount el)) → j < b → (c .condition ≡ default → ⊥) → truth (L .σd) (c .condition) ≡ False))
-      ⊎ ((g .condition ≡ default) × ((j : ℕ) (c : Choice) → Stands c j (span (choiceOf el) 0 (exitCount el)) → (j ≡ b → ⊥) → truth (L .σd) (c .condition) ≡ False))
+  abbrev Picked : ℕ → Type 0
+  Picked b = Chosen (given b) b (choiceOf el b) (span (choiceOf el) 0 (exitCount el))
 
   xor-split-law : Law (row 11)
   unfolding choiceOf touched first if_then_else_ branchCount ofEachKind kindOf used width
   xor-split-law k q = (
     ap width (element-is k) ∙ length-span (choiceOf el) 0 (exitCount el),
-    (λ b l.
-        by-parts (row 11) b (xorSplit (entryAt el 0) (span (choiceOf el) 0 (exitCount el))) (entryAt el 0 ∷ []) (exitAt el b ∷ []) (element-is k) (one-entry k refl) (just-one (exitAt el) b)
-        (λ m σ x. xor-split-to (given b) b (choiceOf el b) (stands-from-zero (choiceOf el) (exitCount el) b l) (chooses b) x)
-        (λ m σ x.
-        let (d, s, g) = xor-split-from (given b) b (grants b) x in
-        let z : d ≡ choiceOf el b = zero-stands (choiceOf el) d (exitCount el) b s .1 in
-        subst (λ (y : Choice). Goes (row 11) (parts (given b) (entryAt el 0 ∷ []) (y .exit ∷ [])) (Grants el b L) L m σ) z g)),
+    (λ b l. by-branch (xor-split-rule (given b) b (choiceOf el b) (stands-from-zero (choiceOf el) (exitCount el) b l) (chooses b) (grants b l)) (element-is k) (one-entry k refl) (just-one (exitAt el) b)),
   )
     where
-      chooses : (b : ℕ) → Grants el b L → Picked b (choiceOf el b)
+      chooses : (b : ℕ) → Grants el b L → Picked b
       chooses b g =
           ⊎-elim
           (λ h. inl (
@@ -214,16 +190,11 @@ module _ (v : ℕ) (el : List ℕ) (fits : elementFits el ≡ true) (L : Local) 
                 subst (λ (y : Choice). truth (L .σd) (y .condition) ≡ False) (sym (w .1)) (d .1 j (w .0) ne)),
           )) g
 
-      grants : (b : ℕ) (g : Choice) → Stands g b (span (choiceOf el) 0 (exitCount el)) → Picked b g → Grants el b L
-      grants b g s p =
-          let w = zero-stands (choiceOf el) g (exitCount el) b s in
-          let z : g ≡ choiceOf el b = w .1 in
+      grants : (b : ℕ) → b < exitCount el → Picked b → Grants el b L
+      grants b l =
           ⊎-elim
-          (λ h. inl (
-            subst (λ (y : Choice). truth (L .σd) (y .condition) ≡ True) z (h .0),
-            (λ j r ne. h .1 j (choiceOf el j) (stands-from-zero (choiceOf el) (exitCount el) j (omega (arith, r, w .0))) r ne),
-          ))
-          (λ d. inr (subst (λ (y : Choice). y .condition ≡ default) z (d .0), (λ j r ne. d .1 j (choiceOf el j) (stands-from-zero (choiceOf el) (exitCount el) j r) ne))) p
+          (λ h. inl (h .0, (λ j r ne. h .1 j (choiceOf el j) (stands-from-zero (choiceOf el) (exitCount el) j (omega (arith, r, l))) r ne)))
+          (λ d. inr (d .0, (λ j r ne. d .1 j (choiceOf el j) (stands-from-zero (choiceOf el) (exitCount el) j r) ne)))
 
   -- EVERY ROW
   no-law : Law noMove
