@@ -24,7 +24,7 @@ use Rattle.draw_things.specs.Things.{place, within}
 use Rattle.draw_walk.specs.Walk.{Walk}
 use Rattle.draw_faults.specs.Amiss.{hasParticipants, isPool}
 use Rattle.draw_model.specs.Content.{processOf, poolDrawn, poolIf, content}
-use Rattle.draw_read.specs.Drawings.{notRun, checkedAs, fittedBy, meantBy, walked, thingsOf, judged, answered}
+use Rattle.draw_read.specs.Drawings.{notRun, checkedAs, meantBy, walked, thingsOf, judged, answered}
 use Rattle.draw_diagnose.specs.declared.Diagnosis.{Diagnosis}
 use Rattle.draw_diagnose.specs.Seats.{isMisstarted, isUnasked, hasDefaults, isPoolSeat, isSeat, firstSeat, seatAt}
 use Rattle.draw_diagnose.specs.Diagnosis.{checkBroken, told, diagnosedBy, diagnosed}
@@ -201,13 +201,13 @@ module _ (text : List ℕ) where
   abbrev Beside : Reading → Type 0
   Beside r = r .number ≡ checkBroken → r .beside ≡ lowest (content text things n)
 
-  fitted : Beside (fittedBy text things n)
-  unfolding fittedBy checkedAs answerFor
-  fitted = choice Beside _ _ _ (λ e. absurd (omega (arith, e))) (λ e. refl)
+  checked : Beside (checkedAs (content text things n))
+  unfolding checkedAs answerFor
+  checked e = refl
 
   meant : Beside (meantBy text things n)
   unfolding meantBy
-  meant = choice Beside _ _ _ (λ e. absurd (omega (arith, e))) (choice Beside _ _ _ (λ e. absurd (omega (arith, e))) fitted)
+  meant = choice Beside _ _ _ (λ e. absurd (omega (arith, e))) (choice Beside _ _ _ (λ e. absurd (omega (arith, e))) checked)
 
   beside-4 : Beside (answered text)
   unfolding answered judged
