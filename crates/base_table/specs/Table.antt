@@ -22,11 +22,11 @@ abbrev pub elementAt : Table → ℕ → ℕ → Element
 elementAt t p e = drop (elementPlace p e) t
 
 -- the place of the pool with a number; the pool count where there is none
-unfoldable pub numbered : Table → ℕ → ℕ → Bool
-numbered t number p = eqb (at t (poolPlace p)) number
+unfoldable pub hasNumber : Table → ℕ → ℕ → Bool
+hasNumber t number p = eqb (at t (poolPlace p)) number
 
 unfoldable pub poolOf : Table → ℕ → ℕ
-poolOf t number = seek (numbered t number) (poolCount t)
+poolOf t number = seek (hasNumber t number) (poolCount t)
 
 -- "A `pool` makes at most 1 instance, a `miPool` at most n." (RULES: model)
 unfoldable pub limitOf : Table → ℕ → ℕ

@@ -4,7 +4,7 @@ ghost use lib.ListN.{drop};
 ghost use Rattle.base_words.specs.Words.{at};
 ghost use Rattle.base_words.specs.Seek.{seek};
 ghost use Rattle.base_table.specs.Places.{edgePlace};
-ghost use Rattle.base_table.specs.Table.{poolCount, elementCount, elementAt, numbered, poolOf, limitOf, kindIn, taskIn, modeIn, entryCount, exitCount, conditionAt, messageName, messageLength, itemAt, assignmentCount, assignmentAt};
+ghost use Rattle.base_table.specs.Table.{poolCount, elementCount, elementAt, hasNumber, poolOf, limitOf, kindIn, taskIn, modeIn, entryCount, exitCount, conditionAt, messageName, messageLength, itemAt, assignmentCount, assignmentAt};
 use base_kinds::count_by;
 use base_kinds::entries_of;
 use base_kinds::exits_of;
@@ -60,13 +60,13 @@ pub fn element_at(t: &[Word], p: Word, e: Word) -> &[Word]
 }
 
 fn is_numbered(t: &[Word], number: Word, p: Word) -> bool
-    ensures { λ r. ⌜ r ≡ numbered (now (t .entry)) number p ⌝ }
+    ensures { λ r. ⌜ r ≡ hasNumber (now (t .entry)) number p ⌝ }
 {
     word(t, FIRST_POOL + POOL_WORDS * (p as usize)) == number
 }
 
 fn pool_below(t: &[Word], number: Word, n: Word) -> Word
-    ensures { λ r. ⌜ r ≡ seek (numbered (now (t .entry)) number) n ⌝ }
+    ensures { λ r. ⌜ r ≡ seek (hasNumber (now (t .entry)) number) n ⌝ }
 {
     let mut p: Word = 0;
     while p < n {

@@ -50,8 +50,8 @@ abbrev pub stores : ℕ
 stores = 16
 
 -- fields that a table may name: an instance's own, then the stores
-abbrev pub named : ℕ
-named = fields + stores
+abbrev pub fieldsNamed : ℕ
+fieldsNamed = fields + stores
 
 -- values of a message
 abbrev pub values : ℕ

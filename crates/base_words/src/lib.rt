@@ -2,7 +2,7 @@
 ghost use mathlib.Core.Path.{_≡_};
 ghost use Prim.Native.Nat.{_-_};
 ghost use lib.ListN.{length, set, drop, replicate};
-ghost use Rattle.base_words.specs.Words.{at};
+ghost use Rattle.base_words.specs.Words.{at, oneMore};
 
 pub mod counts;
 pub mod numbers;
@@ -15,6 +15,13 @@ pub const GREATEST: Word = 4294967295;
 
 // And its digits.
 pub const DIGITS: usize = 10;
+
+// One more; the greatest word stays.
+pub fn one_more(n: Word) -> Word
+    ensures { λ r. ⌜ r ≡ oneMore n ⌝ }
+{
+    if n < GREATEST { n + 1 } else { n }
+}
 
 pub fn word(s: &[Word], i: usize) -> Word
     ensures { λ r. ⌜ r ≡ at (now (s .entry)) i ⌝ }

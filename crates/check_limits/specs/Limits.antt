@@ -9,7 +9,7 @@ use Rattle.base_words.specs.Blocks.{Block, Table, Element}
 use Rattle.base_words.specs.All.{all}
 use Rattle.base_words.specs.Pick.{if_then_else_}
 use Rattle.base_words.specs.Words.{at}
-use Rattle.base_words.specs.Counts.{pools, elements, fewest, branches, poolNumbers, edges, tasks, names, instances, named, values, assignments}
+use Rattle.base_words.specs.Counts.{pools, elements, fewest, branches, poolNumbers, edges, tasks, names, instances, fieldsNamed, values, assignments}
 use Rattle.base_kinds.specs.declared.Kind.{Kind}
 use Rattle.base_kinds.specs.Kinds.{none, one, many, kindOf, used, endSnd}
 use Rattle.base_kinds.specs.Moves.{a, na-nc}
@@ -30,7 +30,7 @@ things x w n k right = all (λ j. right (drop (w * j) x)) k && zeros (drop (w * 
 
 -- an operand: a number, or a field 0 to 15
 unfoldable pub operandFits : Block → Bool
-operandFits x = if eqb (at x 0) 0 then true else eqb (at x 0) aField && ltb (at x operandNumber) named
+operandFits x = if eqb (at x 0) 0 then true else eqb (at x 0) aField && ltb (at x operandNumber) fieldsNamed
 
 -- an expression: an operand alone, or two joined
 unfoldable pub expressionFits : Block → Bool
@@ -40,7 +40,7 @@ expressionFits x =
 
 -- an item of a message: an expression, or, where it is received, a field that it binds
 unfoldable pub bindFits : Block → Bool
-bindFits x = eqb (at x leftPlace) aField && ltb (at x (leftPlace + operandNumber)) named && zeros (drop rightPlace x) operandWords
+bindFits x = eqb (at x leftPlace) aField && ltb (at x (leftPlace + operandNumber)) fieldsNamed && zeros (drop rightPlace x) operandWords
 
 unfoldable pub itemFits : ℕ → Block → Bool
 itemFits receives x = if eqb (at x formPlace) binding then (if eqb receives none then false else bindFits x) else expressionFits x
@@ -58,7 +58,7 @@ messageFits receives x = ltb (at x 0) names && leb (at x lengthIn) values && thi
 
 -- an assignment: a field and an expression
 unfoldable pub assignmentFits : Block → Bool
-assignmentFits x = ltb (at x 0) named && expressionFits (drop assignedIn x)
+assignmentFits x = ltb (at x 0) fieldsNamed && expressionFits (drop assignedIn x)
 
 -- a list of entries or exits: none, one, or 2 to 8; each edge 1 to 48
 unfoldable pub countFits : ℕ → ℕ → Bool

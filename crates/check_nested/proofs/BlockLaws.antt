@@ -14,7 +14,7 @@ use Rattle.base_table.specs.Table.{kindIn}
 use Rattle.check_tally.specs.Tally.{marked, place}
 use Rattle.check_nesting.specs.Nesting.{starts, passes, closesAll, closesOne, closes, entriesOf}
 use Rattle.check_nested.specs.Splits.{splits}
-use Rattle.check_nesting.specs.Deciding.{taker, edgesIn, sameEdges, isBlock, closing}
+use Rattle.check_nesting.specs.Deciding.{taker, edgesIn, sameEdges, isBlock, closingJoin}
 
 -- k is the kind of el
 module _ (el : List ℕ) (k : ℕ) (is : k ≡ kindIn el) where
@@ -96,12 +96,12 @@ module _ (P : ℕ → List ℕ) (c k a j : ℕ) (s : List ℕ) (b : Bool) (is : 
   block-at : isBlock P c s k (taker P c a) ≡ b
   block-at = ap (isBlock P c s k) (sym is) ∙ sym told
 
-  pub closed-by : b ≡ true → j ≡ closing P c k a s
-  unfolding closing
+  pub closed-by : b ≡ true → j ≡ closingJoin P c k a s
+  unfolding closingJoin
   closed-by h = pick-yes _ _ _ _ (block-at ∙ h) is
 
-  pub closed-none : b ≡ false → (n : ℕ) → n ≡ c → n ≡ closing P c k a s
-  unfolding closing
+  pub closed-none : b ≡ false → (n : ℕ) → n ≡ c → n ≡ closingJoin P c k a s
+  unfolding closingJoin
   closed-none h n e = pick-no _ _ _ _ (block-at ∙ h) e
 
 -- a number that is a word is marked at its own place

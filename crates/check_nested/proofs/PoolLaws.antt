@@ -15,14 +15,14 @@ use Rattle.base_words.proofs.PickLaws.{pick-yes, pick-no, and-yes, and-no, flag
 use Rattle.base_kinds.specs.Kinds.{end}
 use Rattle.base_table.specs.Table.{kindIn, exitAt}
 use Rattle.check_tally.specs.Tally.{marked, tally}
-use Rattle.check_nesting.specs.Deciding.{walk, firstOf, wholeWalk, lastOf, eachOnce, meetsAll, endsAt, isNested}
+use Rattle.check_nesting.specs.Deciding.{sequenceWalk, firstOf, wholeWalk, lastOf, eachOnce, meetsAll, endsAt, isNested}
 use Rattle.check_nesting.specs.Offending.{strayOf, offendingBy, offending}
 
 module _ (P : ℕ → List ℕ) (c : ℕ) where
-  pub met-is : (first last x : ℕ) (m s t u : List ℕ) → s ≡ marked m first → t ≡ marked s last → x ≡ exitAt (P first) 0 → u ≡ tally t (walk P c elements x .on)
+  pub met-is : (first last x : ℕ) (m s t u : List ℕ) → s ≡ marked m first → t ≡ marked s last → x ≡ exitAt (P first) 0 → u ≡ tally t (sequenceWalk P c elements x .on)
       → u ≡ tally m (first ∷ last ∷ wholeWalk P c first .on)
   unfolding wholeWalk tally
-  met-is first last x m s t u e f g h = h ∙ ap₂ (λ (t : List ℕ) (x : ℕ). tally t (walk P c elements x .on)) (f ∙ ap (λ (s : List ℕ). marked s last) e) g
+  met-is first last x m s t u e f g h = h ∙ ap₂ (λ (t : List ℕ) (x : ℕ). tally t (sequenceWalk P c elements x .on)) (f ∙ ap (λ (s : List ℕ). marked s last) e) g
 
   module _ (first last n : ℕ) (u : List ℕ) (met : u ≡ tally (replicate elements 0) (first ∷ last ∷ wholeWalk P c first .on)) (many : n ≡ c) where
     pub meets-is : (r : Bool) → r ≡ all (λ k. eqb (at u k) 1) n → r ≡ meetsAll P c first last

@@ -17,7 +17,7 @@ use Rattle.check_tally.specs.Tally.{marked, tally}
 use Rattle.check_tally.proofs.TallyLaws.{tally-append}
 use Rattle.check_nesting.specs.Nesting.{passes, exitsOf, closesAll, closesOne, closes}
 use Rattle.check_nested.specs.Splits.{splits}
-use Rattle.check_nesting.specs.Deciding.{taker, edgesIn, Walk, halted, over, stops, passed, lastIn, isBlock, closing, joinOf, ahead, walk}
+use Rattle.check_nesting.specs.Deciding.{taker, edgesIn, SequenceWalk, halted, walkedOver, stops, elementsPassed, lastIn, isBlock, closingJoin, joinOf, ahead, sequenceWalk}
 
 taken : {A : Type 0} (b : Bool) (x y : A) → b ≡ true → (if b then x else y) ≡ x
 unfolding if_then_else_
@@ -28,11 +28,11 @@ unfolding if_then_else_
 left b x y e = rw e
 
 -- what a walk that is known stops at, and what it meets
-stopped : (w v : Walk) → w ≡ v → (r : ℕ) → r ≡ v .stop → r ≡ w .stop
-stopped w v e r q = q ∙ sym (ap (λ (w : Walk). w .stop) e)
+stopped : (w v : SequenceWalk) → w ≡ v → (r : ℕ) → r ≡ v .stop → r ≡ w .stop
+stopped w v e r q = q ∙ sym (ap (λ (w : SequenceWalk). w .stop) e)
 
-met : (s u : List ℕ) (w v : Walk) → w ≡ v → u ≡ tally s (v .on) → u ≡ tally s (w .on)
-met s u w v e q = q ∙ ap (λ (w : Walk). tally s (w .on)) (sym e)
+met : (s u : List ℕ) (w v : SequenceWalk) → w ≡ v → u ≡ tally s (v .on) → u ≡ tally s (w .on)
+met s u w v e q = q ∙ ap (λ (w : SequenceWalk). tally s (w .on)) (sym e)
 
 -- what opens no block is closed by nothing
 not-closed : (el join : List ℕ) → splits el ≡ false → closes el join ≡ false
@@ -55,8 +55,8 @@ module _ (P : ℕ → List ℕ) (c : ℕ) where
       go false b d e = refl
       go true b d e = rw e
 
-  pub no-join : (go : ℕ → Walk) (k : ℕ) (b : Bool) (r : ℕ) → b ≡ splits (P k) → not b ≡ true → r ≡ c → r ≡ joinOf P c go k
-  unfolding joinOf closing
+  pub no-join : (go : ℕ → SequenceWalk) (k : ℕ) (b : Bool) (r : ℕ) → b ≡ splits (P k) → not b ≡ true → r ≡ c → r ≡ joinOf P c go k
+  unfolding joinOf closingJoin
   no-join go k b r e h q = q ∙ sym (left (isBlock P c _ k _) _ _ (not-block _ k _ (sym e ∙ off b h)))
     where
       off : (b : Bool) → not b ≡ true → b ≡ false
@@ -65,46 +65,46 @@ module _ (P : ℕ → List ℕ) (c : ℕ) where
 
   -- FROM AN EDGE: m is how many elements there are
   module _ (n a : ℕ) where
-    walk-none : n ≡ 0 → walk P c n a ≡ halted a
-    unfolding walk
+    walk-none : n ≡ 0 → sequenceWalk P c n a ≡ halted a
+    unfolding sequenceWalk
     walk-none e = rw e
 
-    pub stop-none : n ≡ 0 → a ≡ walk P c n a .stop
+    pub stop-none : n ≡ 0 → a ≡ sequenceWalk P c n a .stop
     stop-none e = stopped _ _ (walk-none e) a refl
 
-    pub way-nothing : (s : List ℕ) → n ≡ 0 → s ≡ tally s (walk P c n a .on)
+    pub way-nothing : (s : List ℕ) → n ≡ 0 → s ≡ tally s (sequenceWalk P c n a .on)
     unfolding tally
     way-nothing s e = met s s _ _ (walk-none e) refl
 
-  walk-next : (n a : ℕ) → (n ≡ 0 → ⊥) → walk P c n a ≡ (if ltb (taker P c a) c then ahead P c (walk P c (n - 1)) a (taker P c a) else halted a)
-  unfolding walk
+  walk-next : (n a : ℕ) → (n ≡ 0 → ⊥) → sequenceWalk P c n a ≡ (if ltb (taker P c a) c then ahead P c (sequenceWalk P c (n - 1)) a (taker P c a) else halted a)
+  unfolding sequenceWalk
   walk-next zero a h = absurd (h refl)
-  walk-next (suc n) a h = let e : n ≡ suc n - 1 = omega arith in ap (λ m. if ltb (taker P c a) c then ahead P c (walk P c m) a (taker P c a) else halted a) e
+  walk-next (suc n) a h = let e : n ≡ suc n - 1 = omega arith in ap (λ m. if ltb (taker P c a) c then ahead P c (sequenceWalk P c m) a (taker P c a) else halted a) e
 
   module _ (n a k m : ℕ) (some : n ≡ 0 → ⊥) (takes : k ≡ taker P c a) (many : m ≡ c) where
-    walk-halted : m ≤ k → walk P c n a ≡ halted a
+    walk-halted : m ≤ k → sequenceWalk P c n a ≡ halted a
     walk-halted l = walk-next n a some ∙ left (ltb (taker P c a) c) _ _ (le-ltb (taker P c a) c (omega (arith, takes, many, l)))
 
-    walk-ahead : k < m → walk P c n a ≡ ahead P c (walk P c (n - 1)) a k
+    walk-ahead : k < m → sequenceWalk P c n a ≡ ahead P c (sequenceWalk P c (n - 1)) a k
     walk-ahead l =
-        walk-next n a some ∙ taken (ltb (taker P c a) c) _ _ (lt-ltb (taker P c a) c (omega (arith, takes, many, l))) ∙ ap (ahead P c (walk P c (n - 1)) a) (sym takes)
+        walk-next n a some ∙ taken (ltb (taker P c a) c) _ _ (lt-ltb (taker P c a) c (omega (arith, takes, many, l))) ∙ ap (ahead P c (sequenceWalk P c (n - 1)) a) (sym takes)
 
-    pub stop-halted : m ≤ k → a ≡ walk P c n a .stop
+    pub stop-halted : m ≤ k → a ≡ sequenceWalk P c n a .stop
     stop-halted l = stopped _ _ (walk-halted l) a refl
 
-    pub stop-ahead : k < m → (r : ℕ) → r ≡ ahead P c (walk P c (n - 1)) a k .stop → r ≡ walk P c n a .stop
+    pub stop-ahead : k < m → (r : ℕ) → r ≡ ahead P c (sequenceWalk P c (n - 1)) a k .stop → r ≡ sequenceWalk P c n a .stop
     stop-ahead l r e = stopped _ _ (walk-ahead l) r e
 
-    pub way-halted : (s : List ℕ) → m ≤ k → s ≡ tally s (walk P c n a .on)
+    pub way-halted : (s : List ℕ) → m ≤ k → s ≡ tally s (sequenceWalk P c n a .on)
     unfolding tally
     way-halted s l = met s s _ _ (walk-halted l) refl
 
-    pub way-ahead : (s u : List ℕ) → k < m → u ≡ tally s (ahead P c (walk P c (n - 1)) a k .on) → u ≡ tally s (walk P c n a .on)
+    pub way-ahead : (s u : List ℕ) → k < m → u ≡ tally s (ahead P c (sequenceWalk P c (n - 1)) a k .on) → u ≡ tally s (sequenceWalk P c n a .on)
     way-ahead s u l e = met s u _ _ (walk-ahead l) e
 
   -- BY AN ELEMENT that is passed
-  module _ (go : ℕ → Walk) (a k : ℕ) (b : Bool) (told : b ≡ passes (P k)) where
-    ahead-passed : b ≡ true → ahead P c go a k ≡ over (k ∷ []) (go (exitAt (P k) 0))
+  module _ (go : ℕ → SequenceWalk) (a k : ℕ) (b : Bool) (told : b ≡ passes (P k)) where
+    ahead-passed : b ≡ true → ahead P c go a k ≡ walkedOver (k ∷ []) (go (exitAt (P k) 0))
     unfolding ahead
     ahead-passed h = taken (passes (P k)) _ _ (sym told ∙ h)
 
@@ -117,12 +117,12 @@ module _ (P : ℕ → List ℕ) (c : ℕ) where
 
     -- BY A SPLIT: j is the join that closes it, m how many elements there are
     module _ (j m : ℕ) (joins : j ≡ joinOf P c go k) (many : m ≡ c) where
-      ahead-block : b ≡ false → j < m → ahead P c go a k ≡ over (k ∷ j ∷ passed go (exitsOf (P k))) (go (exitAt (P j) 0))
+      ahead-block : b ≡ false → j < m → ahead P c go a k ≡ walkedOver (k ∷ j ∷ elementsPassed go (exitsOf (P k))) (go (exitAt (P j) 0))
       unfolding ahead
       ahead-block h l =
           left (passes (P k)) _ _ (sym told ∙ h)
           ∙ taken (ltb (joinOf P c go k) c) _ _ (lt-ltb (joinOf P c go k) c (omega (arith, joins, many, l)))
-          ∙ ap (λ j. over (k ∷ j ∷ passed go (exitsOf (P k))) (go (exitAt (P j) 0))) (sym joins)
+          ∙ ap (λ j. walkedOver (k ∷ j ∷ elementsPassed go (exitsOf (P k))) (go (exitAt (P j) 0))) (sym joins)
 
       ahead-open : b ≡ false → m ≤ j → ahead P c go a k ≡ halted a
       unfolding ahead
@@ -134,19 +134,19 @@ module _ (P : ℕ → List ℕ) (c : ℕ) where
       pub stop-open : b ≡ false → m ≤ j → a ≡ ahead P c go a k .stop
       stop-open h l = stopped _ _ (ahead-open h l) a refl
 
-      pub way-block : b ≡ false → j < m → (s u : List ℕ) → u ≡ tally s (k ∷ j ∷ (passed go (exitsOf (P k)) ++ go (exitAt (P j) 0) .on)) → u ≡ tally s (ahead P c go a k .on)
+      pub way-block : b ≡ false → j < m → (s u : List ℕ) → u ≡ tally s (k ∷ j ∷ (elementsPassed go (exitsOf (P k)) ++ go (exitAt (P j) 0) .on)) → u ≡ tally s (ahead P c go a k .on)
       way-block h l s u e = met s u _ _ (ahead-block h l) e
 
       pub way-open : b ≡ false → m ≤ j → (s : List ℕ) → s ≡ tally s (ahead P c go a k .on)
       unfolding tally
       way-open h l s = met s s _ _ (ahead-open h l) refl
 
-  pub join-is : (go : ℕ → Walk) (k a r : ℕ) (s : List ℕ) → a ≡ lastIn (stops go (exitsOf (P k))) → s ≡ tally (replicate (edges + 1) 0) (stops go (exitsOf (P k))) → r ≡ closing P c k a s → r ≡ joinOf P c go k
+  pub join-is : (go : ℕ → SequenceWalk) (k a r : ℕ) (s : List ℕ) → a ≡ lastIn (stops go (exitsOf (P k))) → s ≡ tally (replicate (edges + 1) 0) (stops go (exitsOf (P k))) → r ≡ closingJoin P c k a s → r ≡ joinOf P c go k
   unfolding joinOf edgesIn
-  join-is go k a r s e f q = q ∙ ap₂ (closing P c k) e f
+  join-is go k a r s e f q = q ∙ ap₂ (closingJoin P c k) e f
 
 -- SIDE BY SIDE, one more
-module _ (go : ℕ → Walk) (f : ℕ → ℕ) where
+module _ (go : ℕ → SequenceWalk) (f : ℕ → ℕ) where
   stops-append : (xs : List ℕ) (x : ℕ) → stops go (xs ++ (x ∷ [])) ≡ stops go xs ++ (go x .stop ∷ [])
   unfolding stops
   stops-append [] x = refl
@@ -155,13 +155,13 @@ module _ (go : ℕ → Walk) (f : ℕ → ℕ) where
   stops-more : (n : ℕ) → stops go (tab f (n + 1)) ≡ stops go (tab f n) ++ (go (f n) .stop ∷ [])
   stops-more n = ap (stops go) (tab-more f n) ∙ stops-append (tab f n) (f n)
 
-  passed-append : (xs : List ℕ) (x : ℕ) → passed go (xs ++ (x ∷ [])) ≡ passed go xs ++ go x .on
-  unfolding passed
+  passed-append : (xs : List ℕ) (x : ℕ) → elementsPassed go (xs ++ (x ∷ [])) ≡ elementsPassed go xs ++ go x .on
+  unfolding elementsPassed
   passed-append [] x = append-nil (go x .on)
-  passed-append (y ∷ ys) x = ap (λ (l : List ℕ). go y .on ++ l) (passed-append ys x) ∙ sym (append-assoc (go y .on) (passed go ys) (go x .on))
+  passed-append (y ∷ ys) x = ap (λ (l : List ℕ). go y .on ++ l) (passed-append ys x) ∙ sym (append-assoc (go y .on) (elementsPassed go ys) (go x .on))
 
-  passed-more : (n : ℕ) → passed go (tab f (n + 1)) ≡ passed go (tab f n) ++ go (f n) .on
-  passed-more n = ap (passed go) (tab-more f n) ∙ passed-append (tab f n) (f n)
+  passed-more : (n : ℕ) → elementsPassed go (tab f (n + 1)) ≡ elementsPassed go (tab f n) ++ go (f n) .on
+  passed-more n = ap (elementsPassed go) (tab-more f n) ∙ passed-append (tab f n) (f n)
 
   -- the last of them
   last-append : (xs : List ℕ) (x : ℕ) → lastIn (xs ++ (x ∷ [])) ≡ x
@@ -188,15 +188,15 @@ module _ (go : ℕ → Walk) (f : ℕ → ℕ) where
     marked-more n r t u p e q =
         q ∙ ap₂ marked p e ∙ sym (tally-append s (stops go (tab f n)) (go (f n) .stop ∷ [])) ∙ ap (tally s) (sym (stops-more n))
 
-    pub way-none : s ≡ tally s (passed go (tab f 0))
-    unfolding passed tally tab
+    pub way-none : s ≡ tally s (elementsPassed go (tab f 0))
+    unfolding elementsPassed tally tab
     way-none = refl
 
-    pub way-more : (n : ℕ) (t u : List ℕ) → t ≡ tally s (passed go (tab f n)) → u ≡ tally t (go (f n) .on) → u ≡ tally s (passed go (tab f (n + 1)))
-    way-more n t u p q = q ∙ ap (λ (t : List ℕ). tally t (go (f n) .on)) p ∙ sym (tally-append s (passed go (tab f n)) (go (f n) .on)) ∙ ap (tally s) (sym (passed-more n))
+    pub way-more : (n : ℕ) (t u : List ℕ) → t ≡ tally s (elementsPassed go (tab f n)) → u ≡ tally t (go (f n) .on) → u ≡ tally s (elementsPassed go (tab f (n + 1)))
+    way-more n t u p q = q ∙ ap (λ (t : List ℕ). tally t (go (f n) .on)) p ∙ sym (tally-append s (elementsPassed go (tab f n)) (go (f n) .on)) ∙ ap (tally s) (sym (passed-more n))
 
 -- all of them, where m is how many there are
-module _ (go : ℕ → Walk) (f : ℕ → ℕ) (n i m : ℕ) (many : m ≡ n) (up : m ≤ i) (most : i ≤ m) where
+module _ (go : ℕ → SequenceWalk) (f : ℕ → ℕ) (n i m : ℕ) (many : m ≡ n) (up : m ≤ i) (most : i ≤ m) where
   all-done : n ≡ i
   all-done = omega (arith, many, up, most)
 
@@ -206,11 +206,11 @@ module _ (go : ℕ → Walk) (f : ℕ → ℕ) (n i m : ℕ) (many : m ≡ n) (u
   pub marked-done : (s t : List ℕ) → t ≡ tally s (stops go (tab f i)) → t ≡ tally s (stops go (tab f n))
   marked-done s t e = rw all-done e
 
-  pub way-done : (s t : List ℕ) → t ≡ tally s (passed go (tab f i)) → t ≡ tally s (passed go (tab f n))
+  pub way-done : (s t : List ℕ) → t ≡ tally s (elementsPassed go (tab f i)) → t ≡ tally s (elementsPassed go (tab f n))
   way-done s t e = rw all-done e
 
 -- a block on the way: its split, its join, what is met between and behind
-pub way-through : (go : ℕ → Walk) (s t v w u : List ℕ) (k j x y : ℕ) (is : List ℕ) → x ≡ y → t ≡ marked s k → v ≡ marked t j → w ≡ tally v is → u ≡ tally w (go x .on) → u ≡ tally s (k ∷ j ∷ (is ++ go y .on))
+pub way-through : (go : ℕ → SequenceWalk) (s t v w u : List ℕ) (k j x y : ℕ) (is : List ℕ) → x ≡ y → t ≡ marked s k → v ≡ marked t j → w ≡ tally v is → u ≡ tally w (go x .on) → u ≡ tally s (k ∷ j ∷ (is ++ go y .on))
 unfolding tally
 way-through go s t v w u k j x y is q e f g h =
     h ∙ ap₂ (λ (w : List ℕ) (x : ℕ). tally w (go x .on)) g q ∙ sym (tally-append v is (go y .on)) ∙ ap (λ (v : List ℕ). tally v (is ++ go y .on)) (f ∙ ap (λ (t : List ℕ). marked t j) e)

@@ -5,7 +5,7 @@ ghost use Rattle.base_table.specs.Table.{elementCount, elementAt};
 ghost use Rattle.check_tally.specs.Tally.{marked, tally};
 ghost use Rattle.check_nesting.specs.Nesting.{starts, passes, closes, entriesOf};
 ghost use Rattle.check_nested.specs.Splits.{splits};
-ghost use Rattle.check_nesting.specs.Deciding.{entryOf, takes, taker, edgesIn, sameEdges, isBlock, closing};
+ghost use Rattle.check_nesting.specs.Deciding.{entryOf, takes, taker, edgesIn, sameEdges, isBlock, closingJoin};
 use base_kinds::moves::AND_JOIN;
 use base_kinds::moves::AND_SPLIT;
 use base_kinds::moves::EVENT_BASED;
@@ -176,7 +176,7 @@ fn is_block(t: &[Word], p: Word, s: &[Word], k: Word, j: Word) -> bool
 
 // The join that closes the split k, one of whose branches stops at the edge a, the tally s telling where all of them do; the count of elements where none does.
 pub fn closing(t: &[Word], p: Word, k: Word, a: Word, s: &[Word]) -> Word
-    ensures { λ r. ⌜ r ≡ closing (elementAt (now (t .entry)) p) (elementCount (now (t .entry)) p) k a (now (s .entry)) ⌝ }
+    ensures { λ r. ⌜ r ≡ closingJoin (elementAt (now (t .entry)) p) (elementCount (now (t .entry)) p) k a (now (s .entry)) ⌝ }
 {
     let j = taker(t, p, a);
     if is_block(t, p, s, k, j) {

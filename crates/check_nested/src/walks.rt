@@ -5,7 +5,7 @@ ghost use Rattle.base_table.specs.Table.{elementCount, elementAt, exitCount, ex
 ghost use Rattle.check_tally.specs.Tally.{tally};
 ghost use Rattle.check_nesting.specs.Nesting.{passes, exitsOf};
 ghost use Rattle.check_nested.specs.Splits.{splits};
-ghost use Rattle.check_nesting.specs.Deciding.{stops, passed, lastIn, joinOf, ahead, walk};
+ghost use Rattle.check_nesting.specs.Deciding.{stops, elementsPassed, lastIn, joinOf, ahead, sequenceWalk};
 use super::blocks::EDGE_TALLY;
 use super::blocks::closing;
 use super::blocks::mark_one;
@@ -45,7 +45,7 @@ fn splits_at(t: &[Word], p: Word, k: Word) -> bool
 
 // Marks where the branches of the split k stop, and says where the last of them does.
 fn walk_branches(t: &[Word], p: Word, n: Word, k: Word, s: &mut [Word]) -> Word
-    ensures { λ r. ⌜ (r ≡ lastIn (stops (walk (elementAt (now (t .entry)) p) (elementCount (now (t .entry)) p) n) (exitsOf (elementAt (now (t .entry)) p k)))) × (now (s .exit) ≡ tally (now (s .entry)) (stops (walk (elementAt (now (t .entry)) p) (elementCount (now (t .entry)) p) n) (exitsOf (elementAt (now (t .entry)) p k)))) ⌝ }
+    ensures { λ r. ⌜ (r ≡ lastIn (stops (sequenceWalk (elementAt (now (t .entry)) p) (elementCount (now (t .entry)) p) n) (exitsOf (elementAt (now (t .entry)) p k)))) × (now (s .exit) ≡ tally (now (s .entry)) (stops (sequenceWalk (elementAt (now (t .entry)) p) (elementCount (now (t .entry)) p) n) (exitsOf (elementAt (now (t .entry)) p k)))) ⌝ }
 {
     let m = exits_at(t, p, k);
     let mut a: Word = 0;
@@ -60,7 +60,7 @@ fn walk_branches(t: &[Word], p: Word, n: Word, k: Word, s: &mut [Word]) -> Word
 
 // The join that closes the split k; the count of elements where none does. What opens no block has none, and its exits are not walked: a walk through a join would go round a loop again and again.
 fn join_of(t: &[Word], p: Word, n: Word, k: Word) -> Word
-    ensures { λ r. ⌜ r ≡ joinOf (elementAt (now (t .entry)) p) (elementCount (now (t .entry)) p) (walk (elementAt (now (t .entry)) p) (elementCount (now (t .entry)) p) n) k ⌝ }
+    ensures { λ r. ⌜ r ≡ joinOf (elementAt (now (t .entry)) p) (elementCount (now (t .entry)) p) (sequenceWalk (elementAt (now (t .entry)) p) (elementCount (now (t .entry)) p) n) k ⌝ }
 {
     if !splits_at(t, p, k) {
         return element_count(t, p);
@@ -72,7 +72,7 @@ fn join_of(t: &[Word], p: Word, n: Word, k: Word) -> Word
 
 // On from the edge a by the element k that takes from it.
 fn stop_ahead(t: &[Word], p: Word, n: Word, a: Word, k: Word) -> Word
-    ensures { λ r. ⌜ r ≡ ahead (elementAt (now (t .entry)) p) (elementCount (now (t .entry)) p) (walk (elementAt (now (t .entry)) p) (elementCount (now (t .entry)) p) n) a k .stop ⌝ }
+    ensures { λ r. ⌜ r ≡ ahead (elementAt (now (t .entry)) p) (elementCount (now (t .entry)) p) (sequenceWalk (elementAt (now (t .entry)) p) (elementCount (now (t .entry)) p) n) a k .stop ⌝ }
 {
     if passes_at(t, p, k) {
         return stop_of(t, p, n, exit_at(t, p, k, 0));
@@ -86,7 +86,7 @@ fn stop_ahead(t: &[Word], p: Word, n: Word, a: Word, k: Word) -> Word
 
 // Where a walk from the edge a stops that goes by at most n elements, one behind or within the other.
 pub fn stop_of(t: &[Word], p: Word, n: Word, a: Word) -> Word
-    ensures { λ r. ⌜ r ≡ walk (elementAt (now (t .entry)) p) (elementCount (now (t .entry)) p) n a .stop ⌝ }
+    ensures { λ r. ⌜ r ≡ sequenceWalk (elementAt (now (t .entry)) p) (elementCount (now (t .entry)) p) n a .stop ⌝ }
 {
     if n == 0 {
         return a;
@@ -99,7 +99,7 @@ pub fn stop_of(t: &[Word], p: Word, n: Word, a: Word) -> Word
 }
 
 fn mark_branches(t: &[Word], p: Word, n: Word, k: Word, m: &mut [Word])
-    ensures { λ _. ⌜ now (m .exit) ≡ tally (now (m .entry)) (passed (walk (elementAt (now (t .entry)) p) (elementCount (now (t .entry)) p) n) (exitsOf (elementAt (now (t .entry)) p k))) ⌝ }
+    ensures { λ _. ⌜ now (m .exit) ≡ tally (now (m .entry)) (elementsPassed (sequenceWalk (elementAt (now (t .entry)) p) (elementCount (now (t .entry)) p) n) (exitsOf (elementAt (now (t .entry)) p k))) ⌝ }
 {
     let most = exits_at(t, p, k);
     let mut j: Word = 0;
@@ -110,7 +110,7 @@ fn mark_branches(t: &[Word], p: Word, n: Word, k: Word, m: &mut [Word])
 }
 
 fn mark_block(t: &[Word], p: Word, n: Word, k: Word, j: Word, m: &mut [Word])
-    ensures { λ _. ⌜ now (m .exit) ≡ tally (now (m .entry)) (k ∷ j ∷ (passed (walk (elementAt (now (t .entry)) p) (elementCount (now (t .entry)) p) n) (exitsOf (elementAt (now (t .entry)) p k)) ++ walk (elementAt (now (t .entry)) p) (elementCount (now (t .entry)) p) n (exitAt (elementAt (now (t .entry)) p j) 0) .on)) ⌝ }
+    ensures { λ _. ⌜ now (m .exit) ≡ tally (now (m .entry)) (k ∷ j ∷ (elementsPassed (sequenceWalk (elementAt (now (t .entry)) p) (elementCount (now (t .entry)) p) n) (exitsOf (elementAt (now (t .entry)) p k)) ++ sequenceWalk (elementAt (now (t .entry)) p) (elementCount (now (t .entry)) p) n (exitAt (elementAt (now (t .entry)) p j) 0) .on)) ⌝ }
 {
     mark_one(m, k);
     mark_one(m, j);
@@ -119,7 +119,7 @@ fn mark_block(t: &[Word], p: Word, n: Word, k: Word, j: Word, m: &mut [Word])
 }
 
 fn mark_ahead(t: &[Word], p: Word, n: Word, a: Word, k: Word, m: &mut [Word])
-    ensures { λ _. ⌜ now (m .exit) ≡ tally (now (m .entry)) (ahead (elementAt (now (t .entry)) p) (elementCount (now (t .entry)) p) (walk (elementAt (now (t .entry)) p) (elementCount (now (t .entry)) p) n) a k .on) ⌝ }
+    ensures { λ _. ⌜ now (m .exit) ≡ tally (now (m .entry)) (ahead (elementAt (now (t .entry)) p) (elementCount (now (t .entry)) p) (sequenceWalk (elementAt (now (t .entry)) p) (elementCount (now (t .entry)) p) n) a k .on) ⌝ }
 {
     if passes_at(t, p, k) {
         mark_one(m, k);
@@ -134,7 +134,7 @@ fn mark_ahead(t: &[Word], p: Word, n: Word, a: Word, k: Word, m: &mut [Word])
 
 // Marks the elements on the way of a walk.
 pub fn mark_way(t: &[Word], p: Word, n: Word, a: Word, m: &mut [Word])
-    ensures { λ _. ⌜ now (m .exit) ≡ tally (now (m .entry)) (walk (elementAt (now (t .entry)) p) (elementCount (now (t .entry)) p) n a .on) ⌝ }
+    ensures { λ _. ⌜ now (m .exit) ≡ tally (now (m .entry)) (sequenceWalk (elementAt (now (t .entry)) p) (elementCount (now (t .entry)) p) n a .on) ⌝ }
 {
     if n == 0 {
         return;

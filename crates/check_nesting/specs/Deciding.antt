@@ -34,24 +34,24 @@ unfoldable pub sameEdges : List ℕ → List ℕ → Bool
 sameEdges s e = all (λ f. eqb (at s f) (at e f)) (edges + 1)
 
 -- A WALK along a sequence: the edge where it stops, and the elements on the way
-pub record Walk : Type 0 where
+pub record SequenceWalk : Type 0 where
   pub stop : ℕ
   pub on : List ℕ
 
-abbrev pub halted : ℕ → Walk
+abbrev pub halted : ℕ → SequenceWalk
 halted a = record { stop = a; on = [] }
 
-abbrev pub over : List ℕ → Walk → Walk
-over ks w = record { stop = w .stop; on = ks ++ w .on }
+abbrev pub walkedOver : List ℕ → SequenceWalk → SequenceWalk
+walkedOver ks w = record { stop = w .stop; on = ks ++ w .on }
 
 -- several walks side by side
-unfoldable pub stops : (ℕ → Walk) → List ℕ → List ℕ
+unfoldable pub stops : (ℕ → SequenceWalk) → List ℕ → List ℕ
 stops go [] = []
 stops go (x ∷ xs) = go x .stop ∷ stops go xs
 
-unfoldable pub passed : (ℕ → Walk) → List ℕ → List ℕ
-passed go [] = []
-passed go (x ∷ xs) = go x .on ++ passed go xs
+unfoldable pub elementsPassed : (ℕ → SequenceWalk) → List ℕ → List ℕ
+elementsPassed go [] = []
+elementsPassed go (x ∷ xs) = go x .on ++ elementsPassed go xs
 
 unfoldable pub lastIn : List ℕ → ℕ
 lastIn [] = 0
@@ -62,32 +62,32 @@ lastIn (x ∷ y ∷ ys) = lastIn (y ∷ ys)
 unfoldable pub isBlock : (ℕ → Element) → ℕ → List ℕ → ℕ → ℕ → Bool
 isBlock P c s k j = ltb j c && (closes (P k) (P j) && sameEdges s (edgesIn (entriesOf (P j))))
 
-unfoldable pub closing : (ℕ → Element) → ℕ → ℕ → ℕ → List ℕ → ℕ
-closing P c k a s = if isBlock P c s k (taker P c a) then taker P c a else c
+unfoldable pub closingJoin : (ℕ → Element) → ℕ → ℕ → ℕ → List ℕ → ℕ
+closingJoin P c k a s = if isBlock P c s k (taker P c a) then taker P c a else c
 
-unfoldable pub joinOf : (ℕ → Element) → ℕ → (ℕ → Walk) → ℕ → ℕ
-joinOf P c go k = closing P c k (lastIn (stops go (exitsOf (P k)))) (edgesIn (stops go (exitsOf (P k))))
+unfoldable pub joinOf : (ℕ → Element) → ℕ → (ℕ → SequenceWalk) → ℕ → ℕ
+joinOf P c go k = closingJoin P c k (lastIn (stops go (exitsOf (P k)))) (edgesIn (stops go (exitsOf (P k))))
 
 -- on by the element k: an element of a sequence is passed, a split with all its branches up to the join
-unfoldable pub ahead : (ℕ → Element) → ℕ → (ℕ → Walk) → ℕ → ℕ → Walk
+unfoldable pub ahead : (ℕ → Element) → ℕ → (ℕ → SequenceWalk) → ℕ → ℕ → SequenceWalk
 ahead P c go a k =
-    if passes (P k) then over (k ∷ []) (go (exitAt (P k) 0))
+    if passes (P k) then walkedOver (k ∷ []) (go (exitAt (P k) 0))
     else if ltb (joinOf P c go k) c
-    then over (k ∷ joinOf P c go k ∷ passed go (exitsOf (P k))) (go (exitAt (P (joinOf P c go k)) 0))
+    then walkedOver (k ∷ joinOf P c go k ∷ elementsPassed go (exitsOf (P k))) (go (exitAt (P (joinOf P c go k)) 0))
     else halted a
 
 -- on from the edge a, by at most n elements, one behind or within the other
-unfoldable pub walk : (ℕ → Element) → ℕ → ℕ → ℕ → Walk
-walk P c zero a = halted a
-walk P c (suc n) a = if ltb (taker P c a) c then ahead P c (walk P c n) a (taker P c a) else halted a
+unfoldable pub sequenceWalk : (ℕ → Element) → ℕ → ℕ → ℕ → SequenceWalk
+sequenceWalk P c zero a = halted a
+sequenceWalk P c (suc n) a = if ltb (taker P c a) c then ahead P c (sequenceWalk P c n) a (taker P c a) else halted a
 
 -- THE POOL: a start; the walk from its exit stops at an end; every element is met, once
 unfoldable pub firstOf : (ℕ → Element) → ℕ → ℕ
 firstOf P c = seek (λ k. starts (P k)) c
 
 -- the walk from the exit of the element k
-unfoldable pub wholeWalk : (ℕ → Element) → ℕ → ℕ → Walk
-wholeWalk P c k = walk P c elements (exitAt (P k) 0)
+unfoldable pub wholeWalk : (ℕ → Element) → ℕ → ℕ → SequenceWalk
+wholeWalk P c k = sequenceWalk P c elements (exitAt (P k) 0)
 
 unfoldable pub lastOf : (ℕ → Element) → ℕ → ℕ → ℕ
 lastOf P c k = taker P c (wholeWalk P c k .stop)

@@ -11,7 +11,7 @@ use borrow.Author.Tests.{lt-ltb, le-leb, leb-true, ltb-true, eqb-true, eq-eqb}
 use Rattle.base_words.specs.All.{all}
 use Rattle.base_words.specs.Sum.{sum, oneIf}
 use Rattle.base_words.specs.Words.{at}
-use Rattle.base_words.specs.Counts.{named}
+use Rattle.base_words.specs.Counts.{fieldsNamed}
 use Rattle.base_words.specs.Pick.{if_then_else_}
 use Rattle.base_words.proofs.AllLaws.{all-of, all-at, eq-eqb-by, ne-eqb-by}
 use Rattle.base_words.proofs.PickLaws.{and-yes, and-no}
@@ -34,36 +34,36 @@ abbrev field : List ℕ → ℕ
 field y = at y (leftPlace + operandNumber)
 
 abbrev anew : List ℕ → (ℕ → ℕ) → Bool
-anew y S = if eqb (at y formPlace) binding then (if ltb (field y) named then eqb (S (field y)) 0 else true) else true
+anew y S = if eqb (at y formPlace) binding then (if ltb (field y) fieldsNamed then eqb (S (field y)) 0 else true) else true
 
 module _ (y : List ℕ) (S : ℕ → ℕ) where
-  in-bind : eqb (at y formPlace) binding ≡ true → ltb (field y) named ≡ true → anew y S ≡ true → S (field y) ≡ 0
+  in-bind : eqb (at y formPlace) binding ≡ true → ltb (field y) fieldsNamed ≡ true → anew y S ≡ true → S (field y) ≡ 0
   unfolding if_then_else_
   in-bind e l h = eqb-true (S (field y)) 0 (rw (e, l) at h)
 
-  up : (d : ℕ) → d < named → S d ≤ 1 → anew y S ≡ true → (b c : Bool) → eqb (at y formPlace) binding ≡ b → eqb (field y) d ≡ c → S d + bindsField d y ≤ 1
+  up : (d : ℕ) → d < fieldsNamed → S d ≤ 1 → anew y S ≡ true → (b c : Bool) → eqb (at y formPlace) binding ≡ b → eqb (field y) d ≡ c → S d + bindsField d y ≤ 1
   unfolding bindsField
   up d l s h false c e q = rw e (omega arith)
   up d l s h true false e q = rw (e, q) (omega arith)
   up d l s h true true e q =
       let same : field y ≡ d = eqb-true (field y) d q in
-      let none : S (field y) ≡ 0 = in-bind e (lt-ltb (field y) named (omega arith)) h in
+      let none : S (field y) ≡ 0 = in-bind e (lt-ltb (field y) fieldsNamed (omega arith)) h in
       let none-d : S d ≡ 0 = sym (ap S same) ∙ none in
       rw (e, q) (omega arith)
 
-  down : ((d : ℕ) → d < named → S d + bindsField d y ≤ 1) → (b c : Bool) → eqb (at y formPlace) binding ≡ b → ltb (field y) named ≡ c → anew y S ≡ true
+  down : ((d : ℕ) → d < fieldsNamed → S d + bindsField d y ≤ 1) → (b c : Bool) → eqb (at y formPlace) binding ≡ b → ltb (field y) fieldsNamed ≡ c → anew y S ≡ true
   unfolding bindsField if_then_else_
   down h false c e q = rw e
   down h true false e q = rw (e, q)
   down h true true e q =
-      let few : S (field y) + 1 ≤ 1 = rw (e, eq-eqb (field y) (field y) refl) at (h (field y) (ltb-true (field y) named q)) in
+      let few : S (field y) + 1 ≤ 1 = rw (e, eq-eqb (field y) (field y) refl) at (h (field y) (ltb-true (field y) fieldsNamed q)) in
       rw (e, q) (eq-eqb (S (field y)) 0 (omega arith))
 
 module _ (x : ℕ → List ℕ) where
   abbrev bound : ℕ → ℕ → ℕ
   bound i d = sum (λ k. bindsField d (x k)) i
 
-  each-once : (n d : ℕ) → d < named → ((i : ℕ) → i < n → anew (x i) (bound i) ≡ true) → bound n d ≤ 1
+  each-once : (n d : ℕ) → d < fieldsNamed → ((i : ℕ) → i < n → anew (x i) (bound i) ≡ true) → bound n d ≤ 1
   unfolding sum
   each-once zero d l h = omega arith
   each-once (suc n) d l h = up (x n) (bound n) d l (each-once n d l (λ i k. h i (omega arith))) (h n (omega arith)) _ _ refl refl
@@ -72,12 +72,12 @@ module _ (x : ℕ → List ℕ) where
   unfolding sum
   more-once n d i l h = omega (arith, grows (λ k. bindsField d (x k)) n (suc i) l)
 
-  pub once-by : (n : ℕ) → all (λ i. anew (x i) (bound i)) n ≡ all (λ d. leb (bound n d) 1) named
+  pub once-by : (n : ℕ) → all (λ i. anew (x i) (bound i)) n ≡ all (λ d. leb (bound n d) 1) fieldsNamed
   once-by n =
-      both (all (λ i. anew (x i) (bound i)) n) (all (λ d. leb (bound n d) 1) named)
-      (λ h. all-of (λ d. leb (bound n d) 1) named (λ d l. le-leb (bound n d) 1 (each-once n d l (all-at (λ i. anew (x i) (bound i)) n h))))
+      both (all (λ i. anew (x i) (bound i)) n) (all (λ d. leb (bound n d) 1) fieldsNamed)
+      (λ h. all-of (λ d. leb (bound n d) 1) fieldsNamed (λ d l. le-leb (bound n d) 1 (each-once n d l (all-at (λ i. anew (x i) (bound i)) n h))))
       (λ h. all-of (λ i. anew (x i) (bound i)) n
-      (λ i l. down (x i) (bound i) (λ d k. more-once n d i l (leb-true (bound n d) 1 (all-at (λ d. leb (bound n d) 1) named h d k))) _ _ refl refl))
+      (λ i l. down (x i) (bound i) (λ d k. more-once n d i l (leb-true (bound n d) 1 (all-at (λ d. leb (bound n d) 1) fieldsNamed h d k))) _ _ refl refl))
 
 pub template-by : (el : List ℕ) (j n : ℕ) → n ≡ messageLength el j → all (bindsAnew el j) n ≡ templateOnce el j
 unfolding bindsAnew templateOnce timesBound

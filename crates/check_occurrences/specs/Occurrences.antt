@@ -8,7 +8,7 @@ use Rattle.base_words.specs.All.{all}
 use Rattle.base_words.specs.Pick.{if_then_else_}
 use Rattle.base_words.specs.Sum.{sum, hit, oneIf}
 use Rattle.base_words.specs.Words.{at}
-use Rattle.base_words.specs.Counts.{named}
+use Rattle.base_words.specs.Counts.{fieldsNamed}
 use Rattle.base_kinds.specs.declared.Kind.{Kind}
 use Rattle.base_kinds.specs.Kinds.{kindOf, used, start}
 use Rattle.base_table.specs.Places.{operandNumber, formPlace, leftPlace, binding, default}
@@ -70,13 +70,13 @@ unfoldable pub timesBound : Element → ℕ → ℕ → ℕ
 timesBound el j d = sum (λ i. bindsField d (itemAt el j i)) (messageLength el j)
 
 unfoldable pub templateOnce : Element → ℕ → Bool
-templateOnce el j = all (λ d. leb (timesBound el j d) 1) named
+templateOnce el j = all (λ d. leb (timesBound el j d) 1) fieldsNamed
 
 -- item i of template j binds no field that an item before it binds
 unfoldable pub bindsAnew : Element → ℕ → ℕ → Bool
 bindsAnew el j i =
     if eqb (at (itemAt el j i) formPlace) binding
-    then (if ltb (at (itemAt el j i) (leftPlace + operandNumber)) named
+    then (if ltb (at (itemAt el j i) (leftPlace + operandNumber)) fieldsNamed
     then eqb (sum (λ k. bindsField (at (itemAt el j i) (leftPlace + operandNumber)) (itemAt el j k)) i) 0
     else true)
     else true

@@ -11,7 +11,7 @@ use lib.ListN.{drop}
 use lib.Seq.{getD-drop}
 use borrow.Author.Tests.{eq-eqb, ne-eqb}
 use Rattle.base_words.specs.All.{all}
-use Rattle.base_words.specs.Counts.{named, edges}
+use Rattle.base_words.specs.Counts.{fieldsNamed, edges}
 use Rattle.base_words.specs.Words.{at}
 use Rattle.base_words.proofs.PickLaws.{pick-yes, pick-no, and-yes, and-no}
 use Rattle.base_table.specs.Places.{leftPlace, rightPlace, operandWords, aField}
@@ -53,7 +53,7 @@ module _ (x : List ℕ) (i r : ℕ) (is : r ≡ at x i) where
   unfolding operandFits
   operand-none e f = rw sort (pick-no (eqb r 0) false true _ (ne-eqb r 0 e) (and-no _ _ (ne-eqb r aField f)))
 
-  pub operand-field : (n : ℕ) → (r ≡ 0 → ⊥) → r ≡ aField → n ≡ at x (i + 1) → ltb n named ≡ operandFits (drop i x)
+  pub operand-field : (n : ℕ) → (r ≡ 0 → ⊥) → r ≡ aField → n ≡ at x (i + 1) → ltb n fieldsNamed ≡ operandFits (drop i x)
   unfolding operandFits
   operand-field n e f h = rw (sort, getD-drop i x 1 0, h) (pick-no (eqb r 0) _ true _ (ne-eqb r 0 e) (and-yes _ _ _ (eq-eqb r aField f) refl))
 

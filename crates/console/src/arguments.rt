@@ -1,12 +1,12 @@
 // The words of a line, one blank between them, and the numbers and values that they spell.
+use base_bytes::piece;
+use base_bytes::same;
 use base_words::GREATEST;
 use base_words::Word;
 use base_words::counts::VALUES;
 use meaning::Tuple;
-use text_lexer::piece;
 use text_numerals::Number;
 use text_numerals::number_of;
-use text_numerals::same;
 
 const BLANK: u8 = 32;
 

@@ -6,6 +6,8 @@ use super::arguments::values_at;
 use super::output::bad_line;
 use super::output::no_model;
 use super::output::tell_number;
+use base_bytes::piece;
+use base_bytes::same;
 use base_state::places::STATE_WORDS;
 use base_table::places::TABLE_WORDS;
 use base_words::Word;
@@ -24,8 +26,6 @@ use step_poll::PHASE;
 use step_poll::POLL_WORDS;
 use step_poll::POOL_OR_NAME;
 use step_poll::Polled;
-use text_lexer::piece;
-use text_numerals::same;
 use tool_print::tell;
 use tool_print::tell_count;
 

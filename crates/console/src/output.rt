@@ -1,9 +1,9 @@
 // What the console says beside what the programs share.
+use base_bytes::piece;
 use base_words::Word;
 use meaning::Answer;
 use meaning::Name;
 use meaning::Tuple;
-use text_lexer::piece;
 use tool_print::tell;
 use tool_print::tell_count;
 use write_lines::NAME_LINE;

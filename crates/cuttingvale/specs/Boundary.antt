@@ -14,7 +14,7 @@ use Rattle.meaning.specs.declared.Traffic.{Traffic}
 use Rattle.meaning.specs.declared.Traffic.the-variants.{Nothing, Consumed, Sent}
 use Rattle.meaning.specs.Tuples.{empty}
 use Rattle.step_list.specs.declared.Listed.{Listed}
-use Rattle.step_names.specs.Names.{blank}
+use Rattle.step_names.specs.Names.{blankName}
 use Rattle.text_read.specs.Notation.{ReadInto, readInto}
 use Rattle.draw_read.specs.Drawings.{drawInto}
 use Rattle.engine.specs.declared.Verdict.{Verdict}
@@ -50,15 +50,15 @@ pub record TakenTo : Type 0 where
   pub answer : Taken
   pub state : State
 
-unfoldable pub told : Stepped → TakenTo
-told s =
+unfoldable pub toldToC : Stepped → TakenTo
+toldToC s =
     record {
       answer = record { number = s .answer .number; traffic = trafficNumber (s .answer .traffic); name = s .answer .name; tuple = s .answer .tuple };
       state = s .state;
     }
 
 unfoldable pub toldAt : AtDesk Stepped → AtDesk TakenTo
-toldAt s = record { done = told (s .done); records = s .records }
+toldAt s = record { done = toldToC (s .done); records = s .records }
 
 -- the pool records rs come with their number, which the call itself looks at
 unfoldable pub steppedBy : Table → ℕ → State → ℕ → Records → Name → AtDesk TakenTo
@@ -70,10 +70,10 @@ unfoldable pub postedBy : Table → ℕ → State → ℕ → ℕ → Tuple → 
 postedBy t n z m name g = if areWhole n m then postedTo t z name g else record { number = 10; state = z }
 
 unfoldable pub listedBy : Table → ℕ → State → ℕ → ℕ → Listed
-listedBy t n z m k = if areWhole n m then listedAt t z k else record { number = 10; name = blank }
+listedBy t n z m k = if areWhole n m then listedAt t z k else record { number = 10; name = blankName }
 
-unfoldable pub ranBy : Table → ℕ → State → ℕ → Records → ℕ → AtDesk RanTo
-ranBy t n z m rs limit =
+unfoldable pub ranLent : Table → ℕ → State → ℕ → Records → ℕ → AtDesk RanTo
+ranLent t n z m rs limit =
     if areWhole n m then ranAt t z rs limit else record { done = record { number = 10; steps = 0; left = 0; state = z }; records = rs }
 
 unfoldable pub figuredBy : Table → ℕ → State → ℕ → Records → Figured
@@ -98,12 +98,12 @@ areLent n m k = eqb k pollWords && areWhole n m
 unfoldable pub lentWrong : ℕ → ℕ
 lentWrong count = if ltb itemsMost count then 22 else 10
 
-unfoldable pub polledBy : Table → ℕ → State → ℕ → Records → Block → ℕ → ℕ → AtDesk Polling
-polledBy t n z m rs w k count =
+unfoldable pub polledLent : Table → ℕ → State → ℕ → Records → Block → ℕ → ℕ → AtDesk Polling
+polledLent t n z m rs w k count =
     if areLent n m k then polledAt t z rs w count else record { done = record { number = lentWrong count; accepted = 0; state = z }; records = rs }
 
-unfoldable pub judgedBy : Table → ℕ → ℕ → Bytes → Judged
-judgedBy t n v log = if eqb n tableWords then judgedTo t v log else record { number = 10; beside = 0; own = 0 }
+unfoldable pub judgedLent : Table → ℕ → ℕ → Bytes → Judged
+judgedLent t n v log = if eqb n tableWords then judgedTo t v log else record { number = 10; beside = 0; own = 0 }
 
 unfoldable pub replayedBy : Table → ℕ → ℕ → Bytes → State → ℕ → Replayed
 replayedBy t n v log z m = if areWhole n m then replayedTo t v log z else record { answer = record { number = 10; beside = 0; own = 0 }; state = z }
@@ -115,8 +115,8 @@ resumedBy t n z m log = if areWhole n m then resumedTo t z log else record { ans
 unfoldable pub trafficBy : ℕ → Traffic
 trafficBy n = if eqb n 1 then Consumed else if eqb n 2 then Sent else Nothing
 
-unfoldable pub answerBy : Taken → Answer
-answerBy a = record { number = a .number; traffic = trafficBy (a .traffic); name = a .name; tuple = a .tuple }
+unfoldable pub answerToC : Taken → Answer
+answerToC a = record { number = a .number; traffic = trafficBy (a .traffic); name = a .name; tuple = a .tuple }
 
 unfoldable pub nestedBy : Table → ℕ → Verdict
 nestedBy t n = if eqb n tableWords then nestedOf t else record { number = 10; beside = 0 }

@@ -2,13 +2,13 @@
 ghost use mathlib.Core.Path.{_≡_};
 ghost use Rattle.meaning.specs.Tuples.{empty};
 ghost use Rattle.step_poll.specs.Poll.{Polling};
-ghost use Rattle.step_names.specs.Names.{blank};
+ghost use Rattle.step_names.specs.Names.{blankName};
 ghost use Rattle.draw_diagnose.specs.Diagnosis.{diagnosed};
 ghost use Rattle.log_repair.specs.Repair.{Repair, repairedTo};
 ghost use Rattle.write_lines.specs.Lines.{stepLine};
 ghost use Rattle.log_write.specs.Xes.{header, eventText, footer};
 ghost use Rattle.log_pieces.specs.Pieces.{postLine, pieceIn};
-ghost use Rattle.cuttingvale.specs.Boundary.{areWhole, checkedBy, freshenedBy, trafficNumber, steppedBy, postedBy, listedBy, ranBy, figuredBy, readBy, drawnBy, writtenBy, lentWrong, areLent, polledBy, judgedBy, replayedBy, resumedBy, trafficBy, answerBy, nestedBy};
+ghost use Rattle.cuttingvale.specs.Boundary.{areWhole, checkedBy, freshenedBy, trafficNumber, steppedBy, postedBy, listedBy, ranLent, figuredBy, readBy, drawnBy, writtenBy, lentWrong, areLent, polledLent, judgedLent, replayedBy, resumedBy, trafficBy, answerToC, nestedBy};
 use base_state::places::STATE_WORDS;
 use base_table::places::TABLE_WORDS;
 use base_words::Word;
@@ -154,7 +154,7 @@ pub extern "C" fn cv_post(
 }
 
 fn unlisted() -> Listed
-    ensures { λ r. ⌜ r ≡ record { number = 10; name = blank } ⌝ }
+    ensures { λ r. ⌜ r ≡ record { number = 10; name = blankName } ⌝ }
 {
     Listed {
         number: BAD,
@@ -194,7 +194,7 @@ pub extern "C" fn cv_run(
     records: &mut [[Word; RECORD_WORDS]],
     limit: Steps,
 ) -> Ran
-    ensures { λ r. ⌜ record { done = record { number = r .number; steps = r .steps; left = r .left; state = now (state .exit) }; records = now (records .exit) } ≡ ranBy (now (table .entry)) tablelength (now (state .entry)) statelength (now (records .entry)) limit ⌝ }
+    ensures { λ r. ⌜ record { done = record { number = r .number; steps = r .steps; left = r .left; state = now (state .exit) }; records = now (records .exit) } ≡ ranLent (now (table .entry)) tablelength (now (state .entry)) statelength (now (records .entry)) limit ⌝ }
 {
     if !are_whole(tablelength, statelength) {
         return Ran {
@@ -312,7 +312,7 @@ pub extern "C" fn cv_poll(
     itemslength: usize,
     count: usize,
 ) -> Polled
-    ensures { λ r. ⌜ record { done = record { number = r .number; accepted = r .accepted; state = now (state .exit) }; records = now (records .exit) } ≡ polledBy (now (table .entry)) tablelength (now (state .entry)) statelength (now (records .entry)) (now (items .entry)) itemslength count ⌝ }
+    ensures { λ r. ⌜ record { done = record { number = r .number; accepted = r .accepted; state = now (state .exit) }; records = now (records .exit) } ≡ polledLent (now (table .entry)) tablelength (now (state .entry)) statelength (now (records .entry)) (now (items .entry)) itemslength count ⌝ }
 {
     if !are_lent(tablelength, statelength, itemslength) {
         return Polled {
@@ -340,7 +340,7 @@ pub extern "C" fn cv_judge(
     version: Word,
     log: &[u8],
 ) -> Judged
-    ensures { λ r. ⌜ r ≡ judgedBy (now (table .entry)) tablelength version (now (log .entry)) ⌝ }
+    ensures { λ r. ⌜ r ≡ judgedLent (now (table .entry)) tablelength version (now (log .entry)) ⌝ }
 {
     if tablelength != TABLE_WORDS {
         return unjudged();
@@ -395,7 +395,7 @@ fn traffic_of(number: Word) -> Traffic
 }
 
 fn answer_of(a: Taken) -> Answer
-    ensures { λ r. ⌜ r ≡ answerBy a ⌝ }
+    ensures { λ r. ⌜ r ≡ answerToC a ⌝ }
 {
     let tuple = a.tuple;
     Answer {
@@ -415,7 +415,7 @@ pub extern "C" fn cv_log_begin(buffer: &mut [u8]) -> Piece
 
 #[no_mangle]
 pub extern "C" fn cv_log_step(name: Name, answer: Taken, moment: u64, buffer: &mut [u8]) -> Piece
-    ensures { λ r. ⌜ record { number = r .number; length = r .length; buffer = now (buffer .exit) } ≡ pieceIn (eventText moment (stepLine name (answerBy answer))) (now (buffer .entry)) ⌝ }
+    ensures { λ r. ⌜ record { number = r .number; length = r .length; buffer = now (buffer .exit) } ≡ pieceIn (eventText moment (stepLine name (answerToC answer))) (now (buffer .entry)) ⌝ }
 {
     log_pieces::step(name, answer_of(answer), moment, buffer)
 }

@@ -12,14 +12,14 @@ use Rattle.write_lines.specs.Lines.{unreadLine}
 use Rattle.text_read.specs.declared.Reading.{Reading}
 use Rattle.text_read.specs.Notation.{ReadInto, tableOf, rewritten}
 use Rattle.draw_things.specs.Things.{blockWords}
-use Rattle.draw_walk.specs.Walk.{Walk, walk, told}
+use Rattle.draw_walk.specs.Walk.{Walk, walk, walkTold}
 use Rattle.draw_walk.specs.declared.Walked.{Walked}
 use Rattle.draw_model.specs.Content.{content}
-use Rattle.draw_read.specs.Drawings.{settledBy, walked, thingsOf, answered, filledBy, drawInto}
+use Rattle.draw_read.specs.Drawings.{settledBy, walkedText, thingsOf, answered, filledBy, drawInto}
 use Rattle.draw_map.specs.Map.{mapOf, mapBy, mapText}
 
-pub things-again : (text table v w : List ℕ) (r : Walked) → told r v ≡ walk text (replicate blockWords 0) → w ≡ settledBy text (r .count) v → mapOf text table w (r .count) ≡ mapOf text table (thingsOf text) (walked text .count)
-unfolding told thingsOf walked
+pub things-again : (text table v w : List ℕ) (r : Walked) → walkTold r v ≡ walk text (replicate blockWords 0) → w ≡ settledBy text (r .count) v → mapOf text table w (r .count) ≡ mapOf text table (thingsOf text) (walkedText text .count)
+unfolding walkTold thingsOf walkedText
 things-again text table v w r met e =
     ap₂ (mapOf text table) (e ∙ ap (λ (x : Walk). settledBy text (x .count) (x .words)) met) (ap (λ (x : Walk). x .count) met)
 
@@ -36,10 +36,10 @@ module _ (text t v : List ℕ) (a : Reading) (e : record { number = a .number; b
   unfolding mapText mapBy
   refused-is z = pick-no _ _ _ _ (ne-eqb _ _ (λ q. z (number-is ∙ q))) (ap₂ (λ (p q : ℕ). unreadLine p (lesser q greatest)) number-is beside-is)
 
-  table-is : a .number ≡ 0 → v ≡ tableOf (map rewritten (content text (thingsOf text) (walked text .count)))
+  table-is : a .number ≡ 0 → v ≡ tableOf (map rewritten (content text (thingsOf text) (walkedText text .count)))
   unfolding drawInto filledBy
   table-is z = ap (λ (x : ReadInto). x .table) e ∙ sym (pick-yes _ _ _ _ (eq-eqb _ _ (sym number-is ∙ z)) refl)
 
-  pub accepted-is : a .number ≡ 0 → mapOf text v (thingsOf text) (walked text .count) ≡ mapText text
+  pub accepted-is : a .number ≡ 0 → mapOf text v (thingsOf text) (walkedText text .count) ≡ mapText text
   unfolding mapText mapBy
-  accepted-is z = pick-yes _ _ _ _ (eq-eqb _ _ (sym number-is ∙ z)) (ap (λ (x : List ℕ). mapOf text x (thingsOf text) (walked text .count)) (table-is z))
+  accepted-is z = pick-yes _ _ _ _ (eq-eqb _ _ (sym number-is ∙ z)) (ap (λ (x : List ℕ). mapOf text x (thingsOf text) (walkedText text .count)) (table-is z))

@@ -4,19 +4,19 @@ ghost use lib.ListN.{length};
 ghost use Rattle.write_buffer.specs.Buffers.{over, lesser, lastPlace};
 ghost use Rattle.draw_walk.specs.Walk.{Walk};
 ghost use Rattle.draw_model.specs.Content.{processOf};
-ghost use Rattle.draw_read.specs.Drawings.{settledBy, walked, thingsOf};
+ghost use Rattle.draw_read.specs.Drawings.{settledBy, walkedText, thingsOf};
 ghost use Rattle.draw_map.specs.Map.{Puts, poolLines, outsideLine, messageLine, partOf, everyOf, mapOf, mapText};
 use base_table::places::TABLE_WORDS;
 use base_words::Word;
 use base_words::numbers::ACCEPTED;
-use draw_faults::pools::has_participants;
 use draw_faults::pools::is_outside;
-use draw_faults::pools::is_pool;
 use draw_kinds::counting::of_sort;
 use draw_kinds::roles;
-use draw_limits::numbers::count_pools;
-use draw_limits::numbers::message_of;
 use draw_links::links;
+use draw_numbers::numbers::count_pools;
+use draw_numbers::numbers::message_of;
+use draw_numbers::who::has_participants;
+use draw_numbers::who::is_pool;
 use draw_read::draw_into;
 use draw_things::things::BLOCK_WORDS;
 use draw_things::things::MESSAGE_FLOW;
@@ -146,7 +146,7 @@ fn settle(text: &[u8], w: &mut [Note], n: Note)
 
 // The map of an accepted drawing: its walk again, with its table.
 fn put_accepted(out: &mut [u8], text: &[u8], table: &[Word; TABLE_WORDS]) -> usize
-    ensures { λ r. ⌜ Puts (mapOf (now (text .entry)) (now (table .entry)) (thingsOf (now (text .entry))) (walked (now (text .entry)) .count)) 0 (now (out .entry)) r (now (out .exit)) ⌝ }
+    ensures { λ r. ⌜ Puts (mapOf (now (text .entry)) (now (table .entry)) (thingsOf (now (text .entry))) (walkedText (now (text .entry)) .count)) 0 (now (out .entry)) r (now (out .exit)) ⌝ }
 {
     let mut w = [0; BLOCK_WORDS];
     let met = walk(text, &mut w);

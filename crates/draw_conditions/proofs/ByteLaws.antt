@@ -8,7 +8,8 @@ use Rattle.base_words.specs.Pick.{if_then_else_}
 use Rattle.base_words.specs.All.{all}
 use Rattle.base_words.proofs.AllLaws.{all-at}
 use Rattle.base_words.proofs.PickLaws.{pick-yes, pick-no}
-use Rattle.text_lexer.specs.Lexer.{among, between, isBlank, isDigit, isLetter, isWord}
+use Rattle.text_lexer.specs.Lexer.{isBlank, isWord}
+use Rattle.base_bytes.specs.Bytes.{among, between, isDigit, isLetter}
 use Rattle.xml_characters.specs.Names.{isBlank as isXmlBlank, beginsName}
 
 same : Bool → Bool → Bool

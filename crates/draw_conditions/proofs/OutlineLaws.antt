@@ -13,8 +13,8 @@ use types.Run.{OneOf, miss}
 use denote.Enum.Declared.{tagOf}
 use Rattle.base_words.specs.Pick.{if_then_else_}
 use Rattle.base_words.specs.Words.{at, part}
-use Rattle.text_lexer.specs.Lexer.{past}
-use Rattle.text_lexer.proofs.PastLaws.{past-from}
+use Rattle.base_bytes.specs.Bytes.{past}
+use Rattle.base_bytes.proofs.PastLaws.{past-from}
 use Rattle.xml_characters.specs.Names.{isControl}
 use Rattle.xml_scanner.specs.declared.Sort.{Sort}
 use Rattle.xml_scanner.specs.declared.Sort.the-variants.{Fault as AFault}

@@ -12,11 +12,13 @@ use borrow.Author.Tests.{eq-eqb, ne-eqb, le-leb, lt-leb, lt-ltb}
 use Rattle.base_words.specs.Pick.{if_then_else_}
 use Rattle.base_words.specs.Words.{at, greatest}
 use Rattle.base_words.proofs.PickLaws.{pick-yes, pick-no}
-use Rattle.text_lexer.specs.Lexer.{isDigit, isWord}
-use Rattle.text_lexer.proofs.PieceLaws.{by-order}
+use Rattle.text_lexer.specs.Lexer.{isWord}
+use Rattle.base_bytes.specs.Bytes.{isDigit}
+use Rattle.base_bytes.proofs.PieceLaws.{by-order}
 use Rattle.text_numerals.specs.declared.Number.{Number}
 use Rattle.text_numerals.specs.declared.Number.the-variants.{Value, TooLarge, NotANumber}
-use Rattle.text_numerals.specs.Numerals.{valueFrom, leadingZero, numberOf, sameBytes, isFieldLetter, fieldFrom, fieldOf, asNumber, asField, operandOf}
+use Rattle.text_numerals.specs.Numerals.{valueFrom, leadingZero, numberOf, isFieldLetter, fieldFrom, fieldOf, asNumber, asField, operandOf}
+use Rattle.base_bytes.specs.Bytes.{sameBytes}
 use Rattle.text_numerals.proofs.NumberLaws.{value-large}
 use Rattle.text_numerals.proofs.NumeralLaws.{letter-word}
 use Rattle.draw_conditions.specs.declared.saying.Spot.{Spot}
@@ -25,7 +27,7 @@ use Rattle.draw_conditions.specs.declared.saying.View.the-variants.{Byte
 use Rattle.draw_conditions.specs.declared.spelled.Class.{Class}
 use Rattle.draw_conditions.specs.declared.spelled.Side.{Side}
 use Rattle.draw_conditions.specs.Saying.{Said, says, said, seen}
-use Rattle.draw_conditions.specs.Words.{isOf, behind, letters, spelt, goesOn, grown, placeOf, isOver, nothing, side, sideOf, sideAt}
+use Rattle.draw_conditions.specs.Words.{isOf, behind, letters, spelt, goesOn, grown, placeSaid, isOver, nothing, side, sideOf, sideAt}
 
 -- the next byte of what is said
 module _ (t : List ℕ) (s : Spot) (v : View) (e : said t s ≡ seen t v) where
@@ -79,7 +81,7 @@ module _ (t : List ℕ) (s : Spot) (v : View) (e : said t s ≡ seen t v) where
 
     -- an operand by its first byte
     pub side-field : (n f : Number) (r : Side) → isFieldLetter b ≡ true → n ≡ numberOf (letters (said t q)) → f ≡ fieldFrom b n → r ≡ sideOf (asField f) i → r ≡ sideAt (said t s)
-    unfolding sideAt letters placeOf operandOf fieldOf if_then_else_
+    unfolding sideAt letters placeSaid operandOf fieldOf if_then_else_
     side-field n f r y e k h = h ∙ rw (k, e, byte, letter-word b y, y)
 
     pub side-number : (n : Number) (r : Side) → isFieldLetter b ≡ false → n ≡ numberOf (letters (said t s)) → r ≡ sideOf (asNumber n) i → r ≡ sideAt (said t s)
@@ -93,7 +95,7 @@ module _ (t : List ℕ) (s : Spot) (v : View) (e : said t s ≡ seen t v) where
         same = unfold letters in rw byte (first (isWord b))
 
         operand : sideAt (said t s) ≡ sideOf (asNumber (numberOf (letters (said t s)))) i
-        operand = unfold sideAt operandOf if_then_else_ in rw same (ap (sideOf (asNumber (numberOf (letters (said t s))))) (unfold placeOf in rw byte))
+        operand = unfold sideAt operandOf if_then_else_ in rw same (ap (sideOf (asNumber (numberOf (letters (said t s))))) (unfold placeSaid in rw byte))
 
 -- the next byte of a word
 module _ (t : List ℕ) (s : Spot) (v : View) (e : letters (said t s) ≡ spelt t v) where

@@ -8,7 +8,7 @@ use Rattle.base_words.specs.Blocks.{Bytes}
 use Rattle.base_words.specs.Pick.{if_then_else_}
 use Rattle.base_words.specs.Text.{bytes}
 use Rattle.base_table.specs.Places.{always, default, equals, below}
-use Rattle.text_numerals.specs.Numerals.{sameBytes}
+use Rattle.base_bytes.specs.Bytes.{sameBytes}
 use Rattle.draw_conditions.specs.declared.Term.{Term}
 use Rattle.draw_conditions.specs.declared.Condition.{Condition}
 use Rattle.draw_conditions.specs.declared.spelled.Side.{Side}

@@ -47,9 +47,9 @@ goesOn (b ∷ w) = true
 unfoldable pub grown : ℕ → ℕ → ℕ
 grown v b = if leb v greatest then v * 10 + (b - code "0") else v
 
-unfoldable pub placeOf : List Said → ℕ
-placeOf [] = 0
-placeOf (x ∷ s) = x .place
+unfoldable pub placeSaid : List Said → ℕ
+placeSaid [] = 0
+placeSaid (x ∷ s) = x .place
 
 unfoldable pub isOver : List Said → Bool
 isOver [] = true
@@ -73,4 +73,4 @@ sideOf OutOfRange place = side true nothing place
 sideOf NotAnOperand place = side false nothing 0
 
 unfoldable pub sideAt : List Said → Side
-sideAt s = sideOf (operandOf (letters s)) (placeOf s)
+sideAt s = sideOf (operandOf (letters s)) (placeSaid s)

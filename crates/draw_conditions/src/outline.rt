@@ -1,7 +1,7 @@
 // A markup's sort and the place behind it, no token of it judged.
 ghost use mathlib.Core.Path.{_≡_};
 ghost use Rattle.draw_conditions.specs.Outline.{outline};
-use text_lexer::byte;
+use base_bytes::byte;
 use xml_markup::Scan;
 use xml_markup::staying::stay;
 use xml_markup::tokens::begun;

@@ -3,7 +3,7 @@ ghost use mathlib.Core.Path.{_≡_};
 ghost use Prim.Native.Nat.{_-_};
 ghost use Rattle.draw_conditions.specs.Saying.{forward, plainStep, isSkipped, tagStep, stepBy, markupStep, skipBy, skipMarkup, skipStep, textStep, sectionStep, stepAt, said, seen};
 use super::outline::outline;
-use text_lexer::byte;
+use base_bytes::byte;
 use xml_document::decoding::decoded_at;
 use xml_document::decoding::plain_at;
 use xml_markup::Scan;

@@ -13,10 +13,10 @@ use Rattle.base_kinds.specs.Kinds as kinds
 use Rattle.text_read.specs.declared.Reading.{Reading}
 use Rattle.text_read.specs.Notation.{ReadInto}
 use Rattle.draw_things.specs.Things.{blockWords, place}
-use Rattle.draw_walk.specs.Walk.{Walk, walk, told as met}
+use Rattle.draw_walk.specs.Walk.{Walk, walk, walkTold as met}
 use Rattle.draw_walk.specs.declared.Walked.{Walked}
-use Rattle.draw_limits.specs.Numbers.{countBefore, isOf, anElement, anEdge}
-use Rattle.draw_read.specs.Drawings.{settledBy, walked, thingsOf, answered, filledBy, drawInto}
+use Rattle.draw_numbers.specs.Numbers.{countBefore, isOf, anElement, anEdge}
+use Rattle.draw_read.specs.Drawings.{settledBy, walkedText, thingsOf, answered, filledBy, drawInto}
 use Rattle.draw_diagnose.specs.declared.Broken.{Broken}
 use Rattle.draw_diagnose.specs.declared.Diagnosis.{Diagnosis}
 use Rattle.draw_diagnose.specs.Rules.{rulesOfThings, firstBreaking, firstBroken, brokenByAll, brokenIn}
@@ -58,8 +58,8 @@ pub told-by : (d : Diagnosis) (number : ℕ) (b x : Broken) → d ≡ told numbe
 told-by d number b x e f = e ∙ ap (λ (y : Broken). told number (y .rule) (y .place)) f
 
 pub things-again : (a : Reading) (text v w : List ℕ) (r : Walked) (d : Diagnosis) → met r v ≡ walk text (replicate blockWords 0) → w ≡ settledBy text (r .count) v → d ≡ diagnosedBy a text w (r .count)
-    → d ≡ diagnosedBy a text (thingsOf text) (walked text .count)
-unfolding met thingsOf walked
+    → d ≡ diagnosedBy a text (thingsOf text) (walkedText text .count)
+unfolding met thingsOf walkedText
 things-again a text v w r d m e f =
     f ∙ ap₂ (diagnosedBy a text) (e ∙ ap (λ (x : Walk). settledBy text (x .count) (x .words)) m) (ap (λ (x : Walk). x .count) m)
 

@@ -6,7 +6,7 @@ use Rattle.base_words.specs.Blocks.{Bytes, Drawing}
 use Rattle.base_words.specs.Pick.{if_then_else_}
 use Rattle.text_read.specs.declared.Reading.{Reading}
 use Rattle.draw_walk.specs.Walk.{Walk}
-use Rattle.draw_read.specs.Drawings.{notRun, thingsOf, walked, answered}
+use Rattle.draw_read.specs.Drawings.{notRun, thingsOf, walkedText, answered}
 use Rattle.draw_diagnose.specs.declared.Broken.{Broken}
 use Rattle.draw_diagnose.specs.declared.Diagnosis.{Diagnosis}
 use Rattle.draw_diagnose.specs.Rules.{brokenIn}
@@ -29,4 +29,4 @@ diagnosedBy a t w n =
     else told (a .number) 0 (a .beside)
 
 unfoldable pub diagnosed : Bytes → Diagnosis
-diagnosed text = diagnosedBy (answered text) text (thingsOf text) (walked text .count)
+diagnosed text = diagnosedBy (answered text) text (thingsOf text) (walkedText text .count)

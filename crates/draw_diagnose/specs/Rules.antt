@@ -9,7 +9,8 @@ use Rattle.base_words.specs.Pick.{if_then_else_}
 use Rattle.base_words.specs.Seek.{seek}
 use Rattle.draw_things.specs.Things.{room, place, source, target}
 use Rattle.draw_diagnose.specs.declared.Broken.{Broken}
-use Rattle.draw_faults.specs.Amiss.{isStrange, isRepeated, isSecondCollaboration, isLost, isUnowned, isSecondMultiplicity, isLoose, isOfNoKind, hasWrongDefault, isWrongMessage, isUnheard, isUntold, isWrongBranch, isSecondCondition, isWrongCondition, hasParticipants, hasPool}
+use Rattle.draw_faults.specs.Amiss.{isStrange, isRepeated, isSecondCollaboration, isLost, isUnowned, isSecondMultiplicity, isLoose, isOfNoKind, hasWrongDefault, isWrongMessage, isUnheard, isUntold, isWrongBranch, isSecondCondition, isWrongCondition}
+use Rattle.draw_numbers.specs.Who.{hasParticipants, hasPool}
 
 -- a message flow that is wrong because one of its references names nothing: such a one is looked for before the kinds of what others join
 unfoldable pub isAdrift : Bytes → Drawing → ℕ → Bool

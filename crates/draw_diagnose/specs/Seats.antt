@@ -12,8 +12,8 @@ use Rattle.check_occurrences.specs.Occurrences.{defaultOnce}
 use Rattle.check_model.specs.Checks.{oneStart, startReceives, namesApart, oneDefault}
 use Rattle.draw_things.specs.Things.{sort, place, within, source, target, isNode, participantMultiplicity, messageFlow}
 use Rattle.draw_kinds.specs.Counting.{withinIn, ofSort, firstWith}
-use Rattle.draw_faults.specs.Amiss.{hasParticipants, isPool, isOfKind, isSplit}
-use Rattle.draw_limits.specs.Numbers.{countBefore, isOf, anElement, anEdge}
+use Rattle.draw_numbers.specs.Who.{hasParticipants, isPool, isOfKind, isSplit}
+use Rattle.draw_numbers.specs.Numbers.{countBefore, isOf, anElement, anEdge}
 use Rattle.draw_model.specs.Drawn.{elementDrawn}
 use Rattle.draw_model.specs.Content.{processOf}
 

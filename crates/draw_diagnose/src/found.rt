@@ -1,7 +1,7 @@
 // The first rule that is broken, and the first thing that breaks it.
 ghost use mathlib.Core.Path.{_≡_};
 ghost use Prim.Native.Nat.{_<_};
-ghost use Rattle.draw_faults.specs.Amiss.{hasParticipants, hasPool};
+ghost use Rattle.draw_numbers.specs.Who.{hasParticipants, hasPool};
 ghost use Rattle.draw_diagnose.specs.Rules.{firstBreaking, isBroken, firstBroken, brokenByAll, brokenIn};
 use super::Broken;
 use super::rules::NO_POOL;
@@ -9,8 +9,8 @@ use super::rules::RULES_OF_THINGS;
 use super::rules::TOO_MANY;
 use super::rules::breaks;
 use base_words::Word;
-use draw_faults::pools::has_participants;
-use draw_faults::pools::has_pool;
+use draw_numbers::who::has_participants;
+use draw_numbers::who::has_pool;
 use draw_things::things::Note;
 use draw_things::things::ROOM;
 use draw_things::things::place_of;

@@ -1,7 +1,7 @@
 // A drawing diagnosed: its number, the rule or check that is broken, and the place of the first thing that breaks it.
 ghost use mathlib.Core.Path.{_≡_};
 ghost use Rattle.draw_walk.specs.Walk.{Walk};
-ghost use Rattle.draw_read.specs.Drawings.{settledBy, thingsOf, walked, answered};
+ghost use Rattle.draw_read.specs.Drawings.{settledBy, thingsOf, walkedText, answered};
 ghost use Rattle.draw_diagnose.specs.Rules.{brokenIn};
 ghost use Rattle.draw_diagnose.specs.Diagnosis.{told, diagnosedBy, diagnosed};
 use base_table::places::TABLE_WORDS;
@@ -77,7 +77,7 @@ fn settle(text: &[u8], w: &mut [Note], n: Note)
 }
 
 fn diagnose_things(a: Reading, text: &[u8]) -> Diagnosis
-    ensures { λ d. ⌜ d ≡ diagnosedBy a (now (text .entry)) (thingsOf (now (text .entry))) (walked (now (text .entry)) .count) ⌝ }
+    ensures { λ d. ⌜ d ≡ diagnosedBy a (now (text .entry)) (thingsOf (now (text .entry))) (walkedText (now (text .entry)) .count) ⌝ }
 {
     let mut w = [0; BLOCK_WORDS];
     let met = walk(text, &mut w);

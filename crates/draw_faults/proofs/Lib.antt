@@ -1,4 +1,3 @@
-pub mod AmissLaws
 pub mod OnceLaws
 pub mod RepeatLaws
 pub mod UnsettledLaws

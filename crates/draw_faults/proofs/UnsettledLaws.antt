@@ -10,7 +10,8 @@ use Rattle.base_words.proofs.PickLaws.{and-false-right}
 use Rattle.draw_things.specs.Things.{room}
 use Rattle.draw_kinds.specs.Roles.{roles, isUnsettled, firstUnsettled, areSettled}
 use Rattle.draw_kinds.proofs.KindLaws.{kinds-not}
-use Rattle.draw_faults.specs.Amiss.{isStrange, isRepeated, isOfKind, isOfNoKind, amissAsFlow, amissAsNode, amissAsPool, isAmiss, isRight, hasParticipants, hasPool, isDrawing}
+use Rattle.draw_faults.specs.Amiss.{isStrange, isRepeated, isOfNoKind, amissAsFlow, amissAsNode, amissAsPool, isAmiss, isRight, isDrawing}
+use Rattle.draw_numbers.specs.Who.{isOfKind, hasParticipants, hasPool}
 
 or-left : (a b : Bool) → a ≡ true → a || b ≡ true
 or-left a b e = rw e refl

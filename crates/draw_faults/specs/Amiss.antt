@@ -2,7 +2,6 @@
 -- the limits or not" (R25). t is the text, w the things drawn, with their flows joined and their kinds; n their count; k a thing. (RULES: drawings)
 use Prim.Native.Nat.{ℕ}
 use mathlib.Core.Bool.{Bool, true, false, not, _&&_, _||_}
-use mathlib.Core.List.{List}
 use lib.Dec.{eqb, leb, ltb}
 use Rattle.base_words.specs.Blocks.{Bytes, Drawing}
 use Rattle.base_words.specs.All.{all}
@@ -12,9 +11,10 @@ use Rattle.base_words.specs.Text.{bytes}
 use Rattle.base_words.specs.Words.{part}
 use Rattle.base_kinds.specs.Kinds as kinds
 use Rattle.xml_markup.specs.Spans.{attribute}
-use Rattle.draw_things.specs.Things.{room, sort, place, within, source, target, kind, isNode, collaboration, participant, participantMultiplicity, messageFlow, process, sequenceFlow, conditionExpression, stranger, branch}
+use Rattle.draw_things.specs.Things.{room, sort, place, within, source, target, isNode, collaboration, participant, participantMultiplicity, messageFlow, process, sequenceFlow, conditionExpression, stranger, branch}
 use Rattle.draw_links.specs.Links.{ifIs, hasId, named}
 use Rattle.draw_kinds.specs.Counting.{sourceIn, targetIn, withinIn, ofSort, countWith, countSort}
+use Rattle.draw_numbers.specs.Who.{hasParticipants, isOfKind, isSplit, isSender, isReceiver, hasPool}
 use Rattle.draw_conditions.specs.Conditions.{conditionAt, absent, foreign}
 
 -- an attribute of thing k is there
@@ -42,13 +42,7 @@ isTaken t v w k = ltb (seek (λ j. isRead w j && hasId t v w j) k) k
 unfoldable pub isRepeated : Bytes → Drawing → ℕ → Bool
 isRepeated t w k = isRead w k && ifIs (attribute t (place w k) (bytes "id")) (λ from to. isTaken t (part t from to) w k) false
 
--- POOLS: "the participants with a processRef, in their order" (R18) or, with no participant, each process (R19) (RULES: drawn)
-unfoldable pub hasParticipants : Drawing → ℕ → Bool
-hasParticipants w n = ltb (seek (ofSort participant w) n) n
-
-unfoldable pub isPool : Bool → Drawing → ℕ → Bool
-isPool owned w k = if owned then ofSort participant w k && not (eqb (source w k) 0) else ofSort process w k
-
+-- POOLS
 -- "At most one collaboration" (R18) (RULES: drawn)
 unfoldable pub isSecondCollaboration : Drawing → ℕ → Bool
 isSecondCollaboration w k = ofSort collaboration w k && ltb 0 (countSort collaboration w k)
@@ -66,31 +60,12 @@ unfoldable pub isSecondMultiplicity : Drawing → ℕ → Bool
 isSecondMultiplicity w k = isSecond participantMultiplicity w k
 
 -- NODES: one that is of no kind, by its definitions, its entries and exits (R15, R16) (RULES: nodes)
-unfoldable pub isOfKind : ℕ → Drawing → ℕ → Bool
-isOfKind c w j = isNode (sort w j) && eqb (kind w j) c
-
 unfoldable pub isOfNoKind : Drawing → ℕ → Bool
 isOfNoKind w k = isOfKind 0 w k
 
 -- "`default` of an exclusive split names one of its own outgoing flows, else 21; on any other element it is ignored" (R22) (RULES: flows)
-unfoldable pub isSplit : Drawing → ℕ → Bool
-isSplit w k = isOfKind kinds.xorSplit w k
-
 unfoldable pub hasWrongDefault : Bytes → Drawing → ℕ → ℕ → Bool
 hasWrongDefault t w n k = isSplit w k && (has t (bytes "default") w k && eqb (named t w n k (bytes "default")) 0)
-
--- "a sender (sendTask, message throw or end)", "a receiver (receiveTask, message start or catch)" (R24) (RULES: flows)
-unfoldable pub sends : ℕ → Bool
-sends c = eqb c kinds.taskSnd || (eqb c kinds.interSnd || eqb c kinds.endSnd)
-
-unfoldable pub receives : ℕ → Bool
-receives c = eqb c kinds.taskRcv || (eqb c kinds.startRcv || (eqb c kinds.interRcv || eqb c branch))
-
-unfoldable pub isSender : Drawing → ℕ → Bool
-isSender w j = isNode (sort w j) && sends (kind w j)
-
-unfoldable pub isReceiver : Drawing → ℕ → Bool
-isReceiver w j = isNode (sort w j) && receives (kind w j)
 
 -- "Each sender is the source and each receiver the target of exactly one" message flow (R24) (RULES: flows)
 unfoldable pub isUnheard : Drawing → ℕ → ℕ → Bool
@@ -148,8 +123,5 @@ unfoldable pub isRight : Bytes → Drawing → ℕ → ℕ → Bool
 isRight t w n k = not (isAmiss t w n k)
 
 -- "Neither: 21" (R19): no pool at all. More things than there is room for are always amiss: the shortest that is right is `<process/>`. (RULES: drawn)
-unfoldable pub hasPool : Bool → Drawing → ℕ → Bool
-hasPool owned w n = ltb (seek (isPool owned w) n) n
-
 unfoldable pub isDrawing : Bytes → Drawing → ℕ → Bool
 isDrawing t w n = leb n room && (hasPool (hasParticipants w n) w n && all (isRight t w n) n)

@@ -9,7 +9,8 @@ use Rattle.base_kinds.specs.Kinds as kinds
 use Rattle.base_table.specs.Places.{always, default}
 use Rattle.draw_things.specs.Things.{definitions, collaboration, participant, participantMultiplicity, messageFlow, process, sequenceFlow, conditionExpression, stranger, startEvent, endEvent, intermediateCatchEvent, task, sendTask, receiveTask, exclusiveGateway, eventBasedGateway, branch}
 use Rattle.draw_conditions.specs.Conditions.{absent, foreign}
-use Rattle.draw_faults.specs.Amiss.{isStrange, isRepeated, isPool, hasPool, hasParticipants, isSecondCollaboration, isLost, isUnowned, isSecondMultiplicity, isOfNoKind, hasWrongDefault, isUnheard, isUntold, isLoose, isWrongBranch, isSecondCondition, isWrongForm, isWrongCondition, isWrongMessage, isDrawing}
+use Rattle.draw_faults.specs.Amiss.{isStrange, isRepeated, isSecondCollaboration, isLost, isUnowned, isSecondMultiplicity, isOfNoKind, hasWrongDefault, isUnheard, isUntold, isLoose, isWrongBranch, isSecondCondition, isWrongForm, isWrongCondition, isWrongMessage, isDrawing}
+use Rattle.draw_numbers.specs.Who.{isPool, hasPool, hasParticipants}
 
 pub record Point : Type 0 where
   pub says : String

@@ -3,6 +3,7 @@ ghost use mathlib.Core.Bool.{_&&_};
 ghost use mathlib.Core.Path.{_≡_};
 ghost use Rattle.draw_links.specs.Links.{hasId};
 ghost use Rattle.draw_faults.specs.Amiss.{isReadSort, isRead, isTaken, isRepeated};
+use base_bytes::piece;
 use draw_links::attribute_of;
 use draw_links::has_id;
 use draw_things::things::MESSAGE_FLOW;
@@ -12,7 +13,6 @@ use draw_things::things::PROCESS;
 use draw_things::things::SEQUENCE_FLOW;
 use draw_things::things::is_node;
 use draw_things::things::sort_of;
-use text_lexer::piece;
 use xml_markup::Attribute;
 
 fn is_read_sort(s: Note) -> bool

@@ -2,7 +2,8 @@
 ghost use mathlib.Core.Bool.{true};
 ghost use mathlib.Core.Path.{_≡_};
 ghost use Rattle.base_words.specs.Seek.{seek};
-ghost use Rattle.draw_faults.specs.Amiss.{isSecondCollaboration, isLost, hasParticipants, isPool, hasPool, isUnowned, isSecond, isOutside};
+ghost use Rattle.draw_faults.specs.Amiss.{isSecondCollaboration, isLost, isUnowned, isSecond, isOutside};
+ghost use Rattle.draw_numbers.specs.Who.{hasParticipants};
 ghost use Rattle.draw_faults.specs.Once.{isOdd, Plain};
 use super::has;
 use draw_kinds::counting::SOURCE_IN;
@@ -10,6 +11,7 @@ use draw_kinds::counting::WITHIN_IN;
 use draw_kinds::counting::count_sort;
 use draw_kinds::counting::count_with;
 use draw_kinds::counting::of_sort;
+use draw_numbers::who::has_participants;
 use draw_things::things::COLLABORATION;
 use draw_things::things::Note;
 use draw_things::things::PARTICIPANT;
@@ -29,44 +31,6 @@ pub fn is_lost(text: &[u8], w: &[Note], k: Note) -> bool
     ensures { λ r. ⌜ r ≡ isLost (now (text .entry)) (now (w .entry)) k ⌝ }
 {
     of_sort(PARTICIPANT, w, k) && (has(text, b"processRef", w, k) && source_of(w, k) == 0)
-}
-
-// Whether there is a participant.
-pub fn has_participants(w: &[Note], n: Note) -> bool
-    ensures { λ r. ⌜ r ≡ hasParticipants (now (w .entry)) n ⌝ }
-{
-    let mut j: Note = 0;
-    while j < n {
-        if of_sort(PARTICIPANT, w, j) {
-            return true;
-        }
-        j += 1;
-    }
-    false
-}
-
-// Whether thing k is a pool: a participant with a process or, where there are no participants, a process.
-pub fn is_pool(owned: bool, w: &[Note], k: Note) -> bool
-    ensures { λ r. ⌜ r ≡ isPool owned (now (w .entry)) k ⌝ }
-{
-    if owned {
-        return of_sort(PARTICIPANT, w, k) && source_of(w, k) != 0;
-    }
-    of_sort(PROCESS, w, k)
-}
-
-// Whether there is a pool.
-pub fn has_pool(owned: bool, w: &[Note], n: Note) -> bool
-    ensures { λ r. ⌜ r ≡ hasPool owned (now (w .entry)) n ⌝ }
-{
-    let mut j: Note = 0;
-    while j < n {
-        if is_pool(owned, w, j) {
-            return true;
-        }
-        j += 1;
-    }
-    false
 }
 
 // Whether process k belongs to no participant, or to two.

@@ -20,7 +20,7 @@ use Rattle.base_words.proofs.SeekLaws.{seek-more, seek-found, seek-done, sought
 use Rattle.draw_things.specs.Things.{sort, source, target, within, kind, isNode, withSource, sourcePlace, sortPlace, sequenceFlow, messageEventDefinition, terminateEventDefinition, startEvent, endEvent, intermediateCatchEvent}
 use Rattle.draw_kinds.specs.declared.Shape.{Shape}
 use Rattle.draw_kinds.specs.Counting.{withinIn, sourceIn, targetIn, column, isWith, countWith}
-use Rattle.draw_kinds.specs.Roles.{flowsIn, flowsOut, messagesOf, terminatesOf, shapeOf, Before, startDrawn, endDrawn, intermediate, kindBy, kindDrawn, settled, roles, isUnsettled, firstUnsettled, areSettled, settledUpTo}
+use Rattle.draw_kinds.specs.Roles.{flowsIn, flowsOut, messagesOf, terminatesOf, shapeOf, Before, startDrawn, endDrawn, intermediate, kindBy, kindDrawn, kindSettled, roles, isUnsettled, firstUnsettled, areSettled, settledUpTo}
 
 -- COUNTS, one thing more
 one-few : (b : Bool) → oneIf b ≤ 1
@@ -152,22 +152,22 @@ module _ (n : ℕ) where
   unsettled-in true m k x v h = rw (getD-set-other v (sourcePlace m) (sortPlace k) x 0 (λ e. omega arith), getD-set-other v (sourcePlace m) (sourcePlace k) x 0 (λ e. omega arith)) refl
   unsettled-in false m k x v h = refl
 
-  stays : (m k : ℕ) (v : List ℕ) → k < m → isUnsettled (settled n m v) k ≡ isUnsettled v k
-  unfolding settled
+  stays : (m k : ℕ) (v : List ℕ) → k < m → isUnsettled (kindSettled n m v) k ≡ isUnsettled v k
+  unfolding kindSettled
   stays m k v h = unsettled-in (isNode (sort v m)) m k (kindDrawn v n m) v h
 
-  later : (w : List ℕ) (m k : ℕ) → k < m → isUnsettled (iter (settled n) w m) k ≡ isUnsettled (iter (settled n) w (k + 1)) k
+  later : (w : List ℕ) (m k : ℕ) → k < m → isUnsettled (iter (kindSettled n) w m) k ≡ isUnsettled (iter (kindSettled n) w (k + 1)) k
   unfolding iter
   later w zero k h = absurd (not-suc-le-zero h)
   later w (suc m) k h =
-      ⊎-elim (λ q. ap (λ (j : ℕ). isUnsettled (iter (settled n) w j) k) (let z : suc m ≡ k + 1 = omega arith in z))
-      (λ lt. stays m k (iter (settled n) w m) lt ∙ later w m k lt)
+      ⊎-elim (λ q. ap (λ (j : ℕ). isUnsettled (iter (kindSettled n) w j) k) (let z : suc m ≡ k + 1 = omega arith in z))
+      (λ lt. stays m k (iter (kindSettled n) w m) lt ∙ later w m k lt)
       (eq-or-lt-of-le (le-of-suc-le-suc h))
 
 -- a turn of the loop, from v to u at node k
-module _ (n : ℕ) (w : List ℕ) (k : ℕ) (v u : List ℕ) (h : k < n) (ev : v ≡ iter (settled n) w k) (eu : u ≡ settled n k v) (es : seek (isUnsettled (roles n w)) k ≡ k) (r : Bool) (er : r ≡ isUnsettled u k) where
-  on : u ≡ iter (settled n) w (k + 1)
-  on = iter-more (settled n) w k v u ev eu
+module _ (n : ℕ) (w : List ℕ) (k : ℕ) (v u : List ℕ) (h : k < n) (ev : v ≡ iter (kindSettled n) w k) (eu : u ≡ kindSettled n k v) (es : seek (isUnsettled (roles n w)) k ≡ k) (r : Bool) (er : r ≡ isUnsettled u k) where
+  on : u ≡ iter (kindSettled n) w (k + 1)
+  on = iter-more (kindSettled n) w k v u ev eu
 
   told : (b : Bool) → r ≡ b → isUnsettled (roles n w) k ≡ b
   unfolding roles
@@ -180,19 +180,19 @@ module _ (n : ℕ) (w : List ℕ) (k : ℕ) (v u : List ℕ) (h : k < n) (ev : v
   unfolding areSettled settledUpTo firstUnsettled
   kinds-stop e =
       let f : k ≡ seek (isUnsettled (roles n w)) n = seek-found (isUnsettled (roles n w)) n k h es (told true e) in
-      rw (← f) (sym (lt-leb n k h), on ∙ ap (iter (settled n) w) (sym (min-eq-left (let z : k + 1 ≤ n = omega arith in z))))
+      rw (← f) (sym (lt-leb n k h), on ∙ ap (iter (kindSettled n) w) (sym (min-eq-left (let z : k + 1 ≤ n = omega arith in z))))
 
-module _ (n : ℕ) (w : List ℕ) (k : ℕ) (v : List ℕ) (ev : v ≡ iter (settled n) w k) (es : seek (isUnsettled (roles n w)) k ≡ k) where
+module _ (n : ℕ) (w : List ℕ) (k : ℕ) (v : List ℕ) (ev : v ≡ iter (kindSettled n) w k) (es : seek (isUnsettled (roles n w)) k ≡ k) where
   pub kinds-end : n ≤ k → k ≤ n → (true ≡ areSettled n w) × (v ≡ settledUpTo n w)
   unfolding areSettled settledUpTo firstUnsettled
   kinds-end h l =
       let f : k ≡ seek (isUnsettled (roles n w)) n = seek-done (isUnsettled (roles n w)) n k h l es in
-      rw (← f) (sym (le-leb n k h), ev ∙ ap (iter (settled n) w) (let z : k ≡ n = omega arith in z ∙ sym (min-eq-right (let y : n ≤ k + 1 = omega arith in y))))
+      rw (← f) (sym (le-leb n k h), ev ∙ ap (iter (kindSettled n) w) (let z : k ≡ n = omega arith in z ∙ sym (min-eq-right (let y : n ≤ k + 1 = omega arith in y))))
 
 -- where none is of no kind all are settled
 pub kinds-all : (n : ℕ) (w : List ℕ) → areSettled n w ≡ true → settledUpTo n w ≡ roles n w
 unfolding areSettled settledUpTo roles
-kinds-all n w e = ap (iter (settled n) w) (min-eq-right (let z : n ≤ firstUnsettled n w + 1 = omega (arith, leb-true n (firstUnsettled n w) e) in z))
+kinds-all n w e = ap (iter (kindSettled n) w) (min-eq-right (let z : n ≤ firstUnsettled n w + 1 = omega (arith, leb-true n (firstUnsettled n w) e) in z))
 
 -- else one is
 pub kinds-not : (n : ℕ) (w : List ℕ) → areSettled n w ≡ false → (firstUnsettled n w < n) × (isUnsettled (roles n w) (firstUnsettled n w) ≡ true)

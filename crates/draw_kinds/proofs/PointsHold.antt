@@ -7,7 +7,7 @@ use Rattle.base_words.specs.Seek.{seek}
 use Rattle.base_words.specs.Sum.{sum}
 use Rattle.draw_things.specs.Things.{isNode, kind}
 use Rattle.draw_kinds.specs.Counting.{isWith, countWith, firstWith}
-use Rattle.draw_kinds.specs.Roles.{flowsIn, flowsOut, messagesOf, terminatesOf, shapeOf, flows, defines, when, startDrawn, endDrawn, intermediate, activity, splits, joins, gateway, kindBy, caughtAs, kindDrawn, settled, roles}
+use Rattle.draw_kinds.specs.Roles.{flowsIn, flowsOut, messagesOf, terminatesOf, shapeOf, flows, defines, when, startDrawn, endDrawn, intermediate, activity, splits, joins, gateway, kindBy, caughtAs, kindDrawn, kindSettled, roles}
 use Rattle.draw_kinds.specs.Points.{Point, points}
 
 pub points-hold : map (λ (p : Point). kindDrawn (p .things) (p .count) 2) points ≡ map (λ (p : Point). p .kind) points
@@ -16,5 +16,5 @@ points-hold = refl
 
 -- and is stored in the things
 pub points-stored : map (λ (p : Point). kind (roles (p .count) (p .things)) 2) points ≡ map (λ (p : Point). p .kind) points
-unfolding if_then_else_ iter seek sum isNode isWith countWith firstWith flowsIn flowsOut messagesOf terminatesOf shapeOf flows defines when startDrawn endDrawn intermediate activity splits joins gateway kindBy caughtAs kindDrawn settled roles
+unfolding if_then_else_ iter seek sum isNode isWith countWith firstWith flowsIn flowsOut messagesOf terminatesOf shapeOf flows defines when startDrawn endDrawn intermediate activity splits joins gateway kindBy caughtAs kindDrawn kindSettled roles
 points-stored = refl

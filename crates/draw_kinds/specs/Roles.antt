@@ -94,11 +94,11 @@ unfoldable pub kindDrawn : Drawing → ℕ → ℕ → ℕ
 kindDrawn w n k = kindBy (sort w k) (caughtAs w n k) (shapeOf w n k)
 
 -- THE KINDS of nodes, stored in the things
-unfoldable pub settled : ℕ → ℕ → Drawing → Drawing
-settled n k w = if isNode (sort w k) then withSource w k (kindDrawn w n k) else w
+unfoldable pub kindSettled : ℕ → ℕ → Drawing → Drawing
+kindSettled n k w = if isNode (sort w k) then withSource w k (kindDrawn w n k) else w
 
 unfoldable pub roles : ℕ → Drawing → Drawing
-roles n w = iter (settled n) w n
+roles n w = iter (kindSettled n) w n
 
 -- A node of no kind is 21, whatever the others are: kinds may be settled up to the first one, itself with them. (RULES: nodes)
 unfoldable pub isUnsettled : Drawing → ℕ → Bool
@@ -111,4 +111,4 @@ unfoldable pub areSettled : ℕ → Drawing → Bool
 areSettled n w = leb n (firstUnsettled n w)
 
 unfoldable pub settledUpTo : ℕ → Drawing → Drawing
-settledUpTo n w = iter (settled n) w (min (firstUnsettled n w + 1) n)
+settledUpTo n w = iter (kindSettled n) w (min (firstUnsettled n w + 1) n)

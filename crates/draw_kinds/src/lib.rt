@@ -1,6 +1,6 @@
 // Which of the kinds of document 01 a node of a drawing is: what stands round it, counted.
 ghost use mathlib.Core.Path.{_≡_};
-ghost use Rattle.draw_kinds.specs.Roles.{shapeOf, Before, flows, defines, when, startDrawn, endDrawn, intermediate, activity, splits, joins, gateway, kindBy, caughtAs, kindDrawn, settled, roles, isUnsettled, areSettled, settledUpTo};
+ghost use Rattle.draw_kinds.specs.Roles.{shapeOf, Before, flows, defines, when, startDrawn, endDrawn, intermediate, activity, splits, joins, gateway, kindBy, caughtAs, kindDrawn, kindSettled, roles, isUnsettled, areSettled, settledUpTo};
 ghost use Rattle.draw_things.specs.Things.{sort, sequenceFlow, messageEventDefinition, terminateEventDefinition, intermediateCatchEvent};
 ghost use Rattle.base_words.specs.Pick.{if_then_else_};
 ghost use Rattle.base_words.specs.Sum.{oneIf};
@@ -265,7 +265,7 @@ fn kind_drawn(w: &[Note], n: Note, k: Note) -> Note
 }
 
 fn settle(w: &mut [Note], n: Note, k: Note)
-    ensures { λ _. ⌜ now (w .exit) ≡ settled n k (now (w .entry)) ⌝ }
+    ensures { λ _. ⌜ now (w .exit) ≡ kindSettled n k (now (w .entry)) ⌝ }
 {
     if is_node_at(w, k) {
         let kind = kind_drawn(w, n, k);

@@ -1,2 +1,1 @@
 pub mod PointsHold
-pub mod ValueLaws

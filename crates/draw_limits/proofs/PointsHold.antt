@@ -4,8 +4,9 @@ use mathlib.Core.List.{map}
 use Rattle.base_words.specs.Pick.{if_then_else_}
 use Rattle.base_words.specs.Seek.{seek}
 use Rattle.base_words.specs.Sum.{sum}
-use Rattle.text_lexer.specs.Lexer.{between, isLetter, isDigit, past}
-use Rattle.text_numerals.specs.Numerals.{valueFrom, leadingZero, numberOf, sameBytes, ifValue}
+use Rattle.base_bytes.specs.Bytes.{between, isLetter, isDigit, past}
+use Rattle.text_numerals.specs.Numerals.{valueFrom, leadingZero, numberOf, ifValue}
+use Rattle.base_bytes.specs.Bytes.{sameBytes}
 use Rattle.xml_characters.specs.Names.{isBlank, isControl, beginsName, isName}
 use Rattle.xml_scanner.specs.Openings.{behindLess, behindBracket, inOpening}
 use Rattle.xml_scanner.specs.Passages.{inComment, inData, inTarget, inInstruction}
@@ -16,8 +17,8 @@ use Rattle.xml_markup.specs.Spans.{isOf as isAlike, run, after, behindColon, lo
 use Rattle.draw_things.specs.Things.{isNode, oneMore}
 use Rattle.draw_links.specs.Links.{ifIs, hasId, mayName, orNone, meant, named}
 use Rattle.draw_kinds.specs.Counting.{isWith, countWith, ofSort, countSort}
-use Rattle.draw_faults.specs.Amiss.{isPool, isOfKind, isSplit}
-use Rattle.draw_limits.specs.Numbers.{countBefore, isElement, isTask, isEdge, isStart, isBeforeFirst, isOf, taskOf, edgeOf, firstEdgeOf, messageOf, maximumOf, defaultOf}
+use Rattle.draw_numbers.specs.Who.{isPool, isOfKind, isSplit}
+use Rattle.draw_numbers.specs.Numbers.{countBefore, isElement, isTask, isEdge, isStart, isBeforeFirst, isOf, taskOf, edgeOf, firstEdgeOf, messageOf, maximumOf, defaultOf}
 use Rattle.draw_limits.specs.Excess.{isFifthPool, isOneTooMany, isStartBeyond, isNinth, isUsed, isMessageBeyond, isLimit, isMaximumBeyond, isGuarded, valuePlace, beyondAt}
 use Rattle.draw_limits.specs.Points.{Point, points}
 

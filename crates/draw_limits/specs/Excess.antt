@@ -16,8 +16,8 @@ use Rattle.draw_things.specs.Things.{sort, place, within, source, target, isNod
 use Rattle.draw_links.specs.Links.{ifIs}
 use Rattle.draw_kinds.specs.Counting.{sourceIn, targetIn, ofSort, countWith}
 use Rattle.draw_conditions.specs.Conditions.{conditionAt}
-use Rattle.draw_faults.specs.Amiss.{hasParticipants, isPool, isSplit}
-use Rattle.draw_limits.specs.Numbers.{anElement, aTask, anEdge, isOf, isStart, countBefore, firstEdgeOf, messageOf, maximumOf, defaultOf}
+use Rattle.draw_numbers.specs.Who.{hasParticipants, isPool, isSplit}
+use Rattle.draw_numbers.specs.Numbers.{anElement, aTask, anEdge, isOf, isStart, countBefore, firstEdgeOf, messageOf, maximumOf, defaultOf}
 
 -- "fifth pool: the `<` of its participant (of its process where there are no participants)" (RULES: beyond)
 unfoldable pub isFifthPool : Bool → Drawing → ℕ → Bool

@@ -8,7 +8,7 @@ use Rattle.base_words.specs.Text.{bytes}
 use Rattle.base_words.specs.Counts.{elements, edges, tasks}
 use Rattle.base_kinds.specs.Kinds as kinds
 use Rattle.draw_things.specs.Things.{definitions, participant, participantMultiplicity, messageFlow, process, sequenceFlow, startEvent, endEvent, intermediateCatchEvent, task, sendTask, exclusiveGateway, eventBasedGateway, branch}
-use Rattle.draw_limits.specs.Numbers.{anElement, aTask, anEdge, taskOf, edgeOf, firstEdgeOf, messageOf, maximumOf}
+use Rattle.draw_numbers.specs.Numbers.{anElement, aTask, anEdge, taskOf, edgeOf, firstEdgeOf, messageOf, maximumOf}
 use Rattle.draw_limits.specs.Excess.{isFifthPool, isOneTooMany, isStartBeyond, isNinth, isMessageBeyond, isMaximumBeyond, isGuarded, valuePlace, beyondAt}
 
 pub record Point : Type 0 where

@@ -14,10 +14,10 @@ use Rattle.base_words.specs.Seek.{seek}
 use Rattle.base_words.specs.Text.{bytes}
 use Rattle.base_words.specs.Words.{at, part}
 use Rattle.base_words.proofs.PickLaws.{and-false-right}
-use Rattle.text_lexer.specs.Lexer.{past}
-use Rattle.text_lexer.proofs.PastLaws.{past-from}
-use Rattle.text_lexer.proofs.PieceLaws.{by-order}
-use Rattle.text_numerals.specs.Numerals.{sameBytes}
+use Rattle.base_bytes.specs.Bytes.{past}
+use Rattle.base_bytes.proofs.PastLaws.{past-from}
+use Rattle.base_bytes.proofs.PieceLaws.{by-order}
+use Rattle.base_bytes.specs.Bytes.{sameBytes}
 use Rattle.xml_markup.specs.declared.Class.the-variants.{Value}
 use Rattle.xml_markup.specs.declared.Found.{Found}
 use Rattle.xml_markup.specs.declared.Found.the-variants.{Behind, Nowhere}

@@ -18,11 +18,11 @@ use Rattle.base_words.specs.Text.{bytes}
 use Rattle.base_words.specs.Words.{at, part}
 use Rattle.base_words.proofs.AllLaws.{all-at, and-left}
 use Rattle.base_words.proofs.IterLaws.{iter-keeps}
-use Rattle.text_numerals.specs.Numerals.{sameBytes}
+use Rattle.base_bytes.specs.Bytes.{sameBytes}
 use Rattle.xml_markup.specs.Tokens.{found}
 use Rattle.xml_markup.specs.Spans.{localOf, attribute}
 use Rattle.draw_things.specs.Things.{sort, place, within, source, target, isNode, thingWords, sortPlace, placePlace, withinPlace, sourcePlace, targetPlace, participant, messageFlow, process, sequenceFlow}
-use Rattle.draw_links.specs.Links.{ifIs, hasId, mayName, orNone, meant, named, joined, owned, linked, links}
+use Rattle.draw_links.specs.Links.{ifIs, hasId, mayName, orNone, meant, named, flowJoined, owned, linked, links}
 use Rattle.draw_links.specs.Notes.{noteBy, noteOf, isFlow, retargeted, noNote, noted, bared, isFree, Noted, NotedIf}
 
 -- WHICH SORTS ARE NO FLOWS
@@ -193,7 +193,7 @@ bared-free w (suc m) h = ap (retargeted noNote m) (bared-free w m (λ k l. h k (
 module _ (t : List ℕ) (n k : ℕ) (x : List ℕ) where
   -- the places that a link leaves as they are
   linked-at : (i : ℕ) → (i ≡ sourcePlace k → ⊥) → (isFlow x k ≡ true → i ≡ targetPlace k → ⊥) → at (linked t n k x) i ≡ at x i
-  unfolding linked joined owned
+  unfolding linked flowJoined owned
   linked-at i h g = go (isFlow x k) refl (eqb (sort x k) participant)
     where
       source-set : (v : ℕ) → at (set x (sourcePlace k) v) i ≡ at x i
@@ -206,7 +206,7 @@ module _ (t : List ℕ) (n k : ℕ) (x : List ℕ) where
       go false e false = unfold if_then_else_ in refl
 
   linked-long : length (linked t n k x) ≡ length x
-  unfolding linked joined owned
+  unfolding linked flowJoined owned
   linked-long = go (isFlow x k) (eqb (sort x k) participant) (named t x n k (bytes "sourceRef")) (named t x n k (bytes "targetRef")) (named t x n k (bytes "processRef"))
     where
       go : (a b : Bool) (u v o : ℕ) → length (if a then set (set x (sourcePlace k) u) (targetPlace k) v else if b then set x (sourcePlace k) o else x) ≡ length x
@@ -248,7 +248,7 @@ module _ (t : List ℕ) (n k : ℕ) (x : List ℕ) where
     form s a b c = if eqb s sequenceFlow || eqb s messageFlow then set (set y (sourcePlace k) a) (targetPlace k) b else if eqb s participant then set y (sourcePlace k) c else y
 
     link-bared : iter (retargeted noNote) (linked t n k x) m ≡ linked t n k y
-    unfolding linked joined owned
+    unfolding linked flowJoined owned
     link-bared =
         go (isFlow x k) refl (eqb (sort x k) participant) (named t x n k (bytes "sourceRef")) (named t x n k (bytes "targetRef")) (named t x n k (bytes "processRef"))
         ∙ λ z. form (sym (sort-stays noNote m x k) z) (name-bared (bytes "sourceRef") z) (name-bared (bytes "targetRef") z) (name-bared (bytes "processRef") z)

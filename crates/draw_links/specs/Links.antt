@@ -10,7 +10,7 @@ use Rattle.base_words.specs.Pick.{if_then_else_}
 use Rattle.base_words.specs.Seek.{seek}
 use Rattle.base_words.specs.Text.{bytes}
 use Rattle.base_words.specs.Words.{part}
-use Rattle.text_numerals.specs.Numerals.{sameBytes}
+use Rattle.base_bytes.specs.Bytes.{sameBytes}
 use Rattle.xml_markup.specs.declared.Attribute.{Attribute}
 use Rattle.xml_markup.specs.declared.Attribute.the-variants.{Is, Absent}
 use Rattle.xml_markup.specs.Spans.{localOf, attribute}
@@ -44,8 +44,8 @@ unfoldable pub named : Bytes → Drawing → ℕ → ℕ → Bytes → ℕ
 named t w n k name = ifIs (attribute t (place w k) name) (λ from to. meant t w n k (localOf (part t from to))) 0
 
 -- THE ENDS of flows, and the processes of participants, stored in the things
-unfoldable pub joined : Bytes → ℕ → ℕ → Drawing → Drawing
-joined t n k w =
+unfoldable pub flowJoined : Bytes → ℕ → ℕ → Drawing → Drawing
+flowJoined t n k w =
     withTarget (withSource w k (named t w n k (bytes "sourceRef"))) k (named t w n k (bytes "targetRef"))
 
 unfoldable pub owned : Bytes → ℕ → ℕ → Drawing → Drawing
@@ -53,7 +53,7 @@ owned t n k w = withSource w k (named t w n k (bytes "processRef"))
 
 unfoldable pub linked : Bytes → ℕ → ℕ → Drawing → Drawing
 linked t n k w =
-    if eqb (sort w k) sequenceFlow || eqb (sort w k) messageFlow then joined t n k w
+    if eqb (sort w k) sequenceFlow || eqb (sort w k) messageFlow then flowJoined t n k w
     else if eqb (sort w k) participant then owned t n k w
     else w
 

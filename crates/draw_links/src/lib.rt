@@ -6,8 +6,10 @@ ghost use Rattle.base_words.specs.All.{all};
 ghost use Rattle.base_words.specs.Seek.{seek};
 ghost use Rattle.draw_things.specs.Things.{sort, within, source, place, isNode, participant, messageFlow, process, sequenceFlow};
 ghost use Rattle.xml_markup.specs.Spans.{attribute};
-ghost use Rattle.draw_links.specs.Links.{hasId, mayName, orNone, meant, named, joined, owned, linked, links};
+ghost use Rattle.draw_links.specs.Links.{hasId, mayName, orNone, meant, named, flowJoined, owned, linked, links};
 ghost use Rattle.draw_links.specs.Notes.{isFlow, isFree, NotedAt, Noted, NotedIf};
+use base_bytes::piece;
+use base_bytes::same;
 use draw_things::things::MESSAGE_FLOW;
 use draw_things::things::Note;
 use draw_things::things::PARTICIPANT;
@@ -24,8 +26,6 @@ use ids::are_free;
 use ids::clear_ids;
 use ids::has_noted_id;
 use ids::note_ids;
-use text_lexer::piece;
-use text_numerals::same;
 use xml_markup::Attribute;
 use xml_markup::spans::attribute;
 use xml_markup::spans::local_of;
@@ -227,7 +227,7 @@ fn named_by(text: &[u8], w: &[Note], noted: bool, n: Note, k: Note, name: &[u8])
 }
 
 fn join(text: &[u8], w: &mut [Note], noted: bool, n: Note, k: Note)
-    ensures { λ _. ⌜ (NotedIf noted (now (text .entry)) (now (w .entry)) n → now (w .exit) ≡ joined (now (text .entry)) n k (now (w .entry))) ⌝ }
+    ensures { λ _. ⌜ (NotedIf noted (now (text .entry)) (now (w .entry)) n → now (w .exit) ≡ flowJoined (now (text .entry)) n k (now (w .entry))) ⌝ }
 {
     let from = named_by(text, w, noted, n, k, b"sourceRef");
     let to = named_by(text, w, noted, n, k, b"targetRef");

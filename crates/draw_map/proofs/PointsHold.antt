@@ -7,8 +7,9 @@ use Rattle.base_words.specs.Seek.{seek}
 use Rattle.base_words.specs.Sum.{sum}
 use Rattle.write_buffer.specs.Buffers.{lesser}
 use Rattle.write_decimals.specs.Decimals.{shownFrom, shown}
-use Rattle.text_lexer.specs.Lexer.{between, isLetter, isDigit, past}
-use Rattle.text_numerals.specs.Numerals.{valueFrom, leadingZero, numberOf, sameBytes, ifValue}
+use Rattle.base_bytes.specs.Bytes.{between, isLetter, isDigit, past}
+use Rattle.text_numerals.specs.Numerals.{valueFrom, leadingZero, numberOf, ifValue}
+use Rattle.base_bytes.specs.Bytes.{sameBytes}
 use Rattle.xml_characters.specs.Names.{isBlank, isControl, beginsName, isName}
 use Rattle.xml_scanner.specs.Openings.{behindLess, behindBracket, inOpening}
 use Rattle.xml_scanner.specs.Passages.{inComment, inData, inTarget, inInstruction}
@@ -19,8 +20,9 @@ use Rattle.xml_markup.specs.Spans.{isOf as isAlike, run, after, behindColon, lo
 use Rattle.draw_things.specs.Things.{isNode, oneMore}
 use Rattle.draw_links.specs.Links.{ifIs}
 use Rattle.draw_kinds.specs.Counting.{isWith, countWith, ofSort, countSort}
-use Rattle.draw_faults.specs.Amiss.{has, hasParticipants, isPool, isOfKind, isOutside}
-use Rattle.draw_limits.specs.Numbers.{countBefore, isElement, isEdge, isOf, edgeOf, messageOf}
+use Rattle.draw_faults.specs.Amiss.{has, isOutside}
+use Rattle.draw_numbers.specs.Who.{hasParticipants, isPool, isOfKind}
+use Rattle.draw_numbers.specs.Numbers.{countBefore, isElement, isEdge, isOf, edgeOf, messageOf}
 use Rattle.draw_model.specs.Content.{processOf}
 use Rattle.draw_map.specs.Map.{next, numbers, line, withinLine, elementLine, branchLine, branchLines, belonging, withBelonging, elementLines, isMessageEnd, endPlace, withEnd, endLines, edgeLine, linesOf, allOf, inside, withInside, poolLines, outsideLine, messageLine, partOf, everyOf, mapOf}
 use Rattle.draw_map.specs.Points.{Point, points}

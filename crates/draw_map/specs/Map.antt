@@ -19,11 +19,12 @@ use Rattle.text_read.specs.declared.Reading.{Reading}
 use Rattle.text_read.specs.Notation.{tableOf, rewritten}
 use Rattle.draw_things.specs.Things.{oneMore, place, within, target, messageFlow, sequenceFlow}
 use Rattle.draw_kinds.specs.Counting.{sourceIn, isWith, countWith, ofSort}
-use Rattle.draw_faults.specs.Amiss.{hasParticipants, isPool, isOfKind, isOutside}
-use Rattle.draw_limits.specs.Numbers.{countBefore, isOf, anElement, anEdge, edgeOf, messageOf}
+use Rattle.draw_faults.specs.Amiss.{isOutside}
+use Rattle.draw_numbers.specs.Who.{hasParticipants, isPool, isOfKind}
+use Rattle.draw_numbers.specs.Numbers.{countBefore, isOf, anElement, anEdge, edgeOf, messageOf}
 use Rattle.draw_model.specs.Content.{content, processOf}
 use Rattle.draw_walk.specs.Walk.{Walk}
-use Rattle.draw_read.specs.Drawings.{walked, thingsOf, answered}
+use Rattle.draw_read.specs.Drawings.{walkedText, thingsOf, answered}
 
 -- what a writer of a text promises that says nothing of its greatest length
 abbrev pub Puts : Bytes → ℕ → Bytes → ℕ → List ℕ → Type 0
@@ -148,4 +149,4 @@ unfoldable pub mapBy : Reading → List ℕ → Bytes
 mapBy a m = if eqb (a .number) 0 then m else unreadLine (a .number) (lesser (a .beside) greatest)
 
 unfoldable pub mapText : Bytes → Bytes
-mapText text = mapBy (answered text) (mapOf text (tableOf (map rewritten (content text (thingsOf text) (walked text .count)))) (thingsOf text) (walked text .count))
+mapText text = mapBy (answered text) (mapOf text (tableOf (map rewritten (content text (thingsOf text) (walkedText text .count)))) (thingsOf text) (walkedText text .count))

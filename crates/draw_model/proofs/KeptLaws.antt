@@ -11,7 +11,7 @@ use Rattle.base_words.proofs.JoinLaws.{joined-none, joined-more}
 use Rattle.base_words.proofs.PickLaws.{pick-yes, pick-no}
 use Rattle.check_model.specs.Checks.{Pool}
 use Rattle.text_ends.specs.Room.{notedWords}
-use Rattle.text_passes.specs.Passes.{storedAs, stored, summedUp, keptElement, keptAll, summed, placed, headedAs, headed, judgedBy, keptHead, keptPool}
+use Rattle.text_passes.specs.Passes.{storedAs, stored, summedUp, keptElement, keptAll, summed, elementsPlaced, headedAs, headed, poolJudged, keptHead, keptPool}
 
 module _ {A : Type 0} (keep : ℕ → A → List ℕ → List ℕ) where
   -- those behind others
@@ -69,16 +69,16 @@ unfolding keptElement stored
 element-kept fills i n x w u e = e
 
 module _ (fills : Bool) (i : ℕ) (els : List (List ℕ)) (s v : List ℕ) where
-  pub put-in-table : (u : List ℕ) → fills ≡ true → u ≡ keptAll (keptElement fills i) 0 els v → (s ≡ summed fills i els s) × (u ≡ placed fills i els v)
-  unfolding summed placed
+  pub put-in-table : (u : List ℕ) → fills ≡ true → u ≡ keptAll (keptElement fills i) 0 els v → (s ≡ summed fills i els s) × (u ≡ elementsPlaced fills i els v)
+  unfolding summed elementsPlaced
   put-in-table u h e = (pick-yes _ _ _ _ h refl, pick-yes _ _ _ _ h e)
 
-  pub put-in-summary : (u : List ℕ) → fills ≡ false → u ≡ keptAll (keptElement fills i) 0 els s → (u ≡ summed fills i els s) × (v ≡ placed fills i els v)
-  unfolding summed placed
+  pub put-in-summary : (u : List ℕ) → fills ≡ false → u ≡ keptAll (keptElement fills i) 0 els s → (u ≡ summed fills i els s) × (v ≡ elementsPlaced fills i els v)
+  unfolding summed elementsPlaced
   put-in-summary u h e = (pick-no _ _ _ _ h e, pick-no _ _ _ _ h refl)
 
 -- a pool: its elements, then its head
 module _ (fills : Bool) (i : ℕ) (p : Pool) (v s y : List ℕ) where
-  pub pool-kept : (number limit : ℕ) (els : List (List ℕ)) (u : List ℕ) → number ≡ p .number → limit ≡ p .limit → els ≡ p .elements → s ≡ summed fills i els (replicate notedWords 0) → y ≡ placed fills i els v → u ≡ (if fills then headedAs i (i + 1) number limit y else judgedBy number limit s y) → u ≡ keptPool fills i p v
+  pub pool-kept : (number limit : ℕ) (els : List (List ℕ)) (u : List ℕ) → number ≡ p .number → limit ≡ p .limit → els ≡ p .elements → s ≡ summed fills i els (replicate notedWords 0) → y ≡ elementsPlaced fills i els v → u ≡ (if fills then headedAs i (i + 1) number limit y else poolJudged number limit s y) → u ≡ keptPool fills i p v
   unfolding keptPool keptHead headed
   pool-kept number limit els u a b c d e f = rw (a, b, d, e, c) at f

@@ -10,8 +10,8 @@ use Rattle.base_words.specs.Pick.{if_then_else_}
 use Rattle.check_model.specs.Checks.{Pool}
 use Rattle.draw_things.specs.Things.{oneMore, source, participantMultiplicity}
 use Rattle.draw_kinds.specs.Counting.{withinIn, firstWith}
-use Rattle.draw_faults.specs.Amiss.{hasParticipants, isPool}
-use Rattle.draw_limits.specs.Numbers.{countBefore, isElement, maximumOf}
+use Rattle.draw_numbers.specs.Who.{hasParticipants, isPool}
+use Rattle.draw_numbers.specs.Numbers.{countBefore, isElement, maximumOf}
 use Rattle.draw_model.specs.Drawn.{elementDrawn}
 
 unfoldable pub elementIf : Bytes → Drawing → ℕ → ℕ → ℕ → List Element

@@ -17,8 +17,8 @@ use Rattle.draw_kinds.specs.Counting.{sourceIn, targetIn, withinIn, ofSort, fir
 use Rattle.draw_conditions.specs.declared.Term.{Term}
 use Rattle.draw_conditions.specs.declared.Condition.{Condition}
 use Rattle.draw_conditions.specs.Conditions.{conditionAt, absent}
-use Rattle.draw_faults.specs.Amiss.{isSender, isReceiver}
-use Rattle.draw_limits.specs.Numbers.{isTask, isStart, taskOf, edgeOf, firstEdgeOf, messageOf, defaultOf}
+use Rattle.draw_numbers.specs.Who.{isSender, isReceiver}
+use Rattle.draw_numbers.specs.Numbers.{isTask, isStart, taskOf, edgeOf, firstEdgeOf, messageOf, defaultOf}
 
 -- one more entry or exit, behind those that stand there
 unfoldable pub withEdge : ℕ → ℕ → Element → Element
@@ -86,14 +86,14 @@ exitBy t w n k j x =
     else withEdge exitsPlace (edgeOf w j) x
 
 -- "Entries, exits and branches as the sequence flows stand" (R27): what flow j is to node k (RULES: numbering)
-unfoldable pub entryBy : Drawing → ℕ → ℕ → Element → Element
-entryBy w k j x = if eqb (target w j) k then withEdge entriesPlace (edgeOf w j) x else x
+unfoldable pub enteringBy : Drawing → ℕ → ℕ → Element → Element
+enteringBy w k j x = if eqb (target w j) k then withEdge entriesPlace (edgeOf w j) x else x
 
 unfoldable pub leavingBy : Bytes → Drawing → ℕ → ℕ → ℕ → Element → Element
 leavingBy t w n k j x = if eqb (source w j) k then exitBy t w n k j x else x
 
 unfoldable pub byFlow : Bytes → Drawing → ℕ → ℕ → ℕ → Element → Element
-byFlow t w n k j x = if ofSort sequenceFlow w j then leavingBy t w n k j (entryBy w k j x) else x
+byFlow t w n k j x = if ofSort sequenceFlow w j then leavingBy t w n k j (enteringBy w k j x) else x
 
 -- THE ELEMENT that node k is
 unfoldable pub elementDrawn : Bytes → Drawing → ℕ → ℕ → Element

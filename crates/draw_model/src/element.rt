@@ -3,9 +3,9 @@ ghost use mathlib.Core.Path.{_≡_};
 ghost use Rattle.base_words.specs.Words.{at};
 ghost use Rattle.base_table.specs.Places.{exitsPlace};
 ghost use Rattle.text_elements.specs.Elements.{blank};
-ghost use Rattle.draw_limits.specs.Numbers.{edgeOf};
+ghost use Rattle.draw_numbers.specs.Numbers.{edgeOf};
 ghost use Rattle.draw_things.specs.Things.{kind};
-ghost use Rattle.draw_model.specs.Drawn.{withEdge, receivedBy, sentBy, withMessage, withForm, withTask, withFirst, headOf, withTerm, withCondition, saidOrTrue, guardedBy, withGuard, exitBehind, withBranch, exitBy, entryBy, leavingBy, byFlow, elementDrawn};
+ghost use Rattle.draw_model.specs.Drawn.{withEdge, receivedBy, sentBy, withMessage, withForm, withTask, withFirst, headOf, withTerm, withCondition, saidOrTrue, guardedBy, withGuard, exitBehind, withBranch, exitBy, enteringBy, leavingBy, byFlow, elementDrawn};
 use base_kinds::moves::A;
 use base_kinds::moves::EVENT_BASED;
 use base_kinds::moves::XOR_SPLIT;
@@ -34,20 +34,20 @@ use draw_conditions::ABSENT;
 use draw_conditions::Condition;
 use draw_conditions::Term;
 use draw_conditions::condition_at;
-use draw_faults::nodes::is_receiver;
-use draw_faults::nodes::is_sender;
 use draw_kinds::counting::SOURCE_IN;
 use draw_kinds::counting::TARGET_IN;
 use draw_kinds::counting::WITHIN_IN;
 use draw_kinds::counting::first_with;
 use draw_kinds::counting::of_sort;
-use draw_limits::numbers::default_of;
-use draw_limits::numbers::edge_of;
-use draw_limits::numbers::first_edge_of;
-use draw_limits::numbers::is_start;
-use draw_limits::numbers::is_task;
-use draw_limits::numbers::message_of;
-use draw_limits::numbers::task_of;
+use draw_numbers::numbers::default_of;
+use draw_numbers::numbers::edge_of;
+use draw_numbers::numbers::first_edge_of;
+use draw_numbers::numbers::is_start;
+use draw_numbers::numbers::is_task;
+use draw_numbers::numbers::message_of;
+use draw_numbers::numbers::task_of;
+use draw_numbers::who::is_receiver;
+use draw_numbers::who::is_sender;
 use draw_things::things::CONDITION_EXPRESSION;
 use draw_things::things::MESSAGE_FLOW;
 use draw_things::things::Note;
@@ -228,7 +228,7 @@ fn put_exit(text: &[u8], w: &[Note], n: Note, k: Note, j: Note, x: &mut [Word])
 }
 
 fn put_entry(w: &[Note], k: Note, j: Note, x: &mut [Word])
-    ensures { λ _. ⌜ now (x .exit) ≡ entryBy (now (w .entry)) k j (now (x .entry)) ⌝ }
+    ensures { λ _. ⌜ now (x .exit) ≡ enteringBy (now (w .entry)) k j (now (x .entry)) ⌝ }
 {
     if target_of(w, j) == k {
         put_edge(ENTRIES as Word, edge_of(w, j), x);

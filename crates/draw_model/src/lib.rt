@@ -3,17 +3,17 @@ ghost use mathlib.Core.Path.{_≡_};
 ghost use Prim.Native.Nat.{_+_, _<_};
 ghost use lib.ListN.{length};
 ghost use Rattle.base_words.specs.Words.{greatest};
-ghost use Rattle.text_passes.specs.Passes.{keptElement, keptAll, summed, placed, keptPool};
+ghost use Rattle.text_passes.specs.Passes.{keptElement, keptAll, summed, elementsPlaced, keptPool};
 ghost use Rattle.draw_model.specs.Content.{elementIf, elementsOf, limitOf, processOf, numberOf, poolDrawn, poolIf, content};
 use base_table::places::ELEMENT_WORDS;
 use base_words::Word;
-use draw_faults::pools::has_participants;
-use draw_faults::pools::is_pool;
 use draw_kinds::counting::WITHIN_IN;
 use draw_kinds::counting::first_with;
-use draw_limits::numbers::count_pools;
-use draw_limits::numbers::is_element;
-use draw_limits::numbers::maximum_of;
+use draw_numbers::numbers::count_pools;
+use draw_numbers::numbers::is_element;
+use draw_numbers::numbers::maximum_of;
+use draw_numbers::who::has_participants;
+use draw_numbers::who::is_pool;
 use draw_things::things::Note;
 use draw_things::things::PARTICIPANT_MULTIPLICITY;
 use draw_things::things::next_number;
@@ -74,7 +74,7 @@ fn keep_all(
     v: &mut [Word],
 )
     ensures { λ _. ⌜ now (s .exit) ≡ summed fills i (elementsOf (now (text .entry)) (now (w .entry)) n p) (now (s .entry)) ⌝ }
-    ensures { λ _. ⌜ now (v .exit) ≡ placed fills i (elementsOf (now (text .entry)) (now (w .entry)) n p) (now (v .entry)) ⌝ }
+    ensures { λ _. ⌜ now (v .exit) ≡ elementsPlaced fills i (elementsOf (now (text .entry)) (now (w .entry)) n p) (now (v .entry)) ⌝ }
 {
     if fills {
         keep_elements(fills, text, w, n, p, i, v);

@@ -23,10 +23,10 @@ use Rattle.text_rewrite.specs.InTable.{rewrittenIn}
 use Rattle.text_rewrite.proofs.TableLaws.{table-rewritten}
 use Rattle.text_read.specs.declared.Reading.{Reading}
 use Rattle.text_read.specs.Notation.{ReadInto, tableOf, rewritten, hasRoom, answerFor}
-use Rattle.xml_skip.specs.declared.Skipped.{Skipped}
-use Rattle.xml_skip.specs.declared.Skipped.the-variants.{Past, Fault}
+use Rattle.xml_skip.specs.declared.Reached.{Reached}
+use Rattle.xml_skip.specs.declared.Reached.the-variants.{Past, Fault}
 use Rattle.draw_things.specs.Things.{room, blockWords, place}
-use Rattle.draw_walk.specs.Walk.{Walk, walk, told}
+use Rattle.draw_walk.specs.Walk.{Walk, walk, walkTold}
 use Rattle.draw_walk.specs.declared.Walked.{Walked}
 use Rattle.draw_links.specs.Links.{links}
 use Rattle.draw_kinds.specs.Roles.{roles, areSettled, settledUpTo}
@@ -35,7 +35,7 @@ use Rattle.draw_faults.specs.Amiss.{isDrawing}
 use Rattle.draw_faults.proofs.UnsettledLaws.{unsettled-amiss}
 use Rattle.draw_limits.specs.Excess.{firstBeyond, beyondAt}
 use Rattle.draw_model.specs.Content.{content}
-use Rattle.draw_read.specs.Drawings.{drawingMost, tooLong, notXml, notRun, answer, checkedAs, meantBy, walked, settledBy, thingsOf, judged, answered, filledBy, drawInto}
+use Rattle.draw_read.specs.Drawings.{drawingMost, tooLong, notXml, notRun, answer, checkedAs, meantBy, walkedText, settledBy, thingsOf, unlessFault, answered, filledBy, drawInto}
 use Rattle.draw_read.proofs.RoomLaws.{content-fits}
 
 abbrev with-table : Reading → List ℕ → ReadInto
@@ -99,24 +99,24 @@ module _ (text t : List ℕ) where
   unfolding drawInto answered filledBy if_then_else_
   too-long a l e = rw (lt-ltb drawingMost (length text) l, e) refl
 
-  module _ (short : length text ≤ drawingMost) (r : Walked) (v : List ℕ) (met : told r v ≡ walk text (replicate blockWords 0)) where
+  module _ (short : length text ≤ drawingMost) (r : Walked) (v : List ℕ) (met : walkTold r v ≡ walk text (replicate blockWords 0)) where
     abbrev n : ℕ
     n = r .count
 
-    walk-met : told r v ≡ walked text
-    unfolding walked
+    walk-met : walkTold r v ≡ walkedText text
+    unfolding walkedText
     walk-met = met
 
     pub walk-stopped : (q : ℕ) (a : Reading) → r .end ≡ Fault q → a ≡ answer notXml q → with-table a t ≡ drawInto text t
-    unfolding drawInto answered judged told filledBy if_then_else_
+    unfolding drawInto answered unlessFault walkTold filledBy if_then_else_
     walk-stopped q a f e = rw (← walk-met, le-ltb drawingMost (length text) short, f, e) refl
 
     pub walk-done : (q : ℕ) (w : List ℕ) (u : ReadInto) → r .end ≡ Past q → w ≡ settledBy text n v → u ≡ filledBy (meantBy text w n) (content text w n) t → u ≡ drawInto text t
-    unfolding drawInto answered judged told thingsOf if_then_else_
+    unfolding drawInto answered unlessFault walkTold thingsOf if_then_else_
     walk-done q w u f s e = rw (← walk-met, le-ltb drawingMost (length text) short, f, ← s) e
 
     pub walk-amiss : (q : ℕ) (a : Reading) → r .end ≡ Past q → isDrawing text (settledBy text n v) n ≡ false → a ≡ answer notRun 0 → with-table a t ≡ drawInto text t
-    unfolding drawInto answered judged told thingsOf meantBy filledBy if_then_else_
+    unfolding drawInto answered unlessFault walkTold thingsOf meantBy filledBy if_then_else_
     walk-amiss q a f d e = rw (← walk-met, le-ltb drawingMost (length text) short, f, d, e) refl
 
 -- what shows a drawing to be amiss before it is judged: more things than there is room for, or a node of no kind
@@ -133,15 +133,15 @@ unfolding settledBy
 settled-right text w u x n e h f = f ∙ kinds-all n u h ∙ ap (roles n) e
 
 -- an end that is past, or at fault
-is-past : Skipped → Bool
+is-past : Reached → Bool
 is-past (Past z) = true
 is-past (Fault z) = false
 
-pub not-stopped : {P : Type 0} (e : Skipped) (p q : ℕ) → e ≡ Past p → e ≡ Fault q → P
+pub not-stopped : {P : Type 0} (e : Reached) (p q : ℕ) → e ≡ Past p → e ≡ Fault q → P
 unfolding is-past
 not-stopped e p q f g = absurd (false≢true (sym (ap is-past g) ∙ ap is-past f))
 
-pub stopped-there : (e : Skipped) (p q : ℕ) (a : Reading) → e ≡ Fault p → a ≡ answer notXml p → e ≡ Fault q → a ≡ answer notXml q
+pub stopped-there : (e : Reached) (p q : ℕ) (a : Reading) → e ≡ Fault p → a ≡ answer notXml p → e ≡ Fault q → a ≡ answer notXml q
 stopped-there e p q a f h g = cc
 
 -- a test and what it tells

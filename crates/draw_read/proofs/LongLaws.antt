@@ -11,7 +11,7 @@ use Rattle.draw_things.specs.Things.{kind}
 use Rattle.text_passes.proofs.FillLaws.{Block}
 use Rattle.draw_conditions.specs.declared.Condition.{Condition}
 use Rattle.draw_conditions.specs.declared.Term.{Term}
-use Rattle.draw_model.specs.Drawn.{withEdge, withMessage, withForm, withTask, withFirst, headOf, withTerm, withCondition, saidOrTrue, guardedBy, withGuard, withBranch, exitBy, entryBy, leavingBy, byFlow, elementDrawn}
+use Rattle.draw_model.specs.Drawn.{withEdge, withMessage, withForm, withTask, withFirst, headOf, withTerm, withCondition, saidOrTrue, guardedBy, withGuard, withBranch, exitBy, enteringBy, leavingBy, byFlow, elementDrawn}
 
 -- the length by its name, so that the words are told by it
 record Long (x : List ℕ) : Type 0 where
@@ -71,10 +71,10 @@ exit-long t w n k j x l =
     either-long _ _ _ (edge-long _ _ _ (put-long _ _ _ l)) (either-long _ _ _ (edge-long _ _ _ (guard-long t w n k j _ x l)) (edge-long _ _ _ l))
 
 flow-long : (t w : List ℕ) (n k j : ℕ) (x : List ℕ) → Long x → Long (byFlow t w n k j x)
-unfolding byFlow leavingBy entryBy
+unfolding byFlow leavingBy enteringBy
 flow-long t w n k j x l = either-long _ _ _ (either-long _ _ _ (exit-long t w n k j _ entered) entered) l
   where
-    entered : Long (entryBy w k j x)
+    entered : Long (enteringBy w k j x)
     entered = either-long _ _ _ (edge-long _ _ _ l) l
 
 pub element-long : (t w : List ℕ) (n k : ℕ) → Block (elementDrawn t w n k)

@@ -17,8 +17,8 @@ use Rattle.base_words.proofs.SeekLaws.{sought}
 use Rattle.check_model.specs.Checks.{Pool}
 use Rattle.text_passes.proofs.FillLaws.{AtMost, none, some, Block, Fits}
 use Rattle.draw_things.specs.Things.{sort, within, kind, isNode, branch}
-use Rattle.draw_faults.specs.Amiss.{hasParticipants, isPool}
-use Rattle.draw_limits.specs.Numbers.{countBefore, isElement, anElement, aTask, isOf}
+use Rattle.draw_numbers.specs.Who.{hasParticipants, isPool}
+use Rattle.draw_numbers.specs.Numbers.{countBefore, isElement, anElement, aTask, isOf}
 use Rattle.draw_limits.specs.Excess.{isFifthPool, isOneTooMany, isStartBeyond, isNodeBeyond, isFlowBeyond, isMessageBeyond, isMaximumBeyond, isConditionBeyond, isBeyond, firstBeyond}
 use Rattle.draw_model.specs.Content.{elementIf, elementsOf, processOf, poolDrawn, poolIf, content}
 use Rattle.draw_model.specs.Drawn.{elementDrawn}

@@ -12,8 +12,8 @@ use Rattle.check_model.specs.Checks.{Pool, lowest}
 use Rattle.text_readers.specs.Reading.{excessive}
 use Rattle.text_read.specs.declared.Reading.{Reading}
 use Rattle.text_read.specs.Notation.{ReadInto, tableOf, rewritten, hasRoom, answerFor}
-use Rattle.xml_skip.specs.declared.Skipped.{Skipped}
-use Rattle.xml_skip.specs.declared.Skipped.the-variants.{Past, Fault}
+use Rattle.xml_skip.specs.declared.Reached.{Reached}
+use Rattle.xml_skip.specs.declared.Reached.the-variants.{Past, Fault}
 use Rattle.draw_things.specs.Things.{blockWords}
 use Rattle.draw_walk.specs.Walk.{Walk, walk}
 use Rattle.draw_links.specs.Links.{links}
@@ -52,28 +52,28 @@ meantBy text w n =
     else checkedAs (content text w n)
 
 -- what the walk meets, then with the ends of flows and the kinds of nodes
-unfoldable pub walked : Bytes → Walk
-walked text = walk text (replicate blockWords 0)
+unfoldable pub walkedText : Bytes → Walk
+walkedText text = walk text (replicate blockWords 0)
 
 unfoldable pub settledBy : Bytes → ℕ → Drawing → Drawing
 settledBy text n w = roles n (links text n w)
 
 unfoldable pub thingsOf : Bytes → Drawing
-thingsOf text = settledBy text (walked text .count) (walked text .words)
+thingsOf text = settledBy text (walkedText text .count) (walkedText text .words)
 
 -- 20 where the walk stops
-unfoldable pub judged : Skipped → Reading → Reading
-judged (Past q) a = a
-judged (Fault q) a = answer notXml q
+unfoldable pub unlessFault : Reached → Reading → Reading
+unlessFault (Past q) a = a
+unlessFault (Fault q) a = answer notXml q
 
 unfoldable pub answered : Bytes → Reading
 answered text =
     if ltb drawingMost (length text) then answer tooLong 0
-    else judged (walked text .end) (meantBy text (thingsOf text) (walked text .count))
+    else unlessFault (walkedText text .end) (meantBy text (thingsOf text) (walkedText text .count))
 
 -- a refusal leaves the table; else every word of it is the model's
 unfoldable pub filledBy : Reading → List Pool → Table → ReadInto
 filledBy a ps t = record { number = a .number; beside = a .beside; table = if eqb (a .number) 0 then tableOf (map rewritten ps) else t }
 
 unfoldable pub drawInto : Bytes → Table → ReadInto
-drawInto text t = filledBy (answered text) (content text (thingsOf text) (walked text .count)) t
+drawInto text t = filledBy (answered text) (content text (thingsOf text) (walkedText text .count)) t

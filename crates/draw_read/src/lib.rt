@@ -9,7 +9,7 @@ ghost use Rattle.text_read.specs.Notation.{tableOf, rewritten, hasRoom};
 ghost use Rattle.draw_model.specs.Content.{content};
 ghost use Rattle.draw_faults.specs.Amiss.{isDrawing};
 ghost use Rattle.draw_limits.specs.Excess.{firstBeyond};
-ghost use Rattle.xml_skip.specs.declared.Skipped.the-variants.{Fault};
+ghost use Rattle.xml_skip.specs.declared.Reached.the-variants.{Fault};
 ghost use Rattle.draw_read.specs.Drawings.{notXml, answer, checkedAs, meantBy, settledBy, filledBy, drawInto};
 use base_table::places::TABLE_WORDS;
 use base_words::Word;
@@ -33,7 +33,7 @@ use text_ends::JUDGED_WORDS;
 use text_read::Reading;
 use text_read::answer_for;
 use text_rewrite::rewrite;
-use xml_skip::Skipped;
+use xml_skip::Reached;
 
 // Bytes of a drawing.
 pub const DRAWING_MOST: usize = 65536;
@@ -101,12 +101,12 @@ fn settle(text: &[u8], w: &mut [Note], n: Note) -> bool
     settle_kinds(w, n)
 }
 
-fn stopped(end: Skipped) -> Reading
+fn stopped(end: Reached) -> Reading
     ensures { λ a. ⌜ ((q : ℕ) → end ≡ Fault q → a ≡ answer notXml q) ⌝ }
 {
     match end {
-        Skipped::Past(_) => answer(ACCEPTED, 0),
-        Skipped::Fault(q) => answer(NOT_XML, q),
+        Reached::Past(_) => answer(ACCEPTED, 0),
+        Reached::Fault(q) => answer(NOT_XML, q),
     }
 }
 
@@ -121,7 +121,7 @@ pub fn draw_into(text: &[u8], t: &mut [Word; TABLE_WORDS]) -> Reading
     let met = walk(text, &mut w);
     let n = met.count;
     let end = met.end;
-    let Skipped::Past(_) = end else {
+    let Reached::Past(_) = end else {
         return stopped(end);
     };
     if !settle(text, &mut w, n) {

@@ -10,8 +10,8 @@ use lib.Seq.{drop-cons, take-at}
 use Rattle.base_words.specs.Pick.{if_then_else_}
 use Rattle.base_words.specs.Words.{at, part}
 use Rattle.base_words.proofs.ListLaws.{getD-in}
-use Rattle.text_numerals.specs.Numerals.{sameBytes}
-use Rattle.text_numerals.proofs.NumberLaws.{same-lengths}
+use Rattle.base_bytes.specs.Bytes.{sameBytes}
+use Rattle.base_bytes.proofs.SameLaws.{same-lengths}
 use Rattle.draw_things.specs.Things.{stranger}
 use Rattle.draw_things.specs.Names.{Row, rows, rowCount, unknown, rowFrom, rowOf, padded}
 

@@ -1,7 +1,7 @@
 // Which element is which thing, by its name, what it stands in and its attributes.
 ghost use mathlib.Core.Path.{_≡_};
 ghost use Prim.Native.Nat.{_<_};
-ghost use Rattle.text_numerals.specs.Numerals.{sameBytes};
+ghost use Rattle.base_bytes.specs.Bytes.{sameBytes};
 ghost use Rattle.draw_things.specs.Names.{rowCount, padded, rowNamed, rowOf, isFalse, isOne, differs, valueBytes, valueBehind, differsAt, drawsAnother, isEvent, family, namedAt, drawnAs};
 ghost use Rattle.xml_markup.specs.Spans.{nameAt, bytesOf, localOf};
 use super::things::INTERMEDIATE_THROW_EVENT;
@@ -10,9 +10,9 @@ use super::things::Note;
 use super::things::PROCESS;
 use super::things::START_EVENT;
 use super::things::STRANGER;
-use text_lexer::byte;
-use text_lexer::piece;
-use text_numerals::same;
+use base_bytes::byte;
+use base_bytes::piece;
+use base_bytes::same;
 use xml_markup::Attribute;
 use xml_markup::Cursor;
 use xml_markup::Scan;

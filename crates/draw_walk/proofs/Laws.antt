@@ -15,8 +15,8 @@ use Rattle.xml_markup.specs.declared.Attribute.{Attribute}
 use Rattle.xml_markup.specs.declared.Attribute.the-variants.{Is, Absent}
 use Rattle.xml_markup.specs.Markup.{markup}
 use Rattle.xml_markup.specs.Spans.{attribute}
-use Rattle.xml_skip.specs.declared.Skipped.{Skipped}
-use Rattle.xml_skip.specs.declared.Skipped.the-variants.{Past, Fault}
+use Rattle.xml_skip.specs.declared.Reached.{Reached}
+use Rattle.xml_skip.specs.declared.Reached.the-variants.{Past, Fault}
 use Rattle.xml_skip.specs.declared.Part.{Part}
 use Rattle.xml_skip.specs.declared.Part.the-variants.{Element, Close, On, Fault as PartFault}
 use Rattle.xml_skip.specs.declared.Tag.{Tag}
@@ -28,14 +28,14 @@ use Rattle.draw_things.specs.Things.{definitions}
 use Rattle.draw_things.specs.Names.{namedAt, drawnAs}
 use Rattle.draw_walk.specs.declared.Walked.{Walked}
 use Rattle.draw_walk.specs.declared.Outer.{Outer}
-use Rattle.draw_walk.specs.Walk.{Walk, told, walked, isNumber, judged, multiplicityBy, multiplicity, isPassed, passed, tagFrom, entered, noted, counted, outer, Content, byTag, thingBy, byEnd, behind, byPart, contentBy, contentIn, contentAt, thingAt, walk}
+use Rattle.draw_walk.specs.Walk.{Walk, walkTold, walked, isNumber, judged, multiplicityBy, multiplicity, isPassed, passed, tagFrom, entered, noted, counted, outer, Content, byTag, thingBy, byEnd, walkOn, byPart, contentBy, contentIn, contentAt, thingAt, walk}
 
 -- WHAT IS PASSED IS FURTHER ON
-further-from : (p q : ℕ) (r : Skipped) → p < q → Further q r → Further p r
+further-from : (p q : ℕ) (r : Reached) → p < q → Further q r → Further p r
 further-from p q (Past x) h o = omega arith
 further-from p q (Fault x) h o = tt
 
-further-if : (p : ℕ) (b : Bool) (x y : Skipped) → Further p x → Further p y → Further p (if b then x else y)
+further-if : (p : ℕ) (b : Bool) (x y : Reached) → Further p x → Further p y → Further p (if b then x else y)
 unfolding if_then_else_
 further-if p true x y h k = h
 further-if p false x y h k = k
@@ -61,7 +61,7 @@ entered-by p e (Open q) h k = (h, k)
 entered-by p e (Empty q) h k = h
 entered-by p e (TagFault q) h k = tt
 
-entered-from : (p e : ℕ) (r : Skipped) → Further p r → Entered p e (tagFrom r)
+entered-from : (p e : ℕ) (r : Reached) → Further p r → Entered p e (tagFrom r)
 unfolding tagFrom
 entered-from p e (Past q) h = h
 entered-from p e (Fault q) h = tt
@@ -80,7 +80,7 @@ entered-on s t p =
 -- one step goes on, where what follows goes on
 module _ (C : Content) (on : (o : Outer) (q : ℕ) (w : List ℕ) (n : ℕ) → Further q (C o q w n .end)) (t : List ℕ) (p : ℕ) (w : List ℕ) (n : ℕ) where
   by-tag : (o : Outer) (g : Tag) (v : List ℕ) (m : ℕ) → Entered p (length t) g → Further p (byTag g (λ q. C o q v m) v m .end)
-  unfolding byTag told
+  unfolding byTag walkTold
   by-tag o (Open q) v m h = further-from p q (C o q v m .end) (h .0) (on o q v m)
   by-tag o (Empty q) v m h = h
   by-tag o (TagFault q) v m h = tt
@@ -89,13 +89,13 @@ module _ (C : Content) (on : (o : Outer) (q : ℕ) (w : List ℕ) (n : ℕ) → 
   unfolding thingBy
   thing-on s d k = by-tag (outer s n p) (entered s t p) (noted d p k w n) (counted d n) (entered-on s t p)
 
-  behind-on : (o : Outer) (r : Walk) (e : Skipped) → r .end ≡ e → Further p e → Further p (byEnd e (λ q. C o q (r .words) (r .count)) r .end)
+  behind-on : (o : Outer) (r : Walk) (e : Reached) → r .end ≡ e → Further p e → Further p (byEnd e (λ q. C o q (r .words) (r .count)) r .end)
   unfolding byEnd
   behind-on o r (Past q) er h = further-from p q (C o q (r .words) (r .count) .end) h (on o q (r .words) (r .count))
   behind-on o r (Fault q) er h = rw er tt
 
   by-part : (o : Outer) (g : Part) (r : Walk) → Further p (r .end) → Onward p g → Further p (byPart g r (C o) w n .end)
-  unfolding byPart behind told
+  unfolding byPart walkOn walkTold
   by-part o Element r f h = behind-on o r (r .end) refl f
   by-part o (Close q) r f h = h
   by-part o (On q) r f h = further-from p q (C o q w n .end) h (on o q w n)
@@ -108,12 +108,12 @@ module _ (C : Content) (on : (o : Outer) (q : ℕ) (w : List ℕ) (n : ℕ) → 
       r : Walk
       r = thingBy C (namedAt (o .sort) t p) (drawnAs (namedAt (o .sort) t p) (o .sort) t p) t (o .thing) p w n
 
-      go : (b : Bool) → Further p ((if b then told (walked (Fault (length t)) n) w else byPart (partAt t (o .tag) p) r (C o) w n) .end)
-      go true = unfold if_then_else_ told in tt
+      go : (b : Bool) → Further p ((if b then walkTold (walked (Fault (length t)) n) w else byPart (partAt t (o .tag) p) r (C o) w n) .end)
+      go true = unfold if_then_else_ walkTold in tt
       go false = unfold if_then_else_ in by-part o (partAt t (o .tag) p) r (thing-on (namedAt (o .sort) t p) (drawnAs (namedAt (o .sort) t p) (o .sort) t p) (o .thing)) (part-onward t (o .tag) p)
 
 in-on : (m : ℕ) (t : List ℕ) (o : Outer) (p : ℕ) (w : List ℕ) (n : ℕ) → Further p (contentIn m t o p w n .end)
-unfolding contentIn told
+unfolding contentIn walkTold
 in-on zero t o p w n = tt
 in-on (suc m) t o p w n = content-on (contentIn m t) (in-on m t) t p w n o
 
@@ -129,13 +129,13 @@ module _ (C D : Content) (on : (o : Outer) (q : ℕ) (w : List ℕ) (n : ℕ) �
   unfolding thingBy
   thing-same s d k = tag-same (outer s n p) (entered s t p) (noted d p k w n) (counted d n) (entered-on s t p)
 
-  behind-same : (o : Outer) (r : Walk) (e : Skipped) → Further p e → byEnd e (λ q. C o q (r .words) (r .count)) r ≡ byEnd e (λ q. D o q (r .words) (r .count)) r
+  behind-same : (o : Outer) (r : Walk) (e : Reached) → Further p e → byEnd e (λ q. C o q (r .words) (r .count)) r ≡ byEnd e (λ q. D o q (r .words) (r .count)) r
   unfolding byEnd
   behind-same o r (Past q) h = same o q (r .words) (r .count) h
   behind-same o r (Fault q) h = refl
 
   part-same : (o : Outer) (g : Part) (r : Walk) → Further p (r .end) → Onward p g → byPart g r (C o) w n ≡ byPart g r (D o) w n
-  unfolding byPart behind
+  unfolding byPart walkOn
   part-same o Element r f h = behind-same o r (r .end) f
   part-same o (Close q) r f h = refl
   part-same o (On q) r f h = same o q w n h
@@ -161,7 +161,7 @@ content-is : (t : List ℕ) (o : Outer) (p : ℕ) (w : List ℕ) (n : ℕ) → c
 unfolding contentAt contentIn
 content-is t o p w n = stable (length t) (suc (length t)) t o p w n (omega arith) (omega arith)
 
-pub content-end : (t : List ℕ) (o : Outer) (p : ℕ) (w : List ℕ) (n : ℕ) → length t ≤ p → contentAt t o p w n ≡ told (walked (Fault (length t)) n) w
+pub content-end : (t : List ℕ) (o : Outer) (p : ℕ) (w : List ℕ) (n : ℕ) → length t ≤ p → contentAt t o p w n ≡ walkTold (walked (Fault (length t)) n) w
 unfolding contentBy if_then_else_
 content-end t o p w n h = content-is t o p w n ∙ rw (le-leb (length t) p h)
 
@@ -174,11 +174,11 @@ module _ (t : List ℕ) (o : Outer) (p : ℕ) (w : List ℕ) (n : ℕ) (in-text 
   unfolding contentBy thingAt if_then_else_
   content-part = content-is t o p w n ∙ rw (lt-leb (length t) p in-text, ← eg)
 
-  pub content-close : (q : ℕ) → g ≡ Close q → contentAt t o p w n ≡ told (walked (Past q) n) w
+  pub content-close : (q : ℕ) → g ≡ Close q → contentAt t o p w n ≡ walkTold (walked (Past q) n) w
   unfolding byPart
   content-close q e = content-part ∙ rw e
 
-  pub content-fault : (q : ℕ) → g ≡ PartFault q → contentAt t o p w n ≡ told (walked (Fault q) n) w
+  pub content-fault : (q : ℕ) → g ≡ PartFault q → contentAt t o p w n ≡ walkTold (walked (Fault q) n) w
   unfolding byPart
   content-fault q e = content-part ∙ rw e
 
@@ -186,22 +186,22 @@ module _ (t : List ℕ) (o : Outer) (p : ℕ) (w : List ℕ) (n : ℕ) (in-text 
   unfolding byPart
   content-onward q e = content-part ∙ rw e
 
-  module _ (k : g ≡ Element) (s : ℕ) (es : s ≡ namedAt (o .sort) t p) (d : ℕ) (ed : d ≡ drawnAs s (o .sort) t p) (r : Walked) (v : List ℕ) (er : told r v ≡ thingAt s d t (o .thing) p w n) where
-    content-thing : contentAt t o p w n ≡ behind (told r v) (contentAt t o)
+  module _ (k : g ≡ Element) (s : ℕ) (es : s ≡ namedAt (o .sort) t p) (d : ℕ) (ed : d ≡ drawnAs s (o .sort) t p) (r : Walked) (v : List ℕ) (er : walkTold r v ≡ thingAt s d t (o .thing) p w n) where
+    content-thing : contentAt t o p w n ≡ walkOn (walkTold r v) (contentAt t o)
     unfolding byPart
     content-thing = content-part ∙ rw (k, ← es, ← ed, er)
 
     pub content-past : (q : ℕ) → r .end ≡ Past q → contentAt t o p w n ≡ contentAt t o q v (r .count)
-    unfolding behind byEnd told
+    unfolding walkOn byEnd walkTold
     content-past q e = content-thing ∙ rw e
 
-    pub content-refused : (q : ℕ) → r .end ≡ Fault q → contentAt t o p w n ≡ told r v
-    unfolding behind byEnd told
+    pub content-refused : (q : ℕ) → r .end ≡ Fault q → contentAt t o p w n ≡ walkTold r v
+    unfolding walkOn byEnd walkTold
     content-refused q e = content-thing ∙ rw e
 
 -- a thing at p
-pub thing-past : (s d : ℕ) (t : List ℕ) (k p : ℕ) (w : List ℕ) (n : ℕ) (r : Walked) (v : List ℕ) → told r v ≡ thingAt s d t k p w n → (q : ℕ) → r .end ≡ Past q → p < q
-unfolding thingAt contentAt told
+pub thing-past : (s d : ℕ) (t : List ℕ) (k p : ℕ) (w : List ℕ) (n : ℕ) (r : Walked) (v : List ℕ) → walkTold r v ≡ thingAt s d t k p w n → (q : ℕ) → r .end ≡ Past q → p < q
+unfolding thingAt contentAt walkTold
 thing-past s d t k p w n r v er q e =
     let f : r .end ≡ thingBy (contentAt t) s d t k p w n .end = ap (λ (x : Walk). x .end) er in
     rw (← f, e) at (thing-on (contentAt t) (in-on (length t) t) t p w n s d k)
@@ -215,11 +215,11 @@ module _ (s d : ℕ) (t : List ℕ) (k p : ℕ) (w : List ℕ) (n : ℕ) (v : Li
   unfolding byTag
   thing-open q e = thing-tag ∙ rw e
 
-  pub thing-empty : (q : ℕ) → g ≡ Empty q → thingAt s d t k p w n ≡ told (walked (Past q) m) v
+  pub thing-empty : (q : ℕ) → g ≡ Empty q → thingAt s d t k p w n ≡ walkTold (walked (Past q) m) v
   unfolding byTag
   thing-empty q e = thing-tag ∙ rw e
 
-  pub thing-fault : (q : ℕ) → g ≡ TagFault q → thingAt s d t k p w n ≡ told (walked (Fault q) m) v
+  pub thing-fault : (q : ℕ) → g ≡ TagFault q → thingAt s d t k p w n ≡ walkTold (walked (Fault q) m) v
   unfolding byTag
   thing-fault q e = thing-tag ∙ rw e
 
@@ -234,20 +234,20 @@ module _ (s : ℕ) (t : List ℕ) (p : ℕ) (g : Tag) (eg : g ≡ entered s t p)
   open-within = open-right .1
 
 -- the whole walk, by what the calls gave
-module _ (t w : List ℕ) (root : Skipped) (er : root ≡ rootAt (bytes "definitions") t) where
-  pub walk-rootless : (q : ℕ) → root ≡ Fault q → told (walked root 0) w ≡ walk t w
+module _ (t w : List ℕ) (root : Reached) (er : root ≡ rootAt (bytes "definitions") t) where
+  pub walk-rootless : (q : ℕ) → root ≡ Fault q → walkTold (walked root 0) w ≡ walk t w
   unfolding walk byEnd
   walk-rootless q e = rw (← er, e)
 
-  module _ (p : ℕ) (e : root ≡ Past p) (r : Walked) (v : List ℕ) (ew : told r v ≡ thingAt definitions definitions t 0 p w 0) where
-    walk-root : walk t w ≡ behind (told r v) (λ q u n. told (walked (lastFrom t q) n) u)
+  module _ (p : ℕ) (e : root ≡ Past p) (r : Walked) (v : List ℕ) (ew : walkTold r v ≡ thingAt definitions definitions t 0 p w 0) where
+    walk-root : walk t w ≡ walkOn (walkTold r v) (λ q u n. walkTold (walked (lastFrom t q) n) u)
     unfolding walk byEnd
     walk-root = rw (← er, e, ← ew)
 
-    pub walk-refused : (q : ℕ) → r .end ≡ Fault q → told r v ≡ walk t w
-    unfolding behind byEnd told
+    pub walk-refused : (q : ℕ) → r .end ≡ Fault q → walkTold r v ≡ walk t w
+    unfolding walkOn byEnd walkTold
     walk-refused q f = sym (walk-root ∙ rw f)
 
-    pub walk-whole : (q : ℕ) → r .end ≡ Past q → (l : Skipped) → l ≡ lastFrom t q → told (walked l (r .count)) v ≡ walk t w
-    unfolding behind byEnd told
+    pub walk-whole : (q : ℕ) → r .end ≡ Past q → (l : Reached) → l ≡ lastFrom t q → walkTold (walked l (r .count)) v ≡ walk t w
+    unfolding walkOn byEnd walkTold
     walk-whole q f l el = sym (walk-root ∙ rw (f, ← el))

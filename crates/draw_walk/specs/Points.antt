@@ -4,15 +4,15 @@ use Prim.Native.String.{String}
 use mathlib.Core.List.{List, [], _∷_, _++_}
 use lib.ListN.{length}
 use Rattle.base_words.specs.Text.{bytes}
-use Rattle.xml_skip.specs.declared.Skipped.{Skipped}
-use Rattle.xml_skip.specs.declared.Skipped.the-variants.{Past, Fault}
+use Rattle.xml_skip.specs.declared.Reached.{Reached}
+use Rattle.xml_skip.specs.declared.Reached.the-variants.{Past, Fault}
 use Rattle.draw_things.specs.Things.{definitions, collaboration, participant, participantMultiplicity, messageFlow, process, sequenceFlow, conditionExpression, messageEventDefinition, terminateEventDefinition, stranger, startEvent, endEvent, intermediateCatchEvent, task, receiveTask, exclusiveGateway, eventBasedGateway}
 use Rattle.draw_walk.specs.Walk.{Walk}
 
 pub record Refusal : Type 0 where
   pub says : String
   pub text : List ℕ
-  pub place : Skipped
+  pub place : Reached
 
 abbrev at : String → List ℕ → ℕ → Refusal
 at s t p = record { says = s; text = t; place = Fault p }
@@ -57,27 +57,27 @@ refusals =
 abbrev thing : ℕ → ℕ → ℕ → List ℕ
 thing s p k = s ∷ p ∷ k ∷ 0 ∷ 0 ∷ []
 
-pub record Drawing : Type 0 where
+pub record DrawingPoint : Type 0 where
   pub says : String
   pub text : List ℕ
   pub count : ℕ
   pub things : List ℕ
 
-abbrev drawing : String → List ℕ → ℕ → List ℕ → Drawing
+abbrev drawing : String → List ℕ → ℕ → List ℕ → DrawingPoint
 drawing s t n w = record { says = s; text = t; count = n; things = w }
 
 -- what the walk gives, in a block with room for its things
-abbrev pub filled : Drawing → Walk
+abbrev pub filled : DrawingPoint → Walk
 filled d = record { end = Past (length (d .text)); count = d .count; words = d .things }
 
 -- an element of a process
 abbrev inProcess : String → List ℕ
 inProcess e = bytes "<definitions><process>" ++ (bytes e ++ bytes "</process></definitions>")
 
-abbrev one : String → String → ℕ → Drawing
+abbrev one : String → String → ℕ → DrawingPoint
 one s e sort = drawing s (inProcess e) 3 (thing definitions 0 0 ++ (thing process 13 0 ++ thing sort 22 1))
 
-abbrev pub drawings : List Drawing
+abbrev pub drawings : List DrawingPoint
 drawings =
     drawing "behind a BOM, with any prefix" (239 ∷ 187 ∷ 191 ∷ bytes "<?xml?><b:definitions/> ") 1 (thing definitions 10 0) ∷
     drawing "nodes and flows mixed" (inProcess "<task/><sequenceFlow/><endEvent/>") 5 (thing definitions 0 0 ++ (thing process 13 0 ++ (thing task 22 1 ++ (thing sequenceFlow 29 1 ++ thing endEvent 44 1)))) ∷

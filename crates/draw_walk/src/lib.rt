@@ -1,6 +1,6 @@
 // One walk through a drawing, from left to right: the first fault of its text, and what is drawn up to there.
 ghost use mathlib.Core.Path.{_≡_};
-ghost use Rattle.draw_walk.specs.Walk.{told, tagFrom, noted, counted, entered, contentAt, thingAt, walk};
+ghost use Rattle.draw_walk.specs.Walk.{walkTold, tagFrom, noted, counted, entered, contentAt, thingAt, walk};
 use draw_things::names::drawn_as;
 use draw_things::names::named_at;
 use draw_things::things::DEFINITIONS;
@@ -12,7 +12,7 @@ use xml_document::around::last_from;
 use xml_document::around::root_at;
 use xml_markup::scanning::markup;
 use xml_skip::Part;
-use xml_skip::Skipped;
+use xml_skip::Reached;
 use xml_skip::Tag;
 use xml_skip::part_at;
 use xml_skip::skip;
@@ -25,7 +25,7 @@ use passing::pass;
 
 // The place reached, or that of the fault, and how many things were met.
 pub struct Walked {
-    pub end: Skipped,
+    pub end: Reached,
     pub count: Note,
 }
 
@@ -36,12 +36,12 @@ pub struct Outer {
     pub tag: usize,
 }
 
-fn tag_from(s: Skipped) -> Tag
+fn tag_from(s: Reached) -> Tag
     ensures { λ r. ⌜ r ≡ tagFrom s ⌝ }
 {
     match s {
-        Skipped::Past(q) => Tag::Empty(q),
-        Skipped::Fault(q) => Tag::Fault(q),
+        Reached::Past(q) => Tag::Empty(q),
+        Reached::Fault(q) => Tag::Fault(q),
     }
 }
 
@@ -82,7 +82,7 @@ pub fn walk_thing(
     w: &mut [Note],
     n: Note,
 ) -> Walked
-    ensures { λ r. ⌜ told r (now (w .exit)) ≡ thingAt s d (now (text .entry)) k p (now (w .entry)) n ⌝ }
+    ensures { λ r. ⌜ walkTold r (now (w .exit)) ≡ thingAt s d (now (text .entry)) k p (now (w .entry)) n ⌝ }
 {
     note(d, p, k, w, n);
     let count = counted(d, n);
@@ -97,11 +97,11 @@ pub fn walk_thing(
             walk_content(text, o, q, w, count)
         }
         Tag::Empty(q) => Walked {
-            end: Skipped::Past(q),
+            end: Reached::Past(q),
             count: count,
         },
         Tag::Fault(q) => Walked {
-            end: Skipped::Fault(q),
+            end: Reached::Fault(q),
             count: count,
         },
     }
@@ -109,7 +109,7 @@ pub fn walk_thing(
 
 // The content of a thing from a place on, after n things.
 pub fn walk_content(text: &[u8], o: Outer, p: usize, w: &mut [Note], n: Note) -> Walked
-    ensures { λ r. ⌜ told r (now (w .exit)) ≡ contentAt (now (text .entry)) o p (now (w .entry)) n ⌝ }
+    ensures { λ r. ⌜ walkTold r (now (w .exit)) ≡ contentAt (now (text .entry)) o p (now (w .entry)) n ⌝ }
 {
     let mut at = p;
     let mut count = n;
@@ -121,7 +121,7 @@ pub fn walk_content(text: &[u8], o: Outer, p: usize, w: &mut [Note], n: Note) ->
                 let d = drawn_as(s, o.sort, text, at);
                 let e = walk_thing(s, d, text, o.thing, at, w, count);
                 let end = e.end;
-                let Skipped::Past(q) = end else {
+                let Reached::Past(q) = end else {
                     return e;
                 };
                 count = e.count;
@@ -129,7 +129,7 @@ pub fn walk_content(text: &[u8], o: Outer, p: usize, w: &mut [Note], n: Note) ->
             }
             Part::Close(q) => {
                 return Walked {
-                    end: Skipped::Past(q),
+                    end: Reached::Past(q),
                     count: count,
                 };
             }
@@ -138,24 +138,24 @@ pub fn walk_content(text: &[u8], o: Outer, p: usize, w: &mut [Note], n: Note) ->
             }
             Part::Fault(q) => {
                 return Walked {
-                    end: Skipped::Fault(q),
+                    end: Reached::Fault(q),
                     count: count,
                 };
             }
         }
     }
     Walked {
-        end: Skipped::Fault(text.len()),
+        end: Reached::Fault(text.len()),
         count: count,
     }
 }
 
 // The things of a drawing into the words lent, and how many there are; or the first fault of its text.
 pub fn walk(text: &[u8], w: &mut [Note]) -> Walked
-    ensures { λ r. ⌜ told r (now (w .exit)) ≡ walk (now (text .entry)) (now (w .entry)) ⌝ }
+    ensures { λ r. ⌜ walkTold r (now (w .exit)) ≡ walk (now (text .entry)) (now (w .entry)) ⌝ }
 {
     let root = root_at(text, b"definitions");
-    let Skipped::Past(p) = root else {
+    let Reached::Past(p) = root else {
         return Walked {
             end: root,
             count: 0,
@@ -163,7 +163,7 @@ pub fn walk(text: &[u8], w: &mut [Note]) -> Walked
     };
     let e = walk_thing(DEFINITIONS, DEFINITIONS, text, 0, p, w, 0);
     let end = e.end;
-    let Skipped::Past(q) = end else {
+    let Reached::Past(q) = end else {
         return e;
     };
     Walked {

@@ -33,7 +33,7 @@ use Rattle.proof_steps.proofs.Choices.{by-choice}
 use Rattle.proof_steps.proofs.EveryStep.{Fitting}
 use Rattle.proof_steps.proofs.Traffic.{state-queues}
 use Rattle.step_list.specs.declared.Listed.{Listed}
-use Rattle.step_names.specs.Names.{blank}
+use Rattle.step_names.specs.Names.{blankName}
 use Rattle.step_list.specs.Listing.{chosen}
 use Rattle.step_list.specs.Scanned.{scanned}
 use Rattle.step_run.specs.Run.{Run, ranBy, ran}
@@ -211,7 +211,7 @@ module _ (t z : List ℕ) (k : ℕ) (e : k ≡ lentNumber t z) where
     unfolding postedTo if_then_else_
     post-bad name g = rw (lent-bad, e)
 
-    pub list-bad : (j : ℕ) (r : Listed) → r ≡ record { number = k; name = blank } → r ≡ listedAt t z j
+    pub list-bad : (j : ℕ) (r : Listed) → r ≡ record { number = k; name = blankName } → r ≡ listedAt t z j
     unfolding listedAt if_then_else_
     list-bad j r d = rw (lent-bad, d, e)
 

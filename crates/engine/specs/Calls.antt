@@ -12,7 +12,7 @@ use Rattle.meaning.specs.declared.Name.{Name}
 use Rattle.meaning.specs.declared.Tuple.{Tuple}
 use Rattle.state_fits.specs.Fresh.{fresh}
 use Rattle.log_judge.specs.declared.Judged.{Judged}
-use Rattle.log_judge.specs.Judge.{answered, taken, judgedFrom}
+use Rattle.log_judge.specs.Judge.{judgment, lineTaken, judgedFrom}
 use Rattle.engine.specs.Engine.{Left, askedNumber, fitting, lentNumber, stepped, postedTo}
 pub use Rattle.step_poll.specs.Items.{Act, aStep, aPost}
 use Rattle.step_poll.specs.Poll.{Polling, polledFrom}
@@ -49,4 +49,4 @@ polledTo t z w count = polledFrom (did t) (lentNumber t z) w count z
 -- 10 and 25 go before 23 and 24 (RULES: lawful)
 unfoldable pub judgedTo : Table → ℕ → Bytes → Judged
 judgedTo t v log =
-    if eqb (askedNumber t v) 0 then judgedFrom (taken (stepped t) (postedTo t)) log (fresh t v) else answered (askedNumber t v) 0 0
+    if eqb (askedNumber t v) 0 then judgedFrom (lineTaken (stepped t) (postedTo t)) log (fresh t v) else judgment (askedNumber t v) 0 0

@@ -20,7 +20,7 @@ use Rattle.check_lowest.specs.Model.{modelOf}
 use Rattle.state_fits.specs.Fits.{stateFits}
 use Rattle.state_fits.specs.Fresh.{fresh}
 use Rattle.step_list.specs.declared.Listed.{Listed}
-use Rattle.step_names.specs.Names.{blank}
+use Rattle.step_names.specs.Names.{blankName}
 use Rattle.step_list.specs.Listing.{listed, chosen}
 use Rattle.step_run.specs.Run.{Run, ran}
 use Rattle.write_shown.specs.Shown.{shownTable}
@@ -71,7 +71,7 @@ postedTo t z name g =
 
 -- "6: listing: no accepted step with that ordinal"; 10 and 25 go before it (RULES: list)
 unfoldable pub listedAt : Table → State → ℕ → Listed
-listedAt t z k = if fitting t z then chosen (listed t (instancesOf z) (queuesOf z)) k else record { number = lentNumber t z; name = blank }
+listedAt t z k = if fitting t z then chosen (listed t (instancesOf z) (queuesOf z)) k else record { number = lentNumber t z; name = blankName }
 
 -- a number given back, the steps taken, 1 or 0 for whether one is still accepted, and the state that is left
 pub record RanTo : Type 0 where

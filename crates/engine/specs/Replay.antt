@@ -7,7 +7,7 @@ use Rattle.base_words.specs.Pick.{if_then_else_}
 use Rattle.state_fits.specs.Fresh.{fresh}
 use Rattle.log_text.specs.Logs.{linesOf}
 use Rattle.log_judge.specs.declared.Judged.{Judged}
-use Rattle.log_judge.specs.Judge.{taken, answered, judgedFrom, leftBy}
+use Rattle.log_judge.specs.Judge.{lineTaken, judgment, judgedFrom, leftByLines}
 use Rattle.engine.specs.Engine.{lentNumber, fitting, stepped, postedTo}
 use Rattle.engine.specs.Calls.{judgedTo}
 
@@ -21,7 +21,7 @@ keptBy j y z = if eqb (j .number) 0 then record { answer = j; state = y } else r
 
 -- the lines of a log one after the other, by the public calls
 unfoldable pub leftTo : Table → Bytes → State → State
-leftTo t log z = leftBy (taken (stepped t) (postedTo t)) (linesOf log) z
+leftTo t log z = leftByLines (lineTaken (stepped t) (postedTo t)) (linesOf log) z
 
 -- FROM THE FRESH STATE of a version: 10, 25, 23 and 24 as `judgedTo` gives them
 unfoldable pub replayedTo : Table → ℕ → Bytes → State → Replayed
@@ -30,5 +30,5 @@ replayedTo t v log z = keptBy (judgedTo t v log) (leftTo t log (fresh t v)) z
 -- FROM THE STATE THAT IS LENT: 10 and 25 of table and state, then 23 and 24
 unfoldable pub resumedTo : Table → State → Bytes → Replayed
 resumedTo t z log =
-    if fitting t z then keptBy (judgedFrom (taken (stepped t) (postedTo t)) log z) (leftTo t log z) z
-    else record { answer = answered (lentNumber t z) 0 0; state = z }
+    if fitting t z then keptBy (judgedFrom (lineTaken (stepped t) (postedTo t)) log z) (leftTo t log z) z
+    else record { answer = judgment (lentNumber t z) 0 0; state = z }

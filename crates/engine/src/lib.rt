@@ -13,7 +13,7 @@ ghost use Rattle.engine.specs.Profile.{nestedOf};
 ghost use Rattle.engine.specs.Replay.{leftTo, Replayed, replayedTo, resumedTo};
 ghost use Rattle.state_fits.specs.Fresh.{fresh};
 ghost use Rattle.step_poll.specs.Poll.{Polling};
-ghost use Rattle.step_names.specs.Names.{blank};
+ghost use Rattle.step_names.specs.Names.{blankName};
 ghost use Rattle.text_read.specs.Notation.{readInto};
 ghost use Rattle.draw_read.specs.Drawings.{drawInto};
 ghost use Rattle.draw_diagnose.specs.Diagnosis.{diagnosed};
@@ -181,7 +181,7 @@ pub fn post(t: &[Word; TABLE_WORDS], z: &mut [Word; STATE_WORDS], name: Word, g:
 }
 
 fn unlisted(number: Word) -> Listed
-    ensures { λ r. ⌜ r ≡ record { number = number; name = blank } ⌝ }
+    ensures { λ r. ⌜ r ≡ record { number = number; name = blankName } ⌝ }
 {
     Listed {
         number: number,

@@ -22,7 +22,7 @@ use Rattle.step_poll.specs.Items.{Act}
 use Rattle.step_poll.specs.Poll.{Left, Stepped, settledStep, settledPost}
 use Rattle.step_poll.proofs.PollLaws.{post-left, step-left}
 use Rattle.step_history.specs.declared.Noted.{Noted}
-use Rattle.step_history.specs.History.{Entry, stepGave, postGave, entryBy, stateBy, toldBy, leftBy, posts, sends, consumes, movedBy, noted, counted, queued, accountsOf}
+use Rattle.step_history.specs.History.{Entry, stepGave, postGave, entryBy, stateBy, toldBy, leftBy, posts, sends, consumes, movedBy, entryNoted, howMany, queued, accountsOf}
 use Rattle.step_history.proofs.CountLaws.{counted-none, counted-next}
 use Rattle.log_lines.specs.declared.Entry.{Entry as Line}
 use Rattle.log_lines.specs.Entries.{entryOf}
@@ -34,47 +34,47 @@ use Rattle.log_text.specs.Logs.{start, advance, closesEvent, linesIn, linesFrom
 use Rattle.log_judge.proofs.LinesLeft.{lines-end, lines-begin, lines-unbegun, lines-stop, lines-pass, lines-next}
 use Rattle.log_accounts.specs.declared.Telling.{Telling}
 use Rattle.log_accounts.specs.declared.Told.{Told}
-use Rattle.log_accounts.specs.Told.{actOf, actsOf, historyIn, stateIn, lastMoved, onward, nothingTold, andNoted, told, toldIn}
+use Rattle.log_accounts.specs.Told.{actOf, actsOf, historyIn, stateIn, lastMoved, onward, nothingTold, andNoted, allTold, toldIn}
 
 -- ONE LINE, w, which says e
 module _ (m : ℕ) (g : Tuple) (t z w y : List ℕ) (e : Line) (said : e ≡ entryOf w) where
   abbrev Took : Noted → Type 0
-  Took r = (r ≡ noted m g (entryBy (settledStep t) settledPost (actOf w) z)) × (y ≡ stateBy (settledStep t) settledPost (actOf w) z)
+  Took r = (r ≡ entryNoted m g (entryBy (settledStep t) settledPost (actOf w) z)) × (y ≡ stateBy (settledStep t) settledPost (actOf w) z)
 
   pub post-took : (k : ℕ) (r : Noted) → e .posts ≡ true
       → (_≡_ {A = Posted} (record { number = k; queues = queuesOf y }) (posted (queuesOf z) (e .name .pool) (e .name .given))) × (instancesOf y ≡ instancesOf z)
-      → r ≡ noted m g (postGave (e .name .pool) (e .name .given) k) → Took r
+      → r ≡ entryNoted m g (postGave (e .name .pool) (e .name .given) k) → Took r
   unfolding actOf entryBy stateBy if_then_else_
   post-took k r p d q =
       let l : record { number = k; state = y } ≡ settledPost z (e .name .pool) (e .name .given) = post-left z y (e .name .pool) (e .name .given) k d in
       rw (← said, p)
-      (q ∙ ap (λ (x : Left). noted m g (postGave (e .name .pool) (e .name .given) (x .number))) l, ap (λ (x : Left). x .state) l)
+      (q ∙ ap (λ (x : Left). entryNoted m g (postGave (e .name .pool) (e .name .given) (x .number))) l, ap (λ (x : Left). x .state) l)
 
-  pub step-took : (a : Answer) (r : Noted) → e .posts ≡ false → Done (settled t (instancesOf z) (queuesOf z) (e .name)) a y → r ≡ noted m g (stepGave (e .name) a) → Took r
+  pub step-took : (a : Answer) (r : Noted) → e .posts ≡ false → Done (settled t (instancesOf z) (queuesOf z) (e .name)) a y → r ≡ entryNoted m g (stepGave (e .name) a) → Took r
   unfolding actOf entryBy stateBy if_then_else_
   step-took a r p d q =
       let l : record { answer = a; state = y } ≡ settledStep t z (e .name) = step-left t z y (e .name) a d in
       rw (← said, p)
-      (q ∙ ap (λ (x : Stepped). noted m g (stepGave (e .name) (x .answer))) l, ap (λ (x : Stepped). x .state) l)
+      (q ∙ ap (λ (x : Stepped). entryNoted m g (stepGave (e .name) (x .answer))) l, ap (λ (x : Stepped). x .state) l)
 
 -- ONWARD
 module _ (m : ℕ) (g : Tuple) where
   pub onward-none : (b : Telling) → onward m g b [] ≡ b
   unfolding onward lastMoved
   onward-none b =
-      let p : b .posted + counted (posts m g) [] ≡ b .posted = omega (arith, counted-none (posts m g)) in
-      let s : b .sent + counted (sends m g) [] ≡ b .sent = omega (arith, counted-none (sends m g)) in
-      let c : b .consumed + counted (consumes m g) [] ≡ b .consumed = omega (arith, counted-none (consumes m g)) in
+      let p : b .posted + howMany (posts m g) [] ≡ b .posted = omega (arith, counted-none (posts m g)) in
+      let s : b .sent + howMany (sends m g) [] ≡ b .sent = omega (arith, counted-none (sends m g)) in
+      let c : b .consumed + howMany (consumes m g) [] ≡ b .consumed = omega (arith, counted-none (consumes m g)) in
       let r : b .room - 0 ≡ b .room = omega arith in
       λ i. record { posted = p i; sent = s i; consumed = c i; room = r i; moved = b .moved }
 
   -- one entry more
-  pub onward-next : (b : Telling) (e : Entry) (h : List Entry) → onward m g (andNoted b (noted m g e)) h ≡ onward m g b (e ∷ h)
-  unfolding onward lastMoved andNoted noted
+  pub onward-next : (b : Telling) (e : Entry) (h : List Entry) → onward m g (andNoted b (entryNoted m g e)) h ≡ onward m g b (e ∷ h)
+  unfolding onward lastMoved andNoted entryNoted
   onward-next b e h =
-      let p : b .posted + oneIf (posts m g e) + counted (posts m g) h ≡ b .posted + counted (posts m g) (e ∷ h) = omega (arith, counted-next (posts m g) e h) in
-      let s : b .sent + oneIf (sends m g e) + counted (sends m g) h ≡ b .sent + counted (sends m g) (e ∷ h) = omega (arith, counted-next (sends m g) e h) in
-      let c : b .consumed + oneIf (consumes m g e) + counted (consumes m g) h ≡ b .consumed + counted (consumes m g) (e ∷ h) = omega (arith, counted-next (consumes m g) e h) in
+      let p : b .posted + oneIf (posts m g e) + howMany (posts m g) h ≡ b .posted + howMany (posts m g) (e ∷ h) = omega (arith, counted-next (posts m g) e h) in
+      let s : b .sent + oneIf (sends m g e) + howMany (sends m g) h ≡ b .sent + howMany (sends m g) (e ∷ h) = omega (arith, counted-next (sends m g) e h) in
+      let c : b .consumed + oneIf (consumes m g e) + howMany (consumes m g) h ≡ b .consumed + howMany (consumes m g) (e ∷ h) = omega (arith, counted-next (consumes m g) e h) in
       let r : b .room - 1 - length h ≡ b .room - suc (length h) = omega arith in
       λ i. record { posted = p i; sent = s i; consumed = c i; room = r i; moved = lastMoved (movedBy e) h }
 
@@ -116,7 +116,7 @@ module _ (step : List ℕ → Name → Stepped) (post : List ℕ → ℕ → Tup
   )
 
   pub comes-first : (w : List ℕ) (ws : List (List ℕ)) (b : Telling) (z : List ℕ) (r : Telling) (y : List ℕ) → Comes (w ∷ ws) b z r y → (b .room ≡ 0 → ⊥) → (n : Noted) (x : List ℕ)
-      → n ≡ noted m g (entryBy step post (actOf w) z) → x ≡ stateBy step post (actOf w) z → Comes ws (andNoted b n) x r y
+      → n ≡ entryNoted m g (entryBy step post (actOf w) z) → x ≡ stateBy step post (actOf w) z → Comes ws (andNoted b n) x r y
   unfolding toldBy leftBy andNoted
   comes-first w ws b z r y c d n x e s =
       let k : b .room ≡ suc (b .room - 1) = omega (arith, d) in
@@ -162,7 +162,7 @@ module _ (step : List ℕ → Name → Stepped) (post : List ℕ → ℕ → Tup
         tell-pass h = as-left (linesIn (left - 1) t d) (lines-pass t c left some v next d on closed closes h)
 
         pub tell-more : not closed ≡ false → (w : List ℕ) → w ≡ part t (d .from) (d .to) → (b .room ≡ 0 → ⊥) → (n : Noted) (x : List ℕ)
-            → n ≡ noted m g (entryBy step post (actOf w) z) → x ≡ stateBy step post (actOf w) z → (a : Telling) → a ≡ andNoted b n → Comes (linesIn (left - 1) t d) a x r y
+            → n ≡ entryNoted m g (entryBy step post (actOf w) z) → x ≡ stateBy step post (actOf w) z → (a : Telling) → a ≡ andNoted b n → Comes (linesIn (left - 1) t d) a x r y
         tell-more h w here full n x e s a f =
             subst (λ (u : Telling). Comes (linesIn (left - 1) t d) u x r y) (sym f)
             (comes-first w (linesIn (left - 1) t d) b z r y (as-left (w ∷ linesIn (left - 1) t d) (lines-next t c left some v next d on closed closes h w here)) full n x e s)
@@ -186,12 +186,12 @@ module _ (step : List ℕ → Name → Stepped) (post : List ℕ → ℕ → Tup
       → r ≡ onward m g (nothingTold most) (toldBy step post (actsOf (linesOf log) most) z) → y ≡ leftBy step post (actsOf (linesOf log) most) z → q ≡ queued m g y
       → (_≡_ {A = Told} (record { accounts = record { posted = r .posted; sent = r .sent; consumed = r .consumed; queued = q }; room = r .room; moved = r .moved }) (toldIn step post log most m g z))
       × (y ≡ stateIn step post log most z)
-  unfolding toldIn told historyIn stateIn accountsOf onward
+  unfolding toldIn allTold historyIn stateIn accountsOf onward
   tell-all log most z r y q e s d =
       let h : List Entry = toldBy step post (actsOf (linesOf log) most) z in
       let u : q ≡ queued m g (leftBy step post (actsOf (linesOf log) most) z) = d ∙ ap (queued m g) s in
       let n : (k : ℕ) → 0 + k ≡ k = λ k. omega arith in
-      let p : r .posted ≡ counted (posts m g) h = ap (λ (x : Telling). x .posted) e ∙ n (counted (posts m g) h) in
-      let v : r .sent ≡ counted (sends m g) h = ap (λ (x : Telling). x .sent) e ∙ n (counted (sends m g) h) in
-      let c : r .consumed ≡ counted (consumes m g) h = ap (λ (x : Telling). x .consumed) e ∙ n (counted (consumes m g) h) in
+      let p : r .posted ≡ howMany (posts m g) h = ap (λ (x : Telling). x .posted) e ∙ n (howMany (posts m g) h) in
+      let v : r .sent ≡ howMany (sends m g) h = ap (λ (x : Telling). x .sent) e ∙ n (howMany (sends m g) h) in
+      let c : r .consumed ≡ howMany (consumes m g) h = ap (λ (x : Telling). x .consumed) e ∙ n (howMany (consumes m g) h) in
       ((λ i. record { accounts = record { posted = p i; sent = v i; consumed = c i; queued = u i }; room = e i .room; moved = e i .moved }), s)

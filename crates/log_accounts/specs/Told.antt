@@ -10,7 +10,7 @@ use Rattle.step_poll.specs.Items.{Act, aStep, aPost}
 use Rattle.step_poll.specs.Poll.{Left, Stepped}
 use Rattle.step_history.specs.declared.Moved.{Moved}
 use Rattle.step_history.specs.declared.Noted.{Noted}
-use Rattle.step_history.specs.History.{Entry, toldBy, leftBy, posts, sends, consumes, movedBy, nothingMoved, counted, accountsOf}
+use Rattle.step_history.specs.History.{Entry, toldBy, leftBy, posts, sends, consumes, movedBy, nothingMoved, howMany, accountsOf}
 use Rattle.log_lines.specs.Entries.{entryOf}
 use Rattle.log_text.specs.Logs.{linesOf}
 use Rattle.log_accounts.specs.declared.Telling.{Telling}
@@ -39,9 +39,9 @@ lastMoved d (e ∷ h) = lastMoved (movedBy e) h
 unfoldable pub onward : ℕ → Tuple → Telling → List Entry → Telling
 onward m g b h =
     record {
-      posted = b .posted + counted (posts m g) h;
-      sent = b .sent + counted (sends m g) h;
-      consumed = b .consumed + counted (consumes m g) h;
+      posted = b .posted + howMany (posts m g) h;
+      sent = b .sent + howMany (sends m g) h;
+      consumed = b .consumed + howMany (consumes m g) h;
       room = b .room - length h;
       moved = lastMoved (b .moved) h;
     }
@@ -54,8 +54,8 @@ unfoldable pub andNoted : Telling → Noted → Telling
 andNoted b n = record { posted = b .posted + n .posted; sent = b .sent + n .sent; consumed = b .consumed + n .consumed; room = b .room - 1; moved = n .moved }
 
 -- ALL OF IT: the four numbers, and how many events fewer there are than were asked for
-unfoldable pub told : ℕ → Tuple → ℕ → List Entry → State → Told
-told m g most h y = record { accounts = accountsOf m g h y; room = most - length h; moved = lastMoved nothingMoved h }
+unfoldable pub allTold : ℕ → Tuple → ℕ → List Entry → State → Told
+allTold m g most h y = record { accounts = accountsOf m g h y; room = most - length h; moved = lastMoved nothingMoved h }
 
 unfoldable pub toldIn : (State → Name → Stepped) → (State → ℕ → Tuple → Left) → Bytes → ℕ → ℕ → Tuple → State → Told
-toldIn step post log most m g z = told m g most (historyIn step post log most z) (stateIn step post log most z)
+toldIn step post log most m g z = allTold m g most (historyIn step post log most z) (stateIn step post log most z)

@@ -3,9 +3,10 @@ ghost use Prim.Native.Nat.{_+_, _<_, _≤_};
 ghost use mathlib.Core.Path.{_≡_};
 ghost use Rattle.write_buffer.specs.Buffers.{lastPlace};
 ghost use Rattle.step_poll.specs.Poll.{settledStep, settledPost};
-ghost use Rattle.step_history.specs.History.{entryBy, stateBy, toldBy, leftBy, noted};
+ghost use Rattle.step_history.specs.History.{entryBy, stateBy, toldBy, leftBy, entryNoted};
 ghost use Rattle.log_text.specs.Logs.{linesFrom, linesOf};
 ghost use Rattle.log_accounts.specs.Told.{actOf, actsOf, onward, nothingTold, andNoted, toldIn, stateIn};
+use base_bytes::piece;
 use base_state::places::STATE_WORDS;
 use base_table::places::TABLE_WORDS;
 use base_words::Word;
@@ -25,7 +26,6 @@ use step_history::nothing_moved;
 use step_history::queued_of;
 use step_take::post_on;
 use step_take::step_on;
-use text_lexer::piece;
 
 // Three of the numbers so far, how many events more are asked for, and what the last one moved.
 pub struct Telling {
@@ -51,7 +51,7 @@ fn note_line(
     m: Word,
     g: Tuple,
 ) -> Noted
-    ensures { λ r. ⌜ (r ≡ noted m g (entryBy (settledStep (now (t .entry))) settledPost (actOf (now (line .entry))) (now (z .entry)))) × (now (z .exit) ≡ stateBy (settledStep (now (t .entry))) settledPost (actOf (now (line .entry))) (now (z .entry))) × (r .posted ≤ 1) × (r .sent ≤ 1) × (r .consumed ≤ 1) ⌝ }
+    ensures { λ r. ⌜ (r ≡ entryNoted m g (entryBy (settledStep (now (t .entry))) settledPost (actOf (now (line .entry))) (now (z .entry)))) × (now (z .exit) ≡ stateBy (settledStep (now (t .entry))) settledPost (actOf (now (line .entry))) (now (z .entry))) × (r .posted ≤ 1) × (r .sent ≤ 1) × (r .consumed ≤ 1) ⌝ }
 {
     let e = entry_of(line);
     let n = e.name;

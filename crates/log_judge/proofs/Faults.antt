@@ -7,10 +7,10 @@ use native.Mathlib.Omega.{arith}
 use lib.Dec.{eqb}
 use lib.ListN.{length, take}
 use Rattle.base_words.specs.Pick.{if_then_else_}
-use Rattle.xml_skip.specs.declared.Skipped.{Skipped}
+use Rattle.xml_skip.specs.declared.Reached.{Reached}
 use Rattle.log_text.specs.Logs.{scan, linesOf}
 use Rattle.log_judge.specs.declared.Judged.{Judged}
-use Rattle.log_judge.specs.Judge.{Taking, answered, lawful, judgedBy, leftBy, judgedEnd, judgedFrom}
+use Rattle.log_judge.specs.Judge.{Taking, judgment, lawful, judgedBy, leftByLines, judgedEnd, judgedFrom}
 
 module _ (give : List ℕ → List ℕ → Taking) where
   -- a line that is accepted and true
@@ -26,8 +26,8 @@ module _ (give : List ℕ → List ℕ → Taking) where
   lawful-before (w ∷ xs) ys k z h = go (eqb (give w z .number) 0) (give w z .right) (lawful-before xs ys (k + 1) (give w z .state)) h
     where
       go : (a b : Bool) → (judgedBy give (xs ++ ys) (k + 1) (give w z .state) ≡ lawful → judgedBy give xs (k + 1) (give w z .state) ≡ lawful)
-          → (if a then if b then judgedBy give (xs ++ ys) (k + 1) (give w z .state) else answered 24 k 0 else answered 24 k (give w z .number)) ≡ lawful
-          → (if a then if b then judgedBy give xs (k + 1) (give w z .state) else answered 24 k 0 else answered 24 k (give w z .number)) ≡ lawful
+          → (if a then if b then judgedBy give (xs ++ ys) (k + 1) (give w z .state) else judgment 24 k 0 else judgment 24 k (give w z .number)) ≡ lawful
+          → (if a then if b then judgedBy give xs (k + 1) (give w z .state) else judgment 24 k 0 else judgment 24 k (give w z .number)) ≡ lawful
       go true true later e = later e
       go true false later e = e
       go false b later e = e
@@ -48,14 +48,14 @@ module _ (give : List ℕ → List ℕ → Taking) where
       let one : j - k ≡ suc (j - (k + 1)) = omega (arith, f .0) in
       (omega (arith, f .0), omega (arith, one, f .1), ap (λ (n : ℕ). judgedBy give (take n (w ∷ xs)) k z) one ∙ taken-on w (take (j - (k + 1)) xs) k z a b ∙ f .2)
 
-  pub first-at-fault : (xs : List (List ℕ)) (k : ℕ) (z : List ℕ) (j own : ℕ) → judgedBy give xs k z ≡ answered 24 j own → First xs k z j
+  pub first-at-fault : (xs : List (List ℕ)) (k : ℕ) (z : List ℕ) (j own : ℕ) → judgedBy give xs k z ≡ judgment 24 j own → First xs k z j
   unfolding judgedBy if_then_else_
   first-at-fault [] k z j own h = absurd (omega (arith, ap (λ (d : Judged). d .number) h))
   first-at-fault (w ∷ xs) k z j own h = go (eqb (give w z .number) 0) (give w z .right) refl refl (first-at-fault xs (k + 1) (give w z .state) j own) h
     where
       go : (a b : Bool) → eqb (give w z .number) 0 ≡ a → give w z .right ≡ b
-          → (judgedBy give xs (k + 1) (give w z .state) ≡ answered 24 j own → First xs (k + 1) (give w z .state) j)
-          → (if a then if b then judgedBy give xs (k + 1) (give w z .state) else answered 24 k 0 else answered 24 k (give w z .number)) ≡ answered 24 j own
+          → (judgedBy give xs (k + 1) (give w z .state) ≡ judgment 24 j own → First xs (k + 1) (give w z .state) j)
+          → (if a then if b then judgedBy give xs (k + 1) (give w z .state) else judgment 24 k 0 else judgment 24 k (give w z .number)) ≡ judgment 24 j own
           → First (w ∷ xs) k z j
       go true true ea eb later e = later-on w xs k z j ea eb (later e)
       go true false ea eb later e = here w xs k z j (ap (λ (d : Judged). d .beside) e)
@@ -74,9 +74,9 @@ module _ (give also : List ℕ → List ℕ → Taking) (Fits : List ℕ → Typ
   unfolding judgedFrom
   same-log t z f = ap (judgedEnd (scan t .end)) (same-judged (linesOf t) 0 z f)
 
-  pub same-left : (ws : List (List ℕ)) (z : List ℕ) → Fits z → leftBy give ws z ≡ leftBy also ws z
-  unfolding leftBy
+  pub same-left : (ws : List (List ℕ)) (z : List ℕ) → Fits z → leftByLines give ws z ≡ leftByLines also ws z
+  unfolding leftByLines
   same-left [] z f = refl
   same-left (w ∷ ws) z f =
-      let later : leftBy give ws (also w z .state) ≡ leftBy also ws (also w z .state) = same-left ws (also w z .state) (keeps w z f) in
+      let later : leftByLines give ws (also w z .state) ≡ leftByLines also ws (also w z .state) = same-left ws (also w z .state) (keeps w z f) in
       rw (same w z f, later)

@@ -1,10 +1,12 @@
 // Whether the run that a log tells was lawful: its events one after another, each a step or a post, and whether its line is true.
 ghost use mathlib.Core.Path.{_≡_};
-ghost use Rattle.text_numerals.specs.Numerals.{sameBytes};
+ghost use Rattle.base_bytes.specs.Bytes.{sameBytes};
 ghost use Rattle.write_lines.specs.Lines.{stepLine};
 ghost use Rattle.log_text.specs.Logs.{closesEvent, linesFrom, linesOf};
 ghost use Rattle.step_poll.specs.Poll.{settledStep, settledPost};
-ghost use Rattle.log_judge.specs.Judge.{leftBy, Taking, taken, judgedBy, judgedFrom};
+ghost use Rattle.log_judge.specs.Judge.{leftByLines, Taking, lineTaken, judgedBy, judgedFrom};
+use base_bytes::piece;
+use base_bytes::same;
 use base_state::places::STATE_WORDS;
 use base_table::places::TABLE_WORDS;
 use base_words::Word;
@@ -22,11 +24,9 @@ use meaning::Answer;
 use meaning::Name;
 use step_take::post_on;
 use step_take::step_on;
-use text_lexer::piece;
-use text_numerals::same;
 use write_lines::STEP_LINE;
 use write_lines::put_step;
-use xml_skip::Skipped;
+use xml_skip::Reached;
 
 // A number; beside 23 the place, beside 24 the event's ordinal from 0 and the step's or post's own number, 0 where only its line is untrue.
 #[repr(C)]
@@ -53,7 +53,7 @@ fn same_line(n: Name, a: Answer, line: &[u8]) -> bool
 
 // Does what a line says.
 fn take_line(t: &[Word; TABLE_WORDS], z: &mut [Word; STATE_WORDS], line: &[u8]) -> Taken
-    ensures { λ r. ⌜ record { number = r .number; right = r .right; state = now (z .exit) } ≡ taken (settledStep (now (t .entry))) settledPost (now (line .entry)) (now (z .entry)) ⌝ }
+    ensures { λ r. ⌜ record { number = r .number; right = r .right; state = now (z .exit) } ≡ lineTaken (settledStep (now (t .entry))) settledPost (now (line .entry)) (now (z .entry)) ⌝ }
 {
     let e = entry_of(line);
     let n = e.name;
@@ -91,7 +91,7 @@ fn judge_from(
     text: &[u8],
     first: Cursor,
 ) -> Judged
-    ensures { λ r. ⌜ (r ≡ judgedBy (taken (settledStep (now (t .entry))) settledPost) (linesFrom (now (text .entry)) first) 0 (now (z .entry))) × (r .number ≡ 0 → now (z .exit) ≡ leftBy (taken (settledStep (now (t .entry))) settledPost) (linesFrom (now (text .entry)) first) (now (z .entry))) ⌝ }
+    ensures { λ r. ⌜ (r ≡ judgedBy (lineTaken (settledStep (now (t .entry))) settledPost) (linesFrom (now (text .entry)) first) 0 (now (z .entry))) × (r .number ≡ 0 → now (z .exit) ≡ leftByLines (lineTaken (settledStep (now (t .entry))) settledPost) (linesFrom (now (text .entry)) first) (now (z .entry))) ⌝ }
 {
     let mut c = first;
     let mut ordinal: usize = 0;
@@ -142,7 +142,7 @@ fn at_fault(ordinal: usize, own: Word) -> Judged
 
 // The events of a log.
 fn judge_lines(t: &[Word; TABLE_WORDS], z: &mut [Word; STATE_WORDS], text: &[u8]) -> Judged
-    ensures { λ r. ⌜ (r ≡ judgedBy (taken (settledStep (now (t .entry))) settledPost) (linesOf (now (text .entry))) 0 (now (z .entry))) × (r .number ≡ 0 → now (z .exit) ≡ leftBy (taken (settledStep (now (t .entry))) settledPost) (linesOf (now (text .entry))) (now (z .entry))) ⌝ }
+    ensures { λ r. ⌜ (r ≡ judgedBy (lineTaken (settledStep (now (t .entry))) settledPost) (linesOf (now (text .entry))) 0 (now (z .entry))) × (r .number ≡ 0 → now (z .exit) ≡ leftByLines (lineTaken (settledStep (now (t .entry))) settledPost) (linesOf (now (text .entry))) (now (z .entry))) ⌝ }
 {
     let m = start(text);
     let Move::On(c) = m else {
@@ -153,13 +153,13 @@ fn judge_lines(t: &[Word; TABLE_WORDS], z: &mut [Word; STATE_WORDS], text: &[u8]
 
 // Judges a log from a state on, which is the caller's to lend: 23 with its place, 24 with the event at fault, and the state is as far as that; else 0, and the state is the one that its lines leave.
 pub fn judge_on(t: &[Word; TABLE_WORDS], z: &mut [Word; STATE_WORDS], text: &[u8]) -> Judged
-    ensures { λ r. ⌜ (r ≡ judgedFrom (taken (settledStep (now (t .entry))) settledPost) (now (text .entry)) (now (z .entry))) × (r .number ≡ 0 → now (z .exit) ≡ leftBy (taken (settledStep (now (t .entry))) settledPost) (linesOf (now (text .entry))) (now (z .entry))) ⌝ }
+    ensures { λ r. ⌜ (r ≡ judgedFrom (lineTaken (settledStep (now (t .entry))) settledPost) (now (text .entry)) (now (z .entry))) × (r .number ≡ 0 → now (z .exit) ≡ leftByLines (lineTaken (settledStep (now (t .entry))) settledPost) (linesOf (now (text .entry))) (now (z .entry))) ⌝ }
 {
     let s = scan(text);
     let end = s.end;
     match end {
-        Skipped::Past(q) => judge_lines(t, z, text),
-        Skipped::Fault(q) => Judged {
+        Reached::Past(q) => judge_lines(t, z, text),
+        Reached::Fault(q) => Judged {
             number: NOT_A_LOG,
             beside: q,
             own: 0,

@@ -20,7 +20,8 @@ use Rattle.meaning.specs.declared.Tuple.{Tuple}
 use Rattle.meaning.specs.Tuples.{empty}
 use Rattle.text_numerals.specs.declared.Number.{Number}
 use Rattle.text_numerals.specs.declared.Number.the-variants.{Value}
-use Rattle.text_numerals.specs.Numerals.{sameBytes, ifValue}
+use Rattle.text_numerals.specs.Numerals.{ifValue}
+use Rattle.base_bytes.specs.Bytes.{sameBytes}
 use Rattle.text_numerals.proofs.Number.{the-type as number-type}
 use Rattle.text_numerals.proofs.AnswerLaws.{is-value, not-value}
 use Rattle.xml_markup.specs.declared.Class.the-variants.{Value as NotByte}
@@ -30,24 +31,25 @@ use Rattle.log_lines.specs.declared.Given.{Given}
 use Rattle.log_lines.specs.declared.Message.{Message}
 use Rattle.log_lines.specs.declared.Placed.{Placed}
 use Rattle.log_lines.specs.declared.Entry.{Entry}
-use Rattle.log_lines.specs.Entries.{numberUpTo, isSmall, valueIn, numbered, given, oneMore, added, valuesIn, valuesFrom, messageFrom, trafficFrom, numberPlace, numberAt, placed, allRight, nameOf, noEntry, stepEntry, postName, postEntry}
+use Rattle.log_lines.specs.Entries.{numberUpTo, isSmall, valueIn, numberBefore, given, added, valuesIn, valuesFrom, messageFrom, trafficFrom, numberPlace, numberAt, fivePlaced, allRight, nameOf, noEntry, stepEntry, postName, postEntry}
+use Rattle.base_words.specs.Words.{oneMore}
 
 pub none-is : (r : Given) (b : Bool) (g : Tuple) → r ≡ given b g → g ≡ empty → r ≡ given b empty
 none-is r b g e h = e ∙ ap (λ (x : Tuple). given b x) h
 
-pub numbered-is : (c : ℕ) (w : List ℕ) (p : ℕ) (x : Number) (e v n : ℕ) (s b : Bool) → x ≡ numberUpTo c w p → e ≡ run (NotByte c) w p → s ≡ isSmall x → b ≡ (s && ltb e (length w)) → v ≡ valueIn x → n ≡ after w e → _≡_ {A = Numbered} (record { right = b; value = v; next = n }) (numbered c w p)
-unfolding numbered
+pub numbered-is : (c : ℕ) (w : List ℕ) (p : ℕ) (x : Number) (e v n : ℕ) (s b : Bool) → x ≡ numberUpTo c w p → e ≡ run (NotByte c) w p → s ≡ isSmall x → b ≡ (s && ltb e (length w)) → v ≡ valueIn x → n ≡ after w e → _≡_ {A = Numbered} (record { right = b; value = v; next = n }) (numberBefore c w p)
+unfolding numberBefore
 numbered-is c w p x e v n s b hx he hs hb hv hn = rw (hb, hs, hv, hn, he, hx)
 
 pub added-is : (g : Tuple) (v n : ℕ) (vs : List ℕ) → n ≡ oneMore (g .length) → vs ≡ set (g .values) (g .length) v → _≡_ {A = Tuple} (record { length = n; values = vs }) (added g v)
 unfolding added
 added-is g v n vs hn hs = rw (hn, hs)
 
-pub placed-is : (w : List ℕ) (a b c d e : Numbered) → a ≡ numbered (code " ") w 0 → b ≡ numbered (code " ") w (a .next) → c ≡ numbered (code " ") w (b .next) → d ≡ numbered (code " ") w (c .next) → e ≡ numbered (code " ") w (d .next) → _≡_ {A = Placed} (record { pool = a; instance = b; element = c; phase = d; branch = e }) (placed w)
-unfolding placed numberAt numberPlace
+pub placed-is : (w : List ℕ) (a b c d e : Numbered) → a ≡ numberBefore (code " ") w 0 → b ≡ numberBefore (code " ") w (a .next) → c ≡ numberBefore (code " ") w (b .next) → d ≡ numberBefore (code " ") w (c .next) → e ≡ numberBefore (code " ") w (d .next) → _≡_ {A = Placed} (record { pool = a; instance = b; element = c; phase = d; branch = e }) (fivePlaced w)
+unfolding fivePlaced numberAt numberPlace
 placed-is w a b c d e ha hb hc hd he = rw (he, hd, hc, hb, ha)
 
-pub message-is : (w : List ℕ) (p : ℕ) (m : Numbered) (g : Given) (b : Bool) → m ≡ numbered (code ":") w p → g ≡ valuesFrom w (m .next) → b ≡ (m .right && g .right) → _≡_ {A = Message} (record { right = b; name = m .value; tuple = g .tuple }) (messageFrom w p)
+pub message-is : (w : List ℕ) (p : ℕ) (m : Numbered) (g : Given) (b : Bool) → m ≡ numberBefore (code ":") w p → g ≡ valuesFrom w (m .next) → b ≡ (m .right && g .right) → _≡_ {A = Message} (record { right = b; name = m .value; tuple = g .tuple }) (messageFrom w p)
 unfolding messageFrom
 message-is w p m g b hm hg hb = rw (hb, hg, hm)
 
@@ -105,15 +107,15 @@ module _ (w : List ℕ) (p : ℕ) (rest : List ℕ) (et : rest ≡ part w p (len
     traffic-other l k = pick-no _ _ _ _ (same-as false h) (pick-no _ _ _ _ (ne-eqb _ _ (λ z. l (eb ∙ z))) (pick-no _ _ _ _ (ne-eqb _ _ (λ z. k (eb ∙ z))) refl))
 
 -- a step's line: its numbers, what was sent or consumed, and whether both are right
-module _ (w : List ℕ) (p : Placed) (ep : p ≡ placed w) (g : Given) (eg : g ≡ trafficFrom w (p .branch .next)) (a : Bool) (ea : a ≡ allRight p) (r : Bool) (er : r ≡ (a && g .right)) where
-  traffic-as : trafficFrom w (placed w .branch .next) ≡ trafficFrom w (numberPlace w 5)
-  unfolding placed numberAt numberPlace
+module _ (w : List ℕ) (p : Placed) (ep : p ≡ fivePlaced w) (g : Given) (eg : g ≡ trafficFrom w (p .branch .next)) (a : Bool) (ea : a ≡ allRight p) (r : Bool) (er : r ≡ (a && g .right)) where
+  traffic-as : trafficFrom w (fivePlaced w .branch .next) ≡ trafficFrom w (numberPlace w 5)
+  unfolding fivePlaced numberAt numberPlace
   traffic-as = refl
 
   traffic-is : trafficFrom w (numberPlace w 5) ≡ g
   traffic-is = sym (eg ∙ ap (λ (x : Placed). trafficFrom w (x .branch .next)) ep ∙ traffic-as)
 
-  right-as : (allRight (placed w) && trafficFrom w (numberPlace w 5) .right) ≡ r
+  right-as : (allRight (fivePlaced w) && trafficFrom w (numberPlace w 5) .right) ≡ r
   right-as = rw (traffic-is, er, ea, ep)
 
   pub step-not : r ≡ false → noEntry ≡ stepEntry w

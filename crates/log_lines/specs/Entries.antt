@@ -2,19 +2,19 @@
 use Prim.Native.Char.{code}
 use Prim.Native.Nat.{ℕ, zero, suc, _+_}
 use mathlib.Core.Bool.{Bool, true, false, _&&_}
-use mathlib.Core.List.{List}
 use lib.Dec.{leb, ltb, eqb}
 use lib.ListN.{length, set}
 use Rattle.base_words.specs.Blocks.{Bytes}
 use Rattle.base_words.specs.Pick.{if_then_else_}
 use Rattle.base_words.specs.Text.{bytes}
-use Rattle.base_words.specs.Words.{at, part, greatest}
+use Rattle.base_words.specs.Words.{at, part, oneMore}
 use Rattle.meaning.specs.declared.Name.{Name}
 use Rattle.meaning.specs.declared.Tuple.{Tuple}
 use Rattle.meaning.specs.Tuples.{empty}
 use Rattle.text_numerals.specs.declared.Number.{Number}
 use Rattle.text_numerals.specs.declared.Number.the-variants.{Value, TooLarge, NotANumber}
-use Rattle.text_numerals.specs.Numerals.{numberOf, sameBytes, ifValue}
+use Rattle.text_numerals.specs.Numerals.{numberOf, ifValue}
+use Rattle.base_bytes.specs.Bytes.{sameBytes}
 use Rattle.xml_markup.specs.declared.Class.the-variants.{Value as NotByte}
 use Rattle.xml_markup.specs.Markup.{beginsAt}
 use Rattle.xml_markup.specs.Spans.{run, after}
@@ -43,8 +43,8 @@ valueIn TooLarge = 0
 valueIn NotANumber = 0
 
 -- a number with the byte c behind it, and the place behind that
-unfoldable pub numbered : ℕ → Bytes → ℕ → Numbered
-numbered c w p =
+unfoldable pub numberBefore : ℕ → Bytes → ℕ → Numbered
+numberBefore c w p =
     record {
       right = isSmall (numberUpTo c w p) && ltb (run (NotByte c) w p) (length w);
       value = valueIn (numberUpTo c w p);
@@ -55,9 +55,6 @@ abbrev pub given : Bool → Tuple → Given
 given b g = record { right = b; tuple = g }
 
 -- one value more: "any count of values"; those behind the fourth are counted only (RULES: entries)
-unfoldable pub oneMore : ℕ → ℕ
-oneMore n = if ltb n greatest then n + 1 else n
-
 unfoldable pub added : Tuple → ℕ → Tuple
 added g v = record { length = oneMore (g .length); values = set (g .values) (g .length) v }
 
@@ -77,9 +74,9 @@ valuesFrom w p = if leb (length w) p then given true empty else valuesIn (length
 unfoldable pub messageFrom : Bytes → ℕ → Message
 messageFrom w p =
     record {
-      right = numbered (code ":") w p .right && valuesFrom w (numbered (code ":") w p .next) .right;
-      name = numbered (code ":") w p .value;
-      tuple = valuesFrom w (numbered (code ":") w p .next) .tuple;
+      right = numberBefore (code ":") w p .right && valuesFrom w (numberBefore (code ":") w p .next) .right;
+      name = numberBefore (code ":") w p .value;
+      tuple = valuesFrom w (numberBefore (code ":") w p .next) .tuple;
     }
 
 -- T from p on, and the values that the step is named with: "a line with `?M:V` is the step with the values V; any other is the step without values" (RULES: entries)
@@ -93,14 +90,14 @@ trafficFrom w p =
 -- where the k-th of the numbers stands, and the number
 unfoldable pub numberPlace : Bytes → ℕ → ℕ
 numberPlace w zero = 0
-numberPlace w (suc k) = numbered (code " ") w (numberPlace w k) .next
+numberPlace w (suc k) = numberBefore (code " ") w (numberPlace w k) .next
 
 unfoldable pub numberAt : Bytes → ℕ → Numbered
-numberAt w k = numbered (code " ") w (numberPlace w k)
+numberAt w k = numberBefore (code " ") w (numberPlace w k)
 
 -- the five numbers of a step, whether they are numbers, and the step's name
-unfoldable pub placed : Bytes → Placed
-placed w = record { pool = numberAt w 0; instance = numberAt w 1; element = numberAt w 2; phase = numberAt w 3; branch = numberAt w 4 }
+unfoldable pub fivePlaced : Bytes → Placed
+fivePlaced w = record { pool = numberAt w 0; instance = numberAt w 1; element = numberAt w 2; phase = numberAt w 3; branch = numberAt w 4 }
 
 unfoldable pub allRight : Placed → Bool
 allRight n = n .pool .right && (n .instance .right && (n .element .right && (n .phase .right && n .branch .right)))
@@ -122,8 +119,8 @@ noEntry = record { right = false; posts = false; name = record { pool = 0; insta
 
 unfoldable pub stepEntry : Bytes → Entry
 stepEntry w =
-    if allRight (placed w) && trafficFrom w (numberPlace w 5) .right then
-    record { right = true; posts = false; name = nameOf (placed w) (trafficFrom w (numberPlace w 5) .tuple) }
+    if allRight (fivePlaced w) && trafficFrom w (numberPlace w 5) .right then
+    record { right = true; posts = false; name = nameOf (fivePlaced w) (trafficFrom w (numberPlace w 5) .tuple) }
     else noEntry
 
 -- a post has its message's name in place of the pool

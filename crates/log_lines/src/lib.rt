@@ -2,18 +2,18 @@
 ghost use mathlib.Core.Bool.{_&&_};
 ghost use mathlib.Core.Path.{_≡_};
 ghost use Rattle.meaning.specs.Tuples.{empty};
-ghost use Rattle.log_lines.specs.Entries.{given, noEntry, numberUpTo, isSmall, valueIn, numbered, oneMore, added, valuesFrom, messageFrom, trafficFrom, placed, allRight, nameOf, stepEntry, postName, postEntry, entryOf};
-use base_words::GREATEST;
+ghost use Rattle.log_lines.specs.Entries.{given, noEntry, numberUpTo, isSmall, valueIn, numberBefore, added, valuesFrom, messageFrom, trafficFrom, fivePlaced, allRight, nameOf, stepEntry, postName, postEntry, entryOf};
+use base_bytes::byte;
+use base_bytes::piece;
+use base_bytes::same;
 use base_words::Word;
+use base_words::one_more;
 use base_words::put;
 use meaning::Name;
 use meaning::Tuple;
 use meaning::empty_tuple;
-use text_lexer::byte;
-use text_lexer::piece;
 use text_numerals::Number;
 use text_numerals::number_of;
-use text_numerals::same;
 use xml_markup::Class;
 use xml_markup::scanning::begins_at;
 use xml_markup::spans::after;
@@ -98,7 +98,7 @@ fn value_in(n: Number) -> Word
 
 // A number with the byte c behind it.
 fn number_before(c: u8, line: &[u8], p: usize) -> Numbered
-    ensures { λ r. ⌜ r ≡ numbered c (now (line .entry)) p ⌝ }
+    ensures { λ r. ⌜ r ≡ numberBefore c (now (line .entry)) p ⌝ }
 {
     let n = number_up_to(c, line, p);
     let end = run(Class::Value(c), line, p);
@@ -108,12 +108,6 @@ fn number_before(c: u8, line: &[u8], p: usize) -> Numbered
         value: value_in(n),
         next: after(line, end),
     }
-}
-
-fn one_more(n: Word) -> Word
-    ensures { λ r. ⌜ r ≡ oneMore n ⌝ }
-{
-    if n < GREATEST { n + 1 } else { n }
 }
 
 // One value more: the first four are kept, and all are counted.
@@ -205,7 +199,7 @@ fn traffic_from(line: &[u8], p: usize) -> Given
 
 // The five numbers of a step, each with a blank behind it.
 fn numbers_of(line: &[u8]) -> Placed
-    ensures { λ r. ⌜ r ≡ placed (now (line .entry)) ⌝ }
+    ensures { λ r. ⌜ r ≡ fivePlaced (now (line .entry)) ⌝ }
 {
     let pool = number_before(b' ', line, 0);
     let instance = number_before(b' ', line, pool.next);

@@ -3,7 +3,8 @@ ghost use mathlib.Core.Path.{_≡_};
 ghost use Prim.Native.Nat.{_-_};
 ghost use lib.ListN.{length};
 ghost use Rattle.write_buffer.specs.Buffers.{over, lesser, lastPlace, Put};
-ghost use Rattle.log_repair.specs.Repair.{endTag, traceEnd, closing, closed, isLost, Repair, refused, given, repairedBy, repairedTo};
+ghost use Rattle.log_repair.specs.Repair.{endTag, traceEnd, closingTags, closed, isLost, Repair, refused, repairGiven, repairedBy, repairedTo};
+use base_bytes::piece;
 use base_words::Word;
 use base_words::counts::TEXT_MOST;
 use base_words::numbers::ACCEPTED;
@@ -12,12 +13,11 @@ use base_words::numbers::TOO_SHORT;
 use log_text::Cursor;
 use log_text::cursors::back;
 use log_text::scan;
-use text_lexer::piece;
 use write_buffer::put_bytes;
 use xml_markup::scanning::markup;
 use xml_markup::spans::bytes_of;
 use xml_markup::spans::name_at;
-use xml_skip::Skipped;
+use xml_skip::Reached;
 use xml_skip::Tag;
 use xml_skip::tag_of;
 
@@ -51,7 +51,7 @@ fn put_trace_end(tag: Tag, text: &[u8], p: usize, out: &mut [u8], from: usize) -
 
 // The end tags of what is open.
 fn put_closing(text: &[u8], c: Cursor, out: &mut [u8], from: usize) -> usize
-    ensures { λ r. ⌜ Put (closing (now (text .entry)) c) (length (closing (now (text .entry)) c)) from (now (out .entry)) r (now (out .exit)) ⌝ }
+    ensures { λ r. ⌜ Put (closingTags (now (text .entry)) c) (length (closingTags (now (text .entry)) c)) from (now (out .entry)) r (now (out .exit)) ⌝ }
 {
     let tag = tag_of(markup(text, c.trace), c.trace);
     let behind = put_trace_end(tag, text, c.trace, out, from);
@@ -86,7 +86,7 @@ fn refused(number: Word) -> Repaired
 }
 
 fn give_whole(text: &[u8], c: Cursor, out: &mut [u8]) -> Repaired
-    ensures { λ r. ⌜ record { number = r .number; length = r .length; kept = r .kept; dropped = r .dropped; buffer = now (out .exit) } ≡ given (now (text .entry)) (c .events) 0 (now (out .entry)) ⌝ }
+    ensures { λ r. ⌜ record { number = r .number; length = r .length; kept = r .kept; dropped = r .dropped; buffer = now (out .exit) } ≡ repairGiven (now (text .entry)) (c .events) 0 (now (out .entry)) ⌝ }
 {
     if TEXT_MOST < text.len() {
         return refused(TOO_SHORT);
@@ -104,7 +104,7 @@ fn give_whole(text: &[u8], c: Cursor, out: &mut [u8]) -> Repaired
 }
 
 fn give_closed(text: &[u8], c: Cursor, out: &mut [u8]) -> Repaired
-    ensures { λ r. ⌜ record { number = r .number; length = r .length; kept = r .kept; dropped = r .dropped; buffer = now (out .exit) } ≡ given (closed (now (text .entry)) c) (c .events) (length (now (text .entry)) - c .kept) (now (out .entry)) ⌝ }
+    ensures { λ r. ⌜ record { number = r .number; length = r .length; kept = r .kept; dropped = r .dropped; buffer = now (out .exit) } ≡ repairGiven (closed (now (text .entry)) c) (c .events) (length (now (text .entry)) - c .kept) (now (out .entry)) ⌝ }
 {
     let n = closed_length(text, c);
     if TEXT_MOST < n {
@@ -133,7 +133,7 @@ fn is_lost(q: usize, text: &[u8], c: Cursor) -> bool
 }
 
 fn give_broken(q: usize, text: &[u8], c: Cursor, out: &mut [u8]) -> Repaired
-    ensures { λ r. ⌜ record { number = r .number; length = r .length; kept = r .kept; dropped = r .dropped; buffer = now (out .exit) } ≡ repairedBy (Skipped.Fault q) (now (text .entry)) c (now (out .entry)) ⌝ }
+    ensures { λ r. ⌜ record { number = r .number; length = r .length; kept = r .kept; dropped = r .dropped; buffer = now (out .exit) } ≡ repairedBy (Reached.Fault q) (now (text .entry)) c (now (out .entry)) ⌝ }
 {
     if is_lost(q, text, c) {
         return refused(NOT_CUT);
@@ -149,7 +149,7 @@ pub fn repair_into(text: &[u8], out: &mut [u8]) -> Repaired
     let end = s.end;
     let c = s.last;
     match end {
-        Skipped::Past(_) => give_whole(text, c, out),
-        Skipped::Fault(q) => give_broken(q, text, c, out),
+        Reached::Past(_) => give_whole(text, c, out),
+        Reached::Fault(q) => give_broken(q, text, c, out),
     }
 }

@@ -9,15 +9,15 @@ use lib.ListN.{length, List·getD-eq-default}
 use Rattle.base_words.specs.Pick.{if_then_else_}
 use Rattle.base_words.specs.Text.{bytes}
 use Rattle.base_words.specs.Words.{part}
-use Rattle.text_numerals.specs.Numerals.{sameBytes}
+use Rattle.base_bytes.specs.Bytes.{sameBytes}
 use Rattle.xml_markup.specs.declared.Attribute.{Attribute}
 use Rattle.xml_markup.specs.declared.Attribute.the-variants.{Is, Absent}
 use Rattle.xml_markup.specs.declared.Class.the-variants.{Blanks}
 use Rattle.xml_markup.specs.declared.Opener.the-variants.{Other}
 use Rattle.xml_markup.specs.Markup.{markup}
 use Rattle.xml_markup.specs.Spans.{run, opensName, opener, isCalled, attribute}
-use Rattle.xml_skip.specs.declared.Skipped.{Skipped}
-use Rattle.xml_skip.specs.declared.Skipped.the-variants.{Past, Fault as SkipFault}
+use Rattle.xml_skip.specs.declared.Reached.{Reached}
+use Rattle.xml_skip.specs.declared.Reached.the-variants.{Past, Fault as SkipFault}
 use Rattle.xml_skip.specs.declared.Part.{Part}
 use Rattle.xml_skip.specs.declared.Part.the-variants.{Element as PartElement, Close as PartClose, On as PartOn, Fault as PartFault}
 use Rattle.xml_skip.specs.declared.Tag.{Tag}
@@ -95,12 +95,12 @@ unfolding if_then_else_
 beyond-if p true x y h k = h
 beyond-if p false x y h k = k
 
-over-beyond : (p : ℕ) (s : Skipped) (c : Cursor) → Further p s → Beyond p (over s c)
+over-beyond : (p : ℕ) (s : Reached) (c : Cursor) → Further p s → Beyond p (over s c)
 unfolding over
 over-beyond p (Past q) c h = h
 over-beyond p (SkipFault q) c h = tt
 
-named-beyond : (p : ℕ) (s : Skipped) (c : Cursor) (from to : ℕ) → Further p s → Beyond p (overNamed s c from to)
+named-beyond : (p : ℕ) (s : Reached) (c : Cursor) (from to : ℕ) → Further p s → Beyond p (overNamed s c from to)
 unfolding overNamed
 named-beyond p (Past q) c from to h = h
 named-beyond p (SkipFault q) c from to h = tt
@@ -235,7 +235,7 @@ module _ (t : List ℕ) (c : Cursor) (m : Move) (em : m ≡ advance t c) where
   unfolding byMove
   scan-on d e = scan-is t c ∙ rw (← em, e)
 
-  pub scan-done : (d : Cursor) → m ≡ Done d → (l : Skipped) → l ≡ lastFrom t (d .at) → scanFrom t c ≡ scanned l d
+  pub scan-done : (d : Cursor) → m ≡ Done d → (l : Reached) → l ≡ lastFrom t (d .at) → scanFrom t c ≡ scanned l d
   unfolding byMove
   scan-done d e l el = scan-is t c ∙ rw (← em, e, el)
 

@@ -12,14 +12,14 @@ use Rattle.base_words.specs.Pick.{if_then_else_}
 use Rattle.base_words.specs.Text.{bytes}
 use Rattle.base_words.specs.Words.{part}
 use Rattle.base_words.proofs.PickLaws.{and-true}
-use Rattle.text_numerals.specs.Numerals.{sameBytes}
+use Rattle.base_bytes.specs.Bytes.{sameBytes}
 use Rattle.xml_markup.specs.declared.Attribute.{Attribute}
 use Rattle.xml_markup.specs.declared.Attribute.the-variants.{Is, Absent}
 use Rattle.xml_markup.specs.declared.Class.the-variants.{Blanks}
 use Rattle.xml_markup.specs.Markup.{markup}
 use Rattle.xml_markup.specs.Spans.{run, after, opener, isCalled, attribute}
-use Rattle.xml_skip.specs.declared.Skipped.{Skipped}
-use Rattle.xml_skip.specs.declared.Skipped.the-variants.{Past, Fault as SkipFault}
+use Rattle.xml_skip.specs.declared.Reached.{Reached}
+use Rattle.xml_skip.specs.declared.Reached.the-variants.{Past, Fault as SkipFault}
 use Rattle.xml_skip.specs.declared.Tag.{Tag}
 use Rattle.xml_skip.specs.declared.Tag.the-variants.{Open, Empty, Fault as TagFault}
 use Rattle.xml_skip.specs.Skipping.{partAt, tagOf, skipped}
@@ -73,12 +73,12 @@ module _ (t : List ℕ) (c : Cursor) where
   reached-tells : (q : ℕ) → Tells t c (On (reached c q))
   reached-tells q = still (reached c q) (closes-same (c .level)) refl (λ r. r)
 
-  over-tells : (s : Skipped) → Tells t c (over s c)
+  over-tells : (s : Reached) → Tells t c (over s c)
   unfolding over
   over-tells (Past q) = reached-tells q
   over-tells (SkipFault q) = tt
 
-  named-tells : (s : Skipped) (from to : ℕ) → entryOf (part t from to) .right ≡ true → Tells t c (overNamed s c from to)
+  named-tells : (s : Reached) (from to : ℕ) → entryOf (part t from to) .right ≡ true → Tells t c (overNamed s c from to)
   unfolding overNamed
   named-tells (Past q) from to h = still (named c from to q) (closes-same (c .level)) refl (λ r e. h)
   named-tells (SkipFault q) from to h = tt
@@ -258,7 +258,7 @@ begin-by-begins (Open q) p = (refl, refl)
 begin-by-begins (Empty q) p = tt
 begin-by-begins (TagFault q) p = tt
 
-begin-begins : (s : Skipped) (t : List ℕ) → Begins (begin s t)
+begin-begins : (s : Reached) (t : List ℕ) → Begins (begin s t)
 unfolding begin
 begin-begins (Past p) t = begin-by-begins (tagOf (markup t p) p) p
 begin-begins (SkipFault q) t = tt

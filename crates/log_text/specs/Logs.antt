@@ -9,14 +9,14 @@ use Rattle.base_words.specs.Blocks.{Bytes}
 use Rattle.base_words.specs.Pick.{if_then_else_}
 use Rattle.base_words.specs.Text.{bytes}
 use Rattle.base_words.specs.Words.{part}
-use Rattle.text_numerals.specs.Numerals.{sameBytes}
+use Rattle.base_bytes.specs.Bytes.{sameBytes}
 use Rattle.xml_markup.specs.declared.Attribute.{Attribute}
 use Rattle.xml_markup.specs.declared.Attribute.the-variants.{Is, Absent}
 use Rattle.xml_markup.specs.declared.Class.the-variants.{Blanks}
 use Rattle.xml_markup.specs.Markup.{markup}
 use Rattle.xml_markup.specs.Spans.{run, isCalled, attribute}
-use Rattle.xml_skip.specs.declared.Skipped.{Skipped}
-use Rattle.xml_skip.specs.declared.Skipped.the-variants.{Past, Fault as SkipFault}
+use Rattle.xml_skip.specs.declared.Reached.{Reached}
+use Rattle.xml_skip.specs.declared.Reached.the-variants.{Past, Fault as SkipFault}
 use Rattle.xml_skip.specs.declared.Tag.{Tag}
 use Rattle.xml_skip.specs.declared.Tag.the-variants.{Open, Empty, Fault as TagFault}
 use Rattle.xml_skip.specs.Skipping.{tagOf, skipped}
@@ -38,12 +38,12 @@ abbrev pub logMost : ℕ
 logMost = 65536
 
 -- an element skipped whole
-unfoldable pub over : Skipped → Cursor → Move
+unfoldable pub over : Reached → Cursor → Move
 over (Past q) c = On (reached c q)
 over (SkipFault q) c = Fault q
 
 -- "A second one in an event is 23"; "the opening quote of its key", "one without a value: the `>` or `/` of its tag; a value that is no line: its opening quote", "in the order second, no value, no line" (RULES: entries)
-unfoldable pub overNamed : Skipped → Cursor → ℕ → ℕ → Move
+unfoldable pub overNamed : Reached → Cursor → ℕ → ℕ → Move
 overNamed (Past q) c from to = On (named c from to q)
 overNamed (SkipFault q) c from to = Fault q
 
@@ -109,7 +109,7 @@ unfoldable pub advance : Bytes → Cursor → Move
 advance t c = byInside (insideAt (lacksBy (c .level) c) t (tagBy (c .level) c) (run Blanks t (c .at))) t c
 
 -- the reader's end: the end of the text, or the place of the fault; and where it was then
-abbrev pub scanned : Skipped → Cursor → Scanned
+abbrev pub scanned : Reached → Cursor → Scanned
 scanned e c = record { end = e; last = c }
 
 unfoldable pub byMove : {A : Type 0} → Move → (Cursor → A) → (Cursor → A) → (ℕ → A) → A
@@ -131,7 +131,7 @@ beginBy (Open q) p = On (inLog p q)
 beginBy (Empty q) p = Fault (q - 2)
 beginBy (TagFault q) p = Fault q
 
-unfoldable pub begin : Skipped → Bytes → Move
+unfoldable pub begin : Reached → Bytes → Move
 begin (Past p) t = beginBy (tagOf (markup t p) p) p
 begin (SkipFault q) t = Fault q
 

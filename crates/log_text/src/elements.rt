@@ -2,7 +2,7 @@
 ghost use mathlib.Core.Path.{_≡_};
 ghost use Rattle.base_words.specs.Text.{bytes};
 ghost use Rattle.base_words.specs.Words.{part};
-ghost use Rattle.text_numerals.specs.Numerals.{sameBytes};
+ghost use Rattle.base_bytes.specs.Bytes.{sameBytes};
 ghost use Rattle.log_lines.specs.Entries.{entryOf};
 ghost use Rattle.log_text.specs.declared.Level.the-variants.{Log, Trace, Event};
 ghost use Rattle.xml_markup.specs.Markup.{markup};
@@ -16,34 +16,34 @@ use super::cursors::in_event;
 use super::cursors::named;
 use super::cursors::reached;
 use super::cursors::traced;
+use base_bytes::piece;
+use base_bytes::same;
 use log_lines::entry_of;
-use text_lexer::piece;
-use text_numerals::same;
 use xml_markup::Attribute;
 use xml_markup::scanning::markup;
 use xml_markup::spans::attribute;
 use xml_markup::spans::is_called;
-use xml_skip::Skipped;
+use xml_skip::Reached;
 use xml_skip::Tag;
 use xml_skip::skip;
 use xml_skip::skip_from;
 use xml_skip::tag_of;
 
-fn over(s: Skipped, c: Cursor) -> Move
+fn over(s: Reached, c: Cursor) -> Move
     ensures { λ r. ⌜ r ≡ over s c ⌝ }
 {
     match s {
-        Skipped::Past(q) => Move::On(reached(c, q)),
-        Skipped::Fault(q) => Move::Fault(q),
+        Reached::Past(q) => Move::On(reached(c, q)),
+        Reached::Fault(q) => Move::Fault(q),
     }
 }
 
-fn over_named(s: Skipped, c: Cursor, from: usize, to: usize) -> Move
+fn over_named(s: Reached, c: Cursor, from: usize, to: usize) -> Move
     ensures { λ r. ⌜ r ≡ overNamed s c from to ⌝ }
 {
     match s {
-        Skipped::Past(q) => Move::On(named(c, from, to, q)),
-        Skipped::Fault(q) => Move::Fault(q),
+        Reached::Past(q) => Move::On(named(c, from, to, q)),
+        Reached::Fault(q) => Move::Fault(q),
     }
 }
 

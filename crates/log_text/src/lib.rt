@@ -16,7 +16,7 @@ use xml_document::around::root_at;
 use xml_markup::Class;
 use xml_markup::scanning::markup;
 use xml_markup::spans::run;
-use xml_skip::Skipped;
+use xml_skip::Reached;
 use xml_skip::Tag;
 use xml_skip::tag_of;
 
@@ -25,7 +25,7 @@ pub mod elements;
 pub mod within;
 
 // A log is so long at most.
-const LOG_MOST: usize = 65536;
+pub const LOG_MOST: usize = 65536;
 
 // What stands directly in the log, the trace or an event: an element at its `<`, the end tag, something that is passed, or a fault.
 pub enum Inside {
@@ -65,7 +65,7 @@ pub enum Move {
 
 // The end of the text, or the place of the fault; and where the reader was then.
 pub struct Scanned {
-    pub end: Skipped,
+    pub end: Reached,
     pub last: Cursor,
 }
 
@@ -120,14 +120,14 @@ fn scan_from(text: &[u8], c: Cursor) -> Scanned
             }
             Move::Fault(q) => {
                 return Scanned {
-                    end: Skipped::Fault(q),
+                    end: Reached::Fault(q),
                     last: d,
                 };
             }
         }
     }
     Scanned {
-        end: Skipped::Fault(text.len()),
+        end: Reached::Fault(text.len()),
         last: d,
     }
 }
@@ -142,12 +142,12 @@ fn begin_by(tag: Tag, p: usize) -> Move
     }
 }
 
-fn begin(s: Skipped, text: &[u8]) -> Move
+fn begin(s: Reached, text: &[u8]) -> Move
     ensures { λ r. ⌜ r ≡ begin s (now (text .entry)) ⌝ }
 {
     match s {
-        Skipped::Past(p) => begin_by(tag_of(markup(text, p), p), p),
-        Skipped::Fault(q) => Move::Fault(q),
+        Reached::Past(p) => begin_by(tag_of(markup(text, p), p), p),
+        Reached::Fault(q) => Move::Fault(q),
     }
 }
 
@@ -169,11 +169,11 @@ pub fn scan(text: &[u8]) -> Scanned
     match m {
         Move::On(c) => scan_from(text, c),
         Move::Done(c) => Scanned {
-            end: Skipped::Past(c.at),
+            end: Reached::Past(c.at),
             last: c,
         },
         Move::Fault(q) => Scanned {
-            end: Skipped::Fault(q),
+            end: Reached::Fault(q),
             last: nowhere(),
         },
     }

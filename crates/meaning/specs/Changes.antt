@@ -19,7 +19,7 @@ use Rattle.base_state.specs.Instances.{tokens, activeCount, readyCount, withTok
 use Rattle.meaning.specs.declared.Evaluated.{Evaluated}
 use Rattle.meaning.specs.Templates.{evaluated, bound}
 use Rattle.meaning.specs.Assignments.{Assigned, assigned}
-use Rattle.meaning.specs.Requirements.{touched, first}
+use Rattle.meaning.specs.Requirements.{touched, firstTouched}
 
 -- FIELDS. What is expected of the given values: the template worked out, or no values at all.
 unfoldable pub expected : Element → Instance → Move → ℕ → Tuple → Evaluated
@@ -40,7 +40,7 @@ unfoldable pub takeOne : Element → ℕ → ℕ → Instance → Instance
 takeOne el from j h = withTokens h (entryAt el (from + j)) (tokens h (entryAt el (from + j)) - 1)
 
 unfoldable pub taken : Element → Move → ℕ → Instance → Instance
-taken el m b h = iter (takeOne el (first (m .takes) b)) h (touched (m .takes) (entryCount el))
+taken el m b h = iter (takeOne el (firstTouched (m .takes) b)) h (touched (m .takes) (entryCount el))
 
 -- one more; that an accepted step never meets the end, 255, is what refusal 18 is for
 unfoldable pub more : ℕ → ℕ
@@ -59,7 +59,7 @@ unfoldable pub putOne : Element → ℕ → ℕ → Instance → Instance
 putOne el from j h = withTokens h (exitAt el (from + j)) (more (tokens h (exitAt el (from + j))))
 
 unfoldable pub puts : Element → Move → ℕ → Instance → Instance
-puts el m b h = iter (putOne el (first (m .puts) b)) h (touched (m .puts) (exitCount el))
+puts el m b h = iter (putOne el (firstTouched (m .puts) b)) h (touched (m .puts) (exitCount el))
 
 -- "terminate clears all tokens and task counts of its instance." (RULES: steps)
 unfoldable pub cleared : Instance → Instance

@@ -18,8 +18,8 @@ use Rattle.meaning.specs.Conditions.{holds}
 unfoldable pub touched : ℕ → ℕ → ℕ
 touched cell count = if eqb cell every then count else if eqb cell branch then 1 else 0
 
-unfoldable pub first : ℕ → ℕ → ℕ
-first cell b = if eqb cell branch then b else 0
+unfoldable pub firstTouched : ℕ → ℕ → ℕ
+firstTouched cell b = if eqb cell branch then b else 0
 
 -- "Branch is 0 but for xorSplit, xorJoin and eventBased": those whose moves touch the branch's edge alone have as many branches as edges. (RULES: names)
 unfoldable pub branchCount : Element → Move → ℕ
@@ -34,7 +34,7 @@ unfoldable pub hasToken : Element → Instance → ℕ → ℕ → Bool
 hasToken el h from j = ltb 0 (tokens h (entryAt el (from + j)))
 
 unfoldable pub hasTokens : Element → Instance → Move → ℕ → Bool
-hasTokens el h m b = all (hasToken el h (first (m .takes) b)) (touched (m .takes) (entryCount el))
+hasTokens el h m b = all (hasToken el h (firstTouched (m .takes) b)) (touched (m .takes) (entryCount el))
 
 -- a count to be lowered is not 0;
 unfoldable pub canLower : ℕ → ℕ → Bool
@@ -66,11 +66,11 @@ unfoldable pub belowLimit : Move → ℕ → ℕ → Bool
 belowLimit m made limit = if eqb (m .also) making then ltb made limit else true
 
 -- 18. h is the instance after the taking: no edge to be put and no count to be raised would pass 255.
-unfoldable pub hasRoom : Element → Instance → ℕ → ℕ → Bool
-hasRoom el h from j = ltb (tokens h (exitAt el (from + j))) countMost
+unfoldable pub edgeHasRoom : Element → Instance → ℕ → ℕ → Bool
+edgeHasRoom el h from j = ltb (tokens h (exitAt el (from + j))) countMost
 
 unfoldable pub hasRooms : Element → Instance → Move → ℕ → Bool
-hasRooms el h m b = all (hasRoom el h (first (m .puts) b)) (touched (m .puts) (exitCount el))
+hasRooms el h m b = all (edgeHasRoom el h (firstTouched (m .puts) b)) (touched (m .puts) (exitCount el))
 
 unfoldable pub canRaise : ℕ → ℕ → Bool
 canRaise cell count = if eqb cell up then ltb count countMost else true

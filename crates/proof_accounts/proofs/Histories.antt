@@ -30,7 +30,7 @@ use Rattle.proof_steps.proofs.Choices.{by-choice, by-test, chosen-true, passed-
 use Rattle.proof_steps.proofs.Elements.{pools-few}
 use Rattle.proof_steps.proofs.PoolFits.{pool-parts}
 use Rattle.proof_steps.proofs.Traffic.{state-instances}
-use Rattle.step_history.specs.History.{Entry, stepGave, postGave, GivenBy, isAccepted, asPosted, asSent, asConsumed, posts, sends, consumes, counted, queued, accountsOf, balances}
+use Rattle.step_history.specs.History.{Entry, stepGave, postGave, GivenBy, isAccepted, asPosted, asSent, asConsumed, posts, sends, consumes, howMany, queued, accountsOf, balances}
 use Rattle.step_history.specs.Matching.{brings}
 use Rattle.step_history.proofs.CountLaws.{counted-none, counted-next}
 use Rattle.step_history.proofs.HistoryLaws.{given-split, given-take}
@@ -72,7 +72,7 @@ module _ (t : List ℕ) where
 
   -- THE BALANCE from any valid state: what was queued at first counts too
   pub given-balance : (m : ℕ) (g : Tuple) (h : List Entry) (z y : List ℕ) → Valid t z → Given t z h y
-      → queued m g z + (counted (posts m g) h + counted (sends m g) h) ≡ queued m g y + counted (consumes m g) h
+      → queued m g z + (howMany (posts m g) h + howMany (sends m g) h) ≡ queued m g y + howMany (consumes m g) h
   unfolding GivenBy
   given-balance m g [] z y v d = omega (arith, counted-none (posts m g), counted-none (sends m g), counted-none (consumes m g), ap (queued m g) d)
   given-balance m g (stepGave n a ∷ h) z y v d =
@@ -130,15 +130,15 @@ module _ (t : List ℕ) (v : ℕ) where
         let r = given-take (stepped t) (postedTo t) i h (fresh t v) y (f .given) in
         (r .0, record { table = f .table; version = f .version; given = r .1 }, r .2)
 
-  pub adds-up : (h : List Entry) (y : List ℕ) → FromFresh t v h y → (m : ℕ) (g : Tuple) → counted (posts m g) h + counted (sends m g) h ≡ queued m g y + counted (consumes m g) h
+  pub adds-up : (h : List Entry) (y : List ℕ) → FromFresh t v h y → (m : ℕ) (g : Tuple) → howMany (posts m g) h + howMany (sends m g) h ≡ queued m g y + howMany (consumes m g) h
   adds-up h y f m g = omega (arith, given-balance t m g h (fresh t v) y (from-valid h y f) (f .given), fresh-none t (f .table) v m g)
 
   module _ (h : List Entry) (y : List ℕ) (f : FromFresh t v h y) where
     balanced : (m : ℕ) (g : Tuple) → balances (accountsOf m g h y) ≡ true
     unfolding accountsOf balances
-    balanced m g = eq-eqb (counted (posts m g) h + counted (sends m g) h) (queued m g y + counted (consumes m g) h) (adds-up h y f m g)
+    balanced m g = eq-eqb (howMany (posts m g) h + howMany (sends m g) h) (queued m g y + howMany (consumes m g) h) (adds-up h y f m g)
 
-    ahead : (m : ℕ) (g : Tuple) (i : ℕ) → counted (consumes m g) (take i h) ≤ counted (brings m g) (take i h)
+    ahead : (m : ℕ) (g : Tuple) (i : ℕ) → howMany (consumes m g) (take i h) ≤ howMany (brings m g) (take i h)
     ahead m g i = let r = any-time h y f i in omega (arith, adds-up (take i h) (r .0) (r .1) m g, counted-brings m g (take i h))
 
     pub accounted : Accounted t h y

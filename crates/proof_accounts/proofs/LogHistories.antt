@@ -13,24 +13,24 @@ use Rattle.base_words.specs.Pick.{if_then_else_}
 use Rattle.base_words.proofs.AllLaws.{and-left, and-right}
 use Rattle.meaning.specs.declared.Tuple.{Tuple}
 use Rattle.write_lines.specs.Lines.{stepLine}
-use Rattle.text_numerals.specs.Numerals.{sameBytes}
+use Rattle.base_bytes.specs.Bytes.{sameBytes}
 use Rattle.state_fits.specs.Fresh.{fresh}
 use Rattle.proof_steps.proofs.Choices.{by-choice, chosen}
 use Rattle.step_poll.specs.Items.{Act, aStep, aPost}
 use Rattle.step_poll.specs.Poll.{settledStep, settledPost}
 use Rattle.step_history.specs.History.{entryBy, stateBy, toldBy, balances}
 use Rattle.step_history.proofs.HistoryLaws.{told-given, told-same}
-use Rattle.xml_skip.specs.declared.Skipped.{Skipped}
-use Rattle.xml_skip.specs.declared.Skipped.the-variants.{Past, Fault}
+use Rattle.xml_skip.specs.declared.Reached.{Reached}
+use Rattle.xml_skip.specs.declared.Reached.the-variants.{Past, Fault}
 use Rattle.log_lines.specs.Entries.{entryOf}
 use Rattle.log_text.specs.declared.Cursor.{Cursor}
 use Rattle.log_text.specs.declared.Move.{Move}
 use Rattle.log_text.specs.declared.Move.the-variants.{On, Done, Fault as MoveFault}
 use Rattle.log_text.specs.Logs.{scan, advance, byMove, closesEvent, lineOf, linesIn, linesFrom, linesOf, start}
 use Rattle.log_judge.specs.declared.Judged.{Judged}
-use Rattle.log_judge.specs.Judge.{Taking, takenBy, taken, answered, lawful, judgedBy, judgedEnd, judgedFrom}
+use Rattle.log_judge.specs.Judge.{Taking, takenBy, lineTaken, judgment, lawful, judgedBy, judgedEnd, judgedFrom}
 use Rattle.log_accounts.specs.declared.Told.{Told}
-use Rattle.log_accounts.specs.Told.{actOf, actsOf, historyIn, stateIn, told, toldIn}
+use Rattle.log_accounts.specs.Told.{actOf, actsOf, historyIn, stateIn, allTold, toldIn}
 use Rattle.engine.specs.Engine.{askedNumber, stepped, postedTo}
 use Rattle.engine.specs.Calls.{Valid, judgedTo}
 use Rattle.engine.proofs.CallLaws.{asked-valid, asked-known}
@@ -71,10 +71,10 @@ pub all-acts : (log : List ℕ) → actsOf (linesOf log) (length log) ≡ map ac
 all-acts log = take-all (length log) (map actOf (linesOf log)) (omega (arith, lines-few log, length-map (linesOf log) actOf))
 
 -- WHAT IS LAWFUL has no fault
-not-lawful : (k own : ℕ) → answered 24 k own ≡ lawful → ⊥
+not-lawful : (k own : ℕ) → judgment 24 k own ≡ lawful → ⊥
 not-lawful k own e = omega (arith, ap (λ (j : Judged). j .number) e)
 
-no-fault : (s : Skipped) (j : Judged) → judgedEnd s j ≡ lawful → j ≡ lawful
+no-fault : (s : Reached) (j : Judged) → judgedEnd s j ≡ lawful → j ≡ lawful
 unfolding judgedEnd
 no-fault (Past q) j e = e
 no-fault (Fault q) j e = absurd (omega (arith, ap (λ (x : Judged). x .number) e))
@@ -99,10 +99,10 @@ module _ (t : List ℕ) (v : ℕ) (asked : askedNumber t v ≡ 0) where
     -- WHAT IS PRINTED: the code's own numbers are those of that history, and balance
     pub printed : (m : ℕ) (g : Tuple) → toldIn (settledStep t) settledPost log most m g (fresh t v) ≡ toldIn (stepped t) (postedTo t) log most m g (fresh t v)
     unfolding toldIn
-    printed m g = ap₂ (told m g most) (as-called .0) (as-called .1)
+    printed m g = ap₂ (allTold m g most) (as-called .0) (as-called .1)
 
     pub printed-balances : (m : ℕ) (g : Tuple) → balances (toldIn (settledStep t) settledPost log most m g (fresh t v) .accounts) ≡ true
-    unfolding toldIn told
+    unfolding toldIn allTold
     printed-balances m g =
         ap (λ (x : Told). balances (x .accounts)) (printed m g)
         ∙ accounted t v (historyIn (stepped t) (postedTo t) log most (fresh t v)) (stateIn (stepped t) (postedTo t) log most (fresh t v)) log-given .balanced m g
@@ -120,11 +120,11 @@ module _ (t : List ℕ) (v : ℕ) (asked : askedNumber t v ≡ 0) where
   says-step w z k r = ((eqb-true _ 0 k, same-is _ w r), refl)
 
   abbrev take-line : List ℕ → List ℕ → Taking
-  take-line = taken (stepped t) (postedTo t)
+  take-line = lineTaken (stepped t) (postedTo t)
 
   line-says : (w z : List ℕ) → eqb (take-line w z .number) 0 ≡ true → take-line w z .right ≡ true
       → Says w (entryBy (stepped t) (postedTo t) (actOf w) z) × (take-line w z .state ≡ stateBy (stepped t) (postedTo t) (actOf w) z)
-  unfolding taken takenBy actOf if_then_else_
+  unfolding lineTaken takenBy actOf if_then_else_
   line-says w z = go (entryOf w .posts) refl
     where
       o : Bool → Taking
@@ -148,7 +148,7 @@ module _ (t : List ℕ) (v : ℕ) (asked : askedNumber t v ≡ 0) where
     where
       go : (a : Bool) → eqb (take-line w z .number) 0 ≡ a → (b : Bool) → take-line w z .right ≡ b
           → (judgedBy take-line ws (k + 1) (take-line w z .state) ≡ lawful → AllSay ws (toldBy (stepped t) (postedTo t) (map actOf ws) (take-line w z .state)))
-          → (if a then if b then judgedBy take-line ws (k + 1) (take-line w z .state) else answered 24 k 0 else answered 24 k (take-line w z .number)) ≡ lawful
+          → (if a then if b then judgedBy take-line ws (k + 1) (take-line w z .state) else judgment 24 k 0 else judgment 24 k (take-line w z .number)) ≡ lawful
           → Says w (entryBy (stepped t) (postedTo t) (actOf w) z) × AllSay ws (toldBy (stepped t) (postedTo t) (map actOf ws) (stateBy (stepped t) (postedTo t) (actOf w) z))
       go true p true q later r =
           let l = line-says w z p q in

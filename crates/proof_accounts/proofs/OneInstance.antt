@@ -14,7 +14,7 @@ use Rattle.base_words.proofs.SeekLaws.{sought}
 use Rattle.base_kinds.specs.Kinds.{startRcv}
 use Rattle.base_kinds.specs.Moves.{making}
 use Rattle.base_table.specs.Places.{poolPlace}
-use Rattle.base_table.specs.Table.{poolCount, numbered, poolOf, limitOf, kindIn, modeIn, elementAt}
+use Rattle.base_table.specs.Table.{poolCount, hasNumber, poolOf, limitOf, kindIn, modeIn, elementAt}
 use Rattle.base_state.specs.Instances.{instancesOf, queuesOf, madeCount}
 use Rattle.check_limits.specs.Limits.{tableFits}
 use Rattle.meaning.specs.declared.Name.{Name}
@@ -62,8 +62,8 @@ module _ (t z : List ℕ) (v : Valid t z) (n : Name) (accepted : stepped t z n .
 
   -- THE POOL
   number-is : at t (poolPlace p) ≡ n .pool
-  unfolding poolOf numbered
-  number-is = eqb-true (at t (poolPlace p)) (n .pool) (sought (numbered t (n .pool)) (poolCount t) .1 (found .pool))
+  unfolding poolOf hasNumber
+  number-is = eqb-true (at t (poolPlace p)) (n .pool) (sought (hasNumber t (n .pool)) (poolCount t) .1 (found .pool))
 
   pool-only : (o : ℕ) → o < poolCount t → at t (poolPlace o) ≡ n .pool → o ≡ p
   pool-only o l e = sym (pool-found t fits (checks-hold t z (v .fits)) o l) ∙ ap (poolOf t) e

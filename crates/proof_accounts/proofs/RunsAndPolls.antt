@@ -26,7 +26,7 @@ use Rattle.proof_demands.specs.Demands.{runSteps, ranGiven}
 use Rattle.proof_demands.proofs.PollSteps.{by-first, poll-valid}
 use Rattle.proof_demands.proofs.RunSteps.{run-is-steps}
 use Rattle.proof_accounts.specs.Accounts.{Given, FromFresh, Accounted}
-use Rattle.proof_accounts.specs.Calls.{Call, anAct, aRun, aPoll, stateAfter, actsOf, toldOf, lastOf}
+use Rattle.proof_accounts.specs.Calls.{Call, anAct, aRun, aPoll, stateAfter, actsOf, historyOf, lastState}
 use Rattle.proof_accounts.proofs.Histories.{accounted}
 
 module _ (t : List ℕ) where
@@ -96,19 +96,19 @@ module _ (t : List ℕ) where
   call-valid (aPoll w count) z v = poll-keeps w count z v
 
   -- CALLS IN TURN
-  pub calls-given : (calls : List Call) (z : List ℕ) → Valid t z → Given t z (toldOf t calls z) (lastOf t calls z)
-  unfolding toldOf lastOf GivenBy
+  pub calls-given : (calls : List Call) (z : List ℕ) → Valid t z → Given t z (historyOf t calls z) (lastState t calls z)
+  unfolding historyOf lastState GivenBy
   calls-given [] z v = refl
   calls-given (c ∷ rest) z v =
       let acts : List Act = actsOf t c z in
-      given-join (stepped t) (postedTo t) (toldBy (stepped t) (postedTo t) acts z) (toldOf t rest (stateAfter t c z)) z (stateAfter t c z) (lastOf t rest (stateAfter t c z))
+      given-join (stepped t) (postedTo t) (toldBy (stepped t) (postedTo t) acts z) (historyOf t rest (stateAfter t c z)) z (stateAfter t c z) (lastState t rest (stateAfter t c z))
       (subst (λ (x : List ℕ). Given t z (toldBy (stepped t) (postedTo t) acts z) x) (left-after acts z ∙ call-after c z v) (told-given (stepped t) (postedTo t) acts z))
       (calls-given rest (stateAfter t c z) (call-valid c z v))
 
   -- so that every request of steps, posts, runs and polls is accounted for
   module _ (right : valid t ≡ true) (v : ℕ) (known : isVersion v ≡ true) (calls : List Call) where
-    pub calls-fresh : FromFresh t v (toldOf t calls (fresh t v)) (lastOf t calls (fresh t v))
+    pub calls-fresh : FromFresh t v (historyOf t calls (fresh t v)) (lastState t calls (fresh t v))
     calls-fresh = record { table = right; version = known; given = calls-given calls (fresh t v) (fresh-valid t v (asked-good t v right known)) }
 
-    pub calls-accounted : Accounted t (toldOf t calls (fresh t v)) (lastOf t calls (fresh t v))
-    calls-accounted = accounted t v (toldOf t calls (fresh t v)) (lastOf t calls (fresh t v)) calls-fresh
+    pub calls-accounted : Accounted t (historyOf t calls (fresh t v)) (lastState t calls (fresh t v))
+    calls-accounted = accounted t v (historyOf t calls (fresh t v)) (lastState t calls (fresh t v)) calls-fresh

@@ -12,7 +12,7 @@ use Rattle.base_words.specs.Pick.{if_then_else_}
 use Rattle.base_words.specs.Writes.{writes}
 use Rattle.base_kinds.specs.Kinds.{kindOf, used}
 use Rattle.base_kinds.specs.Moves.{modeOf, isRule, ruleOf, moveOf}
-use Rattle.base_table.specs.Table.{numbered, poolOf, limitOf, entryCount, exitCount}
+use Rattle.base_table.specs.Table.{hasNumber, poolOf, limitOf, entryCount, exitCount}
 use Rattle.base_state.specs.Instances.{instancesOf, queuesOf}
 use Rattle.base_state.specs.Versions.{present, isVersion}
 use Rattle.meaning.specs.declared.Name.{Name}
@@ -25,15 +25,17 @@ use Rattle.meaning.specs.Expressions.{fieldOf, operandOf, expressionOf}
 use Rattle.meaning.specs.Conditions.{conditionOf, defaultAt, leftOut, otherFalse, holds}
 use Rattle.meaning.specs.Templates.{binds, itemValue, gathered, evaluated, bindOne, bound}
 use Rattle.meaning.specs.Assignments.{assignedValue, assignOne, assigned}
-use Rattle.meaning.specs.Requirements.{touched, first, branchCount, instanceNamed, hasToken, hasTokens, canLower, waits, isAlone, countsPermit, granted, belowLimit, hasRoom, hasRooms, canRaise, roomy}
+use Rattle.meaning.specs.Requirements.{touched, firstTouched, branchCount, instanceNamed, hasToken, hasTokens, canLower, waits, isAlone, countsPermit, granted, belowLimit, edgeHasRoom, hasRooms, canRaise, roomy}
 use Rattle.meaning.specs.Changes.{expected, received, worked, messageSent, takeOne, taken, more, countChanged, activeChanged, readyChanged, putOne, puts, cleared, moved}
 use Rattle.meaning.specs.Refusals.{firstRefusal}
 use Rattle.meaning.specs.Post.{postRefusals, post}
 use Rattle.meaning.specs.Step.{elementNamed, moveNamed, instanceOf, sharedOf, before, siteOf, exists, template, work, sent, defined, matches, afterTaking, queued as queuedThere, space, refusalsAt, refusals, instanceAfter, madeAfter, instancesAfter, queuesAfter, traffic, step}
 use Rattle.check_occurrences.specs.Occurrences.{conditionCount, receivedCount, sentCount, ofKind, asExit, asEntry, asFirst, asTask, asReceived, asSent as asSentThere, isDefault, defaults, defaultOnce, bindsField, timesBound, templateOnce, boundOnce}
 use Rattle.check_model.specs.Checks.{check1, check2, check3, edgeRight, check4, check5, poolReceives, poolSends, notSentThere, check6, check7, check8, lowest}
-use Rattle.text_lexer.specs.Lexer.{among, between, isBlank, isSign, isDigit, isLetter, isWord, past, tokenOf, tokenHere, tokenAt, ifWord, ifSign, ifAssign, ifEnd}
-use Rattle.text_numerals.specs.Numerals.{valueFrom, leadingZero, numberOf, isFieldLetter, fieldBehind, fieldFrom, fieldOf as fieldOf-of-numerals, sameBytes, asNumber, asField, operandOf as operandOf-of-numerals, ifValue, ifTooLarge, ifNumber, ifField, ifOutOfRange}
+use Rattle.text_lexer.specs.Lexer.{isBlank, isSign, isWord, tokenOf, tokenHere, tokenAt, ifWord, ifSign, ifAssign, ifEnd}
+use Rattle.base_bytes.specs.Bytes.{among, between, isDigit, isLetter, past}
+use Rattle.text_numerals.specs.Numerals.{valueFrom, leadingZero, numberOf, isFieldLetter, fieldBehind, fieldFrom, fieldOf as fieldOf-of-numerals, asNumber, asField, operandOf as operandOf-of-numerals, ifValue, ifTooLarge, ifNumber, ifField, ifOutOfRange}
+use Rattle.base_bytes.specs.Bytes.{sameBytes}
 use Rattle.text_readers.specs.Reading.{ifAt, onward, _then_, signAt, assignAt, endAt, keepNumber, number, field, keepOperand, operand, modeNamed, keepMode, mode, isSpelled, startsNumber, startsField, startsSign}
 use Rattle.text_terms.specs.Terms.{joint, expression, bind, templateItem, comparison, condition, assignment, guarded}
 use Rattle.text_bounds.specs.Bounds.{starts, oneTooMany, tooMany, counted as countedThere}
@@ -42,8 +44,8 @@ use Rattle.text_elements.specs.Elements.{isKeyword, kindNamed, blank, partsFrom
 use Rattle.text_passes.specs.Model.{putBefore, barred, elementAlone, elementsAt, poolWord, opening, closing, closed, insidePool, poolOfWord, pool, startsPool, poolsAt, model, flat, filled, poolTable, tableOf}
 use Rattle.text_read.specs.Notation.{checked, judged, readInto}
 use Rattle.state_fits.specs.Fits.{isStart, startPlace, hasStart}
-use Rattle.state_fits.specs.Fresh.{firstEdge, begun, fresh}
-use Rattle.step_history.specs.History.{Entry, GivenBy, entryBy, stateBy, toldBy, leftBy, isMessage, isConsumed, isSent, isAccepted, asPosted, asSent, asConsumed, posts, sends, consumes, counted, queued, accountsOf, balances}
+use Rattle.state_fits.specs.Fresh.{startEdge, poolBegun, fresh}
+use Rattle.step_history.specs.History.{Entry, GivenBy, entryBy, stateBy, toldBy, leftBy, isMessage, isConsumed, isSent, isAccepted, asPosted, asSent, asConsumed, posts, sends, consumes, howMany, queued, accountsOf, balances}
 use Rattle.step_history.proofs.HistoryLaws.{told-given, given-same}
 use Rattle.engine.specs.Engine.{valid, fitting, leaving, stepped, postedTo}
 use Rattle.engine.specs.Calls.{Valid}
@@ -57,17 +59,17 @@ use Rattle.proof_accounts.specs.Session.{model as session-model, table, 
 use Rattle.proof_accounts.proofs.Histories.{accounted}
 
 read-well : readInto session-model [] .number ≡ 0
-unfolding all sum total each tab joined those iter if_then_else_ seek writes kindOf used modeOf isRule ruleOf moveOf numbered poolOf limitOf entryCount exitCount sumOf differenceOf equalOf lessOf isTrue isFalse isDefined numberIn conditionCount receivedCount sentCount ofKind asExit asEntry asFirst asTask asReceived asSentThere isDefault defaults defaultOnce bindsField timesBound templateOnce boundOnce check1 check2 check3 edgeRight check4 check5 poolReceives poolSends notSentThere check6 check7 check8 lowest among between isBlank isSign isDigit isLetter isWord past tokenOf tokenHere tokenAt ifWord ifSign ifAssign ifEnd valueFrom leadingZero numberOf sameBytes asNumber isFieldLetter fieldBehind fieldFrom fieldOf-of-numerals asField operandOf-of-numerals ifValue ifTooLarge ifNumber ifField ifOutOfRange ifAt onward _then_ signAt assignAt endAt keepNumber number field keepOperand operand modeNamed keepMode mode isSpelled startsNumber startsField startsSign joint expression bind templateItem comparison condition assignment guarded starts oneTooMany tooMany countedThere itemOf itemsFrom items inside series message receiving receivingBranches oneEdge taskPart partOf isKeyword kindNamed blank partsFrom partsOf elementOf element startsElement putBefore barred elementAlone elementsAt poolWord opening closing closed insidePool poolOfWord pool startsPool poolsAt model flat filled poolTable tableOf isEndSnd timesIn mentioned isUnused endSends allTreated rewritten unusedCount roomFor hasRoom-of-ends checked judged readInto
+unfolding all sum total each tab joined those iter if_then_else_ seek writes kindOf used modeOf isRule ruleOf moveOf hasNumber poolOf limitOf entryCount exitCount sumOf differenceOf equalOf lessOf isTrue isFalse isDefined numberIn conditionCount receivedCount sentCount ofKind asExit asEntry asFirst asTask asReceived asSentThere isDefault defaults defaultOnce bindsField timesBound templateOnce boundOnce check1 check2 check3 edgeRight check4 check5 poolReceives poolSends notSentThere check6 check7 check8 lowest among between isBlank isSign isDigit isLetter isWord past tokenOf tokenHere tokenAt ifWord ifSign ifAssign ifEnd valueFrom leadingZero numberOf sameBytes asNumber isFieldLetter fieldBehind fieldFrom fieldOf-of-numerals asField operandOf-of-numerals ifValue ifTooLarge ifNumber ifField ifOutOfRange ifAt onward _then_ signAt assignAt endAt keepNumber number field keepOperand operand modeNamed keepMode mode isSpelled startsNumber startsField startsSign joint expression bind templateItem comparison condition assignment guarded starts oneTooMany tooMany countedThere itemOf itemsFrom items inside series message receiving receivingBranches oneEdge taskPart partOf isKeyword kindNamed blank partsFrom partsOf elementOf element startsElement putBefore barred elementAlone elementsAt poolWord opening closing closed insidePool poolOfWord pool startsPool poolsAt model flat filled poolTable tableOf isEndSnd timesIn mentioned isUnused endSends allTreated rewritten unusedCount roomFor hasRoom-of-ends checked judged readInto
 read-well = refl
 
 -- what they tell
 told-is : toldBy (stepOn table) postOn calls (fresh table present) ≡ history
-unfolding all sum total each tab joined those iter if_then_else_ seek writes kindOf used modeOf isRule ruleOf moveOf numbered poolOf limitOf entryCount exitCount sumOf differenceOf equalOf lessOf isTrue isFalse isDefined numberIn conditionCount receivedCount sentCount ofKind asExit asEntry asFirst asTask asReceived asSentThere isDefault defaults defaultOnce bindsField timesBound templateOnce boundOnce check1 check2 check3 edgeRight check4 check5 poolReceives poolSends notSentThere check6 check7 check8 lowest among between isBlank isSign isDigit isLetter isWord past tokenOf tokenHere tokenAt ifWord ifSign ifAssign ifEnd valueFrom leadingZero numberOf sameBytes asNumber isFieldLetter fieldBehind fieldFrom fieldOf-of-numerals asField operandOf-of-numerals ifValue ifTooLarge ifNumber ifField ifOutOfRange ifAt onward _then_ signAt assignAt endAt keepNumber number field keepOperand operand modeNamed keepMode mode isSpelled startsNumber startsField startsSign joint expression bind templateItem comparison condition assignment guarded starts oneTooMany tooMany countedThere itemOf itemsFrom items inside series message receiving receivingBranches oneEdge taskPart partOf isKeyword kindNamed blank partsFrom partsOf elementOf element startsElement putBefore barred elementAlone elementsAt poolWord opening closing closed insidePool poolOfWord pool startsPool poolsAt model flat filled poolTable tableOf isEndSnd timesIn mentioned isUnused endSends allTreated rewritten unusedCount roomFor hasRoom-of-ends checked judged readInto valueOf sameTuple has without times messagesOf messageWord messagesWord queueWord withMessages tidied fieldOf operandOf expressionOf conditionOf defaultAt leftOut otherFalse holds binds itemValue gathered evaluated bindOne bound assignedValue assignOne assigned touched first branchCount instanceNamed hasToken hasTokens canLower waits isAlone countsPermit granted belowLimit hasRoom hasRooms canRaise roomy expected received worked messageSent takeOne taken more countChanged activeChanged readyChanged putOne puts cleared moved firstRefusal postRefusals post elementNamed moveNamed instanceOf sharedOf before siteOf exists template work sent defined matches afterTaking queuedThere space refusalsAt refusals instanceAfter madeAfter instancesAfter queuesAfter traffic step isStart startPlace hasStart firstEdge begun fresh toldBy entryBy stateBy leaving stepOn postOn
+unfolding all sum total each tab joined those iter if_then_else_ seek writes kindOf used modeOf isRule ruleOf moveOf hasNumber poolOf limitOf entryCount exitCount sumOf differenceOf equalOf lessOf isTrue isFalse isDefined numberIn conditionCount receivedCount sentCount ofKind asExit asEntry asFirst asTask asReceived asSentThere isDefault defaults defaultOnce bindsField timesBound templateOnce boundOnce check1 check2 check3 edgeRight check4 check5 poolReceives poolSends notSentThere check6 check7 check8 lowest among between isBlank isSign isDigit isLetter isWord past tokenOf tokenHere tokenAt ifWord ifSign ifAssign ifEnd valueFrom leadingZero numberOf sameBytes asNumber isFieldLetter fieldBehind fieldFrom fieldOf-of-numerals asField operandOf-of-numerals ifValue ifTooLarge ifNumber ifField ifOutOfRange ifAt onward _then_ signAt assignAt endAt keepNumber number field keepOperand operand modeNamed keepMode mode isSpelled startsNumber startsField startsSign joint expression bind templateItem comparison condition assignment guarded starts oneTooMany tooMany countedThere itemOf itemsFrom items inside series message receiving receivingBranches oneEdge taskPart partOf isKeyword kindNamed blank partsFrom partsOf elementOf element startsElement putBefore barred elementAlone elementsAt poolWord opening closing closed insidePool poolOfWord pool startsPool poolsAt model flat filled poolTable tableOf isEndSnd timesIn mentioned isUnused endSends allTreated rewritten unusedCount roomFor hasRoom-of-ends checked judged readInto valueOf sameTuple has without times messagesOf messageWord messagesWord queueWord withMessages tidied fieldOf operandOf expressionOf conditionOf defaultAt leftOut otherFalse holds binds itemValue gathered evaluated bindOne bound assignedValue assignOne assigned touched firstTouched branchCount instanceNamed hasToken hasTokens canLower waits isAlone countsPermit granted belowLimit edgeHasRoom hasRooms canRaise roomy expected received worked messageSent takeOne taken more countChanged activeChanged readyChanged putOne puts cleared moved firstRefusal postRefusals post elementNamed moveNamed instanceOf sharedOf before siteOf exists template work sent defined matches afterTaking queuedThere space refusalsAt refusals instanceAfter madeAfter instancesAfter queuesAfter traffic step isStart startPlace hasStart startEdge poolBegun fresh toldBy entryBy stateBy leaving stepOn postOn
 told-is = refl
 
 -- and what is queued then
 waiting : messagesOf (queuesOf last) 3 ≡ sevens ∷ seven ∷ []
-unfolding all sum total each tab joined those iter if_then_else_ seek writes kindOf used modeOf isRule ruleOf moveOf numbered poolOf limitOf entryCount exitCount sumOf differenceOf equalOf lessOf isTrue isFalse isDefined numberIn conditionCount receivedCount sentCount ofKind asExit asEntry asFirst asTask asReceived asSentThere isDefault defaults defaultOnce bindsField timesBound templateOnce boundOnce check1 check2 check3 edgeRight check4 check5 poolReceives poolSends notSentThere check6 check7 check8 lowest among between isBlank isSign isDigit isLetter isWord past tokenOf tokenHere tokenAt ifWord ifSign ifAssign ifEnd valueFrom leadingZero numberOf sameBytes asNumber isFieldLetter fieldBehind fieldFrom fieldOf-of-numerals asField operandOf-of-numerals ifValue ifTooLarge ifNumber ifField ifOutOfRange ifAt onward _then_ signAt assignAt endAt keepNumber number field keepOperand operand modeNamed keepMode mode isSpelled startsNumber startsField startsSign joint expression bind templateItem comparison condition assignment guarded starts oneTooMany tooMany countedThere itemOf itemsFrom items inside series message receiving receivingBranches oneEdge taskPart partOf isKeyword kindNamed blank partsFrom partsOf elementOf element startsElement putBefore barred elementAlone elementsAt poolWord opening closing closed insidePool poolOfWord pool startsPool poolsAt model flat filled poolTable tableOf isEndSnd timesIn mentioned isUnused endSends allTreated rewritten unusedCount roomFor hasRoom-of-ends checked judged readInto valueOf sameTuple has without times messagesOf messageWord messagesWord queueWord withMessages tidied fieldOf operandOf expressionOf conditionOf defaultAt leftOut otherFalse holds binds itemValue gathered evaluated bindOne bound assignedValue assignOne assigned touched first branchCount instanceNamed hasToken hasTokens canLower waits isAlone countsPermit granted belowLimit hasRoom hasRooms canRaise roomy expected received worked messageSent takeOne taken more countChanged activeChanged readyChanged putOne puts cleared moved firstRefusal postRefusals post elementNamed moveNamed instanceOf sharedOf before siteOf exists template work sent defined matches afterTaking queuedThere space refusalsAt refusals instanceAfter madeAfter instancesAfter queuesAfter traffic step isStart startPlace hasStart firstEdge begun fresh leaving stepOn postOn leftBy stateBy
+unfolding all sum total each tab joined those iter if_then_else_ seek writes kindOf used modeOf isRule ruleOf moveOf hasNumber poolOf limitOf entryCount exitCount sumOf differenceOf equalOf lessOf isTrue isFalse isDefined numberIn conditionCount receivedCount sentCount ofKind asExit asEntry asFirst asTask asReceived asSentThere isDefault defaults defaultOnce bindsField timesBound templateOnce boundOnce check1 check2 check3 edgeRight check4 check5 poolReceives poolSends notSentThere check6 check7 check8 lowest among between isBlank isSign isDigit isLetter isWord past tokenOf tokenHere tokenAt ifWord ifSign ifAssign ifEnd valueFrom leadingZero numberOf sameBytes asNumber isFieldLetter fieldBehind fieldFrom fieldOf-of-numerals asField operandOf-of-numerals ifValue ifTooLarge ifNumber ifField ifOutOfRange ifAt onward _then_ signAt assignAt endAt keepNumber number field keepOperand operand modeNamed keepMode mode isSpelled startsNumber startsField startsSign joint expression bind templateItem comparison condition assignment guarded starts oneTooMany tooMany countedThere itemOf itemsFrom items inside series message receiving receivingBranches oneEdge taskPart partOf isKeyword kindNamed blank partsFrom partsOf elementOf element startsElement putBefore barred elementAlone elementsAt poolWord opening closing closed insidePool poolOfWord pool startsPool poolsAt model flat filled poolTable tableOf isEndSnd timesIn mentioned isUnused endSends allTreated rewritten unusedCount roomFor hasRoom-of-ends checked judged readInto valueOf sameTuple has without times messagesOf messageWord messagesWord queueWord withMessages tidied fieldOf operandOf expressionOf conditionOf defaultAt leftOut otherFalse holds binds itemValue gathered evaluated bindOne bound assignedValue assignOne assigned touched firstTouched branchCount instanceNamed hasToken hasTokens canLower waits isAlone countsPermit granted belowLimit edgeHasRoom hasRooms canRaise roomy expected received worked messageSent takeOne taken more countChanged activeChanged readyChanged putOne puts cleared moved firstRefusal postRefusals post elementNamed moveNamed instanceOf sharedOf before siteOf exists template work sent defined matches afterTaking queuedThere space refusalsAt refusals instanceAfter madeAfter instancesAfter queuesAfter traffic step isStart startPlace hasStart startEdge poolBegun fresh leaving stepOn postOn leftBy stateBy
 waiting = refl
 
 queued-seven : queued 3 seven last ≡ 1
@@ -111,29 +113,29 @@ session-given = record {
 }
 
 -- ITS NUMBERS: "For (3, 7): 2 + 1 = 1 + 2. For (3, 7,7): 1 + 0 = 1 + 0."
-numbers : (h : List Entry) (g : Tuple) (z : List ℕ) (q : ℕ) → queued 3 g z ≡ q → accountsOf 3 g h z ≡ record { posted = counted (posts 3 g) h; sent = counted (sends 3 g) h; consumed = counted (consumes 3 g) h; queued = q }
+numbers : (h : List Entry) (g : Tuple) (z : List ℕ) (q : ℕ) → queued 3 g z ≡ q → accountsOf 3 g h z ≡ record { posted = howMany (posts 3 g) h; sent = howMany (sends 3 g) h; consumed = howMany (consumes 3 g) h; queued = q }
 unfolding accountsOf
-numbers h g z q e = λ i. record { posted = counted (posts 3 g) h; sent = counted (sends 3 g) h; consumed = counted (consumes 3 g) h; queued = e i }
+numbers h g z q e = λ i. record { posted = howMany (posts 3 g) h; sent = howMany (sends 3 g) h; consumed = howMany (consumes 3 g) h; queued = e i }
 
 pub of-seven : accountsOf 3 seven history last ≡ record { posted = 2; sent = 1; consumed = 2; queued = 1 }
-unfolding counted total posts sends consumes isAccepted asPosted asSent asConsumed isSent isConsumed isMessage sameTuple all
+unfolding howMany total posts sends consumes isAccepted asPosted asSent asConsumed isSent isConsumed isMessage sameTuple all
 of-seven = numbers history seven last 1 queued-seven
 
 pub of-sevens : accountsOf 3 sevens history last ≡ record { posted = 1; sent = 0; consumed = 0; queued = 1 }
-unfolding counted total posts sends consumes isAccepted asPosted asSent asConsumed isSent isConsumed isMessage sameTuple all
+unfolding howMany total posts sends consumes isAccepted asPosted asSent asConsumed isSent isConsumed isMessage sameTuple all
 of-sevens = numbers history sevens last 1 queued-sevens
 
 -- "A history with the send left out, a post told twice or a queue with one message fewer doesn't add up"
 pub without-send : balances (accountsOf 3 seven sendLeftOut last) ≡ false
-unfolding balances counted total posts sends consumes isAccepted asPosted asSent asConsumed isSent isConsumed isMessage sameTuple all
+unfolding balances howMany total posts sends consumes isAccepted asPosted asSent asConsumed isSent isConsumed isMessage sameTuple all
 without-send = ap balances (numbers sendLeftOut seven last 1 queued-seven)
 
 pub with-post-twice : balances (accountsOf 3 seven postTwice last) ≡ false
-unfolding balances counted total posts sends consumes isAccepted asPosted asSent asConsumed isSent isConsumed isMessage sameTuple all
+unfolding balances howMany total posts sends consumes isAccepted asPosted asSent asConsumed isSent isConsumed isMessage sameTuple all
 with-post-twice = ap balances (numbers postTwice seven last 1 queued-seven)
 
 pub with-one-fewer : (z : List ℕ) → queued 3 seven z ≡ 0 → balances (accountsOf 3 seven history z) ≡ false
-unfolding balances counted total posts sends consumes isAccepted asPosted asSent asConsumed isSent isConsumed isMessage sameTuple all
+unfolding balances howMany total posts sends consumes isAccepted asPosted asSent asConsumed isSent isConsumed isMessage sameTuple all
 with-one-fewer z e = ap balances (numbers history seven z 0 e)
 
 -- so that no calls give them

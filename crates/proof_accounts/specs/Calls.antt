@@ -29,10 +29,10 @@ actsOf t (aRun limit) z = runSteps t limit z
 actsOf t (aPoll w count) z = if ltb itemsMost count then [] else take (polledTo t z w count .accepted + 1) (actsIn w count)
 
 -- of calls in turn: the history, and the last state
-unfoldable pub toldOf : List ℕ → List Call → List ℕ → List Entry
-toldOf t [] z = []
-toldOf t (c ∷ rest) z = toldBy (stepped t) (postedTo t) (actsOf t c z) z ++ toldOf t rest (stateAfter t c z)
+unfoldable pub historyOf : List ℕ → List Call → List ℕ → List Entry
+historyOf t [] z = []
+historyOf t (c ∷ rest) z = toldBy (stepped t) (postedTo t) (actsOf t c z) z ++ historyOf t rest (stateAfter t c z)
 
-unfoldable pub lastOf : List ℕ → List Call → List ℕ → List ℕ
-lastOf t [] z = z
-lastOf t (c ∷ rest) z = lastOf t rest (stateAfter t c z)
+unfoldable pub lastState : List ℕ → List Call → List ℕ → List ℕ
+lastState t [] z = z
+lastState t (c ∷ rest) z = lastState t rest (stateAfter t c z)

@@ -43,17 +43,17 @@ abbrev pub sevens : Tuple
 sevens = record { length = 2; values = 7 ∷ 7 ∷ 0 ∷ 0 ∷ [] }
 
 -- a step of instance i of pool p at element e
-abbrev pub named : ℕ → ℕ → ℕ → Tuple → Name
-named p i e g = record { pool = p; instance = i; element = e; phase = 0; branch = 0; given = g }
+abbrev pub sessionStep : ℕ → ℕ → ℕ → Tuple → Name
+sessionStep p i e g = record { pool = p; instance = i; element = e; phase = 0; branch = 0; given = g }
 
-abbrev pub refused : ℕ → Answer
-refused k = record { number = k; traffic = Nothing; name = 0; tuple = empty }
+abbrev pub refusedWith : ℕ → Answer
+refusedWith k = record { number = k; traffic = Nothing; name = 0; tuple = empty }
 
 abbrev pub quiet : Answer
-quiet = refused 0
+quiet = refusedWith 0
 
-abbrev pub sent : ℕ → Tuple → Answer
-sent m g = record { number = 0; traffic = Sent; name = m; tuple = g }
+abbrev pub sentAnswer : ℕ → Tuple → Answer
+sentAnswer m g = record { number = 0; traffic = Sent; name = m; tuple = g }
 
 abbrev pub consumed : ℕ → Tuple → Answer
 consumed m g = record { number = 0; traffic = Consumed; name = m; tuple = g }
@@ -62,17 +62,17 @@ consumed m g = record { number = 0; traffic = Consumed; name = m; tuple = g }
 abbrev pub calls : List Act
 calls =
     aPost 3 seven ∷ aPost 3 seven ∷ aPost 16 empty ∷ aPost 3 sevens ∷
-    aStep (named 2 0 0 eight) ∷ aStep (named 2 0 0 seven) ∷
-    aStep (named 1 0 0 empty) ∷ aStep (named 1 0 1 empty) ∷
-    aStep (named 2 1 0 seven) ∷ aStep (named 2 2 0 seven) ∷ []
+    aStep (sessionStep 2 0 0 eight) ∷ aStep (sessionStep 2 0 0 seven) ∷
+    aStep (sessionStep 1 0 0 empty) ∷ aStep (sessionStep 1 0 1 empty) ∷
+    aStep (sessionStep 2 1 0 seven) ∷ aStep (sessionStep 2 2 0 seven) ∷ []
 
 -- and what they gave
 abbrev pub history : List Entry
 history =
     postGave 3 seven 0 ∷ postGave 3 seven 0 ∷ postGave 16 empty 19 ∷ postGave 3 sevens 0 ∷
-    stepGave (named 2 0 0 eight) (refused 15) ∷ stepGave (named 2 0 0 seven) (consumed 3 seven) ∷
-    stepGave (named 1 0 0 empty) quiet ∷ stepGave (named 1 0 1 empty) (sent 3 seven) ∷
-    stepGave (named 2 1 0 seven) (consumed 3 seven) ∷ stepGave (named 2 2 0 seven) (refused 16) ∷ []
+    stepGave (sessionStep 2 0 0 eight) (refusedWith 15) ∷ stepGave (sessionStep 2 0 0 seven) (consumed 3 seven) ∷
+    stepGave (sessionStep 1 0 0 empty) quiet ∷ stepGave (sessionStep 1 0 1 empty) (sentAnswer 3 seven) ∷
+    stepGave (sessionStep 2 1 0 seven) (consumed 3 seven) ∷ stepGave (sessionStep 2 2 0 seven) (refusedWith 16) ∷ []
 
 -- the state that they left
 abbrev pub last : List ℕ
@@ -82,9 +82,9 @@ last = leftBy (stepOn table) postOn calls (fresh table present)
 abbrev pub sendLeftOut : List Entry
 sendLeftOut =
     postGave 3 seven 0 ∷ postGave 3 seven 0 ∷ postGave 16 empty 19 ∷ postGave 3 sevens 0 ∷
-    stepGave (named 2 0 0 eight) (refused 15) ∷ stepGave (named 2 0 0 seven) (consumed 3 seven) ∷
-    stepGave (named 1 0 0 empty) quiet ∷
-    stepGave (named 2 1 0 seven) (consumed 3 seven) ∷ stepGave (named 2 2 0 seven) (refused 16) ∷ []
+    stepGave (sessionStep 2 0 0 eight) (refusedWith 15) ∷ stepGave (sessionStep 2 0 0 seven) (consumed 3 seven) ∷
+    stepGave (sessionStep 1 0 0 empty) quiet ∷
+    stepGave (sessionStep 2 1 0 seven) (consumed 3 seven) ∷ stepGave (sessionStep 2 2 0 seven) (refusedWith 16) ∷ []
 
 abbrev pub postTwice : List Entry
 postTwice = postGave 3 seven 0 ∷ history

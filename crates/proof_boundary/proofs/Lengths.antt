@@ -10,7 +10,7 @@ use Rattle.base_table.specs.Places.{tableWords}
 use Rattle.base_state.specs.Places.{stateWords}
 use Rattle.meaning.specs.declared.Answer.{Answer}
 use Rattle.meaning.specs.Tuples.{empty}
-use Rattle.step_names.specs.Names.{blank}
+use Rattle.step_names.specs.Names.{blankName}
 use Rattle.proof_steps.proofs.Choices.{passed}
 use Rattle.meaning.specs.declared.Name.{Name}
 use Rattle.meaning.specs.declared.Tuple.{Tuple}
@@ -31,7 +31,7 @@ use Rattle.engine.specs.Desk.{AtDesk, steppedAt, ranAt, polledAt, figuredTo}
 use Rattle.engine.specs.Profile.{nestedOf}
 use Rattle.engine.specs.Replay.{Replayed, replayedTo, resumedTo}
 use Rattle.cuttingvale.specs.declared.Taken.{Taken}
-use Rattle.cuttingvale.specs.Boundary.{areWhole, TakenTo, trafficNumber, told, toldAt, pollWords, areLent, lentWrong, checkedBy, freshenedBy, steppedBy, postedBy, listedBy, ranBy, figuredBy, readBy, drawnBy, writtenBy, polledBy, judgedBy, replayedBy, resumedBy, nestedBy}
+use Rattle.cuttingvale.specs.Boundary.{areWhole, TakenTo, trafficNumber, toldToC, toldAt, pollWords, areLent, lentWrong, checkedBy, freshenedBy, steppedBy, postedBy, listedBy, ranLent, figuredBy, readBy, drawnBy, writtenBy, polledLent, judgedLent, replayedBy, resumedBy, nestedBy}
 use Rattle.cuttingvale.proofs.cv_check.Reads as check
 use Rattle.cuttingvale.proofs.cv_fresh.Reads as fresh
 use Rattle.cuttingvale.proofs.cv_step.Reads as step
@@ -84,7 +84,7 @@ module _ (κ : Two) (t t₁ : Lent) (n₁ : ℕ) (x x₁ : Lent) where
   write-whole r = refl
 
   pub judge-whole : (v v₁ : ℕ) (r : Judged) → judge.Post κ (t, (tableWords, (v, (x, tt)))) r (t₁, (n₁, (v₁, (x₁, tt)))) ≡ Judges (now t) v (now x) r
-  unfolding judgedBy if_then_else_
+  unfolding judgedLent if_then_else_
   judge-whole v v₁ r = refl
 
   module _ (n : ℕ) (wrong : eqb n tableWords ≡ false) where
@@ -107,7 +107,7 @@ module _ (κ : Two) (t t₁ : Lent) (n₁ : ℕ) (x x₁ : Lent) where
         (ap (λ (d : WrittenTo). d .number) o, ap (λ (d : WrittenTo). d .buffer) o)
 
     pub judge-wrong : (v v₁ : ℕ) (r : Judged) → judge.Post κ (t, (n, (v, (x, tt)))) r (t₁, (n₁, (v₁, (x₁, tt)))) → r ≡ record { number = 10; beside = 0; own = 0 }
-    unfolding judgedBy
+    unfolding judgedLent
     judge-wrong v v₁ r p = p ∙ passed (eqb n tableWords) (judgedTo (now t) v (now x)) (record { number = 10; beside = 0; own = 0 }) wrong
 
 -- A TABLE AND A STATE
@@ -135,9 +135,9 @@ module _ (κ : Two) (t t₁ z z₁ : Lent) (n₁ m₁ : ℕ) where
     post-wrong name name₁ g g₁ r p =
         let o = p ∙ passed {A = Left} (areWhole n m) (postedTo (now t) (now z) name g) (record { number = 10; state = now z }) wrong in (ap (λ (d : Left). d .number) o, ap (λ (d : Left). d .state) o)
 
-    pub list-wrong : (k k₁ : ℕ) (r : Listed) → list.Post κ (t, (n, (z, (m, (k, tt))))) r (t₁, (n₁, (z₁, (m₁, (k₁, tt))))) → r ≡ record { number = 10; name = blank }
+    pub list-wrong : (k k₁ : ℕ) (r : Listed) → list.Post κ (t, (n, (z, (m, (k, tt))))) r (t₁, (n₁, (z₁, (m₁, (k₁, tt))))) → r ≡ record { number = 10; name = blankName }
     unfolding listedBy
-    list-wrong k k₁ r p = p ∙ passed (areWhole n m) (listedAt (now t) (now z) k) (record { number = 10; name = blank }) wrong
+    list-wrong k k₁ r p = p ∙ passed (areWhole n m) (listedAt (now t) (now z) k) (record { number = 10; name = blankName }) wrong
 
 -- A TABLE, A LOG AND A STATE
 module _ (κ : Three) (t t₁ log log₁ z z₁ : Lent) (n₁ m₁ : ℕ) (r : Judged) where
@@ -168,7 +168,7 @@ module _ (κ : Three) (t t₁ z z₁ : Lent) (rs rs₁ : Desk) (n₁ m₁ : ℕ)
   -- the traffic is a number, and the rest of the answer that of the engine's call
   pub step-whole : (s s₁ : Name) (r : Taken) → step.Post κ (t, (tableWords, (z, (stateWords, (rs, (s, tt)))))) r (t₁, (n₁, (z₁, (m₁, (rs₁, (s₁, tt))))))
       → (a : Answer) × Steps (now t) (now z) (now rs) s a (now z₁) (now rs₁) × (r ≡ record { number = a .number; traffic = trafficNumber (a .traffic); name = a .name; tuple = a .tuple })
-  unfolding steppedBy areWhole toldAt told if_then_else_
+  unfolding steppedBy areWhole toldAt toldToC if_then_else_
   step-whole s s₁ r p =
       let d : AtDesk Stepped = steppedAt (now t) (now z) (now rs) s in (
         d .done .answer,
@@ -177,7 +177,7 @@ module _ (κ : Three) (t t₁ z z₁ : Lent) (rs rs₁ : Desk) (n₁ m₁ : ℕ)
       )
 
   pub run-whole : (limit limit₁ : ℕ) (r : Ran) → run.Post κ (t, (tableWords, (z, (stateWords, (rs, (limit, tt)))))) r (t₁, (n₁, (z₁, (m₁, (rs₁, (limit₁, tt)))))) ≡ Runs (now t) (now z) (now rs) limit r (now z₁) (now rs₁)
-  unfolding ranBy areWhole if_then_else_
+  unfolding ranLent areWhole if_then_else_
   run-whole limit limit₁ r = refl
 
   pub figures-whole : (r : ℕ) → figures.Post κ (t, (tableWords, (z, (stateWords, (rs, tt))))) r (t₁, (n₁, (z₁, (m₁, (rs₁, tt))))) ≡ Figures (now t) (now z) (now rs) r (now rs₁)
@@ -194,7 +194,7 @@ module _ (κ : Three) (t t₁ z z₁ : Lent) (rs rs₁ : Desk) (n₁ m₁ : ℕ)
         (ap (λ (d : AtDesk TakenTo). d .done .answer .number) o, ap (λ (d : AtDesk TakenTo). d .done .state) o, ap (λ (d : AtDesk TakenTo). d .records) o)
 
     pub run-wrong : (limit limit₁ : ℕ) (r : Ran) → run.Post κ (t, (n, (z, (m, (rs, (limit, tt)))))) r (t₁, (n₁, (z₁, (m₁, (rs₁, (limit₁, tt)))))) → (r .number ≡ 10) × (now z₁ ≡ now z) × (now rs₁ ≡ now rs)
-    unfolding ranBy
+    unfolding ranLent
     run-wrong limit limit₁ r p =
         let o =
         p ∙ passed {A = AtDesk RanTo} (areWhole n m) (ranAt (now t) (now z) (now rs) limit) (record { done = record { number = 10; steps = 0; left = 0; state = now z }; records = now rs }) wrong in
@@ -208,12 +208,12 @@ module _ (κ : Three) (t t₁ z z₁ : Lent) (rs rs₁ : Desk) (n₁ m₁ : ℕ)
 -- AND THE ITEMS OF A POLL
 module _ (κ : Four) (t t₁ z z₁ w w₁ : Lent) (rs rs₁ : Desk) (n₁ m₁ k₁ count count₁ : ℕ) (r : Polled) where
   pub poll-whole : poll.Post κ (t, (tableWords, (z, (stateWords, (rs, (w, (pollWords, (count, tt)))))))) r (t₁, (n₁, (z₁, (m₁, (rs₁, (w₁, (k₁, (count₁, tt)))))))) ≡ Polls (now t) (now z) (now rs) (now w) count r (now z₁) (now rs₁)
-  unfolding polledBy areLent areWhole if_then_else_
+  unfolding polledLent areLent areWhole if_then_else_
   poll-whole = refl
 
   pub poll-wrong : (n m k : ℕ) → areLent n m k ≡ false → poll.Post κ (t, (n, (z, (m, (rs, (w, (k, (count, tt)))))))) r (t₁, (n₁, (z₁, (m₁, (rs₁, (w₁, (k₁, (count₁, tt))))))))
       → (r .number ≡ lentWrong count) × (r .accepted ≡ 0) × (now z₁ ≡ now z) × (now rs₁ ≡ now rs)
-  unfolding polledBy
+  unfolding polledLent
   poll-wrong n m k wrong p =
       let o =
       p

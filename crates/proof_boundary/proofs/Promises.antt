@@ -26,7 +26,7 @@ use Rattle.log_write.specs.Xes.{header, eventText, footer}
 use Rattle.log_pieces.specs.declared.Piece.{Piece}
 use Rattle.log_pieces.specs.Pieces.{Pieced, pieceIn, postLine}
 use Rattle.cuttingvale.specs.declared.Taken.{Taken}
-use Rattle.cuttingvale.specs.Boundary.{TakenTo, checkedBy, freshenedBy, steppedBy, postedBy, listedBy, ranBy, figuredBy, readBy, drawnBy, writtenBy, polledBy, judgedBy, replayedBy, resumedBy, answerBy, nestedBy}
+use Rattle.cuttingvale.specs.Boundary.{TakenTo, checkedBy, freshenedBy, steppedBy, postedBy, listedBy, ranLent, figuredBy, readBy, drawnBy, writtenBy, polledLent, judgedLent, replayedBy, resumedBy, answerToC, nestedBy}
 use Rattle.cuttingvale.specs.Release.{release, layouts}
 use Rattle.cuttingvale.proofs.cv_check.Reads as check
 use Rattle.cuttingvale.proofs.cv_fresh.Reads as fresh
@@ -73,7 +73,7 @@ module _ (κ : Two) (t t₁ : Lent) (n n₁ : ℕ) (x x₁ : Lent) where
   pub write-promise : (r : Written) → write.Post κ (t, (n, (x, tt))) r (t₁, (n₁, (x₁, tt))) ≡ (_≡_ {A = WrittenTo} (record { number = r .number; length = r .length; buffer = now x₁ }) (writtenBy (now t) n (now x)))
   write-promise r = refl
 
-  pub judge-promise : (v v₁ : ℕ) (r : Judged) → judge.Post κ (t, (n, (v, (x, tt)))) r (t₁, (n₁, (v₁, (x₁, tt)))) ≡ (r ≡ judgedBy (now t) n v (now x))
+  pub judge-promise : (v v₁ : ℕ) (r : Judged) → judge.Post κ (t, (n, (v, (x, tt)))) r (t₁, (n₁, (v₁, (x₁, tt)))) ≡ (r ≡ judgedLent (now t) n v (now x))
   judge-promise v v₁ r = refl
 
 -- no block with a length beside it: as the engine's
@@ -100,7 +100,7 @@ module _ (κ : Three) (t t₁ z z₁ : Lent) (rs rs₁ : Desk) (n n₁ m m₁ : 
   step-promise s s₁ r = refl
 
   pub run-promise : (limit limit₁ : ℕ) (r : Ran)
-      → run.Post κ (t, (n, (z, (m, (rs, (limit, tt)))))) r (t₁, (n₁, (z₁, (m₁, (rs₁, (limit₁, tt)))))) ≡ (_≡_ {A = AtDesk RanTo} (record { done = record { number = r .number; steps = r .steps; left = r .left; state = now z₁ }; records = now rs₁ }) (ranBy (now t) n (now z) m (now rs) limit))
+      → run.Post κ (t, (n, (z, (m, (rs, (limit, tt)))))) r (t₁, (n₁, (z₁, (m₁, (rs₁, (limit₁, tt)))))) ≡ (_≡_ {A = AtDesk RanTo} (record { done = record { number = r .number; steps = r .steps; left = r .left; state = now z₁ }; records = now rs₁ }) (ranLent (now t) n (now z) m (now rs) limit))
   run-promise limit limit₁ r = refl
 
   pub figures-promise : (r : ℕ) → figures.Post κ (t, (n, (z, (m, (rs, tt))))) r (t₁, (n₁, (z₁, (m₁, (rs₁, tt))))) ≡ (_≡_ {A = Figured} (record { number = r; records = now rs₁ }) (figuredBy (now t) n (now z) m (now rs)))
@@ -108,7 +108,7 @@ module _ (κ : Three) (t t₁ z z₁ : Lent) (rs rs₁ : Desk) (n n₁ m m₁ : 
 
 -- AND THE ITEMS OF A POLL, k words of them
 pub poll-promise : (κ : Four) (t t₁ z z₁ w w₁ : Lent) (rs rs₁ : Desk) (n n₁ m m₁ k k₁ count count₁ : ℕ) (r : Polled)
-    → poll.Post κ (t, (n, (z, (m, (rs, (w, (k, (count, tt)))))))) r (t₁, (n₁, (z₁, (m₁, (rs₁, (w₁, (k₁, (count₁, tt)))))))) ≡ (_≡_ {A = AtDesk Polling} (record { done = record { number = r .number; accepted = r .accepted; state = now z₁ }; records = now rs₁ }) (polledBy (now t) n (now z) m (now rs) (now w) k count))
+    → poll.Post κ (t, (n, (z, (m, (rs, (w, (k, (count, tt)))))))) r (t₁, (n₁, (z₁, (m₁, (rs₁, (w₁, (k₁, (count₁, tt)))))))) ≡ (_≡_ {A = AtDesk Polling} (record { done = record { number = r .number; accepted = r .accepted; state = now z₁ }; records = now rs₁ }) (polledLent (now t) n (now z) m (now rs) (now w) k count))
 poll-promise κ t t₁ z z₁ w w₁ rs rs₁ n n₁ m m₁ k k₁ count count₁ r = refl
 
 -- A TABLE, A LOG AND A STATE
@@ -132,7 +132,7 @@ module _ (κ : One) (out out₁ : Lent) (r : Piece) where
   log-end-promise = refl
 
   module _ (moment moment₁ : ℕ) where
-    pub log-step-promise : (s s₁ : Name) (a a₁ : Taken) → log-step.Post κ (s, (a, (moment, (out, tt)))) r (s₁, (a₁, (moment₁, (out₁, tt)))) ≡ Holds (eventText moment (stepLine s (answerBy a)))
+    pub log-step-promise : (s s₁ : Name) (a a₁ : Taken) → log-step.Post κ (s, (a, (moment, (out, tt)))) r (s₁, (a₁, (moment₁, (out₁, tt)))) ≡ Holds (eventText moment (stepLine s (answerToC a)))
     log-step-promise s s₁ a a₁ = refl
 
     pub log-post-promise : (name name₁ : ℕ) (g g₁ : Tuple) → log-post.Post κ (name, (g, (moment, (out, tt)))) r (name₁, (g₁, (moment₁, (out₁, tt)))) ≡ Holds (eventText moment (postLine name g))

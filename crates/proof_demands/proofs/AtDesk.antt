@@ -34,7 +34,7 @@ use Rattle.engine.proofs.DeskLaws.{number-lent}
 use Rattle.engine.proofs.KeepsValid.{step-valid, post-valid}
 use Rattle.proof_valid.proofs.KeepsFitting.{run-valid}
 use Rattle.proof_demands.specs.Promises.{Steps, Posts, Runs, Polls, Figures, StepsOn, RunsOn, PollsOn}
-use Rattle.proof_demands.specs.Demands.{among, figuresNumbers, Agrees}
+use Rattle.proof_demands.specs.Demands.{isOneOf, figuresNumbers, Agrees}
 use Rattle.proof_demands.proofs.Numbers.{unfit-number}
 use Rattle.proof_demands.proofs.PollSteps.{polled-valid}
 use Rattle.proof_demands.proofs.Counted.{counted-agrees}
@@ -226,11 +226,11 @@ module _ (t z : List ℕ) (rs : List (List ℕ)) where
   figured-zero f l = by-figured (λ (o : Figured). o .number ≡ 0) (λ g e. refl) (λ g e. absurd (e l)) (λ g. absurd (false≢true (sym g ∙ f)))
 
   module _ (r : ℕ) (ys : List (List ℕ)) (promise : Figures t z rs r ys) where
-    pub figures-number-is : among figuresNumbers r ≡ true
-    unfolding among if_then_else_
+    pub figures-number-is : isOneOf figuresNumbers r ≡ true
+    unfolding isOneOf if_then_else_
     figures-number-is =
-        ap (λ (o : Figured). among figuresNumbers (o .number)) promise
-        ∙ by-figured (λ (o : Figured). among figuresNumbers (o .number) ≡ true) (λ f e. refl) (λ f e. refl) (λ f. by-lent (λ k. among figuresNumbers k ≡ true) t z refl refl refl)
+        ap (λ (o : Figured). isOneOf figuresNumbers (o .number)) promise
+        ∙ by-figured (λ (o : Figured). isOneOf figuresNumbers (o .number) ≡ true) (λ f e. refl) (λ f e. refl) (λ f. by-lent (λ k. isOneOf figuresNumbers k ≡ true) t z refl refl refl)
 
     -- set by counting
     pub figures-counted : r ≡ 0 → (fitting t z ≡ true) × (length rs ≡ poolCount t) × (ys ≡ counted t (instancesOf z))

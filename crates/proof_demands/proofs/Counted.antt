@@ -16,7 +16,7 @@ use Rattle.base_words.proofs.PickLaws.{and-true}
 use Rattle.base_table.specs.Table.{poolCount}
 use Rattle.state_figures.specs.Figures.{recordOf, counted, recordAt, sameRecord, agree}
 use Rattle.state_figures.proofs.RecordLaws.{third-tells, record-long}
-use Rattle.proof_demands.specs.Demands.{Records}
+use Rattle.proof_demands.specs.Demands.{RecordsOfThree}
 
 same-self : (w : List ℕ) → sameRecord w w ≡ true
 unfolding sameRecord
@@ -42,7 +42,7 @@ module _ (t s : List ℕ) where
       (eq-eqb (length (counted t s)) (poolCount t) (length-tab (recordOf s) (poolCount t)))
       (all-of (λ p. sameRecord (recordAt (counted t s) p) (recordOf s p)) (poolCount t) (λ p l. rw (record-counted p l) (same-self (recordOf s p))))
 
-  pub agree-counted : (rs : List (List ℕ)) → Records rs → agree rs t s ≡ true → rs ≡ counted t s
+  pub agree-counted : (rs : List (List ℕ)) → RecordsOfThree rs → agree rs t s ≡ true → rs ≡ counted t s
   unfolding agree counted
   agree-counted rs three e =
       let n : length rs ≡ poolCount t = eqb-true (length rs) (poolCount t) (and-left (eqb (length rs) (poolCount t)) (all (λ p. sameRecord (recordAt rs p) (recordOf s p)) (poolCount t)) e) in

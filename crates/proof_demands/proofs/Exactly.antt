@@ -23,7 +23,7 @@ use Rattle.meaning.specs.Step.{Outcome, siteOf, traffic, instancesAfter, queues
 use Rattle.proof_steps.proofs.Choices.{chosen}
 use Rattle.engine.specs.Engine.{Left, lentNumber, fitting, Stepped, leaving, stepped, postedTo}
 use Rattle.engine.specs.Calls.{Act, aStep, aPost, did}
-use Rattle.proof_demands.specs.Demands.{numberGiven, allHold, permitted, given, stateGiven}
+use Rattle.proof_demands.specs.Demands.{numberGiven, allHold, permitted, afterAct, stateGiven}
 use Rattle.proof_valid.proofs.NumberGiven.{stepped-number, posted-number}
 use Rattle.proof_demands.proofs.Numbers.{unfit-number}
 
@@ -93,7 +93,7 @@ module _ (t : List ℕ) where
 
   -- the state is the one that the rules give, and as it was where it is not permitted
   pub state-exactly : (a : Act) (z : List ℕ) → did t a z .state ≡ stateGiven t a z
-  unfolding did stateGiven permitted given stepped leaving postedTo if_then_else_
+  unfolding did stateGiven permitted afterAct stepped leaving postedTo if_then_else_
   state-exactly (aStep n) z = go (fitting t z)
     where
       o : Bool → Stepped
@@ -122,6 +122,6 @@ module _ (t : List ℕ) where
   number-exactly (aPost name g) z = posted-number t z name g
 
   -- the state of an accepted one
-  pub accepted-gives : (a : Act) (z : List ℕ) → did t a z .number ≡ 0 → did t a z .state ≡ given t a z
+  pub accepted-gives : (a : Act) (z : List ℕ) → did t a z .number ≡ 0 → did t a z .state ≡ afterAct t a z
   unfolding stateGiven
-  accepted-gives a z e = state-exactly a z ∙ chosen (permitted t a z) (given t a z) z (sym (accepted-exactly a z) ∙ eq-eqb (did t a z .number) 0 e)
+  accepted-gives a z e = state-exactly a z ∙ chosen (permitted t a z) (afterAct t a z) z (sym (accepted-exactly a z) ∙ eq-eqb (did t a z .number) 0 e)

@@ -33,7 +33,7 @@ use Rattle.engine.specs.Desk.{recordsNumber, pollNumber}
 use Rattle.engine.proofs.CallLaws.{lent-zero, table-fits, checks-hold, state-fits, long-instances}
 use Rattle.proof_demands.specs.Promises.{Steps, Runs, Polls}
 use Rattle.proof_demands.specs.Polls.{pollNumbers}
-use Rattle.proof_demands.specs.Demands.{among, stepNumbers, runNumbers, Records}
+use Rattle.proof_demands.specs.Demands.{isOneOf, stepNumbers, runNumbers, RecordsOfThree}
 use Rattle.proof_demands.proofs.Counted.{record-counted, agree-counted}
 use Rattle.proof_demands.proofs.AtDesk.{number-fits, number-agrees, by-records, step-taken, step-refused-lent, run-taken, run-refused-lent, poll-taken, poll-refused-lent}
 use Rattle.proof_demands.proofs.FirstDemand.{step-number-is, step-refused}
@@ -47,8 +47,8 @@ module _ (t z : List ℕ) (rs : List (List ℕ)) (n : Name) (r : Answer) (y : Li
   s = instancesOf z
 
   -- "26 .. after 10", and after 25, then 11 to 18
-  pub step-number-at : (r .number ≡ (if eqb (recordsNumber t z rs) 0 then firstRefusal (refusals t s (queuesOf z) n) else recordsNumber t z rs)) × (among stepNumbers (r .number) ≡ true)
-  unfolding among if_then_else_
+  pub step-number-at : (r .number ≡ (if eqb (recordsNumber t z rs) 0 then firstRefusal (refusals t s (queuesOf z) n) else recordsNumber t z rs)) × (isOneOf stepNumbers (r .number) ≡ true)
+  unfolding isOneOf if_then_else_
   step-number-at =
       by-test (eqb (recordsNumber t z rs) 0)
       (λ e.
@@ -57,7 +57,7 @@ module _ (t z : List ℕ) (rs : List (List ℕ)) (n : Name) (r : Answer) (y : Li
       (k .0 ∙ rw (number-fits t z rs (eqb-true (recordsNumber t z rs) 0 e), e), k .1))
       (λ e.
       let k : r .number ≡ recordsNumber t z rs = ap (λ (a : Answer). a .number) (step-refused-lent t z rs n r y ys promise (eqb-false (recordsNumber t z rs) 0 e) .0) in
-      (k ∙ rw e, subst (λ j. among stepNumbers j ≡ true) (sym k) (by-records t z rs (λ j. among stepNumbers j ≡ true) refl refl refl refl)))
+      (k ∙ rw e, subst (λ j. isOneOf stepNumbers j ≡ true) (sym k) (by-records t z rs (λ j. isOneOf stepNumbers j ≡ true) refl refl refl refl)))
 
   -- ACCEPTED
   module _ (accepted : r .number ≡ 0) where
@@ -71,7 +71,7 @@ module _ (t z : List ℕ) (rs : List (List ℕ)) (n : Name) (r : Answer) (y : Li
     step-counted = step-taken t z rs n r y ys promise step-lent .1
 
     -- what the types of a lent state and of lent records say
-    module _ (v : Valid t z) (three : Records rs) where
+    module _ (v : Valid t z) (three : RecordsOfThree rs) where
       did-it : did t (aStep n) z .number ≡ 0
       unfolding did
       did-it = sym (ap (λ (o : Stepped). o .answer .number) (step-taken t z rs n r y ys promise step-lent .0)) ∙ accepted
@@ -112,7 +112,7 @@ module _ (t z : List ℕ) (rs : List (List ℕ)) (n : Name) (r : Answer) (y : Li
       step-not-finished = finished-rests t s (queuesOf z) n (table-fits t z (v .fits)) allowed
 
   -- REFUSED: no word of the state and no record changes
-  pub step-refused-records : Records rs → (r .number ≡ 0 → ⊥) → (y ≡ z) × (ys ≡ rs)
+  pub step-refused-records : RecordsOfThree rs → (r .number ≡ 0 → ⊥) → (y ≡ z) × (ys ≡ rs)
   step-refused-records three k =
       by-test (eqb (recordsNumber t z rs) 0)
       (λ e.
@@ -124,9 +124,9 @@ module _ (t z : List ℕ) (rs : List (List ℕ)) (n : Name) (r : Answer) (y : Li
 
 -- A RUN
 module _ (t z : List ℕ) (rs : List (List ℕ)) (limit : ℕ) (r : Ran) (y : List ℕ) (ys : List (List ℕ)) (promise : Runs t z rs limit r y ys) where
-  pub run-number-at : (r .number ≡ recordsNumber t z rs) × (among runNumbers (r .number) ≡ true)
-  unfolding among if_then_else_
-  run-number-at = (k, subst (λ j. among runNumbers j ≡ true) (sym k) (by-records t z rs (λ j. among runNumbers j ≡ true) refl refl refl refl))
+  pub run-number-at : (r .number ≡ recordsNumber t z rs) × (isOneOf runNumbers (r .number) ≡ true)
+  unfolding isOneOf if_then_else_
+  run-number-at = (k, subst (λ j. isOneOf runNumbers j ≡ true) (sym k) (by-records t z rs (λ j. isOneOf runNumbers j ≡ true) refl refl refl refl))
     where
       k : r .number ≡ recordsNumber t z rs
       k =
@@ -144,14 +144,14 @@ module _ (t z : List ℕ) (rs : List (List ℕ)) (limit : ℕ) (r : Ran) (y : Li
 
 -- A POLL: 22, 10, 25, 26, then its items, and the records are those of the accepted part
 module _ (t z : List ℕ) (rs : List (List ℕ)) (w : List ℕ) (count : ℕ) (r : Polled) (y : List ℕ) (ys : List (List ℕ)) (promise : Polls t z rs w count r y ys) where
-  pub poll-number-at : among pollNumbers (r .number) ≡ true
-  unfolding among pollNumber if_then_else_
+  pub poll-number-at : isOneOf pollNumbers (r .number) ≡ true
+  unfolding isOneOf pollNumber if_then_else_
   poll-number-at =
       by-test (eqb (pollNumber t z rs count) 0)
-      (λ e. ap (λ (p : Polling). among pollNumbers (p .number)) (poll-taken t z rs w count r y ys promise (eqb-true (pollNumber t z rs count) 0 e) .0) ∙ poll-numbers t z w count)
+      (λ e. ap (λ (p : Polling). isOneOf pollNumbers (p .number)) (poll-taken t z rs w count r y ys promise (eqb-true (pollNumber t z rs count) 0 e) .0) ∙ poll-numbers t z w count)
       (λ e.
-      ap (among pollNumbers) (poll-refused-lent t z rs w count r y ys promise (eqb-false (pollNumber t z rs count) 0 e) .0)
-      ∙ by-choice (λ j. among pollNumbers j ≡ true) (ltb itemsMost count) 22 (recordsNumber t z rs) (λ d. refl) (λ d. by-records t z rs (λ j. among pollNumbers j ≡ true) refl refl refl refl))
+      ap (isOneOf pollNumbers) (poll-refused-lent t z rs w count r y ys promise (eqb-false (pollNumber t z rs count) 0 e) .0)
+      ∙ by-choice (λ j. isOneOf pollNumbers j ≡ true) (ltb itemsMost count) 22 (recordsNumber t z rs) (λ d. refl) (λ d. by-records t z rs (λ j. isOneOf pollNumbers j ≡ true) refl refl refl refl))
 
   pub poll-counted : pollNumber t z rs count ≡ 0 → ys ≡ counted t (instancesOf y)
   poll-counted h = poll-taken t z rs w count r y ys promise h .1

@@ -29,7 +29,7 @@ use Rattle.engine.specs.Engine.{Left, valid, versionNumber, askedNumber, lentNu
 use Rattle.engine.specs.Calls.{Act, aStep, aPost, did}
 use Rattle.engine.specs.Profile.{nestedOf}
 use Rattle.proof_demands.specs.Promises.{Freshens, StepsOn, Posts}
-use Rattle.proof_demands.specs.Demands.{among, checkNumbers, nestedNumbers, freshNumbers, stepNumbers, postNumbers, permitted, given, stateGiven}
+use Rattle.proof_demands.specs.Demands.{isOneOf, checkNumbers, nestedNumbers, freshNumbers, stepNumbers, postNumbers, permitted, afterAct, stateGiven}
 use Rattle.engine.proofs.CallLaws.{asked-invalid, asked-valid, asked-known}
 use Rattle.proof_valid.proofs.NumberGiven.{stepped-number, posted-number}
 use Rattle.proof_demands.proofs.Numbers.{Plain, stepped-plain, fresh-number, check-numbers, nested-numbers, fresh-numbers, step-numbers, post-numbers}
@@ -40,7 +40,7 @@ pub act-refused : (t : List ℕ) (a : Act) (z : List ℕ) → (did t a z .number
 unfolding stateGiven
 act-refused t a z n =
     state-exactly t a z
-    ∙ passed (permitted t a z) (given t a z) z (sym (accepted-exactly t a z) ∙ ne-eqb (did t a z .number) 0 n)
+    ∙ passed (permitted t a z) (afterAct t a z) z (sym (accepted-exactly t a z) ∙ ne-eqb (did t a z .number) 0 n)
 
 -- CHECK changes nothing. 10, then 4; beside 4 the lowest check broken, beside the others 0
 module _ (t : List ℕ) where
@@ -56,7 +56,7 @@ module _ (t : List ℕ) where
   unfolding verdictOf if_then_else_
   check-passed e n = rw (e, eq-eqb (lowest (modelOf t)) 0 n)
 
-  pub check-number-is : among checkNumbers (verdictOf t .number) ≡ true
+  pub check-number-is : isOneOf checkNumbers (verdictOf t .number) ≡ true
   check-number-is = check-numbers t
 
 -- NESTED changes nothing. 10, then 29; beside 29 the number of the first pool that is not nested, beside the others 0 (`proof_profile` has what nested is)
@@ -65,7 +65,7 @@ module _ (t : List ℕ) where
   unfolding nestedOf
   nested-bad e = passed (valid t) _ (record { number = 10; beside = 0 }) e
 
-  pub nested-number-is : among nestedNumbers (nestedOf t .number) ≡ true
+  pub nested-number-is : isOneOf nestedNumbers (nestedOf t .number) ≡ true
   nested-number-is = nested-numbers t
 
 -- FRESH
@@ -73,8 +73,8 @@ module _ (t : List ℕ) (v : ℕ) (z : List ℕ) (r : ℕ) (y : List ℕ) (promi
   fresh-is : r ≡ freshened t v z .number
   fresh-is = ap (λ (o : Left). o .number) promise
 
-  pub fresh-number-is : (r ≡ askedNumber t v) × (among freshNumbers r ≡ true)
-  fresh-number-is = (fresh-is ∙ fresh-number t v z, subst (λ (k : ℕ). among freshNumbers k ≡ true) (sym fresh-is) (fresh-numbers t v z))
+  pub fresh-number-is : (r ≡ askedNumber t v) × (isOneOf freshNumbers r ≡ true)
+  fresh-number-is = (fresh-is ∙ fresh-number t v z, subst (λ (k : ℕ). isOneOf freshNumbers k ≡ true) (sym fresh-is) (fresh-numbers t v z))
 
   -- "10, then 25 for a version that is not 10 or 20"
   pub fresh-bad : valid t ≡ false → r ≡ 10
@@ -105,8 +105,8 @@ module _ (t z : List ℕ) (n : Name) (r : Answer) (y : List ℕ) (promise : Step
   step-is : r .number ≡ stepped t z n .answer .number
   step-is = ap (λ (o : Stepped). o .answer .number) promise
 
-  pub step-number-is : (r .number ≡ (if fitting t z then firstRefusal (refusals t (instancesOf z) (queuesOf z) n) else lentNumber t z)) × (among stepNumbers (r .number) ≡ true)
-  step-number-is = (step-is ∙ stepped-number t z n, subst (λ (k : ℕ). among stepNumbers k ≡ true) (sym step-is) (step-numbers t z n))
+  pub step-number-is : (r .number ≡ (if fitting t z then firstRefusal (refusals t (instancesOf z) (queuesOf z) n) else lentNumber t z)) × (isOneOf stepNumbers (r .number) ≡ true)
+  step-number-is = (step-is ∙ stepped-number t z n, subst (λ (k : ℕ). isOneOf stepNumbers k ≡ true) (sym step-is) (step-numbers t z n))
 
   pub step-refused : (r .number ≡ 0 → ⊥) → (y ≡ z) × (r ≡ record { number = r .number; traffic = Nothing; name = 0; tuple = empty })
   unfolding did
@@ -120,8 +120,8 @@ module _ (t z : List ℕ) (name : ℕ) (g : Tuple) (r : ℕ) (y : List ℕ) (pro
   post-is : r ≡ postedTo t z name g .number
   post-is = ap (λ (o : Left). o .number) promise
 
-  pub post-number-is : (r ≡ (if fitting t z then firstRefusal (postRefusals (queuesOf z) name g) else lentNumber t z)) × (among postNumbers r ≡ true)
-  post-number-is = (post-is ∙ posted-number t z name g, subst (λ (k : ℕ). among postNumbers k ≡ true) (sym post-is) (post-numbers t z name g))
+  pub post-number-is : (r ≡ (if fitting t z then firstRefusal (postRefusals (queuesOf z) name g) else lentNumber t z)) × (isOneOf postNumbers r ≡ true)
+  post-number-is = (post-is ∙ posted-number t z name g, subst (λ (k : ℕ). isOneOf postNumbers k ≡ true) (sym post-is) (post-numbers t z name g))
 
   pub post-refused : (r ≡ 0 → ⊥) → y ≡ z
   unfolding did

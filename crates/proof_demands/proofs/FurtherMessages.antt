@@ -28,7 +28,7 @@ use Rattle.step_queues.proofs.ChangeLaws.{times-sending}
 use Rattle.proof_steps.proofs.Choices.{chosen, passed}
 use Rattle.proof_steps.proofs.QueueFits.{isShort, Short, fits-short}
 use Rattle.engine.specs.Calls.{Act, aPost, did, allAccepted, after, Valid}
-use Rattle.proof_demands.specs.Demands.{Further, roomFor, neverPasses}
+use Rattle.proof_demands.specs.Demands.{Further, roomForMore, neverPasses}
 use Rattle.proof_demands.proofs.Counts.{times-has, times-lengths}
 use Rattle.proof_demands.proofs.QueuesMore.{queue-tidy}
 use Rattle.proof_demands.proofs.StepMore.{post-named, post-short, post-room}
@@ -50,8 +50,8 @@ module _ (t : List ℕ) (e : ℕ → List Tuple) (z₁ z₂ : List ℕ) (v : Val
   pub further-lengths : (m : ℕ) → m < names → length (messagesOf (queuesOf z₂) m) ≡ length (messagesOf (queuesOf z₁) m) + length (e m)
   further-lengths m l = times-lengths (messagesOf (queuesOf z₂) m) (messagesOf (queuesOf z₁) m) (e m) (further .more m l)
 
-  pub further-room : roomFor e z₁ ≡ true
-  unfolding roomFor
+  pub further-room : roomForMore e z₁ ≡ true
+  unfolding roomForMore
   further-room =
       all-of (λ m. leb (length (messagesOf (queuesOf z₁) m) + length (e m)) messages) names
       (λ m l.

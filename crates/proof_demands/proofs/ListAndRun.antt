@@ -17,7 +17,7 @@ use Rattle.meaning.specs.Refusals.{firstRefusal}
 use Rattle.meaning.specs.Step.{refusals}
 use Rattle.proof_steps.proofs.Choices.{by-test, by-choice, passed, chosen as picked}
 use Rattle.step_list.specs.declared.Listed.{Listed}
-use Rattle.step_names.specs.Names.{blank, accepted}
+use Rattle.step_names.specs.Names.{blankName, accepted}
 use Rattle.step_list.specs.Listing.{listed, chosen}
 use Rattle.step_run.specs.Run.{ran}
 use Rattle.proof_listing.proofs.SameValues.{withGiven}
@@ -28,12 +28,12 @@ use Rattle.engine.specs.Engine.{lentNumber, fitting, listedAt, RanTo, ended, ra
 use Rattle.engine.proofs.CallLaws.{table-fits, checks-hold, state-fits, by-lent, lent-zero}
 use Rattle.engine.specs.Calls.{Act, aStep, did, allAccepted, after, Valid}
 use Rattle.proof_demands.specs.Promises.{Lists, RunsOn}
-use Rattle.proof_demands.specs.Demands.{among, listNumbers, runNumbers, acceptedSteps, runSteps, runLeft, ranGiven}
+use Rattle.proof_demands.specs.Demands.{isOneOf, listNumbers, runNumbers, acceptedSteps, runSteps, runLeft, ranGiven}
 use Rattle.proof_demands.proofs.StatesLeft.{step-number}
 use Rattle.proof_demands.proofs.RunSteps.{listed-is, listed-accepts, run-accepted, run-is-steps, steps-again}
 
 -- what a listing gives: a step, or 6 and a blank name
-chosen-or : (P : Listed → Type 0) → ((n : Name) → P (record { number = 0; name = n })) → P (record { number = 6; name = blank }) → (ns : List Name) (k : ℕ) → P (chosen ns k)
+chosen-or : (P : Listed → Type 0) → ((n : Name) → P (record { number = 0; name = n })) → P (record { number = 6; name = blankName }) → (ns : List Name) (k : ℕ) → P (chosen ns k)
 unfolding chosen
 chosen-or P f g [] k = g
 chosen-or P f g (n ∷ ns) zero = f n
@@ -53,26 +53,26 @@ chosen-number (n ∷ ns) (suc k) = chosen-number ns k ∙ ap (λ b. if b then 0 
 
 -- LIST: refusals
 module _ (t z : List ℕ) (k : ℕ) where
-  by-listed : (P : Listed → Type 0) → ((n : Name) → P (record { number = 0; name = n })) → P (record { number = 6; name = blank }) → P (record { number = lentNumber t z; name = blank }) → P (listedAt t z k)
+  by-listed : (P : Listed → Type 0) → ((n : Name) → P (record { number = 0; name = n })) → P (record { number = 6; name = blankName }) → P (record { number = lentNumber t z; name = blankName }) → P (listedAt t z k)
   unfolding listedAt
   by-listed P f g h =
-      by-choice P (fitting t z) (chosen (listed t (instancesOf z) (queuesOf z)) k) (record { number = lentNumber t z; name = blank })
+      by-choice P (fitting t z) (chosen (listed t (instancesOf z) (queuesOf z)) k) (record { number = lentNumber t z; name = blankName })
       (λ e. chosen-or P f g (listed t (instancesOf z) (queuesOf z)) k)
       (λ e. h)
 
   module _ (r : Listed) (promise : Lists t z k r) where
-    pub list-number-is : among listNumbers (r .number) ≡ true
-    unfolding among if_then_else_
-    list-number-is = rw promise (by-listed (λ (y : Listed). among listNumbers (y .number) ≡ true) (λ n. refl) refl (by-lent (λ k. among listNumbers k ≡ true) t z refl refl refl))
+    pub list-number-is : isOneOf listNumbers (r .number) ≡ true
+    unfolding isOneOf if_then_else_
+    list-number-is = rw promise (by-listed (λ (y : Listed). isOneOf listNumbers (y .number) ≡ true) (λ n. refl) refl (by-lent (λ k. isOneOf listNumbers k ≡ true) t z refl refl refl))
 
-    pub list-refused : (r .number ≡ 0 → ⊥) → r ≡ record { number = r .number; name = blank }
+    pub list-refused : (r .number ≡ 0 → ⊥) → r ≡ record { number = r .number; name = blankName }
     list-refused =
         rw promise
-        (by-listed (λ (y : Listed). (y .number ≡ 0 → ⊥) → y ≡ record { number = y .number; name = blank }) (λ n e. absurd (e refl)) (λ e. refl) (λ e. refl))
+        (by-listed (λ (y : Listed). (y .number ≡ 0 → ⊥) → y ≡ record { number = y .number; name = blankName }) (λ n e. absurd (e refl)) (λ e. refl) (λ e. refl))
 
-    pub list-bad : fitting t z ≡ false → r ≡ record { number = lentNumber t z; name = blank }
+    pub list-bad : fitting t z ≡ false → r ≡ record { number = lentNumber t z; name = blankName }
     unfolding listedAt
-    list-bad e = promise ∙ passed (fitting t z) (chosen (listed t (instancesOf z) (queuesOf z)) k) (record { number = lentNumber t z; name = blank }) e
+    list-bad e = promise ∙ passed (fitting t z) (chosen (listed t (instancesOf z) (queuesOf z)) k) (record { number = lentNumber t z; name = blankName }) e
 
 -- LIST: the steps that the public step accepts
 module _ (t z : List ℕ) (v : Valid t z) where
@@ -107,10 +107,10 @@ module _ (t z : List ℕ) (limit : ℕ) (r : Ran) (y : List ℕ) (promise : Runs
   unfolding ranTo
   by-ran P f g = subst P (sym promise) (by-choice P (fitting t z) (ended (ran t limit (instancesOf z) (queuesOf z))) (record { number = lentNumber t z; steps = 0; left = 0; state = z }) f g)
 
-  pub run-number-is : (r .number ≡ lentNumber t z) × (among runNumbers (r .number) ≡ true)
-  unfolding among if_then_else_ ended
-  run-number-is = by-ran (λ (o : RanTo). (o .number ≡ lentNumber t z) × (among runNumbers (o .number) ≡ true)) (λ e. (sym (lent-zero t z e), refl))
-      (λ e. (refl, by-lent (λ k. among runNumbers k ≡ true) t z refl refl refl))
+  pub run-number-is : (r .number ≡ lentNumber t z) × (isOneOf runNumbers (r .number) ≡ true)
+  unfolding isOneOf if_then_else_ ended
+  run-number-is = by-ran (λ (o : RanTo). (o .number ≡ lentNumber t z) × (isOneOf runNumbers (o .number) ≡ true)) (λ e. (sym (lent-zero t z e), refl))
+      (λ e. (refl, by-lent (λ k. isOneOf runNumbers k ≡ true) t z refl refl refl))
 
   pub run-refused : (r .number ≡ 0 → ⊥) → (y ≡ z) × (r .steps ≡ 0) × (r .left ≡ 0)
   unfolding ended

@@ -30,7 +30,7 @@ use Rattle.engine.proofs.CallLaws.{by-lent, by-asked}
 use Rattle.engine.proofs.ProfileLaws.{by-nested}
 use Rattle.proof_figures.proofs.EveryStep.{traffic-zero}
 use Rattle.proof_valid.proofs.NumberGiven.{stepped-number, posted-number}
-use Rattle.proof_demands.specs.Demands.{among, checkNumbers, nestedNumbers, freshNumbers, stepNumbers, postNumbers}
+use Rattle.proof_demands.specs.Demands.{isOneOf, checkNumbers, nestedNumbers, freshNumbers, stepNumbers, postNumbers}
 
 -- a refused step says its number and nothing else
 abbrev pub Plain : Answer → Type 0
@@ -93,35 +93,35 @@ first-among f (r ∷ rs) z h =
     (λ e. and-left (f (r .number)) (each (λ (r : Refusal). f (r .number)) rs) h)
 
 -- WHICH NUMBERS CAN COME
-pub check-numbers : (t : List ℕ) → among checkNumbers (verdictOf t .number) ≡ true
-unfolding verdictOf among if_then_else_
+pub check-numbers : (t : List ℕ) → isOneOf checkNumbers (verdictOf t .number) ≡ true
+unfolding verdictOf isOneOf if_then_else_
 check-numbers t =
-    by-choice (λ (v : Verdict). among checkNumbers (v .number) ≡ true) (tableFits t) _ (record { number = 10; beside = 0 })
+    by-choice (λ (v : Verdict). isOneOf checkNumbers (v .number) ≡ true) (tableFits t) _ (record { number = 10; beside = 0 })
     (λ e.
-    by-choice (λ (v : Verdict). among checkNumbers (v .number) ≡ true) (eqb (lowest (modelOf t)) 0) (record { number = 0; beside = 0 })
+    by-choice (λ (v : Verdict). isOneOf checkNumbers (v .number) ≡ true) (eqb (lowest (modelOf t)) 0) (record { number = 0; beside = 0 })
     (record { number = 4; beside = lowest (modelOf t) }) (λ f. refl) (λ f. refl))
     (λ e. refl)
 
-pub nested-numbers : (t : List ℕ) → among nestedNumbers (nestedOf t .number) ≡ true
-unfolding among if_then_else_
-nested-numbers t = by-nested (λ (v : Verdict). among nestedNumbers (v .number) ≡ true) t (λ v l. refl) (λ v l. refl) (λ v. refl)
+pub nested-numbers : (t : List ℕ) → isOneOf nestedNumbers (nestedOf t .number) ≡ true
+unfolding isOneOf if_then_else_
+nested-numbers t = by-nested (λ (v : Verdict). isOneOf nestedNumbers (v .number) ≡ true) t (λ v l. refl) (λ v l. refl) (λ v. refl)
 
-pub fresh-numbers : (t : List ℕ) (v : ℕ) (z : List ℕ) → among freshNumbers (freshened t v z .number) ≡ true
-unfolding among if_then_else_
-fresh-numbers t v z = rw (fresh-number t v z) (by-asked (λ k. among freshNumbers k ≡ true) t v refl refl refl)
+pub fresh-numbers : (t : List ℕ) (v : ℕ) (z : List ℕ) → isOneOf freshNumbers (freshened t v z .number) ≡ true
+unfolding isOneOf if_then_else_
+fresh-numbers t v z = rw (fresh-number t v z) (by-asked (λ k. isOneOf freshNumbers k ≡ true) t v refl refl refl)
 
-pub step-numbers : (t z : List ℕ) (n : Name) → among stepNumbers (stepped t z n .answer .number) ≡ true
-unfolding among refusals refusalsAt each if_then_else_
+pub step-numbers : (t z : List ℕ) (n : Name) → isOneOf stepNumbers (stepped t z n .answer .number) ≡ true
+unfolding isOneOf refusals refusalsAt each if_then_else_
 step-numbers t z n =
     rw (stepped-number t z n)
-    (by-choice (λ (k : ℕ). among stepNumbers k ≡ true) (fitting t z) (firstRefusal (refusals t (instancesOf z) (queuesOf z) n)) (lentNumber t z)
-    (λ e. first-among (among stepNumbers) (refusals t (instancesOf z) (queuesOf z) n) refl refl)
-    (λ e. by-lent (λ k. among stepNumbers k ≡ true) t z refl refl refl))
+    (by-choice (λ (k : ℕ). isOneOf stepNumbers k ≡ true) (fitting t z) (firstRefusal (refusals t (instancesOf z) (queuesOf z) n)) (lentNumber t z)
+    (λ e. first-among (isOneOf stepNumbers) (refusals t (instancesOf z) (queuesOf z) n) refl refl)
+    (λ e. by-lent (λ k. isOneOf stepNumbers k ≡ true) t z refl refl refl))
 
-pub post-numbers : (t z : List ℕ) (name : ℕ) (g : Tuple) → among postNumbers (postedTo t z name g .number) ≡ true
-unfolding among postRefusals each if_then_else_
+pub post-numbers : (t z : List ℕ) (name : ℕ) (g : Tuple) → isOneOf postNumbers (postedTo t z name g .number) ≡ true
+unfolding isOneOf postRefusals each if_then_else_
 post-numbers t z name g =
     rw (posted-number t z name g)
-    (by-choice (λ (k : ℕ). among postNumbers k ≡ true) (fitting t z) (firstRefusal (postRefusals (queuesOf z) name g)) (lentNumber t z)
-    (λ e. first-among (among postNumbers) (postRefusals (queuesOf z) name g) refl refl)
-    (λ e. by-lent (λ k. among postNumbers k ≡ true) t z refl refl refl))
+    (by-choice (λ (k : ℕ). isOneOf postNumbers k ≡ true) (fitting t z) (firstRefusal (postRefusals (queuesOf z) name g)) (lentNumber t z)
+    (λ e. first-among (isOneOf postNumbers) (postRefusals (queuesOf z) name g) refl refl)
+    (λ e. by-lent (λ k. isOneOf postNumbers k ≡ true) t z refl refl refl))

@@ -18,13 +18,13 @@ use Rattle.meaning.specs.Post.{postRefusals}
 use Rattle.meaning.specs.Step.{siteOf, refusals, instancesAfter, queuesAfter}
 use Rattle.engine.proofs.CallLaws.{table-fits}
 use Rattle.engine.specs.Calls.{Act, aStep, aPost, did, Valid}
-use Rattle.proof_demands.specs.Demands.{Further, roomFor}
+use Rattle.proof_demands.specs.Demands.{Further, roomForMore}
 use Rattle.proof_demands.proofs.StepMore.{step-accepted-too, step-more, post-accepted-too, post-more}
 use Rattle.proof_demands.proofs.StatesLeft.{queues-fit, step-number, post-number, step-instances, step-queues, post-instances, post-queues}
 
 module _ (t : List ℕ) (e : ℕ → List Tuple) where
-  room-at : (z : List ℕ) → roomFor e z ≡ true → (m : ℕ) → m < names → length (messagesOf (queuesOf z) m) + length (e m) ≤ messages
-  unfolding roomFor
+  room-at : (z : List ℕ) → roomForMore e z ≡ true → (m : ℕ) → m < names → length (messagesOf (queuesOf z) m) + length (e m) ≤ messages
+  unfolding roomForMore
   room-at z h m l =
       leb-true (length (messagesOf (queuesOf z) m) + length (e m)) messages
       (all-at (λ m. leb (length (messagesOf (queuesOf z) m) + length (e m)) messages) names h m l)
@@ -40,7 +40,7 @@ module _ (t : List ℕ) (e : ℕ → List Tuple) where
     q₂ = queuesOf z₂
 
     -- ONE STEP
-    module _ (n : Name) (accepted : did t (aStep n) z₁ .number ≡ 0) (room : roomFor e (did t (aStep n) z₁ .state) ≡ true) where
+    module _ (n : Name) (accepted : did t (aStep n) z₁ .number ≡ 0) (room : roomForMore e (did t (aStep n) z₁ .state) ≡ true) where
       within : (m : ℕ) → m < names → length (messagesOf (queuesAfter (siteOf t s n) q₁) m) + length (e m) ≤ messages
       within m l = subst (λ (q : List ℕ). length (messagesOf q m) + length (e m) ≤ messages) (step-queues t z₁ v₁ n accepted) (room-at (did t (aStep n) z₁ .state) room m l)
 
@@ -62,7 +62,7 @@ module _ (t : List ℕ) (e : ℕ → List Tuple) where
       }
 
     -- ONE POST
-    module _ (name : ℕ) (g : Tuple) (accepted : did t (aPost name g) z₁ .number ≡ 0) (room : roomFor e (did t (aPost name g) z₁ .state) ≡ true) where
+    module _ (name : ℕ) (g : Tuple) (accepted : did t (aPost name g) z₁ .number ≡ 0) (room : roomForMore e (did t (aPost name g) z₁ .state) ≡ true) where
       posted-within : (m : ℕ) → m < names → length (messagesOf (sending q₁ name g) m) + length (e m) ≤ messages
       posted-within m l = subst (λ (q : List ℕ). length (messagesOf q m) + length (e m) ≤ messages) (post-queues t z₁ v₁ name g accepted) (room-at (did t (aPost name g) z₁ .state) room m l)
 
@@ -81,6 +81,6 @@ module _ (t : List ℕ) (e : ℕ → List Tuple) where
       }
 
     -- ONE ACT
-    pub one-more : (a : Act) → did t a z₁ .number ≡ 0 → roomFor e (did t a z₁ .state) ≡ true → (did t a z₂ .number ≡ 0) × Further e (did t a z₁ .state) (did t a z₂ .state)
+    pub one-more : (a : Act) → did t a z₁ .number ≡ 0 → roomForMore e (did t a z₁ .state) ≡ true → (did t a z₂ .number ≡ 0) × Further e (did t a z₁ .state) (did t a z₂ .state)
     one-more (aStep n) h r = (step-too n h r, step-further n h r)
     one-more (aPost name g) h r = (post-too name g h r, post-further name g h r)

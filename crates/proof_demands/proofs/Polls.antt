@@ -26,7 +26,7 @@ use Rattle.engine.specs.Calls.{Act, aStep, aPost, did, numbers, allAccepted, af
 use Rattle.proof_valid.proofs.NumberGiven.{stepped-number, posted-number}
 use Rattle.proof_demands.specs.Promises.{PollsOn}
 use Rattle.proof_demands.specs.Polls.{untilRefused, thenPoll, pollNumbers}
-use Rattle.proof_demands.specs.Demands.{among, allPermitted, numbersGiven, givenAfter, Further, neverPasses, Agrees, AllAllowed}
+use Rattle.proof_demands.specs.Demands.{isOneOf, allPermitted, numbersGiven, givenAfter, Further, neverPasses, Agrees, AllAllowed}
 use Rattle.proof_demands.proofs.Numbers.{first-among, unfit-number}
 use Rattle.proof_demands.proofs.Firmness.{all-allowed-is}
 use Rattle.proof_demands.proofs.SecondDemand.{steps-exactly, numbers-exactly, after-exactly}
@@ -50,29 +50,29 @@ module _ (t z w : List ℕ) (count : ℕ) where
 
 -- WHICH NUMBERS CAN COME
 abbrev Known : ℕ → Type 0
-Known k = among pollNumbers k ≡ true
+Known k = isOneOf pollNumbers k ≡ true
 
 act-known : (t : List ℕ) (a : Act) (z : List ℕ) → Known (did t a z .number)
-unfolding did among refusals refusalsAt postRefusals each if_then_else_
+unfolding did isOneOf refusals refusalsAt postRefusals each if_then_else_
 act-known t (aStep n) z =
     rw (stepped-number t z n)
     (by-choice Known (fitting t z) (firstRefusal (refusals t (instancesOf z) (queuesOf z) n)) (lentNumber t z)
-    (λ e. first-among (among pollNumbers) (refusals t (instancesOf z) (queuesOf z) n) refl refl)
+    (λ e. first-among (isOneOf pollNumbers) (refusals t (instancesOf z) (queuesOf z) n) refl refl)
     (λ e. by-lent Known t z refl refl refl))
 act-known t (aPost name g) z =
     rw (posted-number t z name g)
     (by-choice Known (fitting t z) (firstRefusal (postRefusals (queuesOf z) name g)) (lentNumber t z)
-    (λ e. first-among (among pollNumbers) (postRefusals (queuesOf z) name g) refl refl)
+    (λ e. first-among (isOneOf pollNumbers) (postRefusals (queuesOf z) name g) refl refl)
     (λ e. by-lent Known t z refl refl refl))
 
 polled-known : (t : List ℕ) (acts : List Act) (z : List ℕ) → Known (polledBy (did t) acts z .number)
-unfolding polledBy oneBefore among if_then_else_
+unfolding polledBy oneBefore isOneOf if_then_else_
 polled-known t [] z = refl
 polled-known t (a ∷ rest) z =
     by-first t (λ (p : Polling). Known (p .number)) a rest z (λ e. polled-known t rest (did t a z .state)) (λ e. act-known t a z)
 
-pub poll-numbers : (t z w : List ℕ) (count : ℕ) → among pollNumbers (polledTo t z w count .number) ≡ true
-unfolding polledTo polledFrom among if_then_else_
+pub poll-numbers : (t z w : List ℕ) (count : ℕ) → isOneOf pollNumbers (polledTo t z w count .number) ≡ true
+unfolding polledTo polledFrom isOneOf if_then_else_
 poll-numbers t z w count =
     by-choice (λ (p : Polling). Known (p .number)) (ltb itemsMost count) (record { number = 22; accepted = 0; state = z }) _ (λ b. refl)
     (λ b.

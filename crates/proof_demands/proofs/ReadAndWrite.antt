@@ -23,7 +23,7 @@ use Rattle.engine.specs.declared.Written.{Written}
 use Rattle.engine.specs.Engine.{valid, WrittenTo, written, writtenTo}
 use Rattle.proof_steps.proofs.Choices.{by-choice, chosen, passed}
 use Rattle.proof_demands.specs.Promises.{Reads, Writes}
-use Rattle.proof_demands.specs.Demands.{among, readNumbers, writeNumbers}
+use Rattle.proof_demands.specs.Demands.{isOneOf, readNumbers, writeNumbers}
 use Rattle.proof_demands.proofs.ReaderNumbers.{told, model-told}
 
 -- WHAT A READING LEAVES: a table that was read whole, no check broken and with room for what its endSnds become; or a number other than 0 and the table as it was
@@ -36,18 +36,18 @@ pub record Whole (text : List ℕ) (r : ReadInto) : Type 0 where
 
 pub record Stays (t : List ℕ) (r : ReadInto) : Type 0 where
   pub refused : r .number ≡ 0 → ⊥
-  pub among-them : among readNumbers (r .number) ≡ true
+  pub among-them : isOneOf readNumbers (r .number) ≡ true
   pub table : r .table ≡ t
 
 abbrev pub Either : List ℕ → List ℕ → ReadInto → Type 0
 Either text t r = Whole text r ⊎ Stays t r
 
 two-or-three : (n p : ℕ) (t : List ℕ) → told (Refused n p) ≡ true → Stays t (record { number = n; beside = p; table = t })
-unfolding told among if_then_else_
+unfolding told isOneOf if_then_else_
 two-or-three n p t h = go (eqb n misplaced) (eqb n excessive) refl refl h
   where
-    stays : (k : ℕ) → n ≡ k → (k ≡ 0 → ⊥) → among readNumbers k ≡ true → Stays t (record { number = n; beside = p; table = t })
-    stays k e z m = record { refused = λ q. z (sym e ∙ q); among-them = subst (λ (k : ℕ). among readNumbers k ≡ true) (sym e) m; table = refl }
+    stays : (k : ℕ) → n ≡ k → (k ≡ 0 → ⊥) → isOneOf readNumbers k ≡ true → Stays t (record { number = n; beside = p; table = t })
+    stays k e z m = record { refused = λ q. z (sym e ∙ q); among-them = subst (λ (k : ℕ). isOneOf readNumbers k ≡ true) (sym e) m; table = refl }
 
     go : (a b : Bool) → eqb n misplaced ≡ a → eqb n excessive ≡ b → (if a then true else if b then true else false) ≡ true → Stays t (record { number = n; beside = p; table = t })
     go true b e f h = stays misplaced (eqb-true n misplaced e) (λ q. omega (arith, q)) refl
@@ -55,7 +55,7 @@ two-or-three n p t h = go (eqb n misplaced) (eqb n excessive) refl refl h
     go false false e f h = absurd (false≢true h)
 
 checked-either : (text t : List ℕ) (q : ℕ) → model text .end ≡ At q → Either text t (checked (lowest (model text .value)) (model text .value) t)
-unfolding checked among if_then_else_
+unfolding checked isOneOf if_then_else_
 checked-either text t q e =
     by-choice (Either text t) (eqb (lowest (model text .value)) 0)
     (if each hasRoom (model text .value) then record { number = 0; beside = 0; table = tableOf (map rewritten (model text .value)) } else record { number = 28; beside = 0; table = t })
@@ -72,7 +72,7 @@ judged-either text t (At q) e h = checked-either text t q e
 judged-either text t (Refused n p) e h = inr (two-or-three n p t h)
 
 pub taken-either : (text t : List ℕ) → Either text t (readInto text t)
-unfolding readInto among if_then_else_
+unfolding readInto isOneOf if_then_else_
 taken-either text t =
     by-choice (Either text t) (ltb textMost (length text)) (record { number = 1; beside = 0; table = t }) (judged (model text .end) (model text .value) t)
     (λ z. inr (record { refused = λ k. omega (arith, k); among-them = refl; table = refl }))
@@ -89,7 +89,7 @@ module _ (text t : List ℕ) where
     unfolding readInto
     within = passed (ltb textMost (length text)) _ (judged (model text .end) (model text .value) t) (le-ltb textMost (length text) l)
 
-    pub read-misplaced : (n p : ℕ) → model text .end ≡ Refused n p → (among (2 ∷ 3 ∷ []) n ≡ true) × (readInto text t ≡ record { number = n; beside = p; table = t })
+    pub read-misplaced : (n p : ℕ) → model text .end ≡ Refused n p → (isOneOf (2 ∷ 3 ∷ []) n ≡ true) × (readInto text t ≡ record { number = n; beside = p; table = t })
     unfolding judged told
     read-misplaced n p e = (subst (λ (r : Read). told r ≡ true) e (model-told text), within ∙ ap (λ (r : Read). judged r (model text .value) t) e)
 
@@ -125,11 +125,11 @@ module _ (text t : List ℕ) (r : Reading) (y : List ℕ) (promise : Reads text 
   read-left : y ≡ readInto text t .table
   read-left = ap (λ (o : ReadInto). o .table) promise
 
-  pub read-number-is : among readNumbers (r .number) ≡ true
-  unfolding among if_then_else_
+  pub read-number-is : isOneOf readNumbers (r .number) ≡ true
+  unfolding isOneOf if_then_else_
   read-number-is =
-      subst (λ (k : ℕ). among readNumbers k ≡ true) (sym read-is)
-      (⊎-elim (λ (w : Whole text (readInto text t)). subst (λ (o : ReadInto). among readNumbers (o .number) ≡ true) (sym (w .is)) refl)
+      subst (λ (k : ℕ). isOneOf readNumbers k ≡ true) (sym read-is)
+      (⊎-elim (λ (w : Whole text (readInto text t)). subst (λ (o : ReadInto). isOneOf readNumbers (o .number) ≡ true) (sym (w .is)) refl)
       (λ (s : Stays t (readInto text t)). s .among-them)
       (taken-either text t))
 
@@ -146,11 +146,11 @@ module _ (text t : List ℕ) (r : Reading) (y : List ℕ) (promise : Reads text 
 
 -- WHAT A WRITING LEAVES
 pub record Kept (out : List ℕ) (w : WrittenTo) : Type 0 where
-  pub among-them : among writeNumbers (w .number) ≡ true
+  pub among-them : isOneOf writeNumbers (w .number) ≡ true
   pub stays : (w .number ≡ 0 → ⊥) → (w .length ≡ 0) × (w .buffer ≡ out)
 
 pub written-kept : (t out : List ℕ) → Kept out (writtenTo t out)
-unfolding writtenTo written among if_then_else_
+unfolding writtenTo written isOneOf if_then_else_
 written-kept t out =
     by-choice (Kept out) (valid t) (written (shownTable t) out) (record { number = 10; length = 0; buffer = out })
     (λ v.
@@ -177,8 +177,8 @@ module _ (t out : List ℕ) (r : Written) (y : List ℕ) (promise : Writes t out
   write-is : r .number ≡ writtenTo t out .number
   write-is = ap (λ (o : WrittenTo). o .number) promise
 
-  pub write-number-is : (r .number ≡ (if valid t then if ltb (length out) (length (shownTable t)) then 5 else 0 else 10)) × (among writeNumbers (r .number) ≡ true)
-  write-number-is = (write-is ∙ written-number t out, subst (λ (k : ℕ). among writeNumbers k ≡ true) (sym write-is) (written-kept t out .among-them))
+  pub write-number-is : (r .number ≡ (if valid t then if ltb (length out) (length (shownTable t)) then 5 else 0 else 10)) × (isOneOf writeNumbers (r .number) ≡ true)
+  write-number-is = (write-is ∙ written-number t out, subst (λ (k : ℕ). isOneOf writeNumbers k ≡ true) (sym write-is) (written-kept t out .among-them))
 
   pub write-refused : (r .number ≡ 0 → ⊥) → (r .length ≡ 0) × (y ≡ out)
   write-refused n =

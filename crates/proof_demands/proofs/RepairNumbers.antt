@@ -6,34 +6,34 @@ use mathlib.Core.List.{List, _++_}
 use lib.Dec.{ltb, eqb}
 use lib.ListN.{length, drop}
 use Rattle.base_words.specs.Pick.{if_then_else_}
-use Rattle.xml_skip.specs.declared.Skipped.{Skipped}
-use Rattle.xml_skip.specs.declared.Skipped.the-variants.{Past, Fault}
+use Rattle.xml_skip.specs.declared.Reached.{Reached}
+use Rattle.xml_skip.specs.declared.Reached.the-variants.{Past, Fault}
 use Rattle.log_text.specs.declared.Cursor.{Cursor}
 use Rattle.log_text.specs.Logs.{logMost, scan}
 use Rattle.log_repair.specs.declared.Repaired.{Repaired}
-use Rattle.log_repair.specs.Repair.{closed, isLost, Repair, refused, given, repairedBy, repairedTo}
+use Rattle.log_repair.specs.Repair.{closed, isLost, Repair, refused, repairGiven, repairedBy, repairedTo}
 use Rattle.proof_steps.proofs.Choices.{by-choice}
 use Rattle.proof_demands.specs.Promises.{Repairs}
-use Rattle.proof_demands.specs.Demands.{among, repairNumbers}
+use Rattle.proof_demands.specs.Demands.{isOneOf, repairNumbers}
 
 pub record Kept (out : List ℕ) (r : Repair) : Type 0 where
-  pub among-them : among repairNumbers (r .number) ≡ true
+  pub among-them : isOneOf repairNumbers (r .number) ≡ true
   pub stays : (r .number ≡ 0 → ⊥) → (r .length ≡ 0) × (r .buffer ≡ out)
 
 module _ (out : List ℕ) where
-  given-kept : (w : List ℕ) (events dropped : ℕ) → Kept out (given w events dropped out)
-  unfolding given refused among if_then_else_
+  given-kept : (w : List ℕ) (events dropped : ℕ) → Kept out (repairGiven w events dropped out)
+  unfolding repairGiven refused isOneOf if_then_else_
   given-kept w events dropped =
       by-choice (Kept out) (ltb logMost (length w)) _ _ (λ e. record { among-them = refl; stays = λ n. (refl, refl) })
       (λ e.
       by-choice (Kept out) (ltb (length out) (length w)) _ _ (λ f. record { among-them = refl; stays = λ n. (refl, refl) })
       (λ f. record { among-them = refl; stays = λ n. absurd (n refl) }))
 
-  kept-by : (s : Skipped) (text : List ℕ) (c : Cursor) → Kept out (repairedBy s text c out)
-  unfolding repairedBy refused among if_then_else_
+  kept-by : (s : Reached) (text : List ℕ) (c : Cursor) → Kept out (repairedBy s text c out)
+  unfolding repairedBy refused isOneOf if_then_else_
   kept-by (Past q) text c = given-kept text (c .events) 0
   kept-by (Fault q) text c =
-      by-choice (Kept out) (isLost q text c) _ (given (closed text c) (c .events) (length text - c .kept) out) (λ e. record { among-them = refl; stays = λ n. (refl, refl) })
+      by-choice (Kept out) (isLost q text c) _ (repairGiven (closed text c) (c .events) (length text - c .kept) out) (λ e. record { among-them = refl; stays = λ n. (refl, refl) })
       (λ e. given-kept (closed text c) (c .events) (length text - c .kept))
 
   repaired-kept : (text : List ℕ) → Kept out (repairedTo text out)
@@ -45,8 +45,8 @@ module _ (text out : List ℕ) (r : Repaired) (y : List ℕ) (promise : Repairs 
   repair-is : r .number ≡ repairedTo text out .number
   repair-is = ap (λ (o : Repair). o .number) promise
 
-  pub repair-number-is : among repairNumbers (r .number) ≡ true
-  repair-number-is = ap (among repairNumbers) repair-is ∙ repaired-kept out text .among-them
+  pub repair-number-is : isOneOf repairNumbers (r .number) ≡ true
+  repair-number-is = ap (isOneOf repairNumbers) repair-is ∙ repaired-kept out text .among-them
 
   pub repair-refused : (r .number ≡ 0 → ⊥) → (r .length ≡ 0) × (y ≡ out)
   repair-refused n =

@@ -10,14 +10,14 @@ use Rattle.state_fits.specs.Fresh.{fresh}
 use Rattle.proof_steps.proofs.Choices.{by-test, by-choice, chosen, passed}
 use Rattle.log_text.specs.Logs.{scan, linesOf}
 use Rattle.log_judge.specs.declared.Judged.{Judged}
-use Rattle.log_judge.specs.Judge.{taken, answered, judgedBy, judgedFrom, leftBy}
+use Rattle.log_judge.specs.Judge.{lineTaken, judgment, judgedBy, judgedFrom, leftByLines}
 use Rattle.engine.specs.Engine.{askedNumber, lentNumber, fitting, stepped, postedTo}
 use Rattle.engine.specs.Calls.{Valid, judgedTo}
 use Rattle.engine.specs.Replay.{Replayed, keptBy, leftTo, replayedTo, resumedTo}
 use Rattle.engine.proofs.CallLaws.{by-lent}
 use Rattle.engine.proofs.KeepsValid.{fresh-valid}
 use Rattle.proof_demands.specs.Promises.{Replays, Resumes}
-use Rattle.proof_demands.specs.Demands.{among, judgeNumbers}
+use Rattle.proof_demands.specs.Demands.{isOneOf, judgeNumbers}
 use Rattle.proof_demands.proofs.Judgements.{lines-among, end-among, judge-numbers, judge-bad, line-own}
 
 -- what is kept: the answer as it is, and the state that the lines left, or the one that was lent
@@ -36,10 +36,10 @@ module _ (j : Judged) (y z : List ℕ) where
 
 module _ (t : List ℕ) where
   -- the lines of a log leave a valid state
-  lines-valid : (ws : List (List ℕ)) (z : List ℕ) → Valid t z → Valid t (leftBy (taken (stepped t) (postedTo t)) ws z)
-  unfolding leftBy
+  lines-valid : (ws : List (List ℕ)) (z : List ℕ) → Valid t z → Valid t (leftByLines (lineTaken (stepped t) (postedTo t)) ws z)
+  unfolding leftByLines
   lines-valid [] z v = v
-  lines-valid (w ∷ ws) z v = lines-valid ws (taken (stepped t) (postedTo t) w z .state) (line-own t w z v .1)
+  lines-valid (w ∷ ws) z v = lines-valid ws (lineTaken (stepped t) (postedTo t) w z .state) (line-own t w z v .1)
 
   left-valid : (log z : List ℕ) → Valid t z → Valid t (leftTo t log z)
   unfolding leftTo
@@ -61,8 +61,8 @@ module _ (t : List ℕ) where
     unfolding replayedTo
     replay-left e = kept-left (judgedTo t v log) (leftTo t log (fresh t v)) z e
 
-    pub replay-numbers : among judgeNumbers (replayedTo t v log z .answer .number) ≡ true
-    replay-numbers = ap (λ (j : Judged). among judgeNumbers (j .number)) replay-answer ∙ judge-numbers t v log
+    pub replay-numbers : isOneOf judgeNumbers (replayedTo t v log z .answer .number) ≡ true
+    replay-numbers = ap (λ (j : Judged). isOneOf judgeNumbers (j .number)) replay-answer ∙ judge-numbers t v log
 
     -- what is not refused was asked of a valid table and a version that there is
     replay-asked : judgedTo t v log .number ≡ 0 → askedNumber t v ≡ 0
@@ -78,30 +78,30 @@ module _ (t : List ℕ) where
   -- FROM THE LENT STATE
   module _ (z : List ℕ) where
     -- table and state are right: by the lines alone
-    pub resume-fitting : fitting t z ≡ true → (log : List ℕ) → resumedTo t z log ≡ keptBy (judgedFrom (taken (stepped t) (postedTo t)) log z) (leftTo t log z) z
+    pub resume-fitting : fitting t z ≡ true → (log : List ℕ) → resumedTo t z log ≡ keptBy (judgedFrom (lineTaken (stepped t) (postedTo t)) log z) (leftTo t log z) z
     unfolding resumedTo
     resume-fitting f log = chosen (fitting t z) _ _ f
 
     -- "10 and 25 of table and state", whatever the text
-    pub resume-bad : fitting t z ≡ false → (log : List ℕ) → resumedTo t z log ≡ record { answer = answered (lentNumber t z) 0 0; state = z }
+    pub resume-bad : fitting t z ≡ false → (log : List ℕ) → resumedTo t z log ≡ record { answer = judgment (lentNumber t z) 0 0; state = z }
     unfolding resumedTo
-    resume-bad f log = passed {A = Replayed} (fitting t z) _ (record { answer = answered (lentNumber t z) 0 0; state = z }) f
+    resume-bad f log = passed {A = Replayed} (fitting t z) _ (record { answer = judgment (lentNumber t z) 0 0; state = z }) f
 
     pub resume-among : fitting t z ≡ true → (log : List ℕ) (f : ℕ → Bool) → f 0 ≡ true → f 24 ≡ true → f 23 ≡ true → f (resumedTo t z log .answer .number) ≡ true
     unfolding judgedFrom
     resume-among fits log f none event text =
-        rw (resume-fitting fits log, kept-answer (judgedFrom (taken (stepped t) (postedTo t)) log z) (leftTo t log z) z)
-        (end-among f none event text (scan log .end) (judgedBy (taken (stepped t) (postedTo t)) (linesOf log) 0 z) (lines-among f none event (taken (stepped t) (postedTo t)) (linesOf log) 0 z))
+        rw (resume-fitting fits log, kept-answer (judgedFrom (lineTaken (stepped t) (postedTo t)) log z) (leftTo t log z) z)
+        (end-among f none event text (scan log .end) (judgedBy (lineTaken (stepped t) (postedTo t)) (linesOf log) 0 z) (lines-among f none event (lineTaken (stepped t) (postedTo t)) (linesOf log) 0 z))
 
-    pub resume-numbers : (log : List ℕ) → among judgeNumbers (resumedTo t z log .answer .number) ≡ true
-    unfolding among if_then_else_
+    pub resume-numbers : (log : List ℕ) → isOneOf judgeNumbers (resumedTo t z log .answer .number) ≡ true
+    unfolding isOneOf if_then_else_
     resume-numbers log =
-        by-test (fitting t z) (λ f. resume-among f log (among judgeNumbers) refl refl refl)
-        (λ f. ap (λ (r : Replayed). among judgeNumbers (r .answer .number)) (resume-bad f log) ∙ by-lent (λ k. among judgeNumbers k ≡ true) t z refl refl refl)
+        by-test (fitting t z) (λ f. resume-among f log (isOneOf judgeNumbers) refl refl refl)
+        (λ f. ap (λ (r : Replayed). isOneOf judgeNumbers (r .answer .number)) (resume-bad f log) ∙ by-lent (λ k. isOneOf judgeNumbers k ≡ true) t z refl refl refl)
 
     pub resume-refused : (log : List ℕ) → (resumedTo t z log .answer .number ≡ 0 → ⊥) → resumedTo t z log .state ≡ z
     resume-refused log n =
-        let j : Judged = judgedFrom (taken (stepped t) (postedTo t)) log z in
+        let j : Judged = judgedFrom (lineTaken (stepped t) (postedTo t)) log z in
         by-test (fitting t z)
         (λ f.
         let k = resume-fitting f log in
@@ -113,7 +113,7 @@ module _ (t : List ℕ) where
     unfolding keptBy
     resume-valid v log =
         rw (resume-fitting (v .fits) log)
-        (by-choice (λ (r : Replayed). Valid t (r .state)) (eqb (judgedFrom (taken (stepped t) (postedTo t)) log z .number) 0) _ _ (λ e. left-valid log z v) (λ e. v))
+        (by-choice (λ (r : Replayed). Valid t (r .state)) (eqb (judgedFrom (lineTaken (stepped t) (postedTo t)) log z .number) 0) _ _ (λ e. left-valid log z v) (λ e. v))
 
 -- BY THEIR PROMISES: a refused call leaves the state
 pub replay-refused-is : (t : List ℕ) (v : ℕ) (log z : List ℕ) (r : Judged) (y : List ℕ) → Replays t v log z r y → (r .number ≡ 0 → ⊥) → y ≡ z

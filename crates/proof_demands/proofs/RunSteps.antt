@@ -18,7 +18,7 @@ use Rattle.meaning.specs.Step.{siteOf, queuesAfter, refusals, step}
 use Rattle.proof_steps.proofs.Choices.{by-test, by-choice, chosen as picked, passed}
 use Rattle.proof_steps.proofs.Independence.{accepted-instances}
 use Rattle.step_list.specs.declared.Listed.{Listed}
-use Rattle.step_names.specs.Names.{blank, accepted}
+use Rattle.step_names.specs.Names.{blankName, accepted}
 use Rattle.step_list.specs.Listing.{listed, chosen}
 use Rattle.step_run.specs.Run.{Run, whether, oneStep, ranBy, ran}
 use Rattle.step_run.proofs.RunLaws.{none-listed, first-listed}
@@ -49,9 +49,9 @@ module _ (t : List ℕ) where
     -- THE FIRST LISTED STEP
     pub listed-is : (k : ℕ) → listedAt t z k ≡ chosen (listed t s q) k
     unfolding listedAt
-    listed-is k = picked (fitting t z) (chosen (listed t s q) k) (record { number = lentNumber t z; name = blank }) (v .fits)
+    listed-is k = picked (fitting t z) (chosen (listed t s q) k) (record { number = lentNumber t z; name = blankName }) (v .fits)
 
-    first-none : listed t s q ≡ [] → listedAt t z 0 ≡ record { number = 6; name = blank }
+    first-none : listed t s q ≡ [] → listedAt t z 0 ≡ record { number = 6; name = blankName }
     unfolding chosen
     first-none e = listed-is 0 ∙ ap (λ (ns : List Name). chosen ns 0) e
 
@@ -110,7 +110,7 @@ module _ (t : List ℕ) where
       let k : suc (length (runSteps t limit y)) ≡ length (runSteps t limit y) + 1 = omega arith in
       rw e (λ i. record { number = 0; steps = k i; left = runLeft t (after t (runSteps t limit y) y); state = after t (runSteps t limit y) y })
 
-  given-none : (limit : ℕ) (z : List ℕ) → listedAt t z 0 ≡ record { number = 6; name = blank } → record { number = 0; steps = 0; left = 0; state = z } ≡ ranGiven t (suc limit) z
+  given-none : (limit : ℕ) (z : List ℕ) → listedAt t z 0 ≡ record { number = 6; name = blankName } → record { number = 0; steps = 0; left = 0; state = z } ≡ ranGiven t (suc limit) z
   unfolding ranGiven runSteps runLeft after if_then_else_
   given-none limit z e =
       let none : runSteps t (suc limit) z ≡ [] = rw e in

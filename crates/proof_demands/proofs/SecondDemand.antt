@@ -20,7 +20,7 @@ use Rattle.proof_steps.proofs.Choices.{chosen}
 use Rattle.engine.specs.Engine.{Left, lentNumber, fitting, Stepped, stepped, postedTo}
 use Rattle.engine.specs.Calls.{Act, aStep, aPost, did, numbers, allAccepted, after}
 use Rattle.proof_demands.specs.Promises.{StepsOn, Posts}
-use Rattle.proof_demands.specs.Demands.{allHold, permitted, given, stateGiven, allPermitted, numbersGiven, givenAfter, Agrees, AllAllowed}
+use Rattle.proof_demands.specs.Demands.{allHold, permitted, afterAct, stateGiven, allPermitted, numbersGiven, givenAfter, Agrees, AllAllowed}
 use Rattle.proof_valid.proofs.NumberGiven.{stepped-number}
 use Rattle.proof_demands.proofs.Numbers.{stepped-traffic, unfit-number}
 use Rattle.proof_demands.proofs.Exactly.{accepted-exactly, state-exactly, number-exactly, accepted-gives}
@@ -50,7 +50,7 @@ module _ (t z : List ℕ) where
       step-exactly = ap (λ (k : ℕ). eqb k 0) step-is ∙ accepted-exactly t (aStep n) z
 
       pub step-gives : r .number ≡ 0 → (r ≡ traffic (siteOf t s n)) × (y ≡ instancesAfter t s n ++ queuesAfter (siteOf t s n) q)
-      unfolding did given
+      unfolding did afterAct
       step-gives e = (
         ap (λ (o : Stepped). o .answer) promise ∙ stepped-traffic t z n (sym step-is ∙ e),
         ap (λ (o : Stepped). o .state) promise ∙ accepted-gives t (aStep n) z (sym step-is ∙ e),
@@ -81,7 +81,7 @@ module _ (t z : List ℕ) where
     post-exactly = ap (λ (k : ℕ). eqb k 0) post-is ∙ accepted-exactly t (aPost name g) z
 
     pub post-gives : r ≡ 0 → y ≡ instancesOf z ++ sending (queuesOf z) name g
-    unfolding did given
+    unfolding did afterAct
     post-gives e = ap (λ (o : Left). o .state) promise ∙ accepted-gives t (aPost name g) z (sym post-is ∙ e)
 
 -- CALLS ONE AFTER THE OTHER, each judged in the state that the earlier ones left
@@ -90,10 +90,10 @@ module _ (t : List ℕ) where
   pub steps-exactly : (acts : List Act) (z : List ℕ) → allAccepted t acts z ≡ allPermitted t acts z
   unfolding allAccepted allPermitted stateGiven
   steps-exactly [] z = refl
-  steps-exactly (a ∷ rest) z = rw (accepted-exactly t a z) (go (permitted t a z) refl (steps-exactly rest (given t a z)))
+  steps-exactly (a ∷ rest) z = rw (accepted-exactly t a z) (go (permitted t a z) refl (steps-exactly rest (afterAct t a z)))
     where
-      go : (b : Bool) → permitted t a z ≡ b → allAccepted t rest (given t a z) ≡ allPermitted t rest (given t a z) → b && allAccepted t rest (did t a z .state) ≡ b && allPermitted t rest (given t a z)
-      go true e next = ap (allAccepted t rest) (state-exactly t a z ∙ chosen (permitted t a z) (given t a z) z e) ∙ next
+      go : (b : Bool) → permitted t a z ≡ b → allAccepted t rest (afterAct t a z) ≡ allPermitted t rest (afterAct t a z) → b && allAccepted t rest (did t a z .state) ≡ b && allPermitted t rest (afterAct t a z)
+      go true e next = ap (allAccepted t rest) (state-exactly t a z ∙ chosen (permitted t a z) (afterAct t a z) z e) ∙ next
       go false e next = refl
 
   -- accepted or not, their numbers and the state after them are those that the rules give

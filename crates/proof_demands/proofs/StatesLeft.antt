@@ -18,7 +18,7 @@ use Rattle.proof_steps.proofs.Traffic.{state-queues}
 use Rattle.engine.specs.Engine.{fitting}
 use Rattle.engine.proofs.CallLaws.{state-fits, long-instances, long-queues}
 use Rattle.engine.specs.Calls.{aStep, aPost, did, Valid}
-use Rattle.proof_demands.specs.Demands.{given}
+use Rattle.proof_demands.specs.Demands.{afterAct}
 use Rattle.proof_demands.proofs.QueuesMore.{QueuesFit}
 use Rattle.proof_valid.proofs.NumberGiven.{stepped-number, posted-number}
 use Rattle.proof_demands.proofs.Exactly.{accepted-gives}
@@ -54,7 +54,7 @@ module _ (t : List ℕ) where
       q = queuesAfter (siteOf t (instancesOf z) n) (queuesOf z)
 
       step-state : did t (aStep n) z .state ≡ s ++ q
-      unfolding given
+      unfolding afterAct
       step-state = accepted-gives t (aStep n) z accepted
 
       long-after : length s ≡ instancesWords
@@ -69,7 +69,7 @@ module _ (t : List ℕ) where
     -- and an accepted post
     module _ (name : ℕ) (g : Tuple) (accepted : did t (aPost name g) z .number ≡ 0) where
       post-state : did t (aPost name g) z .state ≡ instancesOf z ++ sending (queuesOf z) name g
-      unfolding given
+      unfolding afterAct
       post-state = accepted-gives t (aPost name g) z accepted
 
       pub post-instances : instancesOf (did t (aPost name g) z .state) ≡ instancesOf z

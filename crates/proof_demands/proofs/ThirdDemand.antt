@@ -16,17 +16,17 @@ use Rattle.base_state.specs.Instances.{instancesOf}
 use Rattle.meaning.specs.declared.Tuple.{Tuple}
 use Rattle.state_figures.specs.Figures.{counted}
 use Rattle.engine.specs.Calls.{Act, did, numbers, allAccepted, after, Valid}
-use Rattle.proof_demands.specs.Demands.{Further, roomFor, neverPasses, Agrees, AllAllowed}
+use Rattle.proof_demands.specs.Demands.{Further, roomForMore, neverPasses, Agrees, AllAllowed}
 use Rattle.engine.proofs.KeepsValid.{did-valid}
 use Rattle.proof_demands.proofs.OneMore.{one-more}
 use Rattle.proof_demands.proofs.Firmness.{all-allowed-is}
 
 module _ (t : List ℕ) (e : ℕ → List Tuple) where
   -- whatever else is asked
-  room-now : (acts : List Act) (z : List ℕ) → neverPasses t e acts z ≡ true → roomFor e z ≡ true
+  room-now : (acts : List Act) (z : List ℕ) → neverPasses t e acts z ≡ true → roomForMore e z ≡ true
   unfolding neverPasses
   room-now [] z h = h
-  room-now (a ∷ rest) z h = by-test (roomFor e z) (λ r. r) (λ r. absurd (false≢true (rw r at h)))
+  room-now (a ∷ rest) z h = by-test (roomForMore e z) (λ r. r) (λ r. absurd (false≢true (rw r at h)))
 
   -- MORE MESSAGES TAKE NOTHING AWAY
   pub more-messages : (acts : List Act) (z₁ z₂ : List ℕ)
@@ -40,7 +40,7 @@ module _ (t : List ℕ) (e : ℕ → List Tuple) where
   more-messages [] z₁ z₂ v₁ v₂ f h r = (refl, f)
   more-messages (a ∷ rest) z₁ z₂ v₁ v₂ f h r =
       let k : did t a z₁ .number ≡ 0 = eqb-true (did t a z₁ .number) 0 (and-left (eqb (did t a z₁ .number) 0) (allAccepted t rest (did t a z₁ .state)) h) in
-      let never : neverPasses t e rest (did t a z₁ .state) ≡ true = and-right (roomFor e z₁) (neverPasses t e rest (did t a z₁ .state)) r in
+      let never : neverPasses t e rest (did t a z₁ .state) ≡ true = and-right (roomForMore e z₁) (neverPasses t e rest (did t a z₁ .state)) r in
       let o = one-more t e z₁ z₂ v₁ v₂ f a k (room-now rest (did t a z₁ .state) never) in
       let w =
       more-messages rest (did t a z₁ .state) (did t a z₂ .state) (did-valid t a z₁ v₁) (did-valid t a z₂ v₂) (o .1)

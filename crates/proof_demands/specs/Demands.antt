@@ -41,9 +41,9 @@ numberGiven t (aStep n) z = if fitting t z then firstRefusal (refusals t (instan
 numberGiven t (aPost name g) z = if fitting t z then firstRefusal (postRefusals (queuesOf z) name g) else lentNumber t z
 
 -- the numbers that each call can give
-unfoldable pub among : List ℕ → ℕ → Bool
-among [] k = false
-among (n ∷ ns) k = if eqb k n then true else among ns k
+unfoldable pub isOneOf : List ℕ → ℕ → Bool
+isOneOf [] k = false
+isOneOf (n ∷ ns) k = if eqb k n then true else isOneOf ns k
 
 abbrev pub checkNumbers : List ℕ
 checkNumbers = 0 ∷ 4 ∷ 10 ∷ []
@@ -94,18 +94,18 @@ permitted t (aStep n) z = fitting t z && allHold (refusals t (instancesOf z) (qu
 permitted t (aPost name g) z = fitting t z && allHold (postRefusals (queuesOf z) name g)
 
 -- "and the state afterwards is the one they give"
-unfoldable pub given : List ℕ → Act → List ℕ → List ℕ
-given t (aStep n) z = instancesAfter t (instancesOf z) n ++ queuesAfter (siteOf t (instancesOf z) n) (queuesOf z)
-given t (aPost name g) z = instancesOf z ++ sending (queuesOf z) name g
+unfoldable pub afterAct : List ℕ → Act → List ℕ → List ℕ
+afterAct t (aStep n) z = instancesAfter t (instancesOf z) n ++ queuesAfter (siteOf t (instancesOf z) n) (queuesOf z)
+afterAct t (aPost name g) z = instancesOf z ++ sending (queuesOf z) name g
 
 -- permitted or not: "a refused call changes no byte it was lent"
 unfoldable pub stateGiven : List ℕ → Act → List ℕ → List ℕ
-stateGiven t a z = if permitted t a z then given t a z else z
+stateGiven t a z = if permitted t a z then afterAct t a z else z
 
 -- the same of calls one after the other, by the rules alone: whether all are permitted, their numbers, the state after them
 unfoldable pub allPermitted : List ℕ → List Act → List ℕ → Bool
 allPermitted t [] z = true
-allPermitted t (a ∷ rest) z = permitted t a z && allPermitted t rest (given t a z)
+allPermitted t (a ∷ rest) z = permitted t a z && allPermitted t rest (afterAct t a z)
 
 unfoldable pub numbersGiven : List ℕ → List Act → List ℕ → List ℕ
 numbersGiven t [] z = []
@@ -143,13 +143,13 @@ pub record Further (e : ℕ → List Tuple) (z₁ z₂ : List ℕ) : Type 0 wher
   pub more : (m : ℕ) → m < names → (g : Tuple) → times g (messagesOf (queuesOf z₂) m) ≡ times g (messagesOf (queuesOf z₁) m) + times g (e m)
 
 -- "no queue, with the further messages added, passes 64"
-unfoldable pub roomFor : (ℕ → List Tuple) → List ℕ → Bool
-roomFor e z = all (λ m. leb (length (messagesOf (queuesOf z) m) + length (e m)) messages) names
+unfoldable pub roomForMore : (ℕ → List Tuple) → List ℕ → Bool
+roomForMore e z = all (λ m. leb (length (messagesOf (queuesOf z) m) + length (e m)) messages) names
 
 -- "ever": at the start and after each
 unfoldable pub neverPasses : List ℕ → (ℕ → List Tuple) → List Act → List ℕ → Bool
-neverPasses t e [] z = roomFor e z
-neverPasses t e (a ∷ rest) z = roomFor e z && neverPasses t e rest (did t a z .state)
+neverPasses t e [] z = roomForMore e z
+neverPasses t e (a ∷ rest) z = roomForMore e z && neverPasses t e rest (did t a z .state)
 
 -- RECORDS THAT AGREE with a state, which is as long as its type says
 pub record Agrees (t z : List ℕ) (rs : List (List ℕ)) : Type 0 where
@@ -157,8 +157,8 @@ pub record Agrees (t z : List ℕ) (rs : List (List ℕ)) : Type 0 where
   pub same : rs ≡ counted t (instancesOf z)
 
 -- what the type of lent records says of each
-abbrev pub Records : List (List ℕ) → Type 0
-Records rs = (p : ℕ) → p < length rs → length (recordAt rs p) ≡ 3
+abbrev pub RecordsOfThree : List (List ℕ) → Type 0
+RecordsOfThree rs = (p : ℕ) → p < length rs → length (recordAt rs p) ≡ 3
 
 -- THE ROUND TRIP: what the type of a lent table says of its words
 pub record Table (t : List ℕ) : Type 0 where

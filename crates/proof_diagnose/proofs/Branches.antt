@@ -25,9 +25,9 @@ use Rattle.check_occurrences.specs.Occurrences.{receivedCount, asReceived}
 use Rattle.check_model.specs.Checks.{Pool, poolReceives}
 use Rattle.draw_things.specs.Things.{oneMore, isNode, sort, within, source, target, kind, sequenceFlow, messageFlow, greatestNote}
 use Rattle.draw_kinds.specs.Counting.{targetIn, ofSort, countWith, firstWith}
-use Rattle.draw_faults.specs.Amiss.{isOfKind}
-use Rattle.draw_limits.specs.Numbers.{isElement, edgeOf, messageOf}
-use Rattle.draw_model.specs.Drawn.{withEdge, receivedBy, headOf, withBranch, exitBehind, exitBy, entryBy, leavingBy, byFlow, elementDrawn}
+use Rattle.draw_numbers.specs.Who.{isOfKind}
+use Rattle.draw_numbers.specs.Numbers.{isElement, edgeOf, messageOf}
+use Rattle.draw_model.specs.Drawn.{withEdge, receivedBy, headOf, withBranch, exitBehind, exitBy, enteringBy, leavingBy, byFlow, elementDrawn}
 use Rattle.draw_model.specs.Content.{processOf, poolDrawn}
 use Rattle.draw_diagnose.specs.Seats.{isOwnMessage}
 use Rattle.proof_map.proofs.KindLaws.{kind-drawn}
@@ -124,8 +124,8 @@ module _ (w : List ℕ) (n f : ℕ) (x : List ℕ) (long : Long x) where
       }
 
 module _ (t w : List ℕ) (n k : ℕ) (event : eqb (kind w k) kinds.eventBased ≡ true) where
-  entry-held : (c j : ℕ) (x : List ℕ) → Held c x → Held c (entryBy w k j x)
-  unfolding entryBy
+  entry-held : (c j : ℕ) (x : List ℕ) → Held c x → Held c (enteringBy w k j x)
+  unfolding enteringBy
   entry-held c j x o = choice (Held c) _ _ _ (entered c x (edgeOf w j) o) o
 
   exit-held : (c j : ℕ) (x : List ℕ) → Held c x → Held c (exitBy t w n k j x)
@@ -142,16 +142,16 @@ module _ (t w : List ℕ) (n k : ℕ) (event : eqb (kind w k) kinds.eventBased �
 
   stays : (c j : ℕ) (x : List ℕ) → Held c x → Held c (byFlow t w n k j x)
   unfolding byFlow leavingBy
-  stays c j x o = let e = entry-held c j x o in choice (Held c) _ _ _ (choice (Held c) _ _ _ (exit-held c j (entryBy w k j x) e) e) o
+  stays c j x o = let e = entry-held c j x o in choice (Held c) _ _ _ (choice (Held c) _ _ _ (exit-held c j (enteringBy w k j x) e) e) o
 
   goes-long : (j : ℕ) (x : List ℕ) → Long x → Long (byFlow t w n k j x)
   unfolding byFlow leavingBy
-  goes-long j x o = let e = entry-long t w n k j x o in choice Long _ _ _ (choice Long _ _ _ (exit-long j (entryBy w k j x) e) e) o
+  goes-long j x o = let e = entry-long t w n k j x o in choice Long _ _ _ (choice Long _ _ _ (exit-long j (enteringBy w k j x) e) e) o
 
   module _ (f : ℕ) (flow : ofSort sequenceFlow w f ≡ true) (from : eqb (source w f) k ≡ true) where
     begins : (x : List ℕ) → Long x → Held (receivedBy w n (target w f)) (byFlow t w n k f x)
     unfolding byFlow leavingBy if_then_else_
-    begins x o = rw (flow, from) (exit-new f (entryBy w k f x) (entry-long t w n k f x o))
+    begins x o = rw (flow, from) (exit-new f (enteringBy w k f x) (entry-long t w n k f x o))
 
     long-at : (m : ℕ) → Long (iter (byFlow t w n k) (headOf w n k) m)
     long-at m = iter-keeps (byFlow t w n k) (headOf w n k) Long m (λ j x h o. goes-long j x o) (head-long t w n k)

@@ -13,7 +13,8 @@ use Rattle.base_words.proofs.AllLaws.{all-at, all-of, and-left, and-right}
 use Rattle.base_words.proofs.PickLaws.{and-true}
 use Rattle.base_words.proofs.SeekLaws.{sought}
 use Rattle.draw_things.specs.Things.{room, place}
-use Rattle.draw_faults.specs.Amiss.{isAmiss, isRight, hasParticipants, hasPool, isDrawing}
+use Rattle.draw_faults.specs.Amiss.{isAmiss, isRight, isDrawing}
+use Rattle.draw_numbers.specs.Who.{hasParticipants, hasPool}
 use Rattle.draw_diagnose.specs.declared.Broken.{Broken}
 use Rattle.draw_diagnose.specs.Rules.{breaks, rulesOfThings, noPool, tooMany, firstBreaking, isBroken, firstBroken, brokenByAll, brokenIn}
 use Rattle.proof_diagnose.proofs.Listed.{breaks-amiss, amiss-breaks}

@@ -15,14 +15,14 @@ use Rattle.check_model.specs.Checks.{Pool, lowest}
 use Rattle.text_readers.specs.Reading.{excessive}
 use Rattle.text_read.specs.declared.Reading.{Reading}
 use Rattle.text_read.specs.Notation.{hasRoom, answerFor}
-use Rattle.xml_skip.specs.declared.Skipped.{Skipped}
-use Rattle.xml_skip.specs.declared.Skipped.the-variants.{Past, Fault}
+use Rattle.xml_skip.specs.declared.Reached.{Reached}
+use Rattle.xml_skip.specs.declared.Reached.the-variants.{Past, Fault}
 use Rattle.draw_things.specs.Things.{place}
 use Rattle.draw_walk.specs.Walk.{Walk}
 use Rattle.draw_faults.specs.Amiss.{isDrawing}
 use Rattle.draw_limits.specs.Excess.{firstBeyond, beyondAt}
 use Rattle.draw_model.specs.Content.{content}
-use Rattle.draw_read.specs.Drawings.{notRun, answer, checkedAs, meantBy, walked, thingsOf, judged, answered}
+use Rattle.draw_read.specs.Drawings.{notRun, answer, checkedAs, meantBy, walkedText, thingsOf, unlessFault, answered}
 use Rattle.draw_diagnose.specs.declared.Broken.{Broken}
 use Rattle.draw_diagnose.specs.declared.Diagnosis.{Diagnosis}
 use Rattle.draw_diagnose.specs.Rules.{brokenIn}
@@ -48,7 +48,7 @@ module _ (a : Reading) (t w : List ℕ) (n : ℕ) where
 
 pub diagnosed-number : (text : List ℕ) → diagnosed text .number ≡ answered text .number
 unfolding diagnosed
-diagnosed-number text = same-number (answered text) text (thingsOf text) (walked text .count)
+diagnosed-number text = same-number (answered text) text (thingsOf text) (walkedText text .count)
 
 -- an answer that is not 21
 abbrev Other : Reading → Type 0
@@ -78,13 +78,13 @@ module _ (text : List ℕ) where
   things = thingsOf text
 
   abbrev n : ℕ
-  n = walked text .count
+  n = walkedText text .count
 
   not-21 : isDrawing text things n ≡ true → Other (answered text)
-  unfolding answered judged
-  not-21 d = choice Other _ _ _ (λ e. omega (arith, e)) (go (walked text .end))
+  unfolding answered unlessFault
+  not-21 d = choice Other _ _ _ (λ e. omega (arith, e)) (go (walkedText text .end))
     where
-      go : (s : Skipped) → Other (judged s (meantBy text things n))
+      go : (s : Reached) → Other (unlessFault s (meantBy text things n))
       go (Past q) = drawn-other text things n d
       go (Fault q) = λ e. omega (arith, e)
 

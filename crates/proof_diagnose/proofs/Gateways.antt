@@ -20,8 +20,8 @@ use Rattle.base_table.specs.Table.{kindIn, exitCount}
 use Rattle.check_occurrences.specs.Occurrences.{conditionCount, conditionForm, isDefault, defaults, defaultOnce}
 use Rattle.check_model.specs.Checks.{Pool, check7}
 use Rattle.draw_things.specs.Things.{isNode, sort, within, kind, branch}
-use Rattle.draw_faults.specs.Amiss.{isOfKind, isSplit}
-use Rattle.draw_limits.specs.Numbers.{isElement}
+use Rattle.draw_numbers.specs.Who.{isOfKind, isSplit}
+use Rattle.draw_numbers.specs.Numbers.{isElement}
 use Rattle.draw_model.specs.Drawn.{elementDrawn}
 use Rattle.draw_model.specs.Content.{elementIf, elementsOf, processOf, poolDrawn}
 use Rattle.draw_diagnose.specs.Seats.{hasDefaults}

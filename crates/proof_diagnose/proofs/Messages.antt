@@ -28,9 +28,9 @@ use Rattle.check_occurrences.specs.Occurrences.{receivedCount, sentCount, asRec
 use Rattle.check_model.specs.Checks.{Pool, poolReceives, poolSends, notSentThere}
 use Rattle.draw_things.specs.Things.{oneMore, isNode, sort, within, source, target, kind, branch, messageFlow, greatestNote}
 use Rattle.draw_kinds.specs.Counting.{sourceIn, targetIn, isWith, countWith, firstWith, ofSort}
-use Rattle.draw_faults.specs.Amiss.{sends, receives, isSender, isReceiver}
-use Rattle.draw_limits.specs.Numbers.{isElement, edgeOf, firstEdgeOf, messageOf}
-use Rattle.draw_model.specs.Drawn.{withEdge, receivedBy, sentBy, withMessage, withForm, withTask, withFirst, headOf, exitBy, entryBy, leavingBy, byFlow, elementDrawn}
+use Rattle.draw_numbers.specs.Who.{sends, receives, isSender, isReceiver}
+use Rattle.draw_numbers.specs.Numbers.{isElement, edgeOf, firstEdgeOf, messageOf}
+use Rattle.draw_model.specs.Drawn.{withEdge, receivedBy, sentBy, withMessage, withForm, withTask, withFirst, headOf, exitBy, enteringBy, leavingBy, byFlow, elementDrawn}
 use Rattle.draw_model.specs.Content.{elementIf, elementsOf, processOf, poolDrawn}
 use Rattle.draw_diagnose.specs.Seats.{joinsOwn, isOwnMessage}
 use Rattle.proof_map.proofs.KindLaws.{kind-drawn}
@@ -112,8 +112,8 @@ module _ (t w : List ℕ) (n k : ℕ) where
   unfolding headOf withMessage
   head-long = choice Long _ _ _ (set-long _ _ _ bare-long) (choice Long _ _ _ (set-long _ _ _ bare-long) bare-long)
 
-  pub entry-long : (j : ℕ) (x : List ℕ) → Long x → Long (entryBy w k j x)
-  unfolding entryBy
+  pub entry-long : (j : ℕ) (x : List ℕ) → Long x → Long (enteringBy w k j x)
+  unfolding enteringBy
   entry-long j x o = choice Long _ _ _ (edge-long entriesPlace (edgeOf w j) x o) o
 
   -- a node that is no event gateway and no exclusive split keeps the message that its head has
@@ -121,8 +121,8 @@ module _ (t w : List ℕ) (n k : ℕ) where
     abbrev named : ℕ
     named = at (headOf w n k) (messagePlace 0)
 
-    entered : (j : ℕ) (x : List ℕ) → Kept named x → Kept named (entryBy w k j x)
-    unfolding entryBy
+    entered : (j : ℕ) (x : List ℕ) → Kept named x → Kept named (enteringBy w k j x)
+    unfolding enteringBy
     entered j x o = choice (Kept named) _ _ _ (entry named x (edgeOf w j) o) o
 
     left : (j : ℕ) (x : List ℕ) → Kept named x → Kept named (exitBy t w n k j x)
@@ -131,7 +131,7 @@ module _ (t w : List ℕ) (n k : ℕ) where
 
     by-flow : (j : ℕ) (x : List ℕ) → Kept named x → Kept named (byFlow t w n k j x)
     unfolding byFlow leavingBy
-    by-flow j x o = let e = entered j x o in choice (Kept named) _ _ _ (choice (Kept named) _ _ _ (left j (entryBy w k j x) e) e) o
+    by-flow j x o = let e = entered j x o in choice (Kept named) _ _ _ (choice (Kept named) _ _ _ (left j (enteringBy w k j x) e) e) o
 
     message-kept : at (elementDrawn t w n k) entriesPlace ≤ branches → at (elementDrawn t w n k) exitsPlace ≤ branches → messageName (elementDrawn t w n k) 0 ≡ named
     unfolding elementDrawn

@@ -20,8 +20,8 @@ use Rattle.check_model.specs.Checks.{Pool, check2, check3}
 use Rattle.text_ends.specs.Rewriting.{isEndSnd, endSends, unusedCount, roomFor, hasRoom}
 use Rattle.draw_things.specs.Things.{isNode, sort, within, kind, branch, participantMultiplicity}
 use Rattle.draw_kinds.specs.Counting.{withinIn, firstWith}
-use Rattle.draw_faults.specs.Amiss.{isOfKind}
-use Rattle.draw_limits.specs.Numbers.{countBefore, isElement, isOf, anElement, maximumOf}
+use Rattle.draw_numbers.specs.Who.{isOfKind}
+use Rattle.draw_numbers.specs.Numbers.{countBefore, isElement, isOf, anElement, maximumOf}
 use Rattle.draw_model.specs.Drawn.{elementDrawn}
 use Rattle.draw_model.specs.Content.{elementIf, elementsOf, limitOf, processOf, poolDrawn}
 use Rattle.draw_diagnose.specs.Seats.{isKindIn, countKind, isMisstarted, isMany, isUnasked}

@@ -18,13 +18,13 @@ use Rattle.check_model.specs.Checks.{Pool, check1, check2, check3, check4, chec
 use Rattle.text_readers.specs.Reading.{excessive}
 use Rattle.text_read.specs.declared.Reading.{Reading}
 use Rattle.text_read.specs.Notation.{answerFor}
-use Rattle.xml_skip.specs.declared.Skipped.{Skipped}
-use Rattle.xml_skip.specs.declared.Skipped.the-variants.{Past, Fault}
+use Rattle.xml_skip.specs.declared.Reached.{Reached}
+use Rattle.xml_skip.specs.declared.Reached.the-variants.{Past, Fault}
 use Rattle.draw_things.specs.Things.{place, within}
 use Rattle.draw_walk.specs.Walk.{Walk}
-use Rattle.draw_faults.specs.Amiss.{hasParticipants, isPool}
+use Rattle.draw_numbers.specs.Who.{hasParticipants, isPool}
 use Rattle.draw_model.specs.Content.{processOf, poolDrawn, poolIf, content}
-use Rattle.draw_read.specs.Drawings.{notRun, checkedAs, meantBy, walked, thingsOf, judged, answered}
+use Rattle.draw_read.specs.Drawings.{notRun, checkedAs, meantBy, walkedText, thingsOf, unlessFault, answered}
 use Rattle.draw_diagnose.specs.declared.Diagnosis.{Diagnosis}
 use Rattle.draw_diagnose.specs.Seats.{isMisstarted, isUnasked, hasDefaults, isPoolSeat, isSeat, firstSeat, seatAt}
 use Rattle.draw_diagnose.specs.Diagnosis.{checkBroken, told, diagnosedBy, diagnosed}
@@ -196,7 +196,7 @@ module _ (text : List ℕ) where
   things = thingsOf text
 
   abbrev n : ℕ
-  n = walked text .count
+  n = walkedText text .count
 
   abbrev Beside : Reading → Type 0
   Beside r = r .number ≡ checkBroken → r .beside ≡ lowest (content text things n)
@@ -210,10 +210,10 @@ module _ (text : List ℕ) where
   meant = choice Beside _ _ _ (λ e. absurd (omega (arith, e))) (choice Beside _ _ _ (λ e. absurd (omega (arith, e))) checked)
 
   beside-4 : Beside (answered text)
-  unfolding answered judged
-  beside-4 = choice Beside _ _ _ (λ e. absurd (omega (arith, e))) (go (walked text .end))
+  unfolding answered unlessFault
+  beside-4 = choice Beside _ _ _ (λ e. absurd (omega (arith, e))) (go (walkedText text .end))
     where
-      go : (s : Skipped) → Beside (judged s (meantBy text things n))
+      go : (s : Reached) → Beside (unlessFault s (meantBy text things n))
       go (Past q) = meant
       go (Fault q) = λ e. absurd (omega (arith, e))
 

@@ -13,14 +13,14 @@ use Rattle.text_readers.specs.Reading.{excessive}
 use Rattle.check_model.specs.Checks.{Pool, lowest}
 use Rattle.text_read.specs.declared.Reading.{Reading}
 use Rattle.text_read.specs.Notation.{tableOf, rewritten, hasRoom, answerFor}
-use Rattle.xml_skip.specs.declared.Skipped.{Skipped}
-use Rattle.xml_skip.specs.declared.Skipped.the-variants.{Past, Fault}
+use Rattle.xml_skip.specs.declared.Reached.{Reached}
+use Rattle.xml_skip.specs.declared.Reached.the-variants.{Past, Fault}
 use Rattle.draw_faults.specs.Amiss.{isDrawing}
 use Rattle.draw_limits.specs.Excess.{firstBeyond, beyondAt}
 use Rattle.draw_model.specs.Content.{content}
-use Rattle.draw_read.specs.Drawings.{drawingMost, tooLong, notXml, notRun, answer, checkedAs, meantBy, walked, thingsOf, judged, answered, filledBy, drawInto}
+use Rattle.draw_read.specs.Drawings.{drawingMost, tooLong, notXml, notRun, answer, checkedAs, meantBy, walkedText, thingsOf, unlessFault, answered, filledBy, drawInto}
 use Rattle.proof_steps.proofs.Choices.{passed}
-use Rattle.proof_demands.specs.Demands.{among}
+use Rattle.proof_demands.specs.Demands.{isOneOf}
 use Rattle.proof_drawings.proofs.TermLaws.{either}
 
 -- THE NUMBERS
@@ -28,13 +28,13 @@ abbrev pub drawNumbers : List ℕ
 drawNumbers = 0 ∷ tooLong ∷ excessive ∷ 4 ∷ notXml ∷ notRun ∷ 28 ∷ []
 
 record Told (a : Reading) : Type 0 where
-  pub number : among drawNumbers (a .number) ≡ true
+  pub number : isOneOf drawNumbers (a .number) ≡ true
 
-told : (n p : ℕ) → among drawNumbers n ≡ true → Told (answer n p)
+told : (n p : ℕ) → isOneOf drawNumbers n ≡ true → Told (answer n p)
 told n p h = record { number = h }
 
 checked-told : (ps : List Pool) → Told (checkedAs ps)
-unfolding checkedAs answerFor among if_then_else_
+unfolding checkedAs answerFor isOneOf if_then_else_
 checked-told ps = go (eqb (lowest ps) 0) (each hasRoom ps)
   where
     go : (b c : Bool) → Told (answer (if b then (if c then 0 else 28) else 4) (lowest ps))
@@ -42,20 +42,20 @@ checked-told ps = go (eqb (lowest ps) 0) (each hasRoom ps)
     go true false = record { number = refl }
     go false c = record { number = refl }
 
-too-long : among drawNumbers tooLong ≡ true
-unfolding among if_then_else_
+too-long : isOneOf drawNumbers tooLong ≡ true
+unfolding isOneOf if_then_else_
 too-long = refl
 
-beyond-told : among drawNumbers excessive ≡ true
-unfolding among if_then_else_
+beyond-told : isOneOf drawNumbers excessive ≡ true
+unfolding isOneOf if_then_else_
 beyond-told = refl
 
-xml-told : among drawNumbers notXml ≡ true
-unfolding among if_then_else_
+xml-told : isOneOf drawNumbers notXml ≡ true
+unfolding isOneOf if_then_else_
 xml-told = refl
 
-run-told : among drawNumbers notRun ≡ true
-unfolding among if_then_else_
+run-told : isOneOf drawNumbers notRun ≡ true
+unfolding isOneOf if_then_else_
 run-told = refl
 
 meant-told : (text w : List ℕ) (n : ℕ) → Told (meantBy text w n)
@@ -64,18 +64,18 @@ meant-told text w n =
     either Told _ _ _ (told notRun 0 run-told)
     (either Told _ _ _ (told excessive _ beyond-told) (checked-told (content text w n)))
 
-judged-told : (e : Skipped) (a : Reading) → Told a → Told (judged e a)
-unfolding judged
+judged-told : (e : Reached) (a : Reading) → Told a → Told (unlessFault e a)
+unfolding unlessFault
 judged-told (Past q) a h = h
 judged-told (Fault q) a h = told notXml q xml-told
 
 answered-told : (text : List ℕ) → Told (answered text)
 unfolding answered
-answered-told text = either Told _ _ _ (told tooLong 0 too-long) (judged-told (walked text .end) _ (meant-told text (thingsOf text) (walked text .count)))
+answered-told text = either Told _ _ _ (told tooLong 0 too-long) (judged-told (walkedText text .end) _ (meant-told text (thingsOf text) (walkedText text .count)))
 
 -- "1, 20 .., 21, 3 .., 4 ..", 28, else 0; a number other than 0 leaves the table as it was
 module _ (text t : List ℕ) where
-  pub draw-number : among drawNumbers (drawInto text t .number) ≡ true
+  pub draw-number : isOneOf drawNumbers (drawInto text t .number) ≡ true
   unfolding drawInto filledBy
   draw-number = answered-told text .number
 
@@ -125,26 +125,26 @@ module _ (text w : List ℕ) (n : ℕ) where
       go true true d q e = absurd (none-more 2 (unfold if_then_else_ in e))
       go true false d q e = unfold if_then_else_ in checked-clear d q e
 
-pub answered-clear : (text : List ℕ) → answered text .number ≡ 0 → Clear text (thingsOf text) (walked text .count) (answered text)
+pub answered-clear : (text : List ℕ) → answered text .number ≡ 0 → Clear text (thingsOf text) (walkedText text .count) (answered text)
 unfolding answered
-answered-clear text = go (ltb drawingMost (length text)) (walked text .end)
+answered-clear text = go (ltb drawingMost (length text)) (walkedText text .end)
   where
     w : List ℕ
     w = thingsOf text
 
     n : ℕ
-    n = walked text .count
+    n = walkedText text .count
 
-    go : (b : Bool) (e : Skipped) → (if b then answer tooLong 0 else judged e (meantBy text w n)) .number ≡ 0 → Clear text w n (if b then answer tooLong 0 else judged e (meantBy text w n))
+    go : (b : Bool) (e : Reached) → (if b then answer tooLong 0 else unlessFault e (meantBy text w n)) .number ≡ 0 → Clear text w n (if b then answer tooLong 0 else unlessFault e (meantBy text w n))
     go true e h = absurd (none-more 0 (unfold if_then_else_ in h))
-    go false (Past q) h = unfold if_then_else_ judged in meant-clear text w n h
-    go false (Fault q) h = absurd (none-more 19 (unfold if_then_else_ judged in h))
+    go false (Past q) h = unfold if_then_else_ unlessFault in meant-clear text w n h
+    go false (Fault q) h = absurd (none-more 19 (unfold if_then_else_ unlessFault in h))
 
 -- a table that was drawn is that of the content as it is rewritten
-pub drawn-is : (text t : List ℕ) → drawInto text t .number ≡ 0 → drawInto text t ≡ record { number = 0; beside = 0; table = tableOf (map rewritten (content text (thingsOf text) (walked text .count))) }
+pub drawn-is : (text t : List ℕ) → drawInto text t .number ≡ 0 → drawInto text t ≡ record { number = 0; beside = 0; table = tableOf (map rewritten (content text (thingsOf text) (walkedText text .count))) }
 unfolding drawInto filledBy if_then_else_
-drawn-is text t h = ap (λ (a : Reading). filledBy a (content text (thingsOf text) (walked text .count)) t) (answered-clear text h .is)
+drawn-is text t h = ap (λ (a : Reading). filledBy a (content text (thingsOf text) (walkedText text .count)) t) (answered-clear text h .is)
 
-pub drawn-clear : (text t : List ℕ) → drawInto text t .number ≡ 0 → Clear text (thingsOf text) (walked text .count) (answered text)
+pub drawn-clear : (text t : List ℕ) → drawInto text t .number ≡ 0 → Clear text (thingsOf text) (walkedText text .count) (answered text)
 unfolding drawInto filledBy
 drawn-clear text t h = answered-clear text h

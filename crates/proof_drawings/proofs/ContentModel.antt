@@ -23,13 +23,14 @@ use Rattle.check_model.specs.Checks.{Pool, check1, check2, lowest}
 use Rattle.text_passes.proofs.FillLaws.{AtMost, none, some, Block, Fits}
 use Rattle.draw_things.specs.Things.{room, isNode, sort, within, source, participant, participantMultiplicity, process, greatestNote, oneMore}
 use Rattle.draw_kinds.specs.Counting.{withinIn, isWith, firstWith, ofSort}
-use Rattle.draw_faults.specs.Amiss.{hasParticipants, isPool, hasPool, isRight, isDrawing}
-use Rattle.draw_limits.specs.Numbers.{countBefore, isElement, maximumOf}
+use Rattle.draw_faults.specs.Amiss.{isRight, isDrawing}
+use Rattle.draw_numbers.specs.Who.{hasParticipants, isPool, hasPool}
+use Rattle.draw_numbers.specs.Numbers.{countBefore, isElement, maximumOf}
 use Rattle.draw_limits.specs.Excess.{isLimit, isFifthPool, isNodeBeyond, isFlowBeyond, isMessageBeyond, isMaximumBeyond, isBeyond, firstBeyond}
 use Rattle.draw_model.specs.Drawn.{elementDrawn}
 use Rattle.draw_model.specs.Content.{elementIf, elementsOf, limitOf, processOf, numberOf, poolDrawn, poolIf, content}
 use Rattle.draw_read.proofs.RoomLaws.{content-fits}
-use Rattle.proof_ends.proofs.Models.{Every, Right, Fit, Model}
+use Rattle.proof_roundtrip.proofs.EndModels.{Every, Right, Fit, Model}
 use Rattle.proof_drawings.proofs.TestLaws.{and-then, or-left, or-right, not-not, more-low, more-high}
 use Rattle.proof_drawings.proofs.SmallLaws.{element-right}
 use Rattle.proof_drawings.proofs.SettledLaws.{Settled}

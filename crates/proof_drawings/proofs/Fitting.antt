@@ -31,10 +31,11 @@ use Rattle.draw_kinds.specs.Counting.{column, sourceIn, targetIn, withinIn, isW
 use Rattle.draw_kinds.specs.Roles.{flowsIn, flowsOut, kindDrawn}
 use Rattle.draw_conditions.specs.declared.Condition.{Condition}
 use Rattle.draw_conditions.specs.Conditions.{conditionAt, absent, foreign}
-use Rattle.draw_faults.specs.Amiss.{hasParticipants, hasPool, isStrange, isOfKind, isOfNoKind, hasWrongDefault, isSplit, sends, receives, isSender, isReceiver, isUnheard, isUntold, isLoose, isWrongBranch, isSecondCondition, isWrongForm, isWrongCondition, isWrongMessage, amissAsFlow, amissAsNode, amissAsPool, isRepeated, isAmiss, isRight, isDrawing}
-use Rattle.draw_limits.specs.Numbers.{countBefore, isElement, isTask, isEdge, isStart, anElement, aTask, anEdge, isOf, taskOf, edgeOf, firstEdgeOf, messageOf, defaultOf}
+use Rattle.draw_faults.specs.Amiss.{isStrange, isOfNoKind, hasWrongDefault, isUnheard, isUntold, isLoose, isWrongBranch, isSecondCondition, isWrongForm, isWrongCondition, isWrongMessage, amissAsFlow, amissAsNode, amissAsPool, isRepeated, isAmiss, isRight, isDrawing}
+use Rattle.draw_numbers.specs.Who.{hasParticipants, hasPool, isOfKind, isSplit, sends, receives, isSender, isReceiver}
+use Rattle.draw_numbers.specs.Numbers.{countBefore, isElement, isTask, isEdge, isStart, anElement, aTask, anEdge, isOf, taskOf, edgeOf, firstEdgeOf, messageOf, defaultOf}
 use Rattle.draw_limits.specs.Excess.{isFifthPool, isOneTooMany, isStartBeyond, isNodeBeyond, isNinth, isFlowBeyond, isUsed, isMessageBeyond, isMaximumBeyond, isConditionBeyond, isBeyond, firstBeyond}
-use Rattle.draw_model.specs.Drawn.{withEdge, withCondition, receivedBy, sentBy, withMessage, withForm, withTask, withFirst, headOf, saidOrTrue, guardedBy, withGuard, exitBehind, withBranch, exitBy, entryBy, leavingBy, byFlow, elementDrawn}
+use Rattle.draw_model.specs.Drawn.{withEdge, withCondition, receivedBy, sentBy, withMessage, withForm, withTask, withFirst, headOf, saidOrTrue, guardedBy, withGuard, exitBehind, withBranch, exitBy, enteringBy, leavingBy, byFlow, elementDrawn}
 use Rattle.proof_roundtrip.proofs.BlankLaws.{zero-word}
 use Rattle.proof_roundtrip.proofs.KindLaws.{of-kind}
 use Rattle.proof_drawings.proofs.TestLaws.{and-then, or-left, or-right, not-not, more-low, more-high}
@@ -630,8 +631,8 @@ module _ (t w : List ℕ) (n : ℕ) (drawn : isDrawing t w n ≡ true) (beyond :
       left i o x r s true e = exit-shape j h flow (eqb-true (source w j) k e) i o x r s
       left i o x r s false e = subst (λ (v : ℕ). Shape c T D i v (used C v) (used M v) x) (let z : o ≡ o + 0 = omega arith in z) s
 
-      next-flow : (x : List ℕ) → After j x → After (suc j) (leavingBy t w n k j (entryBy w k j x))
-      unfolding leavingBy entryBy
+      next-flow : (x : List ℕ) → After j x → After (suc j) (leavingBy t w n k j (enteringBy w k j x))
+      unfolding leavingBy enteringBy
       next-flow x s =
           let p = count-next sequenceFlow targetIn k w j in
           let q = count-next sequenceFlow sourceIn k w j in

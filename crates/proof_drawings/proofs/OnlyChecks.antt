@@ -9,7 +9,7 @@ use lib.Dec.{eqb, leb, ltb}
 use lib.ListN.{length}
 use borrow.Author.Tests.{eqb-true, eqb-false, eq-eqb, ne-eqb, le-leb, leb-true}
 use Rattle.base_words.specs.All.{all}
-use Rattle.base_words.specs.Counts.{branches, poolNumbers, tasks, named}
+use Rattle.base_words.specs.Counts.{branches, poolNumbers, tasks, fieldsNamed}
 use Rattle.base_words.specs.Each.{each, total, joined}
 use Rattle.base_words.specs.Pick.{if_then_else_}
 use Rattle.base_words.specs.Sum.{sum, oneIf, hit}
@@ -25,12 +25,13 @@ use Rattle.check_limits.proofs.SameLaws.{used-most}
 use Rattle.check_occurrences.specs.Occurrences.{receivedCount, asTask, bindsField, timesBound, templateOnce, boundOnce}
 use Rattle.check_model.specs.Checks.{Pool, check1, check5, check8}
 use Rattle.draw_things.specs.Things.{room, isNode, sort, within, kind, oneMore}
-use Rattle.draw_faults.specs.Amiss.{hasParticipants, isPool, isDrawing}
-use Rattle.draw_limits.specs.Numbers.{countBefore, isElement, isTask, aTask, isOf, taskOf}
+use Rattle.draw_faults.specs.Amiss.{isDrawing}
+use Rattle.draw_numbers.specs.Who.{hasParticipants, isPool}
+use Rattle.draw_numbers.specs.Numbers.{countBefore, isElement, isTask, aTask, isOf, taskOf}
 use Rattle.draw_limits.specs.Excess.{firstBeyond}
 use Rattle.draw_model.specs.Drawn.{elementDrawn}
 use Rattle.draw_model.specs.Content.{elementIf, elementsOf, processOf, numberOf, poolDrawn, poolIf, content}
-use Rattle.proof_ends.proofs.Models.{Every}
+use Rattle.proof_roundtrip.proofs.EndModels.{Every}
 use Rattle.proof_roundtrip.proofs.KindLaws.{of-kind}
 use Rattle.proof_drawings.proofs.TestLaws.{more-is}
 use Rattle.proof_drawings.proofs.SettledLaws.{Settled}
@@ -104,7 +105,7 @@ times-none y j d z = ap (sum (λ i. bindsField d (itemAt y j i))) z
 
 bound-none : (y : List ℕ) → ((j : ℕ) → j < receivedCount y → messageLength y j ≡ 0) → boundOnce y ≡ true
 unfolding boundOnce templateOnce
-bound-none y z = all-of (templateOnce y) (receivedCount y) (λ j h. all-of (λ d. leb (timesBound y j d) 1) named (λ d u. le-leb (timesBound y j d) 1 (let s = times-none y j d (z j h) in omega (arith, s))))
+bound-none y z = all-of (templateOnce y) (receivedCount y) (λ j h. all-of (λ d. leb (timesBound y j d) 1) fieldsNamed (λ d u. le-leb (timesBound y j d) 1 (let s = times-none y j d (z j h) in omega (arith, s))))
 
 low-receives : (c : ℕ) → 0 < c → c < 16 → kindOf c .receives ≤ many
 unfolding all kindOf

@@ -15,8 +15,8 @@ use Rattle.base_words.specs.Text.{bytes}
 use Rattle.base_words.specs.Words.{at}
 use Rattle.base_words.proofs.AllLaws.{and-left, and-right}
 use Rattle.base_words.proofs.IterLaws.{iter-keeps}
-use Rattle.xml_skip.specs.declared.Skipped.{Skipped}
-use Rattle.xml_skip.specs.declared.Skipped.the-variants.{Past, Fault}
+use Rattle.xml_skip.specs.declared.Reached.{Reached}
+use Rattle.xml_skip.specs.declared.Reached.the-variants.{Past, Fault}
 use Rattle.xml_skip.specs.declared.Part.{Part}
 use Rattle.xml_skip.specs.declared.Part.the-variants.{Element, Close, On, Fault as PartFault}
 use Rattle.xml_skip.specs.declared.Tag.{Tag}
@@ -26,9 +26,9 @@ use Rattle.xml_document.specs.Around.{rootAt, lastFrom}
 use Rattle.draw_things.specs.Things.{nothing, definitions, collaboration, participant, participantMultiplicity, process, stranger, room, blockWords, sortPlace, placePlace, withinPlace, sourcePlace, targetPlace, sort, within, greatestNote, narrow, oneMore, added}
 use Rattle.draw_things.specs.Names.{Row, rows, unknown, rowOf, isEvent, family, namedIn, namedAt, drawsAnother, drawnAs}
 use Rattle.draw_walk.specs.declared.Outer.{Outer}
-use Rattle.draw_walk.specs.Walk.{Walk, told, walked, entered, noted, counted, outer, Content, byTag, thingBy, byEnd, behind, byPart, contentBy, contentIn, contentAt, thingAt, walk}
-use Rattle.draw_links.specs.Links.{joined, owned, linked, links}
-use Rattle.draw_kinds.specs.Roles.{settled, roles}
+use Rattle.draw_walk.specs.Walk.{Walk, walkTold, walked, entered, noted, counted, outer, Content, byTag, thingBy, byEnd, walkOn, byPart, contentBy, contentIn, contentAt, thingAt, walk}
+use Rattle.draw_links.specs.Links.{flowJoined, owned, linked, links}
+use Rattle.draw_kinds.specs.Roles.{kindSettled, roles}
 use Rattle.draw_read.specs.Drawings as drawings
 use Rattle.proof_roundtrip.proofs.BlankLaws.{zero-word}
 use Rattle.proof_drawings.proofs.TestLaws.{more-is}
@@ -254,7 +254,7 @@ module _ (s p k : ℕ) (w : List ℕ) (n : ℕ) (sound : Sound w n) where
 -- THE WALK, where what walks content keeps this
 module _ (t : List ℕ) (C : Content) (on : (o : Outer) (q : ℕ) (w : List ℕ) (n : ℕ) → Sound w n → (o .sort ≡ participant → Stands (o .thing) w n) → Kept w n (C o q w n)) where
   by-tag : (g : Tag) (o : Outer) (w : List ℕ) (n : ℕ) (v : List ℕ) (m : ℕ) → Sound v m → Grown w n v m → (o .sort ≡ participant → Stands (o .thing) v m) → Kept w n (byTag g (λ q. C o q v m) v m)
-  unfolding byTag told
+  unfolding byTag walkTold
   by-tag (Open q) o w n v m s g h = further w n v m (C o q v m) g (on o q v m s h)
   by-tag (Empty q) o w n v m s g h = record { sound = s; grown = g }
   by-tag (TagFault q) o w n v m s g h = record { sound = s; grown = g }
@@ -265,29 +265,29 @@ module _ (t : List ℕ) (C : Content) (on : (o : Outer) (q : ℕ) (w : List ℕ)
       let x = noted-kept d p k w n sound h in
       by-tag (entered s t p) (outer s n p) w n (noted d p k w n) (counted d n) (x .sound-now) (x .grown-now) (λ e. x .stands-now (q e))
 
-  behind-kept : (o : Outer) (w : List ℕ) (n : ℕ) (r : Walk) → Kept w n r → (o .sort ≡ participant → Stands (o .thing) w n) → Kept w n (behind r (C o))
-  unfolding behind
+  behind-kept : (o : Outer) (w : List ℕ) (n : ℕ) (r : Walk) → Kept w n r → (o .sort ≡ participant → Stands (o .thing) w n) → Kept w n (walkOn r (C o))
+  unfolding walkOn
   behind-kept o w n r k h = go (r .end)
     where
-      go : (e : Skipped) → Kept w n (byEnd e (λ q. C o q (r .words) (r .count)) r)
+      go : (e : Reached) → Kept w n (byEnd e (λ q. C o q (r .words) (r .count)) r)
       go (Past q) = unfold byEnd in further w n (r .words) (r .count) _ (k .grown) (on o q (r .words) (r .count) (k .sound) (λ e. stays (o .thing) w n (r .words) (r .count) (k .grown) (h e)))
       go (Fault q) = unfold byEnd in k
 
   by-part : (g : Part) (r : Walk) (o : Outer) (w : List ℕ) (n : ℕ) → Sound w n → Kept w n r → (o .sort ≡ participant → Stands (o .thing) w n) → Kept w n (byPart g r (C o) w n)
-  unfolding byPart told
+  unfolding byPart walkTold
   by-part Element r o w n s k h = behind-kept o w n r k h
   by-part (Close q) r o w n s k h = still w n _ s refl refl
   by-part (On q) r o w n s k h = on o q w n s h
   by-part (PartFault q) r o w n s k h = still w n _ s refl refl
 
   content-kept : (o : Outer) (p : ℕ) (w : List ℕ) (n : ℕ) → Sound w n → (o .sort ≡ participant → Stands (o .thing) w n) → Kept w n (contentBy C t o p w n)
-  unfolding contentBy told
+  unfolding contentBy walkTold
   content-kept o p w n s h =
       either (Kept w n) _ _ _ (still w n _ s refl refl)
       (by-part (partAt t (o .tag) p) (thingBy C (namedAt (o .sort) t p) (drawnAs (namedAt (o .sort) t p) (o .sort) t p) t (o .thing) p w n) o w n s (thing-kept (namedAt (o .sort) t p) (drawnAs (namedAt (o .sort) t p) (o .sort) t p) (o .thing) p w n s (λ e. h (drawn-as (o .sort) t p e)) (drawn-participant (o .sort) t p)) h)
 
 in-kept : (m : ℕ) (t : List ℕ) (o : Outer) (p : ℕ) (w : List ℕ) (n : ℕ) → Sound w n → (o .sort ≡ participant → Stands (o .thing) w n) → Kept w n (contentIn m t o p w n)
-unfolding contentIn told
+unfolding contentIn walkTold
 in-kept zero t o p w n s h = still w n _ s refl refl
 in-kept (suc m) t o p w n s h = content-kept t (contentIn m t) (in-kept m t) o p w n s h
 
@@ -299,15 +299,15 @@ unfolding thingAt contentAt
 root-kept t p w s = thing-kept t (contentIn (length t) t) (in-kept (length t) t) definitions definitions 0 p w 0 s (λ e. absurd (apart definitions participantMultiplicity refl e)) (λ e. absurd (apart definitions participant refl e))
 
 walk-sound : (t w : List ℕ) → Sound w 0 → Sound (walk t w .words) (walk t w .count)
-unfolding walk told
+unfolding walk walkTold
 walk-sound t w s = go (rootAt (bytes "definitions") t)
   where
-    last : (r : Walk) (e : Skipped) → Sound (r .words) (r .count) → Sound (byEnd e (λ q. record { end = lastFrom t q; count = r .count; words = r .words }) r .words) (byEnd e (λ q. record { end = lastFrom t q; count = r .count; words = r .words }) r .count)
+    last : (r : Walk) (e : Reached) → Sound (r .words) (r .count) → Sound (byEnd e (λ q. record { end = lastFrom t q; count = r .count; words = r .words }) r .words) (byEnd e (λ q. record { end = lastFrom t q; count = r .count; words = r .words }) r .count)
     last r (Past q) k = unfold byEnd in k
     last r (Fault q) k = unfold byEnd in k
 
-    go : (e : Skipped) → Sound (byEnd e (λ p. behind (thingAt definitions definitions t 0 p w 0) (λ q v n. told (walked (lastFrom t q) n) v)) (told (walked (rootAt (bytes "definitions") t) 0) w) .words) (byEnd e (λ p. behind (thingAt definitions definitions t 0 p w 0) (λ q v n. told (walked (lastFrom t q) n) v)) (told (walked (rootAt (bytes "definitions") t) 0) w) .count)
-    go (Past p) = unfold byEnd behind in last (thingAt definitions definitions t 0 p w 0) (thingAt definitions definitions t 0 p w 0 .end) (root-kept t p w s .sound)
+    go : (e : Reached) → Sound (byEnd e (λ p. walkOn (thingAt definitions definitions t 0 p w 0) (λ q v n. walkTold (walked (lastFrom t q) n) v)) (walkTold (walked (rootAt (bytes "definitions") t) 0) w) .words) (byEnd e (λ p. walkOn (thingAt definitions definitions t 0 p w 0) (λ q v n. walkTold (walked (lastFrom t q) n) v)) (walkTold (walked (rootAt (bytes "definitions") t) 0) w) .count)
+    go (Past p) = unfold byEnd walkOn in last (thingAt definitions definitions t 0 p w 0) (thingAt definitions definitions t 0 p w 0 .end) (root-kept t p w s .sound)
     go (Fault q) = unfold byEnd in s
 
 -- ENDS AND KINDS are stored elsewhere
@@ -327,27 +327,27 @@ put-target : (w : List ℕ) (k v : ℕ) → Placed w → Placed (set w (targetPl
 put-target w k v h = put-placed w (targetPlace k) v (λ j q. omega (arith, q)) (λ j q. omega (arith, q)) h
 
 linked-placed : (t : List ℕ) (n k : ℕ) (w : List ℕ) → Placed w → Placed (linked t n k w)
-unfolding linked joined owned
+unfolding linked flowJoined owned
 linked-placed t n k w h = either Placed _ _ _ (put-target _ k _ (put-source w k _ h)) (either Placed _ _ _ (put-source w k _ h) h)
 
 links-placed : (t : List ℕ) (n : ℕ) (w : List ℕ) → Placed w → Placed (links t n w)
 unfolding links
 links-placed t n w h = iter-keeps (linked t n) w Placed n (λ k v l p. linked-placed t n k v p) h
 
-settled-placed : (n k : ℕ) (w : List ℕ) → Placed w → Placed (settled n k w)
-unfolding settled
+settled-placed : (n k : ℕ) (w : List ℕ) → Placed w → Placed (kindSettled n k w)
+unfolding kindSettled
 settled-placed n k w h = either Placed _ _ _ (put-source w k _ h) h
 
 roles-placed : (n : ℕ) (w : List ℕ) → Placed w → Placed (roles n w)
 unfolding roles
-roles-placed n w h = iter-keeps (settled n) w Placed n (λ k v l p. settled-placed n k v p) h
+roles-placed n w h = iter-keeps (kindSettled n) w Placed n (λ k v l p. settled-placed n k v p) h
 
 pub things-placed : (t : List ℕ) → Placed (drawings.thingsOf t)
-unfolding drawings.thingsOf drawings.settledBy drawings.walked
+unfolding drawings.thingsOf drawings.settledBy drawings.walkedText
 things-placed t =
     let s = walk-sound t (replicate blockWords 0) empty-sound in
     roles-placed _ _ (links-placed t _ _ (record { inside = λ k e. s .inside k e .1 }))
 
-pub things-settled : (t : List ℕ) → drawings.walked t .count ≤ room → Settled (drawings.thingsOf t) (drawings.walked t .count)
-unfolding drawings.thingsOf drawings.settledBy drawings.walked
+pub things-settled : (t : List ℕ) → drawings.walkedText t .count ≤ room → Settled (drawings.thingsOf t) (drawings.walkedText t .count)
+unfolding drawings.thingsOf drawings.settledBy drawings.walkedText
 things-settled t few = settled-things t _ (walk t (replicate blockWords 0) .words) (walk-sound t (replicate blockWords 0) empty-sound .long) few

@@ -7,7 +7,7 @@ use native.Mathlib.Omega.{arith}
 use lib.Dec.{eqb, leb, ltb}
 use borrow.Author.Tests.{ltb-true, lt-ltb}
 use Rattle.base_words.specs.All.{all}
-use Rattle.base_words.specs.Counts.{fields, stores, named}
+use Rattle.base_words.specs.Counts.{fields, stores, fieldsNamed}
 use Rattle.base_words.specs.Pick.{if_then_else_}
 use Rattle.base_words.proofs.PickLaws.{and-true}
 use Rattle.base_kinds.specs.Kinds.{many}
@@ -23,17 +23,17 @@ use Rattle.draw_conditions.specs.declared.Condition.{Condition}
 use Rattle.draw_conditions.specs.declared.spelled.Side.{Side}
 use Rattle.draw_conditions.specs.declared.spelled.Class.the-variants.{Blanks}
 use Rattle.draw_conditions.specs.Saying.{Said, saidAt}
-use Rattle.draw_conditions.specs.Words.{behind, letters, placeOf, sideOf, sideAt}
+use Rattle.draw_conditions.specs.Words.{behind, letters, placeSaid, sideOf, sideAt}
 use Rattle.draw_conditions.specs.Conditions.{absent, foreign, bare, alone, both, formOf, second, joined, compared, conditionOf, conditionAt}
 use Rattle.proof_drawings.proofs.TermLaws.{either}
 
 -- OPERANDS: a field is one of those that may be named
 abbrev Low : Number → Type 0
-Low (Value v) = v < named
-Low TooLarge = 0 < named
-Low NotANumber = 0 < named
+Low (Value v) = v < fieldsNamed
+Low TooLarge = 0 < fieldsNamed
+Low NotANumber = 0 < fieldsNamed
 
-behind-low : (before count : ℕ) → before + count ≤ named → (r : Number) → Low (fieldBehind before count r)
+behind-low : (before count : ℕ) → before + count ≤ fieldsNamed → (r : Number) → Low (fieldBehind before count r)
 unfolding fieldBehind
 behind-low before count h (Value v) = go (ltb v count) refl
   where
@@ -52,9 +52,9 @@ TermFits o = operandFits (o .flag ∷ o .number ∷ []) ≡ true
 
 abbrev Held : Operand → Type 0
 Held (Constant v) = 0 ≤ v
-Held (Field f) = f < named
-Held OutOfRange = 0 < named
-Held NotAnOperand = 0 < named
+Held (Field f) = f < fieldsNamed
+Held OutOfRange = 0 < fieldsNamed
+Held NotAnOperand = 0 < fieldsNamed
 
 as-field : (r : Number) → Low r → Held (asField r)
 unfolding asField
@@ -75,13 +75,13 @@ operand-held word = either Held _ _ _ (as-field (fieldOf word) (field-low word))
 side-fits : (o : Operand) (place : ℕ) → Held o → TermFits (sideOf o place .term)
 unfolding sideOf operandFits if_then_else_
 side-fits (Constant v) place h = refl
-side-fits (Field f) place h = lt-ltb f named h
+side-fits (Field f) place h = lt-ltb f fieldsNamed h
 side-fits OutOfRange place h = refl
 side-fits NotAnOperand place h = refl
 
 at-fits : (s : List Said) → TermFits (sideAt s .term)
 unfolding sideAt
-at-fits s = side-fits (operandOf (letters s)) (placeOf s) (operand-held (letters s))
+at-fits s = side-fits (operandOf (letters s)) (placeSaid s) (operand-held (letters s))
 
 -- CONDITIONS: the words of one
 abbrev pub wordsOf : Condition → List ℕ

@@ -24,10 +24,10 @@ use Rattle.xml_markup.specs.declared.Attribute.{Attribute}
 use Rattle.xml_markup.specs.declared.Attribute.the-variants.{Is, Absent}
 use Rattle.xml_markup.specs.Spans.{localOf, attribute}
 use Rattle.draw_things.specs.Things.{room, blockWords, sourcePlace, targetPlace, sort, place, within, source, target, kind, isNode, messageFlow, participant, sequenceFlow, messageEventDefinition, terminateEventDefinition}
-use Rattle.draw_links.specs.Links.{ifIs, orNone, meant, named, joined, owned, linked, links}
+use Rattle.draw_links.specs.Links.{ifIs, orNone, meant, named, flowJoined, owned, linked, links}
 use Rattle.draw_kinds.specs.declared.Shape.{Shape}
 use Rattle.draw_kinds.specs.Counting.{column, withinIn, sourceIn, targetIn, isWith, countWith, firstWith}
-use Rattle.draw_kinds.specs.Roles.{flowsIn, flowsOut, messagesOf, terminatesOf, shapeOf, kindBy, caughtAs, kindDrawn, settled, roles}
+use Rattle.draw_kinds.specs.Roles.{flowsIn, flowsOut, messagesOf, terminatesOf, shapeOf, kindBy, caughtAs, kindDrawn, kindSettled, roles}
 use Rattle.proof_drawings.proofs.TermLaws.{either}
 
 pub record Settled (w : List ℕ) (n : ℕ) : Type 0 where
@@ -103,8 +103,8 @@ record After (w v : List ℕ) (n m : ℕ) : Type 0 where
   pub done : (k : ℕ) → k < m → isNode (sort w k) ≡ true → kind v k ≡ kindDrawn w n k
 
 module _ (w : List ℕ) (n : ℕ) (long : length w ≡ blockWords) (few : n ≤ room) where
-  next : (v : List ℕ) (m : ℕ) → m < n → After w v n m → After w (settled n m v) n (suc m)
-  unfolding settled
+  next : (v : List ℕ) (m : ℕ) → m < n → After w v n m → After w (kindSettled n m v) n (suc m)
+  unfolding kindSettled
   next v m l a = go (isNode (sort v m)) refl
     where
       again : isNode (sort w m) ≡ isNode (sort v m)
@@ -144,18 +144,18 @@ module _ (w : List ℕ) (n : ℕ) (long : length w ≡ blockWords) (few : n ≤ 
           stored k h s (no q) =
               getD-set-other v (sourcePlace m) (sourcePlace k) _ 0 (λ r. omega (arith, r, q)) ∙ a .done k (omega (arith, h, q)) s
 
-  after : (m : ℕ) → m ≤ n → After w (iter (settled n) w m) n m
+  after : (m : ℕ) → m ≤ n → After w (iter (kindSettled n) w m) n m
   unfolding iter
   after zero l =
       record { long = refl; same = record { sorts = λ j. refl; withins = λ j. refl; targets = λ j. refl; sources = λ j h. refl }; done = λ k h s. absurd (omega (arith, h)) }
-  after (suc m) l = next (iter (settled n) w m) m (omega (arith, l)) (after m (omega (arith, l)))
+  after (suc m) l = next (iter (kindSettled n) w m) m (omega (arith, l)) (after m (omega (arith, l)))
 
   roles-settled : ((k : ℕ) → k < n → sort w k ≡ sequenceFlow → target w k < n) → Settled (roles n w) n
   unfolding roles
   roles-settled ends =
       let a = after n (omega arith) in
       record {
-        kinds = λ k l h. a .done k l (ap isNode (sym (a .same .sorts k)) ∙ h) ∙ sym (drawn-same w (iter (settled n) w n) n (a .same) k);
+        kinds = λ k l h. a .done k l (ap isNode (sym (a .same .sorts k)) ∙ h) ∙ sym (drawn-same w (iter (kindSettled n) w n) n (a .same) k);
         targets = λ k l h. let e = a .same .targets k in let q = ends k l (sym (a .same .sorts k) ∙ h) in omega (arith, e, q);
       }
 
@@ -183,7 +183,7 @@ record Linked (w : List ℕ) (n m : ℕ) : Type 0 where
 
 module _ (t : List ℕ) (n : ℕ) where
   link : (w : List ℕ) (m : ℕ) → m < n → Linked w n m → Linked (linked t n m w) n (suc m)
-  unfolding linked joined owned
+  unfolding linked flowJoined owned
   link w m l a = go (eqb (sort w m) sequenceFlow) refl
     where
       more : (v : List ℕ) → length v ≡ length w → ((j : ℕ) → sort v j ≡ sort w j) → ((j : ℕ) → (j ≡ m → ⊥) → target v j ≡ target w j) → (sort w m ≡ sequenceFlow → target v m < n) → Linked v n (suc m)

@@ -23,12 +23,12 @@ use Rattle.draw_things.specs.Things.{greatestNote, oneMore, target, messageFlow
 use Rattle.draw_kinds.specs.Counting.{sourceIn, targetIn, isWith, firstWith, ofSort, countSort}
 use Rattle.draw_conditions.specs.declared.Term.{Term}
 use Rattle.draw_conditions.specs.declared.Condition.{Condition}
-use Rattle.draw_limits.specs.Numbers.{taskOf, edgeOf, firstEdgeOf, messageOf}
-use Rattle.draw_model.specs.Drawn.{withEdge, receivedBy, sentBy, withMessage, withForm, withTask, withFirst, headOf, withTerm, withCondition, saidOrTrue, guardedBy, withGuard, exitBehind, withBranch, exitBy, entryBy, leavingBy, byFlow, elementDrawn}
+use Rattle.draw_numbers.specs.Numbers.{taskOf, edgeOf, firstEdgeOf, messageOf}
+use Rattle.draw_model.specs.Drawn.{withEdge, receivedBy, sentBy, withMessage, withForm, withTask, withFirst, headOf, withTerm, withCondition, saidOrTrue, guardedBy, withGuard, exitBehind, withBranch, exitBy, enteringBy, leavingBy, byFlow, elementDrawn}
 use Rattle.draw_read.proofs.LongLaws.{element-long}
 use Rattle.proof_roundtrip.proofs.BlankLaws.{zero-word}
 use Rattle.proof_roundtrip.proofs.KindLaws.{kind-bounds}
-use Rattle.proof_ends.proofs.Models.{Right}
+use Rattle.proof_roundtrip.proofs.EndModels.{Right}
 use Rattle.proof_drawings.proofs.TermLaws.{either, Stored, Plain, plain-at}
 
 -- the words behind the kind
@@ -142,10 +142,10 @@ module _ (t w : List ℕ) (n : ℕ) (few : n ≤ greatest) where
       (either Behind _ _ _ (edge-small _ _ _ (number-small j) (guard-small k j _ x l)) (edge-small _ _ _ (number-small j) l))
 
   flow-small : (k j : ℕ) (x : List ℕ) → Behind x → Behind (byFlow t w n k j x)
-  unfolding byFlow leavingBy entryBy
+  unfolding byFlow leavingBy enteringBy
   flow-small k j x l = either Behind _ _ _ (either Behind _ _ _ (exit-small k j _ entered) entered) l
     where
-      entered : Behind (entryBy w k j x)
+      entered : Behind (enteringBy w k j x)
       entered = either Behind _ _ _ (edge-small _ _ _ (number-small j) l) l
 
   behind-small : (k : ℕ) → Behind (elementDrawn t w n k)

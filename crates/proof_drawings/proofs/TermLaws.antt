@@ -6,7 +6,7 @@ use mathlib.Core.List.{List, [], _∷_}
 use native.Mathlib.Omega.{arith}
 use lib.Dec.{leb, ltb}
 use borrow.Author.Tests.{leb-true, ltb-true}
-use Rattle.base_words.specs.Counts.{fields, stores, named}
+use Rattle.base_words.specs.Counts.{fields, stores, fieldsNamed}
 use Rattle.base_words.specs.Pick.{if_then_else_}
 use Rattle.base_words.specs.Words.{greatest}
 use Rattle.base_table.specs.Places.{always, default}
@@ -20,7 +20,7 @@ use Rattle.draw_conditions.specs.declared.Condition.{Condition}
 use Rattle.draw_conditions.specs.declared.spelled.Side.{Side}
 use Rattle.draw_conditions.specs.declared.spelled.Class.the-variants.{Blanks}
 use Rattle.draw_conditions.specs.Saying.{Said, saidAt}
-use Rattle.draw_conditions.specs.Words.{behind, letters, placeOf, sideOf, sideAt}
+use Rattle.draw_conditions.specs.Words.{behind, letters, placeSaid, sideOf, sideAt}
 use Rattle.draw_conditions.specs.Conditions.{absent, foreign, bare, alone, both, formOf, second, joined, compared, conditionOf, conditionAt}
 
 -- what both ways of a choice are, the choice is
@@ -67,7 +67,7 @@ as-field (Value v) h = h
 as-field TooLarge h = h
 as-field NotANumber h = h
 
-behind-bound : (before count : ℕ) → before + count ≤ named → (r : Number) → Bound (fieldBehind before count r)
+behind-bound : (before count : ℕ) → before + count ≤ fieldsNamed → (r : Number) → Bound (fieldBehind before count r)
 unfolding fieldBehind
 behind-bound before count h (Value v) = go (ltb v count) refl
   where
@@ -98,7 +98,7 @@ side-stored NotAnOperand place h = record { flag = omega arith; number = omega a
 
 at-stored : (s : List Said) → Stored (sideAt s .term)
 unfolding sideAt
-at-stored s = side-stored (operandOf (letters s)) (placeOf s) (operand-held (letters s))
+at-stored s = side-stored (operandOf (letters s)) (placeSaid s) (operand-held (letters s))
 
 -- CONDITIONS
 pub record Plain (c : Condition) : Type 0 where

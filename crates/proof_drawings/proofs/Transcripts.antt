@@ -19,11 +19,11 @@ use Rattle.base_state.specs.Versions.{isVersion}
 use Rattle.engine.proofs.CallLaws.{asked-good}
 use Rattle.proof_valid.proofs.ChecksHold.{valid-fits, valid-sound}
 use Rattle.draw_model.specs.Content.{content}
-use Rattle.draw_read.specs.Drawings.{walked, thingsOf, drawInto}
+use Rattle.draw_read.specs.Drawings.{walkedText, thingsOf, drawInto}
 use Rattle.proof_lengths.proofs.Short.{short}
 use Rattle.proof_roundtrip.proofs.LowestLaws.{lowest-same}
-use Rattle.proof_ends.proofs.Models.{Model}
-use Rattle.proof_ends.proofs.Rewritten.{rewritten-fits, rewritten-sound, none-left}
+use Rattle.proof_roundtrip.proofs.EndModels.{Model}
+use Rattle.proof_roundtrip.proofs.Rewritten.{rewritten-fits, rewritten-sound, none-left}
 use Rattle.proof_roundtrip.proofs.ReadTables.{table-small, table-fits, table-long, blocks-are}
 use Rattle.proof_roundtrip.proofs.RoundTrip.{read-back}
 use Rattle.proof_demands.specs.Demands.{Table, textIn, Made, NeverBad}
@@ -38,13 +38,13 @@ use Rattle.proof_drawings.proofs.Answers.{drawn-clear, drawn-is}
 
 -- the model that a drawing means
 abbrev pub drawnModel : List ℕ → List Pool
-drawnModel text = content text (thingsOf text) (walked text .count)
+drawnModel text = content text (thingsOf text) (walkedText text .count)
 
 -- A DRAWING THAT IS ACCEPTED
 module _ (text t : List ℕ) (h : drawInto text t .number ≡ 0) where
   -- its content is a model within its limits, with no check broken and room for what its endSnds become, and the table is that model's as it is rewritten
   pub accepted : Model (drawnModel text)
-  accepted = let c = drawn-clear text t h in content-model text (thingsOf text) (walked text .count) (c .drawn) (c .beyond) (things-settled text (drawing-few text (thingsOf text) (walked text .count) (c .drawn))) (things-placed text) (c .sound)
+  accepted = let c = drawn-clear text t h in content-model text (thingsOf text) (walkedText text .count) (c .drawn) (c .beyond) (things-settled text (drawing-few text (thingsOf text) (walkedText text .count) (c .drawn))) (things-placed text) (c .sound)
 
   pub accepted-sound : lowest (drawnModel text) ≡ 0
   accepted-sound = drawn-clear text t h .sound

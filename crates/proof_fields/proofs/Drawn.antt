@@ -23,14 +23,15 @@ use Rattle.check_model.specs.Checks.{Pool}
 use Rattle.text_ends.specs.Rewriting.{withOne, sendingTo, endOf, treated, allTreated, endSends, lowestUnused, firstEnd}
 use Rattle.text_read.specs.Notation.{ReadInto, tableOf, rewritten}
 use Rattle.draw_things.specs.Things.{isNode, sort, within}
-use Rattle.draw_faults.specs.Amiss.{hasParticipants, isPool, isDrawing}
-use Rattle.draw_limits.specs.Numbers.{isElement}
+use Rattle.draw_faults.specs.Amiss.{isDrawing}
+use Rattle.draw_numbers.specs.Who.{hasParticipants, isPool}
+use Rattle.draw_numbers.specs.Numbers.{isElement}
 use Rattle.draw_limits.specs.Excess.{firstBeyond}
 use Rattle.draw_model.specs.Drawn.{elementDrawn}
 use Rattle.draw_model.specs.Content.{elementIf, elementsOf, processOf, poolDrawn, poolIf, content}
-use Rattle.draw_read.specs.Drawings.{walked, thingsOf, drawInto}
-use Rattle.proof_ends.proofs.Models.{Every, every-in, every-set, every-last, Model}
-use Rattle.proof_ends.proofs.Rewritten.{rewritten-fits}
+use Rattle.draw_read.specs.Drawings.{walkedText, thingsOf, drawInto}
+use Rattle.proof_roundtrip.proofs.EndModels.{Every, every-in, every-set, every-last, Model}
+use Rattle.proof_roundtrip.proofs.Rewritten.{rewritten-fits}
 use Rattle.proof_roundtrip.specs.Blocks.{wordsAt, blockAt, blocksOf}
 use Rattle.proof_roundtrip.proofs.BlankLaws.{zero-word}
 use Rattle.proof_roundtrip.proofs.ReadTables.{blocks-are}
@@ -149,5 +150,5 @@ drawn-quiet text t h =
     let c = drawn-clear text t h in
     let rs : List Pool = map rewritten (drawnModel text) in
     let m : Model rs = rewritten-fits (drawnModel text) (accepted text t h) (c .room) in
-    let s = content-silent text (thingsOf text) (walked text .count) (c .drawn) (c .beyond) (things-settled text (drawing-few text (thingsOf text) (walked text .count) (c .drawn))) in
+    let s = content-silent text (thingsOf text) (walkedText text .count) (c .drawn) (c .beyond) (things-settled text (drawing-few text (thingsOf text) (walkedText text .count) (c .drawn))) in
     subst Quiet (sym (ap (λ (r : ReadInto). r .table) (drawn-is text t h))) (table-quiet (tableOf rs) (subst (Every AllSilent) (sym (blocks-are rs m)) (all-rewritten (drawnModel text) s)))

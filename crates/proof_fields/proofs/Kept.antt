@@ -31,7 +31,7 @@ use Rattle.check_limits.proofs.SameLaws.{used-most}
 use Rattle.meaning.specs.declared.Name.{Name}
 use Rattle.meaning.specs.declared.Tuple.{Tuple}
 use Rattle.meaning.specs.Refusals.{firstRefusal}
-use Rattle.meaning.specs.Requirements.{touched, first}
+use Rattle.meaning.specs.Requirements.{touched, firstTouched}
 use Rattle.meaning.specs.Templates.{binds, bindOne, bound}
 use Rattle.meaning.specs.Assignments.{Assigned, assignOne, assigned}
 use Rattle.meaning.specs.Changes.{received, worked, takeOne, taken, activeChanged, readyChanged, putOne, puts, cleared, moved}
@@ -115,15 +115,15 @@ module _ (el : List ℕ) where
     blank-taken : (m .takes ≡ branch → b < entryCount el) → (h : List ℕ) → Blank h → Blank (taken el m b h)
     unfolding taken takeOne
     blank-taken few h f =
-        iter-keeps (takeOne el (first (m .takes) b)) h Blank (touched (m .takes) (entryCount el))
-        (λ j y l r. let p = entry-within el fit (first (m .takes) b + j) (touched-within (m .takes) b (entryCount el) j few l) in blank-set y (tokenPlace (entryAt el (first (m .takes) b + j))) _ (omega (arith, p .1)) r)
+        iter-keeps (takeOne el (firstTouched (m .takes) b)) h Blank (touched (m .takes) (entryCount el))
+        (λ j y l r. let p = entry-within el fit (firstTouched (m .takes) b + j) (touched-within (m .takes) b (entryCount el) j few l) in blank-set y (tokenPlace (entryAt el (firstTouched (m .takes) b + j))) _ (omega (arith, p .1)) r)
         f
 
     blank-puts : (m .puts ≡ branch → b < exitCount el) → (h : List ℕ) → Blank h → Blank (puts el m b h)
     unfolding puts putOne
     blank-puts few h f =
-        iter-keeps (putOne el (first (m .puts) b)) h Blank (touched (m .puts) (exitCount el))
-        (λ j y l r. let p = exit-within el fit (first (m .puts) b + j) (touched-within (m .puts) b (exitCount el) j few l) in blank-set y (tokenPlace (exitAt el (first (m .puts) b + j))) _ (omega (arith, p .1)) r)
+        iter-keeps (putOne el (firstTouched (m .puts) b)) h Blank (touched (m .puts) (exitCount el))
+        (λ j y l r. let p = exit-within el fit (firstTouched (m .puts) b + j) (touched-within (m .puts) b (exitCount el) j few l) in blank-set y (tokenPlace (exitAt el (firstTouched (m .puts) b + j))) _ (omega (arith, p .1)) r)
         f
 
     blank-counts : (h : List ℕ) → Blank h → Blank (readyChanged el m (activeChanged el m h))

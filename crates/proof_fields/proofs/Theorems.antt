@@ -9,7 +9,7 @@ use native.Mathlib.Omega.{arith}
 use lib.Dec.{eqb, ltb}
 use borrow.Author.Tests.{eq-eqb, ltb-true, not-true}
 use Rattle.base_words.specs.All.{all}
-use Rattle.base_words.specs.Counts.{named}
+use Rattle.base_words.specs.Counts.{fieldsNamed}
 use Rattle.base_words.specs.Pick.{if_then_else_}
 use Rattle.base_words.specs.Words.{at}
 use Rattle.base_words.proofs.AllLaws.{and-left, and-right}
@@ -54,7 +54,7 @@ blank-field h d e = chosen (eqb (at h (definedPlace d)) 0) Undefined _ (eq-eqb (
 blank-operand : (w h : List ℕ) (place : ℕ) → Blank h → isNamed w place ≡ true → operandOf w h place ≡ Undefined
 unfolding operandOf isNamed
 blank-operand w h place b e =
-    let l = ltb-true (at w (place + operandNumber)) named (and-right (not (eqb (at w place) 0)) _ e) in
+    let l = ltb-true (at w (place + operandNumber)) fieldsNamed (and-right (not (eqb (at w place) 0)) _ e) in
     passed (eqb (at w place) 0) _ (fieldOf h (at w (place + operandNumber))) (not-true (eqb (at w place) 0) (and-left (not (eqb (at w place) 0)) _ e))
     ∙ blank-field h (at w (place + operandNumber)) (b .word (definedPlace (at w (place + operandNumber))) (omega arith) (omega (arith, l)))
 

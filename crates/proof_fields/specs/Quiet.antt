@@ -4,7 +4,7 @@ use mathlib.Core.Path.{_≡_}
 use mathlib.Core.Bool.{Bool, not, _&&_, _||_}
 use lib.Dec.{eqb, ltb}
 use Rattle.base_words.specs.Blocks.{Block, Table, Instances}
-use Rattle.base_words.specs.Counts.{pools, branches, instances, fields, stores, named}
+use Rattle.base_words.specs.Counts.{pools, branches, instances, fields, stores, fieldsNamed}
 use Rattle.base_words.specs.Words.{at}
 use Rattle.base_table.specs.Places.{operandNumber, formPlace, leftPlace, rightPlace, always}
 use Rattle.base_table.specs.Table.{poolCount, elementCount, elementAt, messageLength, assignmentCount}
@@ -25,7 +25,7 @@ pub record Unset (s : Instances) : Type 0 where
 
 -- a condition names a field or a store: w is its words, place that of an operand
 unfoldable pub isNamed : Block → ℕ → Bool
-isNamed w place = not (eqb (at w place) 0) && ltb (at w (place + operandNumber)) named
+isNamed w place = not (eqb (at w place) 0) && ltb (at w (place + operandNumber)) fieldsNamed
 
 unfoldable pub namesField : Block → Bool
 namesField w = not (eqb (at w formPlace) always) && (isNamed w leftPlace || isNamed w rightPlace)

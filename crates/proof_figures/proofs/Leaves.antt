@@ -23,7 +23,7 @@ use Rattle.base_state.specs.Places.{tokenPlace, definedPlace, instanceWords, in
 use Rattle.base_state.specs.Instances.{madeCount, instanceAt, tokens}
 use Rattle.check_limits.specs.Limits.{zeros, elementFits, tableFits}
 use Rattle.meaning.specs.declared.Name.{Name}
-use Rattle.meaning.specs.Requirements.{touched, first}
+use Rattle.meaning.specs.Requirements.{touched, firstTouched}
 use Rattle.meaning.specs.Changes.{more, activeChanged, readyChanged, putOne, puts, moved}
 use Rattle.meaning.specs.Refusals.{firstRefusal}
 use Rattle.meaning.specs.Step.{Site, siteOf, poolNamed, elementNamed, moveNamed, afterTaking, instanceAfter, instancesAfter, refusals}
@@ -67,9 +67,9 @@ put-some el y c j l =
     subst (λ v. 0 < v) (sym (getD-set-same y k (more (at y k)) 0 (subst (λ n. k < n) (length-set y k (more (at y k))) l))) (more-some (at y k))
 
 puts-some : (el h : List ℕ) (m : Move) (b n : ℕ) → touched (m .puts) (exitCount el) ≡ suc n
-    → tokenPlace (exitAt el (first (m .puts) b + n)) < length (puts el m b h) → 0 < at (puts el m b h) (tokenPlace (exitAt el (first (m .puts) b + n)))
+    → tokenPlace (exitAt el (firstTouched (m .puts) b + n)) < length (puts el m b h) → 0 < at (puts el m b h) (tokenPlace (exitAt el (firstTouched (m .puts) b + n)))
 unfolding puts iter
-puts-some el h m b n e l = rw e (put-some el (iter (putOne el (first (m .puts) b)) h n) (first (m .puts) b) n (rw e at l))
+puts-some el h m b n e l = rw e (put-some el (iter (putOne el (firstTouched (m .puts) b)) h n) (firstTouched (m .puts) b) n (rw e at l))
 
 module _ (t s q : List ℕ) (n : Name) (fits : tableFits t ≡ true) (accepted : firstRefusal (refusals t s q n) ≡ 0) where
   abbrev x : Site
@@ -117,7 +117,7 @@ module _ (t s q : List ℕ) (n : Name) (fits : tableFits t ≡ true) (accepted :
     touches-one = chosen (eqb (m .puts) every) (exitCount el) _ (eq-eqb (m .puts) every every-exit) ∙ one-exit
 
     abbrev exit : ℕ
-    exit = first (m .puts) (n .branch) + 0
+    exit = firstTouched (m .puts) (n .branch) + 0
 
     exit-there : exit < exitCount el
     exit-there =

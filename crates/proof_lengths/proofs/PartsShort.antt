@@ -12,7 +12,7 @@ use Rattle.base_words.specs.Pick.{if_then_else_}
 use Rattle.base_words.specs.Sum.{sum}
 use Rattle.base_words.specs.Text.{bytes}
 use Rattle.base_words.specs.Words.{at, digits}
-use Rattle.base_words.specs.Counts.{fields, named}
+use Rattle.base_words.specs.Counts.{fields, fieldsNamed}
 use Rattle.base_words.proofs.AllLaws.{and-left, and-right}
 use Rattle.base_words.proofs.SumLaws.{sum-add, sum-le}
 use Rattle.base_kinds.specs.Kinds.{none, many}
@@ -21,7 +21,7 @@ use Rattle.base_table.specs.Places.{aField, operandNumber, operandWords, formPl
 use Rattle.check_limits.specs.Limits.{within, zeros, operandFits, expressionFits, bindFits, itemFits, conditionFits, assignmentFits}
 use Rattle.write_decimals.specs.Decimals.{shown}
 use Rattle.write_decimals.proofs.DecimalLaws.{shown-short}
-use Rattle.write_shown.specs.Shown.{commas, between, shownField, shownOperand, shownPair, shownExpression, shownItem, shownCondition, shownMode, shownAssignment}
+use Rattle.write_shown.specs.Shown.{commas, enclosedBy, shownField, shownOperand, shownPair, shownExpression, shownItem, shownCondition, shownMode, shownAssignment}
 use Rattle.proof_steps.proofs.Choices.{by-test, by-choice, chosen-true, passed-true}
 use Rattle.proof_lengths.proofs.Pieces.{both-short, between-long, separated-some, separated-short}
 use Rattle.proof_lengths.proofs.Figures.{two-figures}
@@ -40,19 +40,19 @@ modeMost = 5
 abbrev pub assignmentMost : ℕ
 assignmentMost = fieldMost + 2 + pairMost
 
-field-short : (d : ℕ) → d < named → length (shownField d) ≤ fieldMost
+field-short : (d : ℕ) → d < fieldsNamed → length (shownField d) ≤ fieldMost
 unfolding shownField
 field-short d h =
     by-choice (λ (w : List ℕ). length w ≤ fieldMost) (ltb d fields) (100 ∷ shown d) (115 ∷ shown (d - fields))
     (λ e. omega (arith, two-figures d (omega arith)))
     (λ e. omega (arith, two-figures (d - fields) (omega arith)))
 
-operand-field : (x : List ℕ) → operandFits x ≡ true → at x 0 ≡ aField → at x operandNumber < named
+operand-field : (x : List ℕ) → operandFits x ≡ true → at x 0 ≡ aField → at x operandNumber < fieldsNamed
 unfolding operandFits
 operand-field x fits e =
     let off : eqb (at x 0) 0 ≡ false = ne-eqb (at x 0) 0 (λ z. omega arith) in
-    ltb-true (at x operandNumber) named
-    (and-right (eqb (at x 0) aField) (ltb (at x operandNumber) named) (passed-true (eqb (at x 0) 0) true (eqb (at x 0) aField && ltb (at x operandNumber) named) fits off))
+    ltb-true (at x operandNumber) fieldsNamed
+    (and-right (eqb (at x 0) aField) (ltb (at x operandNumber) fieldsNamed) (passed-true (eqb (at x 0) 0) true (eqb (at x 0) aField && ltb (at x operandNumber) fieldsNamed) fits off))
 
 operand-short : (x : List ℕ) → operandFits x ≡ true → length (shownOperand x) ≤ digits
 unfolding shownOperand
@@ -115,9 +115,9 @@ item-short receives x fits =
     let g : bindFits x ≡ true = by-test (eqb receives none)
     (λ y. absurd (false≢true (chosen-true (eqb receives none) false (bindFits x) h y)))
     (λ y. passed-true (eqb receives none) false (bindFits x) h y) in
-    let small = ltb-true (at x (leftPlace + operandNumber)) named
-    (and-right (eqb (at x leftPlace) aField) (ltb (at x (leftPlace + operandNumber)) named)
-    (and-left (eqb (at x leftPlace) aField && ltb (at x (leftPlace + operandNumber)) named) (zeros (drop rightPlace x) operandWords) g)) in
+    let small = ltb-true (at x (leftPlace + operandNumber)) fieldsNamed
+    (and-right (eqb (at x leftPlace) aField) (ltb (at x (leftPlace + operandNumber)) fieldsNamed)
+    (and-left (eqb (at x leftPlace) aField && ltb (at x (leftPlace + operandNumber)) fieldsNamed) (zeros (drop rightPlace x) operandWords) g)) in
     omega (arith, field-short (at x (leftPlace + operandNumber)) small))
     (λ e. expression-short x (passed-true (eqb (at x formPlace) binding) bound (expressionFits x) fits e))
 
@@ -151,12 +151,12 @@ assignment-short x fits =
     omega (
       arith,
       length-append (shownField (at x 0)) (code ":" ∷ code "=" ∷ shownExpression (drop assignedIn x)),
-      field-short (at x 0) (ltb-true (at x 0) named (and-left (ltb (at x 0) named) (expressionFits (drop assignedIn x)) fits)),
-      expression-short (drop assignedIn x) (and-right (ltb (at x 0) named) (expressionFits (drop assignedIn x)) fits),
+      field-short (at x 0) (ltb-true (at x 0) fieldsNamed (and-left (ltb (at x 0) fieldsNamed) (expressionFits (drop assignedIn x)) fits)),
+      expression-short (drop assignedIn x) (and-right (ltb (at x 0) fieldsNamed) (expressionFits (drop assignedIn x)) fits),
     )
 
 -- n pieces between signs, with commas between them
-pub listed-short : (opener closer : ℕ) (f : ℕ → List ℕ) (most n : ℕ) → ((k : ℕ) → k < n → length (f k) ≤ most) → length (between opener closer (commas f n)) ≤ n * (most + 1) - 1 + 2
+pub listed-short : (opener closer : ℕ) (f : ℕ → List ℕ) (most n : ℕ) → ((k : ℕ) → k < n → length (f k) ≤ most) → length (enclosedBy opener closer (commas f n)) ≤ n * (most + 1) - 1 + 2
 listed-short opener closer f most n h =
     omega (arith, between-long opener closer (commas f n), separated-short (code ",") f most n h)
 

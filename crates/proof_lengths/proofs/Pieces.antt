@@ -10,7 +10,7 @@ use Rattle.base_words.specs.Each.{joined}
 use Rattle.base_words.specs.Pick.{if_then_else_}
 use Rattle.base_words.specs.Sum.{sum}
 use Rattle.base_words.proofs.SumLaws.{sum-le}
-use Rattle.write_shown.specs.Shown.{lead, separated, between}
+use Rattle.write_shown.specs.Shown.{lead, separated, enclosedBy}
 
 -- a choice
 pub both-short : (b : Bool) (x y : List ℕ) (most : ℕ) → length x ≤ most → length y ≤ most → length (if b then x else y) ≤ most
@@ -25,7 +25,7 @@ take-short (suc k) [] = omega arith
 take-short (suc k) (b ∷ w) = omega (arith, take-short k w)
 
 -- between two signs
-pub between-long : (opener closer : ℕ) (w : List ℕ) → length (between opener closer w) ≡ length w + 2
+pub between-long : (opener closer : ℕ) (w : List ℕ) → length (enclosedBy opener closer w) ≡ length w + 2
 between-long opener closer w = omega (arith, length-append w (closer ∷ []))
 
 -- pieces one behind the other

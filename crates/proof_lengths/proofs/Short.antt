@@ -25,7 +25,7 @@ use Rattle.check_limits.specs.Limits.{within, poolFits, tableFits, elementFits}
 use Rattle.check_model.specs.Checks.{lowest}
 use Rattle.check_lowest.specs.Model.{modelOf}
 use Rattle.write_decimals.specs.Decimals.{shown}
-use Rattle.write_shown.specs.Shown.{lead, between, shownElement, shownElements, shownLimit, shownPool, shownPools, shownTable}
+use Rattle.write_shown.specs.Shown.{lead, enclosedBy, shownElement, shownElements, shownLimit, shownPool, shownPools, shownTable}
 use Rattle.proof_steps.proofs.Choices.{by-test, by-choice}
 use Rattle.proof_steps.proofs.Elements.{element-fits, elements-few, task-few}
 use Rattle.proof_lengths.proofs.Pieces.{both-short, between-long, joined-short, separated-some}
@@ -215,7 +215,7 @@ module _ (t : List ℕ) (fits : tableFits t ≡ true) (sound : lowest (modelOf t
         let inside : List ℕ = shown (at t (poolPlace p)) ++ (code "," ∷ behind) in
         omega (
           arith,
-          length-append word (between (code "(") (code ")") inside),
+          length-append word (enclosedBy (code "(") (code ")") inside),
           both-short (eqb limit 0) (bytes "pool") (bytes "miPool") 6 (omega arith) (omega arith),
           between-long (code "(") (code ")") inside,
           length-append (shown (at t (poolPlace p))) (code "," ∷ behind),

@@ -25,7 +25,7 @@ use Rattle.base_state.specs.Instances.{madeCount, instanceAt, tokens, activeCou
 use Rattle.check_limits.specs.Limits.{within, zeros, countFits, edgesFit, elementFits, tableFits}
 use Rattle.state_figures.specs.Figures.{isFinished}
 use Rattle.meaning.specs.declared.Name.{Name}
-use Rattle.meaning.specs.Requirements.{touched, first, branchCount, instanceNamed, hasToken, hasTokens, canLower, isAlone, countsPermit}
+use Rattle.meaning.specs.Requirements.{touched, firstTouched, branchCount, instanceNamed, hasToken, hasTokens, canLower, isAlone, countsPermit}
 use Rattle.meaning.specs.Refusals.{firstRefusal}
 use Rattle.meaning.specs.Step.{siteOf, poolNamed, elementNamed, moveNamed, instanceOf, sharedOf, before, refusals}
 use Rattle.step_list.specs.Scanned.{isBare, idle, stirs}
@@ -94,9 +94,9 @@ module _ (el h w : List ℕ) (m : Move) (b : ℕ) (fits : elementFits el ≡ tru
   takes-none : 0 < touched (m .takes) (entryCount el) → ⊥
   unfolding hasTokens hasToken isBare
   takes-none l =
-      let j : ℕ = first (m .takes) b + 0 in
+      let j : ℕ = firstTouched (m .takes) b + 0 in
       let r : j < entryCount el = touched-within (m .takes) b (entryCount el) 0 few l in
-      let has = ltb-true 0 (tokens h (entryAt el j)) (all-at (hasToken el h (first (m .takes) b)) (touched (m .takes) (entryCount el)) permits-tokens 0 l) in
+      let has = ltb-true 0 (tokens h (entryAt el j)) (all-at (hasToken el h (firstTouched (m .takes) b)) (touched (m .takes) (entryCount el)) permits-tokens 0 l) in
       let none = eqb-true (tokens w (entryAt el j)) 0 (all-at (isBare el w) (entryCount el) bare j r) in
       let e = entry-within el fits j r in
       omega (arith, has, none, same (tokenPlace (entryAt el j)) (omega (arith, e .1)))

@@ -17,7 +17,7 @@ use Rattle.base_words.proofs.SeekLaws.{sought}
 use Rattle.base_kinds.specs.declared.moves.Move.{Move}
 use Rattle.base_kinds.specs.Moves.{on, making, phases}
 use Rattle.base_table.specs.Places.{poolPlace}
-use Rattle.base_table.specs.Table.{poolCount, elementCount, numbered, poolOf, kindIn, modeIn, messageName}
+use Rattle.base_table.specs.Table.{poolCount, elementCount, hasNumber, poolOf, kindIn, modeIn, messageName}
 use Rattle.base_state.specs.Instances.{madeCount}
 use Rattle.check_limits.specs.Limits.{tableFits}
 use Rattle.meaning.specs.declared.Tuple.{Tuple}
@@ -36,7 +36,7 @@ use Rattle.step_queues.proofs.QueueLaws.{present-is}
 use Rattle.step_values.proofs.TupleLaws.{same-length, same-value, same-sym, same-trans}
 use Rattle.state_fits.specs.Fits.{slotFits, queueFits, stateFits}
 use Rattle.step_names.specs.Names.{offered, stepName, namedBy, accepted}
-use Rattle.step_list.specs.Listing.{places, valuesAt, byPlace, byBranch, byPhase, byElement, byInstance, byPool, stepNames, listed, chosen}
+use Rattle.step_list.specs.Listing.{queuePlaces, valuesAt, byPlace, byBranch, byPhase, byElement, byInstance, byPool, stepNames, listed, chosen}
 use Rattle.proof_steps.proofs.Choices.{by-test, passed, chosen as picked, chosen-true}
 use Rattle.proof_steps.proofs.Found.{Found}
 use Rattle.proof_steps.proofs.MadeAfter.{named-made}
@@ -104,10 +104,10 @@ module _ (t s q : List ℕ) (n : Name) (fits : tableFits t ≡ true) (state : st
 
   -- ITS VALUES stand at a queue place, with 0 behind them
   abbrev There : Type 0
-  There = (k : ℕ) × (v : Tuple) × (k < places m q name) × member v (valuesAt m q name k) × (sameTuple v (n .given) ≡ true) × (tidied v ≡ v)
+  There = (k : ℕ) × (v : Tuple) × (k < queuePlaces m q name) × member v (valuesAt m q name k) × (sameTuple v (n .given) ≡ true) × (tidied v ≡ v)
 
   received-given : eqb (m .receives) on ≡ true → There
-  unfolding places valuesAt siteOf member
+  unfolding queuePlaces valuesAt siteOf member
   received-given e =
       let o = offered-oldest q name (n .given) (received-there t s q n fits allowed e) in
       let k : ℕ = oldest q name (n .given) in
@@ -121,7 +121,7 @@ module _ (t s q : List ℕ) (n : Name) (fits : tableFits t ≡ true) (state : st
       )
 
   plain-given : eqb (m .receives) on ≡ false → There
-  unfolding places valuesAt siteOf member matches template expected
+  unfolding queuePlaces valuesAt siteOf member matches template expected
   plain-given e = (
     0,
     empty,
@@ -136,8 +136,8 @@ module _ (t s q : List ℕ) (n : Name) (fits : tableFits t ≡ true) (state : st
 
   -- its pool number, its phase and its instance
   number-is : at t (poolPlace p) ≡ n .pool
-  unfolding poolOf numbered
-  number-is = eqb-true (at t (poolPlace p)) (n .pool) (sought (numbered t (n .pool)) (poolCount t) .1 (f .pool))
+  unfolding poolOf hasNumber
+  number-is = eqb-true (at t (poolPlace p)) (n .pool) (sought (hasNumber t (n .pool)) (poolCount t) .1 (f .pool))
 
   phase-there : n .phase < phases
   unfolding moveNamed
@@ -169,7 +169,7 @@ module _ (t s q : List ℕ) (n : Name) (fits : tableFits t ≡ true) (state : st
       (member-joined (byElement t q p i) (stepName t p i e c b v) (elementCount t p) e (f .element)
       (member-joined (byPhase t q p i e) (stepName t p i e c b v) phases c phase-there
       (member-joined (byBranch t q p i e c) (stepName t p i e c b v) (branchCount el m) b (f .branch)
-      (member-joined (byPlace t q p i e c b) (stepName t p i e c b v) (places m q name) (z .0) (z .2)
+      (member-joined (byPlace t q p i e c b) (stepName t p i e c b v) (queuePlaces m q name) (z .0) (z .2)
       (member-named (stepName t p i e c b) v (valuesAt m q name (z .0)) (z .3))))))))
 
   tidy-accepted : accepted t s q (withGiven n (tidied (n .given))) ≡ true

@@ -29,7 +29,7 @@ use Rattle.step_queues.specs.Changes.{messageIs, oldest}
 use Rattle.step_queues.proofs.MessageLaws.{seek-has}
 use Rattle.step_values.proofs.TupleLaws.{same-refl}
 use Rattle.step_names.specs.Names.{offered, stepName, namedBy, accepted}
-use Rattle.step_list.specs.Listing.{places, valuesAt, moveAt, byPlace, byBranch, byPhase, byElement, byInstance, byPool, stepNames, listed, chosen}
+use Rattle.step_list.specs.Listing.{queuePlaces, valuesAt, moveAt, byPlace, byBranch, byPhase, byElement, byInstance, byPool, stepNames, listed, chosen}
 use Rattle.proof_steps.proofs.Choices.{by-test, by-choice, passed, chosen as picked}
 use Rattle.proof_listing.proofs.Members.{member, once, joined-member, once-joined, once-those, chosen-once}
 use Rattle.proof_listing.proofs.PoolFound.{pool-found}
@@ -88,7 +88,7 @@ module _ (t s q : List ℕ) where
     branch-is : (p i e f b : ℕ) → member x (byBranch t q p i e f b) → x ≡ stepName t p i e f b (x .given)
     unfolding byBranch
     branch-is p i e f b h =
-        let z = joined-member (byPlace t q p i e f b) x (places (moveAt t p e f) q (messageName (elementAt t p e) b)) h in
+        let z = joined-member (byPlace t q p i e f b) x (queuePlaces (moveAt t p e f) q (messageName (elementAt t p e) b)) h in
         place-is p i e f b (z .0) (z .2)
 
     phase-is : (p i e f : ℕ) → member x (byPhase t q p i e f) → x ≡ stepName t p i e f (x .branch) (x .given)
@@ -124,17 +124,17 @@ module _ (t s q : List ℕ) where
   once-place p i e f b k = once-values (stepName t p i e f b) (moveAt t p e f) q (messageName (elementAt t p e) b) k
 
   once-branch : (p i e f b : ℕ) → once (byBranch t q p i e f b)
-  unfolding byBranch byPlace places valuesAt stepName
+  unfolding byBranch byPlace queuePlaces valuesAt stepName
   once-branch p i e f b =
       by-test (eqb (m .receives) on)
       (λ o.
-      once-joined (byPlace t q p i e f b) (λ (x : Name). oldest q c (x .given)) (places m q c)
+      once-joined (byPlace t q p i e f b) (λ (x : Name). oldest q c (x .given)) (queuePlaces m q c)
       (λ k l x h. let z = named-member (stepName t p i e f b) x (valuesAt m q c k) h in
       ap (λ (y : Name). oldest q c (y .given)) (z .2)
       ∙ offered-place q c k (z .0) (subst (λ n. k < n) (picked (eqb (m .receives) on) (messageCount q c) 1 o) l) (subst (member (z .0)) (picked (eqb (m .receives) on) (offered q c k) (empty ∷ []) o) (z .1)))
       (λ k l. once-place p i e f b k))
       (λ o.
-      once-joined (byPlace t q p i e f b) (λ (x : Name). 0) (places m q c)
+      once-joined (byPlace t q p i e f b) (λ (x : Name). 0) (queuePlaces m q c)
       (λ k l x h. omega (arith, subst (λ n. k < n) (passed (eqb (m .receives) on) (messageCount q c) 1 o) l))
       (λ k l. once-place p i e f b k))
     where

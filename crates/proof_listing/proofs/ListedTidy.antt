@@ -24,7 +24,7 @@ use Rattle.meaning.specs.Requirements.{branchCount}
 use Rattle.meaning.specs.Refusals.{firstRefusal}
 use Rattle.meaning.specs.Step.{siteOf, elementNamed, moveNamed, refusals}
 use Rattle.step_names.specs.Names.{offered, stepName, accepted}
-use Rattle.step_list.specs.Listing.{places, valuesAt, moveAt, byPlace, byBranch, byPhase, byElement, byInstance, byPool, stepNames, listed, chosen}
+use Rattle.step_list.specs.Listing.{queuePlaces, valuesAt, moveAt, byPlace, byBranch, byPhase, byElement, byInstance, byPool, stepNames, listed, chosen}
 use Rattle.proof_steps.proofs.Choices.{by-test, passed, chosen as picked}
 use Rattle.proof_steps.proofs.Traffic.{state-queues, received-name}
 use Rattle.proof_listing.proofs.Members.{member, joined-member, those-member, chosen-member}
@@ -34,8 +34,8 @@ use Rattle.proof_listing.proofs.ListedAll.{tidied-equal, tidied-empty, 
 use Rattle.proof_listing.proofs.ListedOnce.{named-member, listed-once}
 
 -- THE VALUES AT A QUEUE PLACE, of a queue that fits where the move receives
-values-tidy : (m : Move) (q : List ℕ) (c k : ℕ) (g : Tuple) → (eqb (m .receives) on ≡ true → queueFits q c ≡ true) → k < places m q c → member g (valuesAt m q c k) → tidied g ≡ g
-unfolding places valuesAt offered member
+values-tidy : (m : Move) (q : List ℕ) (c k : ℕ) (g : Tuple) → (eqb (m .receives) on ≡ true → queueFits q c ≡ true) → k < queuePlaces m q c → member g (valuesAt m q c k) → tidied g ≡ g
+unfolding queuePlaces valuesAt offered member
 values-tidy m q c k g fit l h = by-test (eqb (m .receives) on) received plain
   where
     v : Tuple
@@ -70,7 +70,7 @@ module _ (t s q : List ℕ) (fits : tableFits t ≡ true) (sound : lowest (model
 
   -- level by level: x is a name
   module _ (x : Name) (a : accepted t s q x ≡ true) where
-    place-tidy : (p i e f b k : ℕ) → p < poolCount t → k < places (moveAt t p e f) q (messageName (elementAt t p e) b) → member x (byPlace t q p i e f b k) → tidied (x .given) ≡ x .given
+    place-tidy : (p i e f b k : ℕ) → p < poolCount t → k < queuePlaces (moveAt t p e f) q (messageName (elementAt t p e) b) → member x (byPlace t q p i e f b k) → tidied (x .given) ≡ x .given
     unfolding byPlace stepName
     place-tidy p i e f b k l r h =
         let c : ℕ = messageName (elementAt t p e) b in
@@ -82,7 +82,7 @@ module _ (t s q : List ℕ) (fits : tableFits t ≡ true) (sound : lowest (model
     branch-tidy : (p i e f b : ℕ) → p < poolCount t → member x (byBranch t q p i e f b) → tidied (x .given) ≡ x .given
     unfolding byBranch
     branch-tidy p i e f b l h =
-        let z = joined-member (byPlace t q p i e f b) x (places (moveAt t p e f) q (messageName (elementAt t p e) b)) h in
+        let z = joined-member (byPlace t q p i e f b) x (queuePlaces (moveAt t p e f) q (messageName (elementAt t p e) b)) h in
         place-tidy p i e f b (z .0) l (z .1) (z .2)
 
     element-tidy : (p i e : ℕ) → p < poolCount t → member x (byElement t q p i e) → tidied (x .given) ≡ x .given

@@ -15,7 +15,7 @@ use Rattle.base_words.proofs.AllLaws.{and-left, and-right, all-at}
 use Rattle.base_words.proofs.EachLaws.{total-tab}
 use Rattle.base_words.proofs.SeekLaws.{sought}
 use Rattle.base_table.specs.Places.{poolPlace}
-use Rattle.base_table.specs.Table.{poolCount, numbered, poolOf}
+use Rattle.base_table.specs.Table.{poolCount, hasNumber, poolOf}
 use Rattle.check_limits.specs.Limits.{within, poolFits, tableFits}
 use Rattle.check_model.specs.Checks.{Pool, check1, lowest}
 use Rattle.check_lowest.specs.Model.{poolAt, modelOf}
@@ -61,10 +61,10 @@ module _ (t : List ℕ) (fits : tableFits t ≡ true) where
 
     -- THE POOL FOUND
     pub pool-found : (p : ℕ) → p < poolCount t → poolOf t (at t (poolPlace p)) ≡ p
-    unfolding poolOf numbered
+    unfolding poolOf hasNumber
     pool-found p l =
         let number : ℕ = at t (poolPlace p) in
-        let found = sought (numbered t number) (poolCount t) in
+        let found = sought (hasNumber t number) (poolCount t) in
         let o : ℕ = poolOf t number in
         by-below p o
         (λ below. absurd (false≢true (sym (found .2 p below) ∙ eq-eqb (at t (poolPlace p)) number refl)))

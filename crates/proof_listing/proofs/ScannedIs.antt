@@ -22,7 +22,7 @@ use Rattle.meaning.specs.Refusals.{firstRefusal}
 use Rattle.meaning.specs.Step.{refusals, elementNamed, moveNamed}
 use Rattle.base_kinds.specs.Moves.{phases}
 use Rattle.step_names.specs.Names.{stepName, namedBy, accepted}
-use Rattle.step_list.specs.Listing.{places, valuesAt, moveAt, byPlace, byBranch, byPhase, byElement, byInstance, byPool, stepNames, listed}
+use Rattle.step_list.specs.Listing.{queuePlaces, valuesAt, moveAt, byPlace, byBranch, byPhase, byElement, byInstance, byPool, stepNames, listed}
 use Rattle.step_list.specs.Scanned.{stirs, still, scanPhase, scanElement, scanInstance, scanMade, scanPool, scanned}
 use Rattle.step_names.proofs.NameLaws.{joined-nothing, those-joined-nothing, those-named-nothing}
 use Rattle.proof_steps.proofs.Choices.{by-test, by-choice}
@@ -51,7 +51,7 @@ module _ (t s q : List ℕ) (fits : tableFits t ≡ true) (sound : lowest (model
     unfolding byPhase byBranch byPlace
     phase-nothing f o =
         those-joined-nothing (accepted t s q) (byBranch t q p i e f) (branchCount (elementAt t p e) (moveAt t p e f))
-        (λ b. those-joined-nothing (accepted t s q) (byPlace t q p i e f b) (places (moveAt t p e f) q (messageName (elementAt t p e) b))
+        (λ b. those-joined-nothing (accepted t s q) (byPlace t q p i e f b) (queuePlaces (moveAt t p e f) q (messageName (elementAt t p e) b))
         (λ k. those-named-nothing (accepted t s q) (stepName t p i e f b) (valuesAt (moveAt t p e f) q (messageName (elementAt t p e) b) k) (o b)))
 
     pub nothing-there : stirred ≡ false → those (accepted t s q) (byElement t q p i e) ≡ []

@@ -9,9 +9,9 @@ use lib.ListN.{length, take}
 use Rattle.base_words.specs.Pick.{if_then_else_}
 use Rattle.base_words.specs.Text.{bytes}
 use Rattle.base_words.specs.Words.{at, part}
-use Rattle.text_lexer.proofs.PieceLaws.{by-order}
-use Rattle.text_lexer.proofs.PastLaws.{past-from}
-use Rattle.text_numerals.specs.Numerals.{sameBytes}
+use Rattle.base_bytes.proofs.PieceLaws.{by-order}
+use Rattle.base_bytes.proofs.PastLaws.{past-from}
+use Rattle.base_bytes.specs.Bytes.{sameBytes}
 use Rattle.log_lines.specs.Entries.{entryOf}
 use Rattle.xml_markup.specs.declared.Attribute.{Attribute}
 use Rattle.xml_markup.specs.declared.Attribute.the-variants.{Is, Absent}
@@ -19,8 +19,8 @@ use Rattle.xml_markup.specs.declared.Class.the-variants.{Blanks}
 use Rattle.xml_markup.specs.declared.Opener.the-variants.{Start}
 use Rattle.xml_markup.specs.Markup.{markup}
 use Rattle.xml_markup.specs.Spans.{run, after, isCalled, attribute, opener}
-use Rattle.xml_skip.specs.declared.Skipped.{Skipped}
-use Rattle.xml_skip.specs.declared.Skipped.the-variants.{Past, Fault as SkipFault}
+use Rattle.xml_skip.specs.declared.Reached.{Reached}
+use Rattle.xml_skip.specs.declared.Reached.the-variants.{Past, Fault as SkipFault}
 use Rattle.xml_skip.specs.declared.Tag.{Tag}
 use Rattle.xml_skip.specs.declared.Tag.the-variants.{Open, Empty, Fault as TagFault}
 use Rattle.xml_skip.specs.Skipping.{tagOf, skipped}
@@ -68,23 +68,23 @@ late-if n true x y h k = h
 late-if n false x y h k = k
 
 -- WHAT IS SKIPPED
-late-over : (n : ℕ) (r : Skipped) (c : Cursor) → LateSkip n r → Late n (over r c)
+late-over : (n : ℕ) (r : Reached) (c : Cursor) → LateSkip n r → Late n (over r c)
 unfolding over
 late-over n (Past q) c l = l
 late-over n (SkipFault q) c l = tt
 
-late-named : (n : ℕ) (r : Skipped) (c : Cursor) (from to : ℕ) → LateSkip n r → Late n (overNamed r c from to)
+late-named : (n : ℕ) (r : Reached) (c : Cursor) (from to : ℕ) → LateSkip n r → Late n (overNamed r c from to)
 unfolding overNamed
 late-named n (Past q) c from to l = l
 late-named n (SkipFault q) c from to l = tt
 
-over-cut : (n : ℕ) (x y : Skipped) (c : Cursor) → CutSkip n x y → Cut n (over x c) (over y c)
+over-cut : (n : ℕ) (x y : Reached) (c : Cursor) → CutSkip n x y → Cut n (over x c) (over y c)
 unfolding over
 over-cut n (Past q) y c (skip-same e l) = rw e (same refl l)
 over-cut n (SkipFault q) y c (skip-same e l) = rw e (same refl tt)
 over-cut n x y c (skip-broken e l) = rw e (broken refl (late-over n x c l))
 
-named-cut : (n : ℕ) (x y : Skipped) (c : Cursor) (from to : ℕ) → CutSkip n x y → Cut n (overNamed x c from to) (overNamed y c from to)
+named-cut : (n : ℕ) (x y : Reached) (c : Cursor) (from to : ℕ) → CutSkip n x y → Cut n (overNamed x c from to) (overNamed y c from to)
 unfolding overNamed
 named-cut n (Past q) y c from to (skip-same e l) = rw e (same refl l)
 named-cut n (SkipFault q) y c from to (skip-same e l) = rw e (same refl tt)

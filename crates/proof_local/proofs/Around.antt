@@ -9,7 +9,7 @@ use lib.Dec.{leb}
 use lib.ListN.{length, take}
 use borrow.Author.Tests.{le-leb}
 use Rattle.base_words.specs.Pick.{if_then_else_}
-use Rattle.text_lexer.proofs.PieceLaws.{by-order}
+use Rattle.base_bytes.proofs.PieceLaws.{by-order}
 use types.Run.{OneOf, hit}
 use denote.Enum.Declared.{tagOf as kindOf}
 use Rattle.xml_document.proofs.Outside.{the-type}
@@ -22,8 +22,8 @@ use Rattle.xml_document.specs.Document.{outsideAt, outside}
 use Rattle.xml_document.specs.Around.{lastBy, lastFrom}
 use Rattle.xml_document.proofs.Laws.{Beyond, at-beyond, ran, outside-end, outside-on, outside-stops, outside-past}
 use Rattle.proof_local.proofs.Beginnings.{long, ran as run-cut}
-use Rattle.xml_skip.specs.declared.Skipped.{Skipped}
-use Rattle.xml_skip.specs.declared.Skipped.the-variants.{Past, Fault as SkipFault}
+use Rattle.xml_skip.specs.declared.Reached.{Reached}
+use Rattle.xml_skip.specs.declared.Reached.the-variants.{Past, Fault as SkipFault}
 use Rattle.xml_skip.specs.Skipping.{tagOf}
 use Rattle.xml_markup.specs.Markup.{markup}
 use Rattle.proof_local.proofs.Parts.{LateTag, tag-late}
@@ -43,7 +43,7 @@ isNothing (On q) = false
 isNothing Nothing = true
 isNothing (Fault q) = false
 
-abbrev pub isPast : Skipped → Bool
+abbrev pub isPast : Reached → Bool
 isPast (Past q) = true
 isPast (SkipFault q) = false
 

@@ -9,7 +9,7 @@ use lib.ListN.{length, take, drop, length-drop, getD}
 use lib.Seq.{drop-drop}
 use Rattle.base_words.specs.Pick.{if_then_else_}
 use Rattle.base_words.specs.Words.{at, part}
-use Rattle.text_numerals.specs.Numerals.{sameBytes}
+use Rattle.base_bytes.specs.Bytes.{sameBytes}
 use Rattle.xml_characters.specs.Names.{isName}
 use Rattle.xml_scanner.specs.declared.Sort.{Sort}
 use Rattle.xml_scanner.specs.declared.Sort.the-variants.{StartTag, EmptyTag, EndTag as AnEndTag, Text, Reference as AReference, Comment as AComment, Data as ASection, Instruction as AnInstruction, End, Fault as AFault}

@@ -9,9 +9,9 @@ use lib.Seq.{getD-take, take-take, take-add, drop-at, length-take-le}
 use borrow.Author.Tests.{lt-ltb}
 use Rattle.base_words.specs.Pick.{if_then_else_}
 use Rattle.base_words.specs.Words.{at, part}
-use Rattle.text_lexer.specs.Lexer.{past}
-use Rattle.text_lexer.proofs.PastLaws.{past-from, past-within}
-use Rattle.text_lexer.proofs.PieceLaws.{by-order}
+use Rattle.base_bytes.specs.Bytes.{past}
+use Rattle.base_bytes.proofs.PastLaws.{past-from, past-within}
+use Rattle.base_bytes.proofs.PieceLaws.{by-order}
 use Rattle.xml_markup.specs.declared.Class.{Class}
 use Rattle.xml_markup.specs.Spans.{isOf, run, after}
 

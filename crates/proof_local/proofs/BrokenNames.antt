@@ -10,9 +10,9 @@ use lib.ListN.{length, take, drop, length-drop}
 use borrow.Author.Tests.{lt-leb, eqb-true, leb-false}
 use Rattle.base_words.specs.Pick.{if_then_else_}
 use Rattle.base_words.specs.Words.{at}
-use Rattle.text_lexer.specs.Lexer.{past, isLetter, between}
-use Rattle.text_lexer.proofs.PastLaws.{past-more, past-from, past-within}
-use Rattle.text_lexer.proofs.PieceLaws.{by-order}
+use Rattle.base_bytes.specs.Bytes.{past, isLetter, between}
+use Rattle.base_bytes.proofs.PastLaws.{past-more, past-from, past-within}
+use Rattle.base_bytes.proofs.PieceLaws.{by-order}
 use Rattle.xml_characters.specs.Names.{isControl, beginsName, isName}
 use Rattle.xml_scanner.specs.declared.InOpening.the-variants.{Less}
 use Rattle.xml_scanner.specs.declared.InTag.the-variants.{Name}

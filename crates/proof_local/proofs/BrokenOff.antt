@@ -6,8 +6,8 @@ use mathlib.Core.List.{List}
 use Prim.Native.Nat.{ℕ, zero, suc, _+_, _<_, _≤_}
 use native.Mathlib.Omega.{arith}
 use lib.ListN.{length, take}
-use Rattle.xml_skip.specs.declared.Skipped.{Skipped}
-use Rattle.xml_skip.specs.declared.Skipped.the-variants.{Past, Fault as SkipFault}
+use Rattle.xml_skip.specs.declared.Reached.{Reached}
+use Rattle.xml_skip.specs.declared.Reached.the-variants.{Past, Fault as SkipFault}
 use Rattle.xml_document.specs.Around.{lastFrom}
 use Rattle.log_text.specs.declared.Cursor.{Cursor}
 use Rattle.log_text.specs.declared.Move.{Move}
@@ -24,7 +24,7 @@ use Rattle.proof_local.proofs.Around.{isPast, last-cut}
 use Rattle.proof_local.proofs.Starting.{Started, started, kept-start, start-cut, never-done}
 
 -- where a scan of a beginning, n long, ends
-abbrev pub Ends : ℕ → Skipped → Type 0
+abbrev pub Ends : ℕ → Reached → Type 0
 Ends n s = (s ≡ Past n) ⊎ (s ≡ SkipFault n)
 
 module _ (t : List ℕ) (n : ℕ) (inside : n ≤ length t) where

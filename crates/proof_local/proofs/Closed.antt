@@ -10,7 +10,7 @@ use lib.Seq.{take-take}
 use Rattle.xml_markup.specs.declared.Opener.the-variants.{Start}
 use Rattle.xml_markup.specs.Markup.{markup}
 use Rattle.xml_markup.specs.Spans.{nameAt, bytesOf, opener}
-use Rattle.xml_skip.specs.declared.Skipped.the-variants.{Past, Fault as SkipFault}
+use Rattle.xml_skip.specs.declared.Reached.the-variants.{Past, Fault as SkipFault}
 use Rattle.xml_skip.specs.declared.Tag.{Tag}
 use Rattle.xml_skip.specs.declared.Tag.the-variants.{Open, Empty, Fault as TagFault}
 use Rattle.xml_skip.specs.Skipping.{tagOf}

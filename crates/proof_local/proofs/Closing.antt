@@ -9,7 +9,7 @@ use lib.ListN.{length, drop, length-drop}
 use Rattle.base_words.specs.Pick.{if_then_else_}
 use Rattle.xml_markup.specs.declared.Opener.the-variants.{Start}
 use Rattle.xml_markup.specs.Spans.{nameAt, bytesOf, opener}
-use Rattle.xml_skip.specs.declared.Skipped.the-variants.{Past}
+use Rattle.xml_skip.specs.declared.Reached.the-variants.{Past}
 use Rattle.xml_document.specs.Around.{lastBy, lastFrom}
 use Rattle.xml_document.proofs.Laws.{outside-end}
 use Rattle.log_text.specs.declared.Level.{Level}

@@ -10,7 +10,7 @@ use lib.ListN.{length, drop, drop-of-length-le}
 use lib.Seq.{drop-cons}
 use Rattle.base_words.specs.Pick.{if_then_else_}
 use Rattle.base_words.specs.Words.{at, part}
-use Rattle.text_lexer.proofs.PieceLaws.{by-order}
+use Rattle.base_bytes.proofs.PieceLaws.{by-order}
 use Rattle.xml_characters.specs.Names.{isControl}
 use Rattle.xml_scanner.specs.declared.State.{State}
 use Rattle.xml_scanner.specs.declared.Move.{Move}

@@ -12,15 +12,15 @@ use Rattle.base_words.specs.Pick.{if_then_else_}
 use Rattle.base_words.specs.Text.{bytes}
 use Rattle.base_words.specs.Each.{each}
 use Rattle.base_words.proofs.PickLaws.{and-true}
-use Rattle.text_lexer.specs.Lexer.{past}
-use Rattle.text_numerals.specs.Numerals.{sameBytes}
+use Rattle.base_bytes.specs.Bytes.{past}
+use Rattle.base_bytes.specs.Bytes.{sameBytes}
 use Rattle.xml_characters.specs.Names.{isBlank, beginsName}
 use Rattle.xml_scanner.specs.declared.Sort.the-variants.{EmptyTag, EndTag}
 use Rattle.xml_markup.specs.declared.Class.the-variants.{Blanks, Name}
 use Rattle.xml_markup.specs.declared.Opener.the-variants.{Start, End}
 use Rattle.xml_markup.specs.Markup.{marked, markup}
 use Rattle.xml_markup.specs.Spans.{isOf, run, nameAt, bytesOf, opener, localOf, isCalled, sameName}
-use Rattle.xml_skip.specs.declared.Skipped.the-variants.{Past}
+use Rattle.xml_skip.specs.declared.Reached.the-variants.{Past}
 use Rattle.xml_skip.specs.declared.Part.the-variants.{Close as PartClose}
 use Rattle.xml_skip.specs.Skipping.{partBy, partOf, partFor, partAt, tagBy, tagOf, byTag, elementBy, elementAt, skipped}
 use Rattle.xml_document.specs.declared.Outside.the-variants.{Nothing}

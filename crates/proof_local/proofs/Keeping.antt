@@ -10,8 +10,8 @@ use borrow.Author.Tests.{lt-ltb, le-ltb}
 use Rattle.base_words.specs.Pick.{if_then_else_}
 use Rattle.base_words.specs.Text.{bytes}
 use Rattle.base_words.specs.Words.{at, part}
-use Rattle.text_lexer.proofs.PieceLaws.{by-order}
-use Rattle.text_numerals.specs.Numerals.{sameBytes}
+use Rattle.base_bytes.proofs.PieceLaws.{by-order}
+use Rattle.base_bytes.specs.Bytes.{sameBytes}
 use Rattle.log_lines.specs.Entries.{entryOf}
 use Rattle.xml_markup.specs.declared.Attribute.{Attribute}
 use Rattle.xml_markup.specs.declared.Attribute.the-variants.{Is, Absent}
@@ -22,8 +22,8 @@ use Rattle.xml_markup.specs.declared.Opener.the-variants.{Start, End as EndOpen
 use Rattle.xml_markup.specs.Markup.{markup}
 use Rattle.xml_markup.specs.Spans.{run, after, isCalled, attribute, opener, nameAt}
 use Rattle.xml_markup.proofs.MarkupLaws.{markup-within}
-use Rattle.xml_skip.specs.declared.Skipped.{Skipped}
-use Rattle.xml_skip.specs.declared.Skipped.the-variants.{Past, Fault as SkipFault}
+use Rattle.xml_skip.specs.declared.Reached.{Reached}
+use Rattle.xml_skip.specs.declared.Reached.the-variants.{Past, Fault as SkipFault}
 use Rattle.xml_skip.specs.declared.Tag.{Tag}
 use Rattle.xml_skip.specs.declared.Tag.the-variants.{Open, Empty, Fault as TagFault}
 use Rattle.xml_skip.specs.Skipping.{tagOf, skipped}
@@ -101,11 +101,11 @@ opened-tag t p q g eg o e = record { stands = ahead; name = name-in t p q o ahea
     within = subst (Within (length t)) (sym eg ∙ e) (tag-within t p)
 
 -- WHAT A VALUE IS IN ends no earlier than the value
-abbrev EndsBy : ℕ → Skipped → Type 0
+abbrev EndsBy : ℕ → Reached → Type 0
 EndsBy n (Past q) = n ≤ q
 EndsBy n (SkipFault q) = Unit {0}
 
-abbrev ValueBy : Attribute → Skipped → Type 0
+abbrev ValueBy : Attribute → Reached → Type 0
 ValueBy (Is from to) r = EndsBy to r
 ValueBy Absent r = Unit {0}
 
@@ -129,11 +129,11 @@ inside-of n q (Open r) w e b = omega (arith, e, b)
 inside-of n q (Empty r) w e b = omega (arith, e, b)
 inside-of n q (TagFault r) w e b = absurd w
 
-ends-by : (q : ℕ) (r : Skipped) → LateSkip (q - 1) r → EndsBy q r
+ends-by : (q : ℕ) (r : Reached) → LateSkip (q - 1) r → EndsBy q r
 ends-by q (Past x) l = omega (arith, l)
 ends-by q (SkipFault x) l = tt
 
-value-by : (q : ℕ) (a : Attribute) (r : Skipped) → Short q a → EndsBy q r → ValueBy a r
+value-by : (q : ℕ) (a : Attribute) (r : Reached) → Short q a → EndsBy q r → ValueBy a r
 value-by q (Is from to) (Past x) s e = omega (arith, s, e)
 value-by q (Is from to) (SkipFault x) s e = tt
 value-by q Absent r s e = tt
@@ -258,12 +258,12 @@ unfolding after if_then_else_
 after-most t i = by-order (length t) i (λ h. rw (le-ltb i (length t) h) (omega arith)) (λ h. rw (lt-ltb i (length t) h) (omega arith))
 
 module _ (t : List ℕ) (c : Cursor) (k : Kept t c) where
-  over-keeps : (r : Skipped) → Keeps t c (over r c)
+  over-keeps : (r : Reached) → Keeps t c (over r c)
   unfolding over
   over-keeps (Past q) = λ h. record { few = omega (arith, h, k .few); line = omega (arith, h, k .line); tags = same-tags t c q (c .level) q (tags-on t c (c .level) (c .at) q (omega arith) (k .tags)) }
   over-keeps (SkipFault q) = tt
 
-  named-keeps : (r : Skipped) (from to : ℕ) → EndsBy to r → Keeps t c (overNamed r c from to)
+  named-keeps : (r : Reached) (from to : ℕ) → EndsBy to r → Keeps t c (overNamed r c from to)
   unfolding overNamed
   named-keeps (Past q) from to b = λ h. record { few = omega (arith, h, k .few); line = b; tags = line-tags t c from to q (c .level) q (tags-on t c (c .level) (c .at) q (omega arith) (k .tags)) }
   named-keeps (SkipFault q) from to b = tt

@@ -11,14 +11,14 @@ use borrow.Author.Tests.{eqb-true, ne-eqb}
 use Rattle.base_words.specs.Pick.{if_then_else_}
 use Rattle.base_words.specs.Text.{bytes}
 use Rattle.base_words.specs.Words.{part}
-use Rattle.text_numerals.specs.Numerals.{sameBytes}
+use Rattle.base_bytes.specs.Bytes.{sameBytes}
 use Rattle.xml_markup.specs.declared.Attribute.{Attribute}
 use Rattle.xml_markup.specs.declared.Attribute.the-variants.{Is, Absent}
 use Rattle.xml_markup.specs.declared.Class.the-variants.{Blanks}
 use Rattle.xml_markup.specs.Markup.{markup}
 use Rattle.xml_markup.specs.Spans.{run, isCalled, attribute, opener}
-use Rattle.xml_skip.specs.declared.Skipped.{Skipped}
-use Rattle.xml_skip.specs.declared.Skipped.the-variants.{Past, Fault as SkipFault}
+use Rattle.xml_skip.specs.declared.Reached.{Reached}
+use Rattle.xml_skip.specs.declared.Reached.the-variants.{Past, Fault as SkipFault}
 use Rattle.xml_skip.specs.declared.Tag.{Tag}
 use Rattle.xml_skip.specs.declared.Tag.the-variants.{Open, Empty, Fault as TagFault}
 use Rattle.xml_skip.specs.Skipping.{tagOf, skipped}
@@ -104,12 +104,12 @@ module _ (t : List ℕ) (c : Cursor) where
   reached-goes : (q : ℕ) → Goes t c (reached c q)
   reached-goes q = stays (record { log = refl; trace = refl; opened = refl; events = refl; kept = refl }) (as-in (reached c q) (c .level) refl)
 
-  over-goes : (s : Skipped) → GoesBy t c (over s c)
+  over-goes : (s : Reached) → GoesBy t c (over s c)
   unfolding over
   over-goes (Past q) = reached-goes q
   over-goes (SkipFault q) = tt
 
-  named-goes : (s : Skipped) (from to : ℕ) → GoesBy t c (overNamed s c from to)
+  named-goes : (s : Reached) (from to : ℕ) → GoesBy t c (overNamed s c from to)
   unfolding overNamed
   named-goes (Past q) from to = stays (record { log = refl; trace = refl; opened = refl; events = refl; kept = refl }) (as-in (named c from to q) (c .level) refl)
   named-goes (SkipFault q) from to = tt

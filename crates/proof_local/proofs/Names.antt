@@ -9,8 +9,8 @@ use lib.ListN.{length, take}
 use borrow.Author.Tests.{le-leb, lt-leb, le-ltb, lt-ltb}
 use Rattle.base_words.specs.Pick.{if_then_else_}
 use Rattle.base_words.specs.Words.{at}
-use Rattle.text_lexer.proofs.PieceLaws.{by-order}
-use Rattle.text_lexer.proofs.PastLaws.{past-from}
+use Rattle.base_bytes.proofs.PieceLaws.{by-order}
+use Rattle.base_bytes.proofs.PastLaws.{past-from}
 use Rattle.xml_markup.specs.declared.Class.the-variants.{Name}
 use Rattle.xml_markup.specs.declared.Opener.the-variants.{Other}
 use Rattle.xml_markup.specs.declared.Span.{Span}

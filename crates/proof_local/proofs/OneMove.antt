@@ -7,12 +7,12 @@ use Prim.Native.Nat.{ℕ, _+_, _<_, _≤_}
 use native.Mathlib.Omega.{arith}
 use lib.ListN.{length, take}
 use Rattle.base_words.specs.Pick.{if_then_else_}
-use Rattle.text_lexer.proofs.PieceLaws.{by-order}
+use Rattle.base_bytes.proofs.PieceLaws.{by-order}
 use Rattle.xml_markup.specs.declared.Class.the-variants.{Blanks}
 use Rattle.xml_markup.specs.Markup.{markup}
 use Rattle.xml_markup.specs.Spans.{run, opener}
-use Rattle.xml_skip.specs.declared.Skipped.{Skipped}
-use Rattle.xml_skip.specs.declared.Skipped.the-variants.{Past, Fault as SkipFault}
+use Rattle.xml_skip.specs.declared.Reached.{Reached}
+use Rattle.xml_skip.specs.declared.Reached.the-variants.{Past, Fault as SkipFault}
 use Rattle.xml_skip.specs.declared.Part.{Part}
 use Rattle.xml_skip.specs.declared.Part.the-variants.{Element as PartElement, Close as PartClose, On as PartOn, Fault as PartFault}
 use Rattle.xml_skip.specs.declared.Tag.{Tag}
@@ -72,7 +72,7 @@ inside-from t n p b outer h =
     (from-if n b (InsideFault p) (closing (partAt t outer p) p) tt (closing-from n p (partAt t outer p) h (part-onward t outer p)))
     (between-from n p (length t) (outsideAt t p) h (at-beyond t p))
 
-late-skip : (n p : ℕ) (r : Skipped) → n ≤ p → Further p r → LateSkip n r
+late-skip : (n p : ℕ) (r : Reached) → n ≤ p → Further p r → LateSkip n r
 late-skip n p (Past q) h k = omega (arith, h, k)
 late-skip n p (SkipFault q) h k = tt
 

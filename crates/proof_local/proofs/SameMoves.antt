@@ -6,7 +6,7 @@ use mathlib.Core.List.{List}
 use Prim.Native.Nat.{ℕ, _<_, _≤_}
 use native.Mathlib.Omega.{arith}
 use lib.ListN.{length, take}
-use Rattle.text_lexer.proofs.PieceLaws.{by-order}
+use Rattle.base_bytes.proofs.PieceLaws.{by-order}
 use Rattle.xml_markup.specs.declared.Span.{Span}
 use Rattle.xml_markup.specs.Spans.{nameAt}
 use Rattle.log_text.specs.declared.Cursor.{Cursor}

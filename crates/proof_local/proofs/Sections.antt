@@ -10,9 +10,9 @@ use borrow.Author.Tests.{lt-leb, lt-ltb}
 use Rattle.base_words.specs.Pick.{if_then_else_}
 use Rattle.base_words.specs.Text.{bytes}
 use Rattle.base_words.specs.Words.{at, part}
-use Rattle.text_lexer.specs.Lexer.{isLetter, isDigit, between}
-use Rattle.text_lexer.proofs.PastLaws.{past-stop}
-use Rattle.text_lexer.proofs.PieceLaws.{by-order}
+use Rattle.base_bytes.specs.Bytes.{isLetter, isDigit, between}
+use Rattle.base_bytes.proofs.PastLaws.{past-stop}
+use Rattle.base_bytes.proofs.PieceLaws.{by-order}
 use Rattle.xml_characters.specs.Names.{isControl, isName, beginsName}
 use Rattle.xml_scanner.specs.declared.InOpening.the-variants.{Less, Bang, Bracket}
 use Rattle.xml_scanner.specs.declared.State.{State}

@@ -9,17 +9,17 @@ use lib.ListN.{length, take}
 use borrow.Author.Tests.{lt-leb}
 use Rattle.base_words.specs.Pick.{if_then_else_}
 use Rattle.base_words.specs.Words.{at}
-use Rattle.text_lexer.proofs.PieceLaws.{by-order}
+use Rattle.base_bytes.proofs.PieceLaws.{by-order}
 use Rattle.xml_markup.specs.declared.Opener.the-variants.{Start}
 use Rattle.xml_markup.specs.Markup.{markup, opensMarkup}
 use Rattle.xml_markup.specs.Spans.{nameAt, opener}
-use Rattle.xml_skip.specs.declared.Skipped.{Skipped}
-use Rattle.xml_skip.specs.declared.Skipped.the-variants.{Past, Fault}
+use Rattle.xml_skip.specs.declared.Reached.{Reached}
+use Rattle.xml_skip.specs.declared.Reached.the-variants.{Past, Fault}
 use Rattle.xml_skip.specs.declared.Part.{Part}
 use Rattle.xml_skip.specs.declared.Part.the-variants.{Element, Close, On, Fault as PartFault}
 use Rattle.xml_skip.specs.declared.Tag.{Tag}
 use Rattle.xml_skip.specs.declared.Tag.the-variants.{Open, Empty, Fault as TagFault}
-use Rattle.xml_skip.specs.Skipping.{partAt, tagOf, behind, byTag, elementBy, byPart, contentBy, contentAt, elementAt, depth, skipped}
+use Rattle.xml_skip.specs.Skipping.{partAt, tagOf, goOn, byTag, elementBy, byPart, contentBy, contentAt, elementAt, depth, skipped}
 use Rattle.xml_skip.proofs.Laws.{Further, Onward, Behind, part-onward, tag-behind, content-is, content-end, element-past}
 use Rattle.proof_local.proofs.Beginnings.{long}
 use Rattle.proof_local.proofs.Names.{Whole}
@@ -28,24 +28,24 @@ use Rattle.proof_local.proofs.BrokenNames.{start-opens}
 use Rattle.proof_local.proofs.Parts.{EarlyPart, LatePart, OntoPart, CutPart, same as same-part, element, no-element, broken as broken-part, text, part-cut, EarlyTag, LateTag, CutTag, same-tag, broken-tag, tag-cut, tag-late}
 
 -- ends before n; behind it
-abbrev pub Early : ℕ → Skipped → Type 0
+abbrev pub Early : ℕ → Reached → Type 0
 Early n (Past q) = q ≤ n
 Early n (Fault q) = Unit {0}
 
-abbrev pub Late : ℕ → Skipped → Type 0
+abbrev pub Late : ℕ → Reached → Type 0
 Late n (Past q) = n < q
 Late n (Fault q) = Unit {0}
 
 -- x is the text's, y the beginning's, n long
-pub data Cut (n : ℕ) (x y : Skipped) : Type 0 where
+pub data Cut (n : ℕ) (x y : Reached) : Type 0 where
   same : y ≡ x → Early n x → Cut n x y
   broken : y ≡ Fault n → Late n x → Cut n x y
 
-late-further : (n q : ℕ) (r : Skipped) → n ≤ q → Further q r → Late n r
+late-further : (n q : ℕ) (r : Reached) → n ≤ q → Further q r → Late n r
 late-further n q (Past x) h k = omega (arith, h, k)
 late-further n q (Fault x) h k = tt
 
-further-on : (p q : ℕ) (r : Skipped) → p < q → Further q r → Further p r
+further-on : (p q : ℕ) (r : Reached) → p < q → Further q r → Further p r
 further-on p q (Past x) h k = omega (arith, h, k)
 further-on p q (Fault x) h k = tt
 
@@ -54,8 +54,8 @@ pub content-step : (t : List ℕ) (outer p d : ℕ) → p < length t → content
 unfolding contentBy elementAt if_then_else_
 content-step t outer p d h = content-is t outer p d ∙ rw (lt-leb (length t) p h) refl
 
-further-step : (t : List ℕ) (outer p d : ℕ) → ((q : ℕ) → p < q → Further q (contentAt t outer q d)) → (g : Part) → Onward p g → (r : Skipped) → r ≡ elementAt t p d → Further p (byPart g r (λ q. contentAt t outer q d))
-unfolding byPart behind
+further-step : (t : List ℕ) (outer p d : ℕ) → ((q : ℕ) → p < q → Further q (contentAt t outer q d)) → (g : Part) → Onward p g → (r : Reached) → r ≡ elementAt t p d → Further p (byPart g r (λ q. contentAt t outer q d))
+unfolding byPart goOn
 further-step t outer p d f Element o (Past q) e = further-on p q (contentAt t outer q d) (element-past t p d (Past q) e q refl) (f q (element-past t p d (Past q) e q refl))
 further-step t outer p d f Element o (Fault q) e = tt
 further-step t outer p d f (Close q) o r e = o
@@ -73,8 +73,8 @@ module _ (t : List ℕ) (n : ℕ) (inside : n ≤ length t) where
   late-content : (outer q d : ℕ) → n ≤ q → Late n (contentAt t outer q d)
   late-content outer q d h = late-further n q (contentAt t outer q d) h (content-further t (length t) outer q d (omega arith))
 
-  late-behind : (outer d : ℕ) (r : Skipped) → Late n r → Late n (behind r (λ q. contentAt t outer q d))
-  unfolding behind
+  late-behind : (outer d : ℕ) (r : Reached) → Late n r → Late n (goOn r (λ q. contentAt t outer q d))
+  unfolding goOn
   late-behind outer d (Past q) l = late-content outer q d (omega (arith, l))
   late-behind outer d (Fault q) l = tt
 
@@ -84,14 +84,14 @@ module _ (t : List ℕ) (n : ℕ) (inside : n ≤ length t) where
   late-tagged p d (Empty q) l = l
   late-tagged p d (TagFault q) l = tt
 
-  late-part : (outer d : ℕ) (r : Skipped) (g : Part) → LatePart n g → Late n (byPart g r (λ q. contentAt t outer q d))
+  late-part : (outer d : ℕ) (r : Reached) (g : Part) → LatePart n g → Late n (byPart g r (λ q. contentAt t outer q d))
   unfolding byPart
   late-part outer d r Element l = absurd l
   late-part outer d r (Close q) l = l
   late-part outer d r (On q) l = late-content outer q d (omega (arith, l))
   late-part outer d r (PartFault q) l = tt
 
-  onto-part : (outer d : ℕ) (r : Skipped) (g : Part) → OntoPart n g → Late n (byPart g r (λ q. contentAt t outer q d))
+  onto-part : (outer d : ℕ) (r : Reached) (g : Part) → OntoPart n g → Late n (byPart g r (λ q. contentAt t outer q d))
   unfolding byPart
   onto-part outer d r Element l = absurd l
   onto-part outer d r (Close q) l = absurd l
@@ -99,7 +99,7 @@ module _ (t : List ℕ) (n : ℕ) (inside : n ≤ length t) where
   onto-part outer d r (PartFault q) l = tt
 
   -- a choice by the depth
-  late-deep : (p : ℕ) (b : Bool) (r : Skipped) → Late n r → Late n (if b then Fault p else r)
+  late-deep : (p : ℕ) (b : Bool) (r : Reached) → Late n r → Late n (if b then Fault p else r)
   unfolding if_then_else_
   late-deep p true r l = tt
   late-deep p false r l = l
@@ -110,7 +110,7 @@ module _ (t : List ℕ) (n : ℕ) (inside : n ≤ length t) where
 
   -- where content behind p is read alike
   module _ (p : ℕ) (h : p < n) (IH : (outer q d : ℕ) → p < q → q ≤ n → outer < n → Whole t n outer → Cut n (contentAt t outer q d) (contentAt (take n t) outer q d)) where
-    deep : (b : Bool) (x y : Skipped) → Cut n x y → Cut n (if b then Fault p else x) (if b then Fault p else y)
+    deep : (b : Bool) (x y : Reached) → Cut n x y → Cut n (if b then Fault p else x) (if b then Fault p else y)
     unfolding if_then_else_
     deep true x y c = same refl tt
     deep false x y c = c
@@ -128,13 +128,13 @@ module _ (t : List ℕ) (n : ℕ) (inside : n ≤ length t) where
       element-cut o = deep (eqb d 0) _ _ (by-tag (tagOf (markup t p) p) (tagOf (markup (take n t) p) p) (tag-behind t p) (tag-cut t n inside p h o))
 
     module _ (outer d : ℕ) (k : outer < n) (w : Whole t n outer) where
-      by-behind : (x y : Skipped) → Further p x → Cut n x y → Cut n (behind x (λ q. contentAt t outer q d)) (behind y (λ q. contentAt (take n t) outer q d))
-      unfolding behind
+      by-behind : (x y : Reached) → Further p x → Cut n x y → Cut n (goOn x (λ q. contentAt t outer q d)) (goOn y (λ q. contentAt (take n t) outer q d))
+      unfolding goOn
       by-behind (Past q) y f (same e l) = rw e (IH outer q d f l k w)
       by-behind (Fault q) y f (same e l) = rw e (same refl tt)
       by-behind x y f (broken e l) = rw e (broken refl (late-behind outer d x l))
 
-      element-further : (r : Skipped) → r ≡ elementAt t p d → Further p r
+      element-further : (r : Reached) → r ≡ elementAt t p d → Further p r
       element-further (Past q) e = element-past t p d (Past q) e q refl
       element-further (Fault q) e = tt
 

@@ -9,7 +9,7 @@ use lib.Seq.{getD-drop, drop-drop, drop-append-le, take-append-le, drop-append-s
 use borrow.Author.Tests.{lt-ltb}
 use Rattle.base_words.specs.Pick.{if_then_else_}
 use Rattle.base_words.specs.Words.{at, part}
-use Rattle.text_lexer.proofs.PieceLaws.{by-order}
+use Rattle.base_bytes.proofs.PieceLaws.{by-order}
 use Rattle.xml_markup.specs.Spans.{after}
 
 none : (n : ℕ) (l : List ℕ) → n ≡ 0 → take n l ≡ []

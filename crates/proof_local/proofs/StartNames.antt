@@ -10,8 +10,8 @@ use Rattle.base_words.specs.Each.{each}
 use Rattle.base_words.specs.Pick.{if_then_else_}
 use Rattle.base_words.specs.Words.{at}
 use Rattle.base_words.proofs.PickLaws.{and-true}
-use Rattle.text_lexer.specs.Lexer.{past}
-use Rattle.text_lexer.proofs.PastLaws.{past-from}
+use Rattle.base_bytes.specs.Bytes.{past}
+use Rattle.base_bytes.proofs.PastLaws.{past-from}
 use Rattle.xml_markup.specs.declared.Class.the-variants.{Name}
 use Rattle.xml_markup.specs.declared.Opener.the-variants.{Start}
 use Rattle.xml_markup.specs.Spans.{isOf, run, nameFrom, nameAt, bytesOf, opener}

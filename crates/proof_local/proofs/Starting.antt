@@ -12,14 +12,14 @@ use Rattle.base_words.specs.Pick.{if_then_else_}
 use Rattle.base_words.specs.Text.{bytes}
 use Rattle.base_words.specs.Words.{part}
 use Rattle.base_words.proofs.AllLaws.{and-left, and-right}
-use Rattle.text_lexer.proofs.PieceLaws.{by-order}
-use Rattle.text_numerals.specs.Numerals.{sameBytes}
+use Rattle.base_bytes.proofs.PieceLaws.{by-order}
+use Rattle.base_bytes.specs.Bytes.{sameBytes}
 use Rattle.xml_markup.specs.declared.Opener.the-variants.{Start}
 use Rattle.xml_markup.specs.Markup.{markup}
 use Rattle.xml_markup.specs.Spans.{isCalled, nameFrom, nameAt, opener}
 use Rattle.xml_markup.specs.Tokens.{byteOrderMark, first}
-use Rattle.xml_skip.specs.declared.Skipped.{Skipped}
-use Rattle.xml_skip.specs.declared.Skipped.the-variants.{Past, Fault as SkipFault}
+use Rattle.xml_skip.specs.declared.Reached.{Reached}
+use Rattle.xml_skip.specs.declared.Reached.the-variants.{Past, Fault as SkipFault}
 use Rattle.xml_skip.specs.declared.Tag.{Tag}
 use Rattle.xml_skip.specs.declared.Tag.the-variants.{Open, Empty, Fault as TagFault}
 use Rattle.xml_skip.specs.Skipping.{tagOf}
@@ -124,7 +124,7 @@ done-tag c (Open q) p e = false≢true (ap isDone e)
 done-tag c (Empty q) p e = false≢true (ap isDone e)
 done-tag c (TagFault q) p e = false≢true (ap isDone e)
 
-done-begin : (t : List ℕ) (c : Cursor) (s : Skipped) → begin s t ≡ Done c → ⊥
+done-begin : (t : List ℕ) (c : Cursor) (s : Reached) → begin s t ≡ Done c → ⊥
 unfolding begin
 done-begin t c (Past p) e = done-tag c (tagOf (markup t p) p) p e
 done-begin t c (SkipFault q) e = false≢true (ap isDone e)

@@ -13,9 +13,9 @@ use Rattle.base_words.specs.Words.{at, part}
 use Rattle.base_words.specs.Each.{each}
 use Rattle.base_words.specs.Text.{bytes}
 use Rattle.base_words.proofs.AllLaws.{and-left, and-right}
-use Rattle.text_lexer.specs.Lexer.{between, isLetter, isDigit, past}
-use Rattle.text_lexer.proofs.PastLaws.{past-run}
-use Rattle.text_numerals.specs.Numerals.{sameBytes}
+use Rattle.base_bytes.specs.Bytes.{between, isLetter, isDigit, past}
+use Rattle.base_bytes.proofs.PastLaws.{past-run}
+use Rattle.base_bytes.specs.Bytes.{sameBytes}
 use Rattle.xml_characters.specs.Names.{isBlank, beginsName, isName, isControl}
 use Rattle.xml_scanner.specs.declared.Sort.the-variants.{EmptyTag, EndTag as anEndTag}
 use Rattle.xml_scanner.specs.declared.InTag.the-variants.{Value as InValue, Behind as InBehind, Slash}

@@ -12,8 +12,8 @@ use Rattle.base_words.specs.Pick.{if_then_else_}
 use Rattle.base_words.specs.Text.{bytes}
 use Rattle.base_words.specs.Words.{at, part}
 use Rattle.base_words.proofs.AllLaws.{and-left, and-right}
-use Rattle.text_lexer.proofs.PieceLaws.{by-order}
-use Rattle.text_numerals.specs.Numerals.{sameBytes}
+use Rattle.base_bytes.proofs.PieceLaws.{by-order}
+use Rattle.base_bytes.specs.Bytes.{sameBytes}
 use Rattle.xml_characters.specs.Names.{isControl, isBlank}
 use Rattle.xml_scanner.specs.declared.Sort.{Sort}
 use Rattle.xml_scanner.specs.declared.Sort.the-variants.{Text}

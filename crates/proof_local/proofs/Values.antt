@@ -8,7 +8,7 @@ use lib.Dec.{eqb}
 use lib.ListN.{length, drop}
 use Rattle.base_words.specs.Pick.{if_then_else_}
 use Rattle.base_words.specs.Words.{at}
-use Rattle.text_lexer.proofs.PastLaws.{past-more, past-stop}
+use Rattle.base_bytes.proofs.PastLaws.{past-more, past-stop}
 use Rattle.xml_characters.specs.Names.{isBlank, isName}
 use Rattle.xml_scanner.specs.declared.InTag.the-variants.{Attribute, Named, Equals, Value, Reference, Behind}
 use Rattle.xml_scanner.specs.declared.State.the-variants.{Tag}

@@ -13,7 +13,7 @@ use Rattle.base_words.specs.Words.{part}
 use Rattle.base_words.specs.Each.{each}
 use Rattle.base_words.proofs.AllLaws.{and-left, and-right}
 use Rattle.base_words.proofs.PickLaws.{and-true}
-use Rattle.text_numerals.specs.Numerals.{sameBytes}
+use Rattle.base_bytes.specs.Bytes.{sameBytes}
 use Rattle.xml_scanner.specs.declared.Sort.the-variants.{EmptyTag}
 use Rattle.xml_markup.specs.declared.Class.the-variants.{Blanks, Value}
 use Rattle.xml_markup.specs.declared.Attribute.the-variants.{Is}

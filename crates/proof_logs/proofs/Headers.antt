@@ -12,8 +12,8 @@ use Rattle.base_words.specs.Pick.{if_then_else_}
 use Rattle.base_words.specs.Text.{bytes}
 use Rattle.base_words.specs.Words.{at, part}
 use Rattle.base_words.specs.Each.{each}
-use Rattle.text_lexer.specs.Lexer.{between, isLetter, isDigit, past}
-use Rattle.text_numerals.specs.Numerals.{sameBytes}
+use Rattle.base_bytes.specs.Bytes.{between, isLetter, isDigit, past}
+use Rattle.base_bytes.specs.Bytes.{sameBytes}
 use Rattle.proof_steps.proofs.Choices.{passed}
 use Rattle.xml_characters.specs.Names.{isBlank, isControl, beginsName, isName}
 use Rattle.xml_characters.specs.References.{digit, base, more, numberFrom, numbered, characterOf, isCharacter}
@@ -29,10 +29,10 @@ use Rattle.xml_markup.specs.Tokens.{endOf, wholeInTag, wholeInInstruction, whol
 use Rattle.xml_markup.specs.Markup.{advance, scanFrom, scan, beginsAt, opensMarkup, marked, placed, markup}
 use Rattle.xml_markup.specs.Spans.{isOf, run, hasSecond, nameAt, bytesOf, opener, localFrom, localOf, behindColon}
 use Rattle.xml_markup.proofs.CutLaws.{cut-off}
-use Rattle.xml_skip.specs.declared.Skipped.{Skipped}
-use Rattle.xml_skip.specs.declared.Skipped.the-variants.{Past}
+use Rattle.xml_skip.specs.declared.Reached.{Reached}
+use Rattle.xml_skip.specs.declared.Reached.the-variants.{Past}
 use Rattle.xml_skip.specs.declared.Part.the-variants.{Element as PartElement, Close as PartClose}
-use Rattle.xml_skip.specs.Skipping.{partFor, partAt, tagBy, tagOf, behind as onward, byTag, elementBy, byPart, contentBy, contentIn, contentAt, elementAt, skipped}
+use Rattle.xml_skip.specs.Skipping.{partFor, partAt, tagBy, tagOf, goOn as onward, byTag, elementBy, byPart, contentBy, contentIn, contentAt, elementAt, skipped}
 use Rattle.xml_document.specs.declared.Outside.the-variants.{Element, On as Onward}
 use Rattle.xml_document.specs.Document.{otherBy, otherOf, opensData, tagFor, tagAt, outsideAt, further, outsideIn, outside}
 use Rattle.xml_document.specs.Around.{rootBy, rootAt}
@@ -307,7 +307,7 @@ module _ (t x : List ℕ) (p q : ℕ) (log-is : bytesOf t (nameAt t p) ≡ bytes
   pub in-trace : InTrace t (bytes "log") (bytes "trace") past-name
   in-trace = record { level-is = refl; log-is = log-is; trace-is = is-trace .named; opened-is = ne-eqb (past-name .opened) 0 (λ e. omega (arith, e)) }
 
-  pub header-read : (e : Skipped) (o m : ℕ) (lines : List (List ℕ)) → Reads t e o m past-name lines → Reads t e o (suc (suc (suc (suc (suc (suc m)))))) at-log lines
+  pub header-read : (e : Reached) (o m : ℕ) (lines : List (List ℕ)) → Reads t e o m past-name lines → Reads t e o (suc (suc (suc (suc (suc (suc m)))))) at-log lines
   unfolding closesEvent
   header-read e o m lines r =
       reads-on t e o (suc (suc (suc (suc (suc m))))) at-log past-extension lines concept-passed

@@ -8,8 +8,8 @@ use lib.ListN.{drop}
 use Rattle.base_words.specs.Pick.{if_then_else_}
 use Rattle.base_words.specs.Text.{bytes}
 use Rattle.base_words.specs.Each.{each}
-use Rattle.text_lexer.specs.Lexer.{between, isLetter, isDigit, past}
-use Rattle.text_numerals.specs.Numerals.{sameBytes}
+use Rattle.base_bytes.specs.Bytes.{between, isLetter, isDigit, past}
+use Rattle.base_bytes.specs.Bytes.{sameBytes}
 use Rattle.xml_characters.specs.Names.{isBlank, isControl, beginsName, isName}
 use Rattle.xml_characters.specs.References.{digit, base, more, numberFrom, numbered, characterOf, isCharacter}
 use Rattle.xml_scanner.specs.declared.Sort.the-variants.{StartTag, EmptyTag}

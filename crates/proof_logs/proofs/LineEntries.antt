@@ -11,7 +11,7 @@ use Rattle.base_words.specs.Pick.{if_then_else_}
 use Rattle.base_words.specs.Text.{bytes}
 use Rattle.base_words.specs.Words.{part}
 use Rattle.base_words.proofs.AllLaws.{and-left}
-use Rattle.text_numerals.specs.Numerals.{sameBytes}
+use Rattle.base_bytes.specs.Bytes.{sameBytes}
 use Rattle.write_decimals.specs.Decimals.{shown, isDigit}
 use Rattle.write_decimals.proofs.DecimalLaws.{shown-some, shown-digits}
 use Rattle.write_lines.specs.Lines.{valuesLine, trafficLine, stepLine}

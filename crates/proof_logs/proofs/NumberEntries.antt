@@ -13,16 +13,17 @@ use Rattle.base_words.specs.Pick.{if_then_else_}
 use Rattle.base_words.specs.Words.{greatest}
 use Rattle.base_words.proofs.AllLaws.{and-left, and-right}
 use Rattle.base_words.proofs.PickLaws.{and-true}
-use Rattle.text_lexer.specs.Lexer.{isWord, past}
-use Rattle.text_lexer.proofs.PastLaws.{past-run, past-whole}
+use Rattle.text_lexer.specs.Lexer.{isWord}
+use Rattle.base_bytes.specs.Bytes.{past}
+use Rattle.base_bytes.proofs.PastLaws.{past-run, past-whole}
 use Rattle.text_numerals.specs.declared.Number.the-variants.{Value}
 use Rattle.text_numerals.specs.Numerals.{numberOf}
 use Rattle.text_numerals.proofs.Spelled.{spelled-word, number-spelled}
 use Rattle.write_decimals.specs.Decimals.{shown}
-use Rattle.proof_trips.proofs.NumberReads.{shown-spelled}
+use Rattle.proof_roundtrip.proofs.NumberReads.{shown-spelled}
 use Rattle.xml_markup.specs.declared.Class.the-variants.{Value as NotByte}
 use Rattle.xml_markup.specs.Spans.{isOf, run, after}
-use Rattle.log_lines.specs.Entries.{numberMost, numberUpTo, isSmall, valueIn, numbered}
+use Rattle.log_lines.specs.Entries.{numberMost, numberUpTo, isSmall, valueIn, numberBefore}
 
 -- a byte of a word is no mark
 apart : (b c : ℕ) → isWord c ≡ false → isWord b ≡ true → isOf (NotByte c) b ≡ true
@@ -72,8 +73,8 @@ module _ (c : ℕ) (m : isWord c ≡ false) (w : List ℕ) (p v : ℕ) (small : 
       some = omega arith
 
   -- THE LAW for a number with its mark
-  pub number-read : v ≤ numberMost → (rest : List ℕ) → drop p w ≡ shown v ++ c ∷ rest → numbered c w p ≡ record { right = true; value = v; next = p + length (shown v) + 1 }
-  unfolding numbered isSmall valueIn after if_then_else_
+  pub number-read : v ≤ numberMost → (rest : List ℕ) → drop p w ≡ shown v ++ c ∷ rest → numberBefore c w p ≡ record { right = true; value = v; next = p + length (shown v) + 1 }
+  unfolding numberBefore isSmall valueIn after if_then_else_
   number-read few rest e =
       rw (piece (c ∷ rest) e (run-marked rest e), run-marked rest e, le-leb v numberMost few, lt-ltb (p + length (shown v)) (length w) (inside rest e)) refl
 

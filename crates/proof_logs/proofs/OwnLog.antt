@@ -9,10 +9,10 @@ use Rattle.base_words.specs.Pick.{if_then_else_}
 use Rattle.base_words.proofs.AllLaws.{and-left, and-right}
 use Rattle.base_words.proofs.PickLaws.{and-true}
 use Rattle.state_fits.specs.Fresh.{fresh}
-use Rattle.xml_skip.specs.declared.Skipped.the-variants.{Past}
+use Rattle.xml_skip.specs.declared.Reached.the-variants.{Past}
 use Rattle.proof_steps.proofs.Choices.{by-choice}
 use Rattle.log_text.specs.Logs.{scan, linesOf}
-use Rattle.log_judge.specs.Judge.{taken, lawful, judgedBy, judgedEnd, judgedFrom}
+use Rattle.log_judge.specs.Judge.{lineTaken, lawful, judgedBy, judgedEnd, judgedFrom}
 use Rattle.engine.specs.Engine.{askedNumber, stepped, postedTo, listedAt}
 use Rattle.engine.specs.Calls.{Act, aStep, aPost, did, allAccepted, after, Valid, judgedTo}
 use Rattle.engine.proofs.CallLaws.{asked-known}
@@ -48,7 +48,7 @@ module _ (t : List ℕ) where
       (λ e. tt)
 
   -- a text that is a log is judged by its lines
-  pub log-judged : (v : ℕ) → askedNumber t v ≡ 0 → (b : List ℕ) (q : ℕ) → scan b .end ≡ Past q → judgedTo t v b ≡ judgedBy (taken (stepped t) (postedTo t)) (linesOf b) 0 (fresh t v)
+  pub log-judged : (v : ℕ) → askedNumber t v ≡ 0 → (b : List ℕ) (q : ℕ) → scan b .end ≡ Past q → judgedTo t v b ≡ judgedBy (lineTaken (stepped t) (postedTo t)) (linesOf b) 0 (fresh t v)
   unfolding judgedTo judgedFrom judgedEnd if_then_else_
   log-judged v asked b q e = rw (asked, e) refl
 
@@ -65,7 +65,7 @@ module _ (t : List ℕ) where
         → (b : List ℕ) (q : ℕ) → scan b .end ≡ Past q → linesOf b ≡ told t acts (fresh t v) → judgedTo t v b ≡ lawful
     told-log acts h posted b q e lines =
         log-judged v asked b q e
-        ∙ ap (λ (ws : List (List ℕ)). judgedBy (taken (stepped t) (postedTo t)) ws 0 (fresh t v)) lines
+        ∙ ap (λ (ws : List (List ℕ)). judgedBy (lineTaken (stepped t) (postedTo t)) ws 0 (fresh t v)) lines
         ∙ told-lawful t acts 0 (fresh t v) (fresh-valid t v asked) h (fresh-words acts h posted)
 
     -- "a log made of a run's own lines .. is lawful (for every model, state reached from fresh, and limit)"

@@ -21,7 +21,7 @@ use Rattle.meaning.specs.declared.Traffic.the-variants.{Nothing, Consumed, Sent
 use Rattle.write_decimals.specs.Decimals.{isDigit, shown}
 use Rattle.write_decimals.proofs.DecimalLaws.{shown-digits}
 use Rattle.xml_markup.specs.Staying.{isPlain}
-use Rattle.write_lines.specs.Lines.{marked, row, valuesLine, messageLine, signed, trafficLine, placeLine, stepLine}
+use Rattle.write_lines.specs.Lines.{markedOff, row, valuesLine, messageLine, signed, trafficLine, placeLine, stepLine}
 use Rattle.proof_logs.proofs.Events.{Plain}
 
 -- one behind the other
@@ -47,18 +47,18 @@ pub number-plain : (n : ℕ) → Plain (shown n)
 number-plain n = digits-plain (shown n) (shown-digits n)
 
 module _ (mark : List ℕ) (plain : Plain mark) where
-  marked-plain : (j x : ℕ) → Plain (marked mark j x)
-  unfolding marked
+  marked-plain : (j x : ℕ) → Plain (markedOff mark j x)
+  unfolding markedOff
   marked-plain j x = go (eqb j 0)
     where
       go : (b : Bool) → Plain (if b then shown x else mark ++ shown x)
       go true = unfold if_then_else_ in number-plain x
       go false = unfold if_then_else_ in plain-append mark (shown x) plain (number-plain x)
 
-  joined-plain : (s : List ℕ) (n : ℕ) → Plain (joined (λ j. marked mark j (at s j)) n)
+  joined-plain : (s : List ℕ) (n : ℕ) → Plain (joined (λ j. markedOff mark j (at s j)) n)
   unfolding joined each
   joined-plain s zero = refl
-  joined-plain s (suc n) = plain-append (joined (λ j. marked mark j (at s j)) n) (marked mark n (at s n)) (joined-plain s n) (marked-plain n (at s n))
+  joined-plain s (suc n) = plain-append (joined (λ j. markedOff mark j (at s j)) n) (markedOff mark n (at s n)) (joined-plain s n) (marked-plain n (at s n))
 
   row-plain : (s : List ℕ) (n : ℕ) → Plain (row mark s n)
   unfolding row

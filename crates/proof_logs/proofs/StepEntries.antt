@@ -12,10 +12,11 @@ use Rattle.base_words.specs.Each.{joined}
 use Rattle.base_words.specs.Pick.{if_then_else_}
 use Rattle.base_words.specs.Text.{bytes}
 use Rattle.base_words.specs.Words.{at, part, greatest}
-use Rattle.text_lexer.specs.Lexer.{isWord, isLetter, isDigit, between}
-use Rattle.text_numerals.specs.Numerals.{sameBytes}
+use Rattle.text_lexer.specs.Lexer.{isWord}
+use Rattle.base_bytes.specs.Bytes.{isLetter, isDigit, between}
+use Rattle.base_bytes.specs.Bytes.{sameBytes}
 use Rattle.write_decimals.specs.Decimals.{shown}
-use Rattle.write_lines.specs.Lines.{marked, row, valuesLine, messageLine, signed, trafficLine, placeLine, stepLine}
+use Rattle.write_lines.specs.Lines.{markedOff, row, valuesLine, messageLine, signed, trafficLine, placeLine, stepLine}
 use Rattle.meaning.specs.declared.Answer.{Answer}
 use Rattle.meaning.specs.declared.Name.{Name}
 use Rattle.meaning.specs.declared.Traffic.{Traffic}
@@ -26,7 +27,7 @@ use Rattle.meaning.specs.Queues.{tidied}
 use Rattle.xml_markup.specs.Spans.{after}
 use Rattle.log_lines.specs.declared.Numbered.{Numbered}
 use Rattle.log_lines.specs.declared.Entry.{Entry}
-use Rattle.log_lines.specs.Entries.{numberMost, given, messageFrom, trafficFrom, numberPlace, numberAt, placed, allRight, stepEntry}
+use Rattle.log_lines.specs.Entries.{numberMost, given, messageFrom, trafficFrom, numberPlace, numberAt, fivePlaced, allRight, stepEntry}
 use Rattle.proof_logs.proofs.NumberEntries.{number-read, behind-mark}
 use Rattle.proof_logs.proofs.ValueEntries.{tuple-read}
 
@@ -84,7 +85,7 @@ abbrev pub spaced : ℕ → ℕ → ℕ → ℕ → ℕ → List ℕ → List �
 spaced a b c d e r = shown a ++ 32 ∷ (shown b ++ 32 ∷ (shown c ++ 32 ∷ (shown d ++ 32 ∷ (shown e ++ 32 ∷ r))))
 
 pub place-spaced : (n : Name) (r : List ℕ) → placeLine n ++ bytes " " ++ r ≡ spaced (n .pool) (n .instance) (n .element) (n .phase) (n .branch) r
-unfolding placeLine row joined marked if_then_else_
+unfolding placeLine row joined markedOff if_then_else_
 place-spaced n r = rw append-assoc (rw append-assoc (rw append-assoc (rw append-assoc (rw append-assoc refl))))
 
 -- THE PLACES of the numbers
@@ -116,7 +117,7 @@ unfolding trafficLine messageLine
 traffic-is a = ap (signed (a .traffic)) (append-assoc (shown (a .name)) (bytes ":") (valuesLine (a .tuple)))
 
 pub step-from : (n : Name) (a : Answer) (w : List ℕ) → Small n → a .name ≤ numberMost → Sound (a .tuple) → w ≡ stepLine n a → stepEntry w ≡ stepOf n (givenBy (a .traffic) (a .tuple))
-unfolding stepEntry allRight placed if_then_else_
+unfolding stepEntry allRight fivePlaced if_then_else_
 step-from n a w s few t e =
     let e0 : drop (numberPlace w 0) w ≡ spaced (n .pool) (n .instance) (n .element) (n .phase) (n .branch) (trafficLine a) = unfold numberPlace in e ∙ (unfold stepLine in place-spaced n (trafficLine a)) in
     let u0 = e0 in

@@ -16,7 +16,7 @@ use Rattle.base_words.proofs.SeekLaws.{sought}
 use Rattle.base_kinds.specs.declared.moves.Move.{Move}
 use Rattle.base_kinds.specs.Moves.{on, making, branch, phases}
 use Rattle.base_table.specs.Places.{poolPlace}
-use Rattle.base_table.specs.Table.{poolCount, numbered, poolOf, kindIn, modeIn, entryCount, exitCount}
+use Rattle.base_table.specs.Table.{poolCount, hasNumber, poolOf, kindIn, modeIn, entryCount, exitCount}
 use Rattle.base_state.specs.Instances.{madeCount}
 use Rattle.check_limits.specs.Limits.{within, poolFits, tableFits, elementFits}
 use Rattle.state_fits.specs.Fits.{stateFits}
@@ -65,8 +65,8 @@ module _ (t s q : List ℕ) (n : Name) (fits : tableFits t ≡ true) (allowed : 
 
   -- ITS NUMBERS
   pool-is : at t (poolPlace p) ≡ n .pool
-  unfolding poolOf numbered
-  pool-is = eqb-true (at t (poolPlace p)) (n .pool) (sought (numbered t (n .pool)) (poolCount t) .1 (f .pool))
+  unfolding poolOf hasNumber
+  pool-is = eqb-true (at t (poolPlace p)) (n .pool) (sought (hasNumber t (n .pool)) (poolCount t) .1 (f .pool))
 
   pool-fits : poolFits t p ≡ true
   unfolding tableFits

@@ -10,7 +10,7 @@ use Rattle.base_words.specs.Counts.{names, values}
 use Rattle.base_words.specs.Pick.{if_then_else_}
 use Rattle.base_words.specs.Words.{at, greatest}
 use Rattle.base_words.proofs.AllLaws.{and-left, and-right}
-use Rattle.text_numerals.specs.Numerals.{sameBytes}
+use Rattle.base_bytes.specs.Bytes.{sameBytes}
 use Rattle.base_state.specs.Instances.{instancesOf, queuesOf}
 use Rattle.check_limits.specs.Limits.{tableFits}
 use Rattle.write_lines.specs.Lines.{placeLine, stepLine}
@@ -29,7 +29,7 @@ use Rattle.proof_listing.proofs.SameValues.{withGiven}
 use Rattle.proof_steps.proofs.AcceptedParts.{first-holds}
 use Rattle.log_lines.specs.declared.Entry.{Entry}
 use Rattle.log_lines.specs.Entries.{numberMost, entryOf}
-use Rattle.log_judge.specs.Judge.{takenBy, taken, lawful, judgedBy}
+use Rattle.log_judge.specs.Judge.{takenBy, lineTaken, lawful, judgedBy}
 use Rattle.engine.specs.Engine.{Left, Stepped, lentNumber, fitting, leaving, stepped, postedTo}
 use Rattle.engine.specs.Calls.{Act, aStep, aPost, did, allAccepted, Valid}
 use Rattle.engine.proofs.CallLaws.{table-fits, state-fits}
@@ -46,7 +46,7 @@ use Rattle.proof_logs.proofs.SameSteps.{step-same, post-same}
 module _ (t : List ℕ) where
   -- a call as its line is taken
   abbrev pub Retaken : Act → List ℕ → Type 0
-  Retaken a z = taken (stepped t) (postedTo t) (lineTold t a z) z ≡ record { number = 0; right = true; state = did t a z .state }
+  Retaken a z = lineTaken (stepped t) (postedTo t) (lineTold t a z) z ≡ record { number = 0; right = true; state = did t a z .state }
 
   module _ (z : List ℕ) (v : Valid t z) where
     fits : tableFits t ≡ true
@@ -102,7 +102,7 @@ module _ (t : List ℕ) where
       true-again = ap (λ (w : List ℕ). sameBytes w (stepLine n a)) line-again ∙ same-self (stepLine n a)
 
       step-again : ((j : ℕ) → at (a .tuple .values) j ≤ greatest) → Retaken (aStep n) z
-      unfolding lineTold taken takenBy did if_then_else_
+      unfolding lineTold lineTaken takenBy did if_then_else_
       step-again words =
           ap (λ (e : Entry). takenBy (stepped t) (postedTo t) e (stepLine n a) z) (step-named words)
           ∙ ap (λ (o : Stepped). record { number = o .answer .number; right = sameBytes (stepLine k (o .answer)) (stepLine n a); state = o .state }) named-again
@@ -127,7 +127,7 @@ module _ (t : List ℕ) where
           (post-same g short (queuesOf z) name)
 
       post-again : ((j : ℕ) → at (g .values) j ≤ greatest) → Retaken (aPost name g) z
-      unfolding lineTold taken takenBy did if_then_else_
+      unfolding lineTold lineTaken takenBy did if_then_else_
       post-again words =
           ap (λ (e : Entry). takenBy (stepped t) (postedTo t) e (postLine name g) z) (post-entry name g few (record { few = short; small = words }))
           ∙ ap (λ (o : Left). record { number = o .number; right = true; state = o .state }) posted-again
@@ -146,7 +146,7 @@ module _ (t : List ℕ) where
 
   -- ALL OF THEM, k events before these
   pub told-lawful : (acts : List Act) (k : ℕ) (z : List ℕ) → Valid t z → allAccepted t acts z ≡ true → AllWords t acts z
-      → judgedBy (taken (stepped t) (postedTo t)) (told t acts z) k z ≡ lawful
+      → judgedBy (lineTaken (stepped t) (postedTo t)) (told t acts z) k z ≡ lawful
   unfolding told allAccepted AllWords judgedBy if_then_else_
   told-lawful [] k z v h words = refl
   told-lawful (a ∷ rest) k z v h words =

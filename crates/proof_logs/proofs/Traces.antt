@@ -10,13 +10,13 @@ use lib.ListN.{length, drop, length-append, length-drop, List·getD-eq-default}
 use borrow.Author.Tests.{ne-eqb, le-leb}
 use Rattle.base_words.specs.Pick.{if_then_else_}
 use Rattle.base_words.specs.Text.{bytes}
-use Rattle.text_lexer.specs.Lexer.{past}
+use Rattle.base_bytes.specs.Bytes.{past}
 use Rattle.xml_characters.specs.Names.{isBlank}
 use Rattle.xml_markup.specs.declared.Class.the-variants.{Blanks}
 use Rattle.xml_markup.specs.declared.Opener.the-variants.{Other}
 use Rattle.xml_markup.specs.Spans.{isOf, run, nameAt, bytesOf, opensName, opener}
-use Rattle.xml_skip.specs.declared.Skipped.{Skipped}
-use Rattle.xml_skip.specs.declared.Skipped.the-variants.{Past, Fault as SkipFault}
+use Rattle.xml_skip.specs.declared.Reached.{Reached}
+use Rattle.xml_skip.specs.declared.Reached.the-variants.{Past, Fault as SkipFault}
 use Rattle.xml_document.specs.Document.{outsideAt}
 use Rattle.xml_document.specs.Around.{lastFrom}
 use Rattle.log_lines.specs.Entries.{entryOf}
@@ -35,12 +35,12 @@ use Rattle.proof_logs.proofs.Events.{Plain, event-begun, line-says, str
 use Rattle.proof_logs.proofs.Stamps.{Stamped, none, dated, stamp-is}
 
 -- from c on, m steps are enough: e is the reader's end, o the place behind the trace's start tag, and the lines are these
-pub record Reads (t : List ℕ) (e : Skipped) (o m : ℕ) (c : Cursor) (lines : List (List ℕ)) : Type 0 where
+pub record Reads (t : List ℕ) (e : Reached) (o m : ℕ) (c : Cursor) (lines : List (List ℕ)) : Type 0 where
   pub ends : (n : ℕ) → m ≤ n → scanIn n t c .end ≡ e
   pub opens : (n : ℕ) → m ≤ n → scanIn n t c .last .opened ≡ o
   pub says : (n : ℕ) → m ≤ n → linesIn n t c ≡ lines
 
-module _ (t : List ℕ) (e : Skipped) (o m : ℕ) (c d : Cursor) (lines : List (List ℕ)) (goes : advance t c ≡ On d) (further : Reads t e o m d lines) where
+module _ (t : List ℕ) (e : Reached) (o m : ℕ) (c d : Cursor) (lines : List (List ℕ)) (goes : advance t c ≡ On d) (further : Reads t e o m d lines) where
   on-ends : (n : ℕ) → suc m ≤ n → scanIn n t c .end ≡ e
   unfolding scanIn byMove
   on-ends zero h = absurd (omega arith)
@@ -68,7 +68,7 @@ module _ (t : List ℕ) (e : Skipped) (o m : ℕ) (c d : Cursor) (lines : List (
   reads-line k = record { ends = on-ends; opens = on-opens; says = event-says k }
 
 -- a step more is enough too
-pub reads-more : {t : List ℕ} {e : Skipped} {o m : ℕ} {c : Cursor} {lines : List (List ℕ)} → Reads t e o m c lines → Reads t e o (suc m) c lines
+pub reads-more : {t : List ℕ} {e : Reached} {o m : ℕ} {c : Cursor} {lines : List (List ℕ)} → Reads t e o m c lines → Reads t e o (suc m) c lines
 reads-more r = record { ends = λ n h. r .ends n (omega arith); opens = λ n h. r .opens n (omega arith); says = λ n h. r .says n (omega arith) }
 
 module _ (t : List ℕ) (c d : Cursor) (goes : advance t c ≡ Done d) (last : lastFrom t (d .at) ≡ Past (length t)) where
@@ -183,7 +183,7 @@ module _ (t stamp x : List ℕ) (c : Cursor) (level-is : c .level ≡ Event) (st
   unfolding closesEvent
   date-says = rw level-is refl
 
-  pub stamp-read : Stamped stamp → (e : Skipped) (o m : ℕ) (lines : List (List ℕ)) → Reads t e o m past-stamp lines → Reads t e o (suc m) c lines
+  pub stamp-read : Stamped stamp → (e : Reached) (o m : ℕ) (lines : List (List ℕ)) → Reads t e o m past-stamp lines → Reads t e o (suc m) c lines
   stamp-read (none is) e o m lines r = reads-more (subst (λ (d : Cursor). Reads t e o m d lines) (none-passed is) r)
   stamp-read (dated v is plain) e o m lines r =
       reads-on t e o m c past-stamp lines
@@ -251,7 +251,7 @@ module _ (t line stamp x : List ℕ) (c : Cursor) (k : InTrace t (bytes "log") (
   pub event-inside : InTrace t (bytes "log") (bytes "trace") ended
   event-inside = record { level-is = refl; log-is = k .log-is; trace-is = k .trace-is; opened-is = k .opened-is }
 
-  pub event-read : (e : Skipped) (m : ℕ) (lines : List (List ℕ)) → Reads t e (c .opened) m ended lines → Reads t e (c .opened) (suc (suc (suc (suc m)))) c (line ∷ lines)
+  pub event-read : (e : Reached) (m : ℕ) (lines : List (List ℕ)) → Reads t e (c .opened) m ended lines → Reads t e (c .opened) (suc (suc (suc (suc m)))) c (line ∷ lines)
   event-read e m lines r =
       reads-on t e (c .opened) (suc (suc (suc m))) c opened (line ∷ lines) (event-begun t (stringOpening ++ (line ++ (bytes "\"/>" ++ (stamp ++ (bytes "</event>" ++ x))))) c (k .level-is) stands)
       (reads-on t e (c .opened) (suc (suc m)) opened lined (line ∷ lines) (string-passed t line (stamp ++ (bytes "</event>" ++ x)) (p + 7) string-stands plain opened refl refl refl entry)
@@ -299,10 +299,10 @@ module _ (x : List ℕ) where
       ∙ ap (λ (l : List ℕ). line ++ (bytes "\"/>" ++ l)) (append-assoc s (bytes "</event>\n") (rest ++ x)))
 
   -- from any cursor before it on
-  abbrev pub Onward : List ℕ → Skipped → ℕ → Type 0
+  abbrev pub Onward : List ℕ → Reached → ℕ → Type 0
   Onward t e m = (d : Cursor) → InTrace t (bytes "log") (bytes "trace") d → drop (d .at) t ≡ 10 ∷ x → Reads t e (d .opened) m d []
 
-  module _ (t : List ℕ) (e : Skipped) (m : ℕ) (onward : Onward t e m) where
+  module _ (t : List ℕ) (e : Reached) (m : ℕ) (onward : Onward t e m) where
     pub events-read : (moments : ℕ → ℕ) (lines : List (List ℕ)) (c : Cursor) → InTrace t (bytes "log") (bytes "trace") c → drop (c .at) t ≡ 10 ∷ (eventsText moments lines ++ x) → Each Entry lines → Reads t e (c .opened) (steps lines m) c lines
     events-read moments [] c k s a = onward c k (unfold eventsText in s)
     events-read moments (line ∷ lines) c k s a =

@@ -11,17 +11,19 @@ use Rattle.base_words.specs.Each.{joined}
 use Rattle.base_words.specs.Pick.{if_then_else_}
 use Rattle.base_words.specs.Text.{bytes}
 use Rattle.base_words.specs.Words.{at, greatest}
-use Rattle.text_lexer.specs.Lexer.{isWord, isLetter, isDigit, between}
+use Rattle.text_lexer.specs.Lexer.{isWord}
+use Rattle.base_bytes.specs.Bytes.{isLetter, isDigit, between}
 use Rattle.text_numerals.specs.declared.Number.the-variants.{Value}
 use Rattle.text_numerals.specs.Numerals.{ifValue}
 use Rattle.write_buffer.specs.Buffers.{lesser}
 use Rattle.write_decimals.specs.Decimals.{shown}
 use Rattle.write_decimals.proofs.DecimalLaws.{shown-some}
-use Rattle.write_lines.specs.Lines.{marked, row, valuesLine}
+use Rattle.write_lines.specs.Lines.{markedOff, row, valuesLine}
 use Rattle.meaning.specs.declared.Tuple.{Tuple}
 use Rattle.meaning.specs.Tuples.{empty, valueOf}
 use Rattle.meaning.specs.Queues.{tidied}
-use Rattle.log_lines.specs.Entries.{numberUpTo, given, oneMore, added, valuesIn, valuesFrom}
+use Rattle.log_lines.specs.Entries.{numberUpTo, given, added, valuesIn, valuesFrom}
+use Rattle.base_words.specs.Words.{oneMore}
 use Rattle.proof_logs.proofs.NumberEntries.{run-marked, run-last, piece, inside, behind-mark}
 
 -- values joined by commas, and added one by one
@@ -84,7 +86,7 @@ module _ (P : ℕ → Type 0) (p0 : P 0) (p1 : P 1) (p2 : P 2) (p3 : P 3) (p4 : 
   up-to-four (suc (suc (suc (suc (suc k))))) h = absurd (omega (arith, h))
 
 pub row-commas : (s : List ℕ) (k : ℕ) → k ≤ 4 → row (bytes ",") s k ≡ commas (firsts k s)
-unfolding row joined marked if_then_else_ commas firsts
+unfolding row joined markedOff if_then_else_ commas firsts
 row-commas s = up-to-four (λ k. row (bytes ",") s k ≡ commas (firsts k s)) refl refl refl (rw append-assoc refl) (rw append-assoc (rw append-assoc refl))
 
 pub added-tidy : (s : List ℕ) (k : ℕ) → k ≤ 4 → addAll empty (firsts k s) ≡ tidied (tuple k s)

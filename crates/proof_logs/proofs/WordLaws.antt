@@ -27,7 +27,7 @@ use Rattle.meaning.specs.Values.{sumOf, differenceOf, numberIn}
 use Rattle.meaning.specs.Expressions.{fieldOf, operandOf, expressionOf}
 use Rattle.meaning.specs.Templates.{binds, itemValue, gathered, evaluated, bindOne, bound}
 use Rattle.meaning.specs.Assignments.{Assigned, assignedValue, assignOne, assigned}
-use Rattle.meaning.specs.Requirements.{touched, first}
+use Rattle.meaning.specs.Requirements.{touched, firstTouched}
 use Rattle.meaning.specs.Changes.{takeOne, taken, more, countChanged, activeChanged, readyChanged, putOne, puts, cleared, moved}
 use Rattle.proof_steps.proofs.Choices.{by-choice}
 
@@ -196,7 +196,7 @@ module _ (el : List ℕ) (m : Move) (b : ℕ) where
 
   pub taken-worded : (h : List ℕ) → Worded h → Worded (taken el m b h)
   unfolding taken
-  taken-worded h fine = iter-keeps (takeOne el (first (m .takes) b)) h Worded (touched (m .takes) (entryCount el)) (λ k x l w. take-worded-one (first (m .takes) b) k x w) fine
+  taken-worded h fine = iter-keeps (takeOne el (firstTouched (m .takes) b)) h Worded (touched (m .takes) (entryCount el)) (λ k x l w. take-worded-one (firstTouched (m .takes) b) k x w) fine
 
   put-worded : (from j : ℕ) (x : List ℕ) → Worded x → Worded (putOne el from j x)
   unfolding putOne
@@ -213,7 +213,7 @@ module _ (el : List ℕ) (m : Move) (b : ℕ) where
 
   puts-worded : (h : List ℕ) → Worded h → Worded (puts el m b h)
   unfolding puts
-  puts-worded h fine = iter-keeps (putOne el (first (m .puts) b)) h Worded (touched (m .puts) (exitCount el)) (λ k x l w. put-worded (first (m .puts) b) k x w) fine
+  puts-worded h fine = iter-keeps (putOne el (firstTouched (m .puts) b)) h Worded (touched (m .puts) (exitCount el)) (λ k x l w. put-worded (firstTouched (m .puts) b) k x w) fine
 
   pub moved-worded : (h : List ℕ) → Worded h → Worded (moved el m b h)
   unfolding moved cleared

@@ -24,7 +24,7 @@ use Rattle.base_state.specs.Instances.{instancesOf, queuesOf, madeCount, withIn
 use Rattle.base_state.specs.Versions.{former, present, isVersion}
 use Rattle.check_limits.specs.Limits.{tableFits}
 use Rattle.state_fits.specs.Fits.{hasStart}
-use Rattle.state_fits.specs.Fresh.{firstEdge, begun, fresh}
+use Rattle.state_fits.specs.Fresh.{startEdge, poolBegun, fresh}
 use Rattle.meaning.specs.declared.Answer.{Answer}
 use Rattle.meaning.specs.declared.Evaluated.{Evaluated}
 use Rattle.meaning.specs.declared.Name.{Name}
@@ -243,13 +243,13 @@ version-small v e =
     (or-either (eqb v former) (eqb v present) e)
 
 pub fresh-worded : (t : List ℕ) (v : ℕ) → v ≤ greatest → Worded (fresh t v)
-unfolding fresh begun
+unfolding fresh poolBegun
 fresh-worded t v few =
-    set-worded (iter (begun t) (replicate stateWords 0) (poolCount t)) versionAt v
-    (iter-keeps (begun t) (replicate stateWords 0) Worded (poolCount t)
+    set-worded (iter (poolBegun t) (replicate stateWords 0) (poolCount t)) versionAt v
+    (iter-keeps (poolBegun t) (replicate stateWords 0) Worded (poolCount t)
     (λ k z l w.
-    by-choice Worded (hasStart t k) (set (set z (madePlace k) 1) (instancePlace k 0 + tokenPlace (firstEdge t k)) 1) z
-    (λ e. set-worded (set z (madePlace k) 1) (instancePlace k 0 + tokenPlace (firstEdge t k)) 1 (set-worded z (madePlace k) 1 w (omega arith)) (omega arith))
+    by-choice Worded (hasStart t k) (set (set z (madePlace k) 1) (instancePlace k 0 + tokenPlace (startEdge t k)) 1) z
+    (λ e. set-worded (set z (madePlace k) 1) (instancePlace k 0 + tokenPlace (startEdge t k)) 1 (set-worded z (madePlace k) 1 w (omega arith)) (omega arith))
     (λ e. w))
     (zeros-worded stateWords))
     few

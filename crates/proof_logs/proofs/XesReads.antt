@@ -7,8 +7,8 @@ use Prim.Native.Nat.{ℕ, suc, _+_, _≤_}
 use native.Mathlib.Omega.{arith}
 use lib.ListN.{length, length-append}
 use Rattle.base_words.specs.Text.{bytes}
-use Rattle.xml_skip.specs.declared.Skipped.{Skipped}
-use Rattle.xml_skip.specs.declared.Skipped.the-variants.{Past, Fault}
+use Rattle.xml_skip.specs.declared.Reached.{Reached}
+use Rattle.xml_skip.specs.declared.Reached.the-variants.{Past, Fault}
 use Rattle.log_text.specs.Cursors.{inLog}
 use Rattle.log_text.specs.Logs.{logMost, byMove, scanFrom, scan, linesFrom, linesOf}
 use Rattle.log_write.specs.Xes.{opening, extension, timeExtension, global, classifier, traceOpening, header, eventsText, written, footer, logText}
@@ -31,7 +31,7 @@ module _ (moments : ℕ → ℕ) (lines : List (List ℕ)) (x : List ℕ) where
   abbrev t : List ℕ
   t = declaration ++ (logTag ++ content)
 
-  module _ (e : Skipped) (m : ℕ) (onward : Onward x t e m) (few : m ≤ 2) (entries : Each Entry lines) where
+  module _ (e : Reached) (m : ℕ) (onward : Onward x t e m) (few : m ≤ 2) (entries : Each Entry lines) where
     enough : suc (suc (suc (suc (suc (suc (steps lines m)))))) ≤ length t
     enough = omega (arith, few, few-steps moments lines m, length-append declaration (logTag ++ content), length-append (eventsText moments lines) x)
 
@@ -54,7 +54,7 @@ module _ (moments : ℕ → ℕ) (lines : List (List ℕ)) (x : List ℕ) where
       lined = rw (started content short) (read .says (length t) enough)
 
 -- the theorems: u was written of the lines, and e is the reader's end
-pub record ReadBack (u : List ℕ) (e : Skipped) (lines : List (List ℕ)) : Type 0 where
+pub record ReadBack (u : List ℕ) (e : Reached) (lines : List (List ℕ)) : Type 0 where
   pub whole : scan u .end ≡ e
   pub trace-at : scan u .last .opened ≡ traceAt
   pub lines-are : linesOf u ≡ lines

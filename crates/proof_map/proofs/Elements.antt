@@ -19,8 +19,8 @@ use Rattle.base_table.specs.Table.{kindIn}
 use Rattle.text_ends.specs.Rewriting.{isEndSnd, endSends, treated, allTreated}
 use Rattle.text_ends.proofs.RewriteLaws.{treated-long}
 use Rattle.draw_things.specs.Things.{isNode, sort, within, kind, branch}
-use Rattle.draw_faults.specs.Amiss.{isOfKind}
-use Rattle.draw_limits.specs.Numbers.{countBefore, isElement, isOf, anElement}
+use Rattle.draw_numbers.specs.Who.{isOfKind}
+use Rattle.draw_numbers.specs.Numbers.{countBefore, isElement, isOf, anElement}
 use Rattle.draw_model.specs.Drawn.{elementDrawn}
 use Rattle.draw_model.specs.Content.{elementIf, elementsOf}
 use Rattle.draw_map.specs.Map.{isMessageEnd}

@@ -11,7 +11,7 @@ use Rattle.base_words.proofs.IterLaws.{iter-keeps}
 use Rattle.base_table.specs.Places.{kindPlace, elementWords}
 use Rattle.base_table.specs.Table.{kindIn}
 use Rattle.draw_things.specs.Things.{kind}
-use Rattle.draw_model.specs.Drawn.{withEdge, withMessage, withForm, withTask, withFirst, headOf, withTerm, withCondition, saidOrTrue, guardedBy, withGuard, withBranch, exitBy, entryBy, leavingBy, byFlow, elementDrawn}
+use Rattle.draw_model.specs.Drawn.{withEdge, withMessage, withForm, withTask, withFirst, headOf, withTerm, withCondition, saidOrTrue, guardedBy, withGuard, withBranch, exitBy, enteringBy, leavingBy, byFlow, elementDrawn}
 
 either : {A : Type 0} (P : A → Type 0) (b : Bool) (x y : A) → P x → P y → P (if b then x else y)
 unfolding if_then_else_
@@ -64,10 +64,10 @@ module _ (t w : List ℕ) (n c : ℕ) where
       (either Of _ _ _ (edge _ _ _ (omega arith) (guard k j _ x o)) (edge _ _ _ (omega arith) o))
 
   flow : (k j : ℕ) (x : List ℕ) → Of x → Of (byFlow t w n k j x)
-  unfolding byFlow leavingBy entryBy
+  unfolding byFlow leavingBy enteringBy
   flow k j x o = either Of _ _ _ (either Of _ _ _ (exit k j _ entered) entered) o
     where
-      entered : Of (entryBy w k j x)
+      entered : Of (enteringBy w k j x)
       entered = either Of _ _ _ (edge _ _ _ (omega arith) o) o
 
 pub kind-drawn : (t w : List ℕ) (n k : ℕ) → kindIn (elementDrawn t w n k) ≡ kind w k

@@ -12,7 +12,7 @@ use Rattle.base_words.specs.Each.{joined, total}
 use Rattle.base_words.specs.Pick.{if_then_else_}
 use Rattle.base_words.specs.Sum.{sum, oneIf}
 use Rattle.base_words.proofs.EachLaws.{total-append}
-use Rattle.draw_limits.specs.Numbers.{countBefore}
+use Rattle.draw_numbers.specs.Numbers.{countBefore}
 
 -- nothing adds up to nothing
 pub as-none : (b : Bool) → _≡_ {A = ℕ} 0 (oneIf (b && false))

@@ -26,7 +26,7 @@ use Rattle.check_tally.specs.Tally.{tally, capped}
 use Rattle.check_tally.proofs.TallyLaws.{tally-at, eqb-capped}
 use Rattle.proof_steps.proofs.Choices.{by-test, by-choice, chosen, passed as passed-by}
 use Rattle.check_nesting.specs.Nesting.{passes, starts, closes, exitsOf, entriesOf, occ, Rearranged, Runs, none, stays, passing, block, Nested}
-use Rattle.check_nesting.specs.Deciding.{entryOf, takes, taker, edgesIn, sameEdges, Walk, halted, over, stops, passed, lastIn, isBlock, closing, joinOf, ahead, walk, firstOf, wholeWalk, lastOf, eachOnce, meetsAll, endsAt, isNested}
+use Rattle.check_nesting.specs.Deciding.{entryOf, takes, taker, edgesIn, sameEdges, SequenceWalk, halted, walkedOver, stops, elementsPassed, lastIn, isBlock, closingJoin, joinOf, ahead, sequenceWalk, firstOf, wholeWalk, lastOf, eachOnce, meetsAll, endsAt, isNested}
 use Rattle.proof_nesting.proofs.Events.{hit-same, hit-other, sum-apart, one-entry}
 use Rattle.proof_nesting.proofs.Lines.{plain, Closed, closed, whole, choice, Split, split-parts, stands}
 
@@ -156,11 +156,11 @@ module _ (P : ℕ → List ℕ) (c : ℕ) (right : Entered P c) where
       right .one-enters (seek (λ k. takes (P k) a) c) k (x .0) (y .0) r l (x .1) (y .1) (sym (x .2) ∙ y .2))
 
   -- SOUND
-  abbrev Good : (ℕ → Walk) → Type 0
+  abbrev Good : (ℕ → SequenceWalk) → Type 0
   Good go = (x : ℕ) → x ≤ edges → Runs P c (x ∷ []) (go x .stop ∷ []) (go x .on) × (go x .stop ≤ edges)
 
-  good-all : (go : ℕ → Walk) → Good go → (xs : List ℕ) → Few xs → Runs P c xs (stops go xs) (passed go xs) × Few (stops go xs)
-  unfolding stops passed
+  good-all : (go : ℕ → SequenceWalk) → Good go → (xs : List ℕ) → Few xs → Runs P c xs (stops go xs) (elementsPassed go xs) × Few (stops go xs)
+  unfolding stops elementsPassed
   good-all go g [] w = (none, record {})
   good-all go g (x ∷ xs) w =
       let r = g x (w .0) in
@@ -179,11 +179,11 @@ module _ (P : ℕ → List ℕ) (c : ℕ) (right : Entered P c) where
       let z : 0 ≡ x .0 = (let l = x .1 in omega (arith, one, l)) in
       ap (entryAt (P k)) z ∙ sym (x .2)
 
-  closed-block : (go : ℕ → Walk) (k j : ℕ) → isBlock P c (edgesIn (stops go (exitsOf (P k)))) k j ≡ true → Closed (P k) (P j)
+  closed-block : (go : ℕ → SequenceWalk) (k j : ℕ) → isBlock P c (edgesIn (stops go (exitsOf (P k)))) k j ≡ true → Closed (P k) (P j)
   unfolding isBlock
   closed-block go k j h = closed (P k) (P j) (and-left (closes (P k) (P j)) _ (and-right (ltb j c) _ h))
 
-  abbrev Went : ℕ → Walk → Type 0
+  abbrev Went : ℕ → SequenceWalk → Type 0
   Went a w = Runs P c (a ∷ []) (w .stop ∷ []) (w .on) × (w .stop ≤ edges)
 
   join-exit : (el join : List ℕ) → Closed el join → (kindIn join ≡ andJoin) ⊎ (kindIn join ≡ xorJoin)
@@ -191,18 +191,18 @@ module _ (P : ℕ → List ℕ) (c : ℕ) (right : Entered P c) where
   join-exit el join (choice a b) = inr b
 
   -- the join of a split, if there is one
-  abbrev into : (ℕ → Walk) → ℕ → ℕ
+  abbrev into : (ℕ → SequenceWalk) → ℕ → ℕ
   into go k = taker P c (lastIn (stops go (exitsOf (P k))))
 
-  join-there : (go : ℕ → Walk) (k : ℕ) → ltb (joinOf P c go k) c ≡ true → isBlock P c (edgesIn (stops go (exitsOf (P k)))) k (joinOf P c go k) ≡ true
-  unfolding joinOf closing
+  join-there : (go : ℕ → SequenceWalk) (k : ℕ) → ltb (joinOf P c go k) c ≡ true → isBlock P c (edgesIn (stops go (exitsOf (P k)))) k (joinOf P c go k) ≡ true
+  unfolding joinOf closingJoin
   join-there go k h =
       let es : List ℕ = stops go (exitsOf (P k)) in
       by-choice (λ j. ltb j c ≡ true → isBlock P c (edgesIn es) k j ≡ true) (isBlock P c (edgesIn es) k (into go k)) (into go k) c (λ e l. e)
       (λ e l. absurd (let m = ltb-true c c l in omega arith)) h
 
-  block-good : (go : ℕ → Walk) → Good go → (a k j : ℕ) → k < c → takes (P k) a ≡ true → isBlock P c (edgesIn (stops go (exitsOf (P k)))) k j ≡ true
-      → Went a (over (k ∷ j ∷ passed go (exitsOf (P k))) (go (exitAt (P j) 0)))
+  block-good : (go : ℕ → SequenceWalk) → Good go → (a k j : ℕ) → k < c → takes (P k) a ≡ true → isBlock P c (edgesIn (stops go (exitsOf (P k)))) k j ≡ true
+      → Went a (walkedOver (k ∷ j ∷ elementsPassed go (exitsOf (P k))) (go (exitAt (P j) 0)))
   unfolding isBlock
   block-good go g a k j l t h =
       let jc = ltb-true j c (and-left (ltb j c) _ h) in
@@ -216,7 +216,7 @@ module _ (P : ℕ → List ℕ) (c : ℕ) (right : Entered P c) where
         r .1,
       )
 
-  ahead-good : (go : ℕ → Walk) → Good go → (a k : ℕ) → a ≤ edges → k < c → takes (P k) a ≡ true → Went a (ahead P c go a k)
+  ahead-good : (go : ℕ → SequenceWalk) → Good go → (a k : ℕ) → a ≤ edges → k < c → takes (P k) a ≡ true → Went a (ahead P c go a k)
   unfolding ahead
   ahead-good go g a k few l t =
       by-choice (Went a) (passes (P k)) _ _
@@ -228,12 +228,12 @@ module _ (P : ℕ → List ℕ) (c : ℕ) (right : Entered P c) where
       (λ h. block-good go g a k (joinOf P c go k) l t (join-there go k h))
       (λ h. (stays none, few)))
 
-  walk-good : (n : ℕ) → Good (walk P c n)
-  unfolding walk
+  walk-good : (n : ℕ) → Good (sequenceWalk P c n)
+  unfolding sequenceWalk
   walk-good zero x l = (stays none, l)
   walk-good (suc n) x l =
       by-choice (Went x) (ltb (taker P c x) c) _ _
-      (λ e. let r = ltb-true _ c e in ahead-good (walk P c n) (walk-good n) x (taker P c x) l r (taker-takes x r))
+      (λ e. let r = ltb-true _ c e in ahead-good (sequenceWalk P c n) (walk-good n) x (taker P c x) l r (taker-takes x r))
       (λ e. (stays none, l))
 
   first-starts-by : firstOf P c < c → starts (P (firstOf P c)) ≡ true
@@ -280,9 +280,9 @@ module _ (P : ℕ → List ℕ) (c : ℕ) (right : Entered P c) where
 
   -- COMPLETE. An edge where every walk stops at once
   abbrev Stopping : ℕ → Type 0
-  Stopping y = (n : ℕ) → walk P c n y ≡ halted y
+  Stopping y = (n : ℕ) → sequenceWalk P c n y ≡ halted y
 
-  no-block : (go : ℕ → Walk) (k : ℕ) → (kindIn (P k) ≡ end) ⊎ ((kindIn (P k) ≡ andJoin) ⊎ (kindIn (P k) ≡ xorJoin)) → ltb (joinOf P c go k) c ≡ false
+  no-block : (go : ℕ → SequenceWalk) (k : ℕ) → (kindIn (P k) ≡ end) ⊎ ((kindIn (P k) ≡ andJoin) ⊎ (kindIn (P k) ≡ xorJoin)) → ltb (joinOf P c go k) c ≡ false
   no-block go k is = by-test (ltb (joinOf P c go k) c) (λ h. absurd (no-split (joined (joinOf P c go k) (join-there go k h)) is)) (λ h. h)
     where
       joined : (j : ℕ) → isBlock P c (edgesIn (stops go (exitsOf (P k)))) k j ≡ true → Closed (P k) (P j)
@@ -306,19 +306,19 @@ module _ (P : ℕ → List ℕ) (c : ℕ) (right : Entered P c) where
   no-pass el (inr (inr e)) = ap (λ k. eqb k interRcv || (eqb k interSnd || (eqb k task || (eqb k taskRcv || eqb k taskSnd)))) e
 
   stopping : (k y : ℕ) → k < c → takes (P k) y ≡ true → (kindIn (P k) ≡ end) ⊎ ((kindIn (P k) ≡ andJoin) ⊎ (kindIn (P k) ≡ xorJoin)) → Stopping y
-  unfolding walk ahead
+  unfolding sequenceWalk ahead
   stopping k y l t is zero = refl
   stopping k y l t is (suc n) =
       let w : taker P c y ≡ k = taker-is k y l t in
-      by-choice (λ (v : Walk). v ≡ halted y) (ltb (taker P c y) c) _ (halted y)
+      by-choice (λ (v : SequenceWalk). v ≡ halted y) (ltb (taker P c y) c) _ (halted y)
       (λ e.
       passed-by (passes (P (taker P c y))) _ _ (ap (λ i. passes (P i)) w ∙ no-pass (P k) is)
-      ∙ passed-by (ltb (joinOf P c (walk P c n) (taker P c y)) c) _ _ (ap (λ i. ltb (joinOf P c (walk P c n) i) c) w ∙ no-block (walk P c n) k is))
+      ∙ passed-by (ltb (joinOf P c (sequenceWalk P c n) (taker P c y)) c) _ _ (ap (λ i. ltb (joinOf P c (sequenceWalk P c n) i) c) w ∙ no-block (sequenceWalk P c n) k is))
       (λ e. refl)
 
   -- what the walk from x comes to, with l elements or more to go
   abbrev Halts : ℕ → ℕ → List ℕ → Type 0
-  Halts x y l = (n : ℕ) → length l ≤ n → walk P c n x ≡ record { stop = y; on = l }
+  Halts x y l = (n : ℕ) → length l ≤ n → sequenceWalk P c n x ≡ record { stop = y; on = l }
 
   abbrev Parts : List ℕ → List ℕ → List ℕ → Type 0
   Parts [] [] ks = ks ≡ []
@@ -331,8 +331,8 @@ module _ (P : ℕ → List ℕ) (c : ℕ) (right : Entered P c) where
   AllStop (y ∷ ys) = Stopping y × AllStop ys
 
   -- walks side by side, with enough to go
-  parts-walk : (xs ys ks : List ℕ) (n : ℕ) → Parts xs ys ks → length ks ≤ n → (stops (walk P c n) xs ≡ ys) × (passed (walk P c n) xs ≡ ks)
-  unfolding stops passed
+  parts-walk : (xs ys ks : List ℕ) (n : ℕ) → Parts xs ys ks → length ks ≤ n → (stops (sequenceWalk P c n) xs ≡ ys) × (elementsPassed (sequenceWalk P c n) xs ≡ ks)
+  unfolding stops elementsPassed
   parts-walk [] [] ks n p l = (refl, sym p)
   parts-walk [] (y ∷ ys) ks n p l = absurd p
   parts-walk (x ∷ xs) [] ks n p l = absurd p
@@ -340,10 +340,10 @@ module _ (P : ℕ → List ℕ) (c : ℕ) (right : Entered P c) where
       let a : List ℕ = p .0 in
       let b : List ℕ = p .1 in
       let e : length ks ≡ length a + length b = ap length (p .2) ∙ length-append a b in
-      let w : walk P c n x ≡ record { stop = y; on = a } = p .3 n (omega (arith, e, l)) in
+      let w : sequenceWalk P c n x ≡ record { stop = y; on = a } = p .3 n (omega (arith, e, l)) in
       let r = parts-walk xs ys b n (p .4) (omega (arith, e, l)) in (
-        ap₂ (λ (v : Walk) (vs : List ℕ). v .stop ∷ vs) w (r .0),
-        ap₂ (λ (v : Walk) (vs : List ℕ). v .on ++ vs) w (r .1) ∙ sym (p .2),
+        ap₂ (λ (v : SequenceWalk) (vs : List ℕ). v .stop ∷ vs) w (r .0),
+        ap₂ (λ (v : SequenceWalk) (vs : List ℕ). v .on ++ vs) w (r .1) ∙ sym (p .2),
       )
 
   last-among : (y : ℕ) (ys : List ℕ) → 1 ≤ occ (y ∷ ys) (lastIn (y ∷ ys))
@@ -365,11 +365,11 @@ module _ (P : ℕ → List ℕ) (c : ℕ) (right : Entered P c) where
   )
 
   -- THE FIRST STEP of a walk
-  walk-on : (n a k : ℕ) → k < c → takes (P k) a ≡ true → walk P c (suc n) a ≡ ahead P c (walk P c n) a k
-  unfolding walk
+  walk-on : (n a k : ℕ) → k < c → takes (P k) a ≡ true → sequenceWalk P c (suc n) a ≡ ahead P c (sequenceWalk P c n) a k
+  unfolding sequenceWalk
   walk-on n a k l t =
       let w : taker P c a ≡ k = taker-is k a l t in
-      chosen (ltb (taker P c a) c) _ _ (lt-ltb (taker P c a) c (omega (arith, w, l))) ∙ ap (ahead P c (walk P c n) a) w
+      chosen (ltb (taker P c a) c) _ _ (lt-ltb (taker P c a) c (omega (arith, w, l))) ∙ ap (ahead P c (sequenceWalk P c n) a) w
 
   enters : (k a : ℕ) → entryCount (P k) ≡ 1 → entryAt (P k) 0 ≡ a → takes (P k) a ≡ true
   enters k a one e = subst (λ y. takes (P k) y ≡ true) e (takes-at k 0 (omega (arith, one)))
@@ -378,7 +378,7 @@ module _ (P : ℕ → List ℕ) (c : ℕ) (right : Entered P c) where
   unfolding ahead
   pass-halts k a y l kc p e h zero r = absurd (omega arith)
   pass-halts k a y l kc p e h (suc n) r =
-      walk-on n a k kc (enters k a (plain (P k) p .entries) e) ∙ chosen (passes (P k)) _ _ p ∙ ap (over (k ∷ [])) (h n (omega arith))
+      walk-on n a k kc (enters k a (plain (P k) p .entries) e) ∙ chosen (passes (P k)) _ _ p ∙ ap (walkedOver (k ∷ [])) (h n (omega arith))
 
   pass-not : (el join : List ℕ) → Closed el join → passes el ≡ false
   unfolding passes
@@ -388,7 +388,7 @@ module _ (P : ℕ → List ℕ) (c : ℕ) (right : Entered P c) where
 
   block-halts : (k j a y : ℕ) (es is l : List ℕ) → k < c → j < c → closes (P k) (P j) ≡ true → entryAt (P k) 0 ≡ a
       → Parts (exitsOf (P k)) es is → Rearranged es (entriesOf (P j)) → Halts (exitAt (P j) 0) y l → Halts a y (k ∷ j ∷ (is ++ l))
-  unfolding ahead joinOf closing isBlock
+  unfolding ahead joinOf closingJoin isBlock
   block-halts k j a y es is l kc jc cl e p same h zero r = absurd (omega arith)
   block-halts k j a y es is l kc jc cl e p same h (suc n) r =
       let z : length (is ++ l) ≡ length is + length l = length-append is l in
@@ -397,13 +397,13 @@ module _ (P : ℕ → List ℕ) (c : ℕ) (right : Entered P c) where
       let some : 0 < length (exitsOf (P k)) = (let q = length-tab (exitAt (P k)) (exitCount (P k)) in omega (arith, q, right .branches k j kc cl)) in
       let m : taker P c (lastIn es) ≡ j = taker-is j (lastIn es) jc (enter-one (lastIn es) (last-in (exitsOf (P k)) es is p some)) in
       let bl : isBlock P c (edgesIn es) k j ≡ true = and-true (ltb j c) _ (lt-ltb j c jc) (and-true (closes (P k) (P j)) _ cl (is-rearranged es (entriesOf (P j)) same)) in
-      let jn : joinOf P c (walk P c n) k ≡ j =
-      ap (λ (v : List ℕ). closing P c k (lastIn v) (edgesIn v)) (w .0) ∙ ap (λ i. if isBlock P c (edgesIn es) k i then i else c) m ∙ chosen (isBlock P c (edgesIn es) k j) j c bl in
+      let jn : joinOf P c (sequenceWalk P c n) k ≡ j =
+      ap (λ (v : List ℕ). closingJoin P c k (lastIn v) (edgesIn v)) (w .0) ∙ ap (λ i. if isBlock P c (edgesIn es) k i then i else c) m ∙ chosen (isBlock P c (edgesIn es) k j) j c bl in
       walk-on n a k kc (enters k a (s .entries) e)
       ∙ passed-by (passes (P k)) _ _ (no-pass-split (closed (P k) (P j) cl))
-      ∙ ap (λ i. if ltb i c then over (k ∷ i ∷ passed (walk P c n) (exitsOf (P k))) (walk P c n (exitAt (P i) 0)) else halted a) jn
+      ∙ ap (λ i. if ltb i c then walkedOver (k ∷ i ∷ elementsPassed (sequenceWalk P c n) (exitsOf (P k))) (sequenceWalk P c n (exitAt (P i) 0)) else halted a) jn
       ∙ chosen (ltb j c) _ _ (lt-ltb j c jc)
-      ∙ ap₂ (λ (v : List ℕ) (u : Walk). over (k ∷ j ∷ v) u) (w .1) (h n (omega (arith, z, r)))
+      ∙ ap₂ (λ (v : List ℕ) (u : SequenceWalk). walkedOver (k ∷ j ∷ v) u) (w .1) (h n (omega (arith, z, r)))
     where
       enter-one : (f : ℕ) → 1 ≤ total (hit f) es → takes (P j) f ≡ true
       enter-one f q = enter-by j f (omega (arith, q, same f))
@@ -481,18 +481,18 @@ module _ (P : ℕ → List ℕ) (c : ℕ) (right : Entered P c) where
     walk-is =
         let p = complete (nest .runs) (stopping (nest .last) (entryAt (P (nest .last)) 0) (nest .last-there) last-takes (inl (nest .last-ends)), record {}) in
         let e : nest .between ≡ p .0 = p .2 ∙ ap (λ (v : List ℕ). p .0 ++ v) (p .4) ∙ append-nil (p .0) in
-        ap (λ k. walk P c elements (exitAt (P k) 0)) first-is
+        ap (λ k. sequenceWalk P c elements (exitAt (P k) 0)) first-is
         ∙ p .3 elements (let z = ap length e in let y = between-few in omega arith)
         ∙ ap (λ (v : List ℕ). record { stop = entryAt (P (nest .last)) 0; on = v }) (sym e)
 
     last-is : lastOf P c (firstOf P c) ≡ nest .last
     unfolding lastOf
-    last-is = ap (λ (v : Walk). taker P c (v .stop)) walk-is ∙ taker-is (nest .last) (entryAt (P (nest .last)) 0) (nest .last-there) last-takes
+    last-is = ap (λ (v : SequenceWalk). taker P c (v .stop)) walk-is ∙ taker-is (nest .last) (entryAt (P (nest .last)) 0) (nest .last-there) last-takes
 
     pub nested-decided : isNested P c ≡ true
     unfolding isNested endsAt meetsAll
     nested-decided =
-        let o : wholeWalk P c (firstOf P c) .on ≡ nest .between = ap (λ (v : Walk). v .on) walk-is in
+        let o : wholeWalk P c (firstOf P c) .on ≡ nest .between = ap (λ (v : SequenceWalk). v .on) walk-is in
         rw (last-is, o, first-is)
         (and-true (ltb (nest .first) c) _ (lt-ltb _ c (nest .first-there))
         (and-true (ltb (nest .last) c) _ (lt-ltb _ c (nest .last-there))

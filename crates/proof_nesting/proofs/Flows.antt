@@ -16,7 +16,7 @@ use Rattle.proof_nesting.proofs.Wholes.{taking-none, row-whole}
 use Rattle.base_kinds.specs.Kinds.{none, kindOf, start, andSplit}
 use Rattle.base_kinds.specs.Moves.{branch, up, down, making, moveOf}
 use Rattle.base_table.specs.Table.{kindIn, taskIn, modeIn, entryCount, exitCount, entryAt, exitAt}
-use Rattle.meaning.specs.Requirements.{first}
+use Rattle.meaning.specs.Requirements.{firstTouched}
 use Rattle.proof_steps.proofs.Choices.{by-test, by-choice}
 use Rattle.proof_steps.proofs.ChangesFit.{touched-within}
 use Rattle.check_nesting.specs.Nesting.{starts, occ}
@@ -195,7 +195,7 @@ module _ (P : ℕ → List ℕ) (c : ℕ) where
       other-whole l r d phase b t =
           let m : Move = moveIn (P l) phase in
           let z : taking (occ es) (P l) m b ≡ 0 = taking-none (occ es) (P l) m b (λ j s.
-          p .within (entryAt (P l) (first (m .takes) b + j)) (λ i w e. d (sym (sound .one-enters k l i (first (m .takes) b + j) there r w (touched-within (m .takes) b (entryCount (P l)) j (t .enters) s) e)))) in
+          p .within (entryAt (P l) (firstTouched (m .takes) b + j)) (λ i w e. d (sym (sound .one-enters k l i (firstTouched (m .takes) b + j) there r w (touched-within (m .takes) b (entryCount (P l)) j (t .enters) s) e)))) in
           omega (arith, z, counts-none down (tasked (taskIn (P l))) m (tasked-other l r d))
 
       pub same : (l : ℕ) → l ≡ k → (phase b : ℕ) → Tried (P l) (moveIn (P l) phase) b → Right l phase b
@@ -205,7 +205,7 @@ module _ (P : ℕ → List ℕ) (c : ℕ) where
       other l r d phase b t =
           let m : Move = moveIn (P l) phase in
           let z : putting (occ xs) (P l) m b ≡ 0 = putting-none (occ xs) (P l) m b (λ j s.
-          q .within (exitAt (P l) (first (m .puts) b + j)) (λ i w e. d (sym (sound .one-leaves k l i (first (m .puts) b + j) there r w (touched-within (m .puts) b (exitCount (P l)) j (t .leaves) s) e)))) in
+          q .within (exitAt (P l) (firstTouched (m .puts) b + j)) (λ i w e. d (sym (sound .one-leaves k l i (firstTouched (m .puts) b + j) there r w (touched-within (m .puts) b (exitCount (P l)) j (t .leaves) s) e)))) in
           omega (arith, z, counts-none up (tasked (taskIn (P l))) m (tasked-other l r d))
 
       unfoldable pub event : Flow es xs

@@ -22,7 +22,7 @@ use Rattle.base_table.specs.Table.{taskIn, entryCount, exitCount, entryAt, exit
 use Rattle.base_state.specs.Places.{tokenPlace, activePlace, readyPlace, definedPlace}
 use Rattle.base_state.specs.Instances.{activeCount, readyCount}
 use Rattle.check_limits.specs.Limits.{elementFits}
-use Rattle.meaning.specs.Requirements.{touched, first, hasToken, hasTokens, canLower, isAlone, countsPermit}
+use Rattle.meaning.specs.Requirements.{touched, firstTouched, hasToken, hasTokens, canLower, isAlone, countsPermit}
 use Rattle.meaning.specs.Changes.{takeOne, taken, countChanged, activeChanged, readyChanged, putOne, puts, cleared, moved}
 use Rattle.proof_steps.proofs.Choices.{chosen, passed}
 use Rattle.proof_steps.proofs.Elements.{task-few, entry-within, exit-within}
@@ -83,18 +83,18 @@ module _ (w d : ℕ → ℕ) where
 
     -- TOKENS TAKEN
     abbrev inPlace : ℕ → ℕ
-    inPlace j = tokenPlace (entryAt el (first (m .takes) b + j))
+    inPlace j = tokenPlace (entryAt el (firstTouched (m .takes) b + j))
 
     abbrev most : ℕ
     most = touched (m .takes) (entryCount el)
 
-    entry-in : (j : ℕ) → j < most → (1 ≤ entryAt el (first (m .takes) b + j)) × (entryAt el (first (m .takes) b + j) ≤ edges)
-    entry-in j l = entry-within el fits (first (m .takes) b + j) (touched-within (m .takes) b (entryCount el) j enters l)
+    entry-in : (j : ℕ) → j < most → (1 ≤ entryAt el (firstTouched (m .takes) b + j)) × (entryAt el (firstTouched (m .takes) b + j) ≤ edges)
+    entry-in j l = entry-within el fits (firstTouched (m .takes) b + j) (touched-within (m .takes) b (entryCount el) j enters l)
 
     token-there : (j : ℕ) → j < most → 0 < at h (inPlace j)
     unfolding hasTokens hasToken
     token-there j l =
-        ltb-true 0 (at h (inPlace j)) (all-at (hasToken el h (first (m .takes) b)) most (and-left tokensPart activePart (and-left (tokensPart && activePart) readyPart three)) j l)
+        ltb-true 0 (at h (inPlace j)) (all-at (hasToken el h (firstTouched (m .takes) b)) most (and-left tokensPart activePart (and-left (tokensPart && activePart) readyPart three)) j l)
 
     abbrev z₁ : List ℕ
     z₁ = taken el m b y
@@ -102,13 +102,13 @@ module _ (w d : ℕ → ℕ) where
     taken-mass : weight z₁ + taking w el m b ≡ weight y
     unfolding taken takeOne taking
     taken-mass =
-        let s : sum (λ j. weightAt w d (inPlace j)) most ≡ sum (λ j. w (entryAt el (first (m .takes) b + j))) most =
-        sum-ext (λ j. weightAt w d (inPlace j)) (λ j. w (entryAt el (first (m .takes) b + j))) most (λ j l. let e = entry-in j l in weight-token (entryAt el (first (m .takes) b + j)) (e .0) (e .1)) in
+        let s : sum (λ j. weightAt w d (inPlace j)) most ≡ sum (λ j. w (entryAt el (firstTouched (m .takes) b + j))) most =
+        sum-ext (λ j. weightAt w d (inPlace j)) (λ j. w (entryAt el (firstTouched (m .takes) b + j))) most (λ j l. let e = entry-in j l in weight-token (entryAt el (firstTouched (m .takes) b + j)) (e .0) (e .1)) in
         let r = mass-lowered (weightAt w d) inPlace y most
         (λ i k li lk ne e.
         let wi = entry-in i li in
         let wk = entry-in k lk in
-        apart (first (m .takes) b + i) (first (m .takes) b + k) (touched-within (m .takes) b (entryCount el) i enters li) (touched-within (m .takes) b (entryCount el) k enters lk)
+        apart (firstTouched (m .takes) b + i) (firstTouched (m .takes) b + k) (touched-within (m .takes) b (entryCount el) i enters li) (touched-within (m .takes) b (entryCount el) k enters lk)
         (λ q. ne (omega arith)) (omega (arith, wi .0, wk .0)))
         (λ j l.
         let e = entry-in j l in
@@ -174,17 +174,17 @@ module _ (w d : ℕ → ℕ) where
 
     -- TOKENS PUT
     abbrev outPlace : ℕ → ℕ
-    outPlace j = tokenPlace (exitAt el (first (m .puts) b + j))
+    outPlace j = tokenPlace (exitAt el (firstTouched (m .puts) b + j))
 
-    exit-in : (j : ℕ) → j < touched (m .puts) (exitCount el) → (1 ≤ exitAt el (first (m .puts) b + j)) × (exitAt el (first (m .puts) b + j) ≤ edges)
-    exit-in j l = exit-within el fits (first (m .puts) b + j) (touched-within (m .puts) b (exitCount el) j leaves l)
+    exit-in : (j : ℕ) → j < touched (m .puts) (exitCount el) → (1 ≤ exitAt el (firstTouched (m .puts) b + j)) × (exitAt el (firstTouched (m .puts) b + j) ≤ edges)
+    exit-in j l = exit-within el fits (firstTouched (m .puts) b + j) (touched-within (m .puts) b (exitCount el) j leaves l)
 
     put-mass : weight (puts el m b z₃) ≤ weight z₃ + putting w el m b
     unfolding puts putOne putting
     put-mass =
         let k : ℕ = touched (m .puts) (exitCount el) in
-        let s : sum (λ j. weightAt w d (outPlace j)) k ≡ sum (λ j. w (exitAt el (first (m .puts) b + j))) k =
-        sum-ext (λ j. weightAt w d (outPlace j)) (λ j. w (exitAt el (first (m .puts) b + j))) k (λ j l. let e = exit-in j l in weight-token (exitAt el (first (m .puts) b + j)) (e .0) (e .1)) in
+        let s : sum (λ j. weightAt w d (outPlace j)) k ≡ sum (λ j. w (exitAt el (firstTouched (m .puts) b + j))) k =
+        sum-ext (λ j. weightAt w d (outPlace j)) (λ j. w (exitAt el (firstTouched (m .puts) b + j))) k (λ j l. let e = exit-in j l in weight-token (exitAt el (firstTouched (m .puts) b + j)) (e .0) (e .1)) in
         let r = mass-raised (weightAt w d) outPlace z₃ k (λ j l. let e = exit-in j l in let i : outPlace j < definedPlace 0 = omega (arith, e .0, e .1) in (i, omega (arith, ready-long, i))) in
         omega (arith, r, s)
 
@@ -236,17 +236,17 @@ module _ (w d : ℕ → ℕ) where
       unfolding puts putOne putting
       put-whole =
           let k : ℕ = touched (m .puts) (exitCount el) in
-          let s : sum (λ j. weightAt w d (outPlace j)) k ≡ sum (λ j. w (exitAt el (first (m .puts) b + j))) k =
-          sum-ext (λ j. weightAt w d (outPlace j)) (λ j. w (exitAt el (first (m .puts) b + j))) k (λ j l. let e = exit-in j l in weight-token (exitAt el (first (m .puts) b + j)) (e .0) (e .1)) in
+          let s : sum (λ j. weightAt w d (outPlace j)) k ≡ sum (λ j. w (exitAt el (firstTouched (m .puts) b + j))) k =
+          sum-ext (λ j. weightAt w d (outPlace j)) (λ j. w (exitAt el (firstTouched (m .puts) b + j))) k (λ j l. let e = exit-in j l in weight-token (exitAt el (firstTouched (m .puts) b + j)) (e .0) (e .1)) in
           let r = mass-raised-one (weightAt w d) outPlace z₃ k
           (λ i j li lj ne e.
           let wi = exit-in i li in
           let wj = exit-in j lj in
-          ne (let q = exits-apart (first (m .puts) b + i) (first (m .puts) b + j) (touched-within (m .puts) b (exitCount el) i leaves li) (touched-within (m .puts) b (exitCount el) j leaves lj) (omega (arith, wi .0, wj .0)) in omega (arith, q)))
+          ne (let q = exits-apart (firstTouched (m .puts) b + i) (firstTouched (m .puts) b + j) (touched-within (m .puts) b (exitCount el) i leaves li) (touched-within (m .puts) b (exitCount el) j leaves lj) (omega (arith, wi .0, wj .0)) in omega (arith, q)))
           (λ j l.
           let e = exit-in j l in
           let i : outPlace j < definedPlace 0 = omega (arith, e .0, e .1) in
-          (i, omega (arith, ready-long, i), omega (arith, token-same (exitAt el (first (m .puts) b + j)) (e .0) (e .1), taken-small (outPlace j) i))) in
+          (i, omega (arith, ready-long, i), omega (arith, token-same (exitAt el (firstTouched (m .puts) b + j)) (e .0) (e .1), taken-small (outPlace j) i))) in
           omega (arith, r, s)
 
       pub move-whole : eqb (m .also) clearing ≡ false → weight h + (putting w el m b + counts up (d n) m) ≤ weight (moved el m b z₁) + (taking w el m b + counts down (d n) m)

@@ -18,7 +18,7 @@ use Rattle.base_kinds.specs.Moves.{up, down}
 use Rattle.base_words.specs.Words.{at}
 use Rattle.base_table.specs.Places.{entriesPlace, exitsPlace}
 use Rattle.base_table.specs.Table.{kindIn, taskIn, modeIn, entryCount, exitCount, entryAt, exitAt}
-use Rattle.meaning.specs.Requirements.{first}
+use Rattle.meaning.specs.Requirements.{firstTouched}
 use Rattle.proof_steps.proofs.Choices.{by-test, by-choice, chosen}
 use Rattle.proof_steps.proofs.ChangesFit.{touched-within}
 use Rattle.check_nesting.specs.Nesting.{starts, Runs, none, stays, passing, block, Nested}
@@ -227,7 +227,7 @@ module _ (P : ℕ → List ℕ) (c : ℕ) (sound : Sound P c) (nest : Nested P c
     elsewhere k l ne phase b t =
         let m : Move = moveIn (P k) phase in
         let s : putting w (P k) m b ≡ putting (F .outs) (P k) m b = putting-same w (P k) m b (F .outs) (λ j r.
-        let y : ℕ = first (m .puts) b + j in
+        let y : ℕ = firstTouched (m .puts) b + j in
         let i : y < exitCount (P k) = touched-within (m .puts) b (exitCount (P k)) j (t .leaves) r in
         omega (arith, firstly-exit k y l i, hit-other (exitAt (P k) y) f₀ (λ e. ne (sound .one-leaves k p₀ y 0 l (nest .first-there) i (omega (arith, exit-one)) e)))) in
         omega (arith, s, F .fair .balanced k l phase b t, taking-mono (F .ins) (P k) m b w heavier)
@@ -314,7 +314,7 @@ module _ (P : ℕ → List ℕ) (c : ℕ) (sound : Sound P c) (nest : Nested P c
     elsewhere-whole k l ne g phase b t =
         let m : Move = moveIn (P k) phase in
         let nl : k ≡ nest .last → ⊥ = (λ e. last-stops (subst (λ y. Goes (P y)) e g)) in
-        let s : taking w (P k) m b ≡ taking (F .ins) (P k) m b = taking-same w (P k) m b (F .ins) (λ j r. entry-ins k (first (m .takes) b + j) l (touched-within (m .takes) b (entryCount (P k)) j (t .enters) r) ne nl) in
+        let s : taking w (P k) m b ≡ taking (F .ins) (P k) m b = taking-same w (P k) m b (F .ins) (λ j r. entry-ins k (firstTouched (m .takes) b + j) l (touched-within (m .takes) b (entryCount (P k)) j (t .enters) r) ne nl) in
         let o : putting (F .outs) (P k) m b ≤ putting w (P k) m b = putting-mono (F .outs) (P k) m b w (λ f. omega arith) in
         omega (arith, s, o, F .fair .whole k l g phase b t)
 
@@ -383,8 +383,8 @@ module _ (P : ℕ → List ℕ) (c : ℕ) (sound : Sound P c) (nest : Nested P c
     balanced = λ k l phase b t.
         let m : Move = moveIn (P k) phase in
         let z : putting (λ f. hit f e) (P k) m b ≡ 0 = putting-none (λ f. hit f e) (P k) m b (λ j r.
-        let i : first (m .puts) b + j < exitCount (P k) = touched-within (m .puts) b (exitCount (P k)) j (t .leaves) r in
-        hit-other (exitAt (P k) (first (m .puts) b + j)) e (away k (first (m .puts) b + j) l i)) in
+        let i : firstTouched (m .puts) b + j < exitCount (P k) = touched-within (m .puts) b (exitCount (P k)) j (t .leaves) r in
+        hit-other (exitAt (P k) (firstTouched (m .puts) b + j)) e (away k (firstTouched (m .puts) b + j) l i)) in
         omega (arith, z, counts-none up 0 m refl);
     begins = λ k l is. hit-most (entryAt (P k) 0) e;
     made = λ k l is. hit-most (exitAt (P k) 0) e;

@@ -16,16 +16,16 @@ use Rattle.base_kinds.specs.declared.moves.Move.{Move}
 use Rattle.base_kinds.specs.Kinds.{startRcv, xorJoin, xorSplit, eventBased, task, taskRcv, taskSnd}
 use Rattle.base_kinds.specs.Moves.{every, branch, up, down, making, moves, noMove, ruleOf, moveOf}
 use Rattle.base_table.specs.Table.{entryCount, exitCount, entryAt, exitAt}
-use Rattle.meaning.specs.Requirements.{touched, first}
+use Rattle.meaning.specs.Requirements.{touched, firstTouched}
 use Rattle.proof_steps.proofs.Rows.{row-kind}
 use Rattle.proof_steps.proofs.Choices.{by-test, passed, chosen-true, passed-true}
 
 -- the weight of the exits that a move touches, of the entries; of a count that it raises or lowers
 unfoldable pub putting : (ℕ → ℕ) → List ℕ → Move → ℕ → ℕ
-putting o el m b = sum (λ j. o (exitAt el (first (m .puts) b + j))) (touched (m .puts) (exitCount el))
+putting o el m b = sum (λ j. o (exitAt el (firstTouched (m .puts) b + j))) (touched (m .puts) (exitCount el))
 
 unfoldable pub taking : (ℕ → ℕ) → List ℕ → Move → ℕ → ℕ
-taking i el m b = sum (λ j. i (entryAt el (first (m .takes) b + j))) (touched (m .takes) (entryCount el))
+taking i el m b = sum (λ j. i (entryAt el (firstTouched (m .takes) b + j))) (touched (m .takes) (entryCount el))
 
 unfoldable pub counted : ℕ → ℕ → ℕ → ℕ
 counted cell way w = if eqb cell way then w else 0
@@ -37,11 +37,11 @@ counts way w m = counted (m .active) way w + counted (m .ready) way w
 module _ (f g : ℕ → ℕ) (el : List ℕ) (m : Move) (b : ℕ) where
   pub putting-add : putting (λ k. f k + g k) el m b ≡ putting f el m b + putting g el m b
   unfolding putting
-  putting-add = sum-add (λ j. f (exitAt el (first (m .puts) b + j))) (λ j. g (exitAt el (first (m .puts) b + j))) (touched (m .puts) (exitCount el))
+  putting-add = sum-add (λ j. f (exitAt el (firstTouched (m .puts) b + j))) (λ j. g (exitAt el (firstTouched (m .puts) b + j))) (touched (m .puts) (exitCount el))
 
   pub taking-add : taking (λ k. f k + g k) el m b ≡ taking f el m b + taking g el m b
   unfolding taking
-  taking-add = sum-add (λ j. f (entryAt el (first (m .takes) b + j))) (λ j. g (entryAt el (first (m .takes) b + j))) (touched (m .takes) (entryCount el))
+  taking-add = sum-add (λ j. f (entryAt el (firstTouched (m .takes) b + j))) (λ j. g (entryAt el (firstTouched (m .takes) b + j))) (touched (m .takes) (entryCount el))
 
 counted-add : (cell way v w : ℕ) → counted cell way (v + w) ≡ counted cell way v + counted cell way w
 unfolding counted if_then_else_
@@ -97,8 +97,8 @@ counts-away way w m a r = ap₂ _+_ (passed (eqb (m .active) way) w 0 (ne-eqb _ 
 abbrev pub some : ℕ → ℕ
 some cell = oneIf (not (eqb cell 0))
 
-pub by-touch : (Q : ℕ → ℕ → Type 0) (cell b n : ℕ) → (cell ≡ every → Q 0 n) → (cell ≡ branch → Q b 1) → ((cell ≡ every → ⊥) → (cell ≡ branch → ⊥) → Q 0 0) → Q (first cell b) (touched cell n)
-unfolding first touched if_then_else_
+pub by-touch : (Q : ℕ → ℕ → Type 0) (cell b n : ℕ) → (cell ≡ every → Q 0 n) → (cell ≡ branch → Q b 1) → ((cell ≡ every → ⊥) → (cell ≡ branch → ⊥) → Q 0 0) → Q (firstTouched cell b) (touched cell n)
+unfolding firstTouched touched if_then_else_
 by-touch Q cell b n f g h = go (eqb cell every) refl (eqb cell branch) refl
   where
     go : (t : Bool) → eqb cell every ≡ t → (u : Bool) → eqb cell branch ≡ u → Q (if u then b else 0) (if t then n else (if u then 1 else 0))
@@ -142,17 +142,17 @@ module _ (f : ℕ → ℕ) (el : List ℕ) (m : Move) (b : ℕ) where
       (λ e. let h = q e in let s = some-is (m .takes) (λ z. omega arith) in let z : b + 0 ≡ b = omega arith in let g = sum-one (λ j. f (entryAt el (b + j))) ∙ ap (λ y. f (entryAt el y)) z in omega arith)
       (λ d e. by-test (eqb (m .takes) 0) (λ z. let s : some (m .takes) ≡ 0 = ap (λ t. oneIf (not t)) z in omega arith) (λ z. absurd (e (w (eqb-false (m .takes) 0 z) d))))
 
-  pub putting-same : (g : ℕ → ℕ) → ((j : ℕ) → j < touched (m .puts) (exitCount el) → f (exitAt el (first (m .puts) b + j)) ≡ g (exitAt el (first (m .puts) b + j))) → putting f el m b ≡ putting g el m b
+  pub putting-same : (g : ℕ → ℕ) → ((j : ℕ) → j < touched (m .puts) (exitCount el) → f (exitAt el (firstTouched (m .puts) b + j)) ≡ g (exitAt el (firstTouched (m .puts) b + j))) → putting f el m b ≡ putting g el m b
   unfolding putting
-  putting-same g h = sum-ext (λ j. f (exitAt el (first (m .puts) b + j))) (λ j. g (exitAt el (first (m .puts) b + j))) (touched (m .puts) (exitCount el)) h
+  putting-same g h = sum-ext (λ j. f (exitAt el (firstTouched (m .puts) b + j))) (λ j. g (exitAt el (firstTouched (m .puts) b + j))) (touched (m .puts) (exitCount el)) h
 
   pub taking-mono : (g : ℕ → ℕ) → ((e : ℕ) → f e ≤ g e) → taking f el m b ≤ taking g el m b
   unfolding taking
-  taking-mono g h = sum-mono (λ j. f (entryAt el (first (m .takes) b + j))) (λ j. g (entryAt el (first (m .takes) b + j))) (touched (m .takes) (entryCount el)) (λ j l. h (entryAt el (first (m .takes) b + j)))
+  taking-mono g h = sum-mono (λ j. f (entryAt el (firstTouched (m .takes) b + j))) (λ j. g (entryAt el (firstTouched (m .takes) b + j))) (touched (m .takes) (entryCount el)) (λ j l. h (entryAt el (firstTouched (m .takes) b + j)))
 
-  pub putting-none : ((j : ℕ) → j < touched (m .puts) (exitCount el) → f (exitAt el (first (m .puts) b + j)) ≡ 0) → putting f el m b ≡ 0
+  pub putting-none : ((j : ℕ) → j < touched (m .puts) (exitCount el) → f (exitAt el (firstTouched (m .puts) b + j)) ≡ 0) → putting f el m b ≡ 0
   unfolding putting
-  putting-none h = sum-zero′ (λ j. f (exitAt el (first (m .puts) b + j))) (touched (m .puts) (exitCount el)) h
+  putting-none h = sum-zero′ (λ j. f (exitAt el (firstTouched (m .puts) b + j))) (touched (m .puts) (exitCount el)) h
     where
       sum-zero′ : (f : ℕ → ℕ) (n : ℕ) → ((k : ℕ) → k < n → f k ≡ 0) → sum f n ≡ 0
       sum-zero′ f n h = Rattle.base_words.proofs.SumLaws.sum-zero f n h

@@ -15,7 +15,7 @@ use Rattle.base_kinds.specs.declared.moves.Move.{Move}
 use Rattle.base_kinds.specs.Kinds.{none, kindOf, end, xorSplit, eventBased}
 use Rattle.base_kinds.specs.Moves.{every, branch, making, clearing, moveOf}
 use Rattle.base_table.specs.Table.{entryCount, exitCount, entryAt, exitAt}
-use Rattle.meaning.specs.Requirements.{touched, first}
+use Rattle.meaning.specs.Requirements.{touched, firstTouched}
 use Rattle.proof_steps.proofs.Rows.{row-kind}
 use Rattle.proof_steps.proofs.Choices.{by-test, chosen-true, passed-true}
 use Rattle.proof_nesting.proofs.Weights.{putting, taking, some, some-is, sum-one, sum-nil, by-touch, every-row, gained, lost}
@@ -37,17 +37,17 @@ module _ (f : ℕ → ℕ) (el : List ℕ) (m : Move) (b : ℕ) where
       (λ e. let h = q e in let s = some-is (m .takes) (λ z. omega arith) in let z : b + 0 ≡ b = omega arith in let g = sum-one (λ j. f (entryAt el (b + j))) ∙ ap (λ y. f (entryAt el y)) z in omega arith)
       (λ d e. let g = sum-nil (λ j. f (entryAt el (0 + j))) in omega arith)
 
-  pub taking-none : ((j : ℕ) → j < touched (m .takes) (entryCount el) → f (entryAt el (first (m .takes) b + j)) ≡ 0) → taking f el m b ≡ 0
+  pub taking-none : ((j : ℕ) → j < touched (m .takes) (entryCount el) → f (entryAt el (firstTouched (m .takes) b + j)) ≡ 0) → taking f el m b ≡ 0
   unfolding taking
-  taking-none h = sum-zero (λ j. f (entryAt el (first (m .takes) b + j))) (touched (m .takes) (entryCount el)) h
+  taking-none h = sum-zero (λ j. f (entryAt el (firstTouched (m .takes) b + j))) (touched (m .takes) (entryCount el)) h
 
-  pub taking-same : (g : ℕ → ℕ) → ((j : ℕ) → j < touched (m .takes) (entryCount el) → f (entryAt el (first (m .takes) b + j)) ≡ g (entryAt el (first (m .takes) b + j))) → taking f el m b ≡ taking g el m b
+  pub taking-same : (g : ℕ → ℕ) → ((j : ℕ) → j < touched (m .takes) (entryCount el) → f (entryAt el (firstTouched (m .takes) b + j)) ≡ g (entryAt el (firstTouched (m .takes) b + j))) → taking f el m b ≡ taking g el m b
   unfolding taking
-  taking-same g h = sum-ext (λ j. f (entryAt el (first (m .takes) b + j))) (λ j. g (entryAt el (first (m .takes) b + j))) (touched (m .takes) (entryCount el)) h
+  taking-same g h = sum-ext (λ j. f (entryAt el (firstTouched (m .takes) b + j))) (λ j. g (entryAt el (firstTouched (m .takes) b + j))) (touched (m .takes) (entryCount el)) h
 
   pub putting-mono : (g : ℕ → ℕ) → ((e : ℕ) → f e ≤ g e) → putting f el m b ≤ putting g el m b
   unfolding putting
-  putting-mono g h = sum-mono (λ j. f (exitAt el (first (m .puts) b + j))) (λ j. g (exitAt el (first (m .puts) b + j))) (touched (m .puts) (exitCount el)) (λ j l. h (exitAt el (first (m .puts) b + j)))
+  putting-mono g h = sum-mono (λ j. f (exitAt el (firstTouched (m .puts) b + j))) (λ j. g (exitAt el (firstTouched (m .puts) b + j))) (touched (m .puts) (exitCount el)) (λ j l. h (exitAt el (firstTouched (m .puts) b + j)))
 
 -- THE ROWS
 module _ (k m p : ℕ) where

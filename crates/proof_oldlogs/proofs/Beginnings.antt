@@ -24,12 +24,12 @@ use Rattle.base_state.specs.Places.{tokenPlace, madePlace, instancePlace, versi
 use Rattle.check_limits.proofs.SameLaws.{Same}
 use Rattle.check_model.specs.Checks.{Pool}
 use Rattle.state_fits.specs.Fits.{isStart, startPlace, hasStart}
-use Rattle.state_fits.specs.Fresh.{firstEdge, begun, fresh}
+use Rattle.state_fits.specs.Fresh.{startEdge, poolBegun, fresh}
 use Rattle.step_queues.proofs.SlotLaws.{by-below, by-order}
 use Rattle.text_ends.specs.Rewriting.{rewritten, hasRoom}
 use Rattle.text_read.specs.Notation.{tableOf}
 use Rattle.proof_steps.proofs.Choices.{by-choice}
-use Rattle.proof_ends.proofs.Models.{Model}
+use Rattle.proof_roundtrip.proofs.EndModels.{Model}
 use Rattle.proof_saved.proofs.SavedStates.{counts, counts′, start-same}
 use Rattle.proof_oldlogs.proofs.Alike.{choice-both, iter-both}
 use Rattle.proof_oldlogs.proofs.Pools.{Unmentioned, Kept, Sent, elsIn, count-old, count-new, spots-of, became, entries-kept, entries-within}
@@ -84,8 +84,8 @@ module _ (ps : List Pool) (model : Model ps) (room : each hasRoom ps ≡ true) w
       unfolding isStart
       start-kind = eqb-true (kindIn (elementAt t p e)) start (unfold isStart in is-start)
 
-      edge-same : firstEdge t′ p ≡ firstEdge t p
-      unfolding firstEdge
+      edge-same : startEdge t′ p ≡ startEdge t p
+      unfolding startEdge
       edge-same = ap (λ k. entryAt (elementAt t′ p k) 0) place-same ∙ go (became ps model room p l e h)
         where
           go : Same elementWords (elementAt t p e) (elementAt t′ p e) ⊎ Sent (elsIn ps p) (elementAt t p e) (elementAt t′ p e) → entryAt (elementAt t′ p e) 0 ≡ entryAt (elementAt t p e) 0
@@ -97,16 +97,16 @@ module _ (ps : List Pool) (model : Model ps) (room : each hasRoom ps ≡ true) w
       unfolding entryCount kindOf used if_then_else_
       edge-there = let z : used (kindOf (kindIn (elementAt t p e)) .entries) (at (elementAt t p e) entriesPlace) ≡ 1 = ap (λ k. used (kindOf k .entries) (at (elementAt t p e) entriesPlace)) start-kind in omega (arith, z)
 
-      edge-kept : Kept (elsIn ps p) (tokenPlace (firstEdge t p))
-      unfolding firstEdge
+      edge-kept : Kept (elsIn ps p) (tokenPlace (startEdge t p))
+      unfolding startEdge
       edge-kept = entries-kept ps model room p l e h 0 edge-there
 
-      edge-within : (1 ≤ firstEdge t p) × (firstEdge t p ≤ edges)
-      unfolding firstEdge
+      edge-within : (1 ≤ startEdge t p) × (startEdge t p ≤ edges)
+      unfolding startEdge
       edge-within = entries-within ps model room p l e h 0 edge-there
 
-    begun-same : (z : List ℕ) → begun t′ p z ≡ begun t p z
-    unfolding begun
+    begun-same : (z : List ℕ) → poolBegun t′ p z ≡ poolBegun t p z
+    unfolding poolBegun
     begun-same z =
         choice-both (λ (a d : List ℕ). d ≡ a) (hasStart t p) (hasStart t′ p) _ _ _ _ (start-same ps model room p l)
         (λ o. ap (λ k. set (set z (madePlace p) 1) (instancePlace p 0 + tokenPlace k) 1) (edge-same o)) (λ o. refl)
@@ -115,9 +115,9 @@ module _ (ps : List Pool) (model : Model ps) (room : each hasRoom ps ≡ true) w
   unfolding fresh
   fresh-same v =
       ap (λ (z : List ℕ). set z versionAt v)
-      (ap (iter (begun t′) (replicate stateWords 0)) (counts′ ps model room)
-      ∙ iter-both (λ (a d : List ℕ). d ≡ a) (begun t) (begun t′) (length ps) (λ j l a d r. ap (begun t′ j) r ∙ begun-same j l a) (replicate stateWords 0) (replicate stateWords 0) refl
-      ∙ sym (ap (iter (begun t) (replicate stateWords 0)) (counts ps model room)))
+      (ap (iter (poolBegun t′) (replicate stateWords 0)) (counts′ ps model room)
+      ∙ iter-both (λ (a d : List ℕ). d ≡ a) (poolBegun t) (poolBegun t′) (length ps) (λ j l a d r. ap (poolBegun t′ j) r ∙ begun-same j l a) (replicate stateWords 0) (replicate stateWords 0) refl
+      ∙ sym (ap (iter (poolBegun t) (replicate stateWords 0)) (counts ps model room)))
 
   -- NO TOKEN THERE
   module _ (p i k : ℕ) (l : p < length ps) (named : i < instances) (u : Unmentioned (elsIn ps p) k) where
@@ -127,28 +127,28 @@ module _ (ps : List Pool) (model : Model ps) (room : each hasRoom ps ≡ true) w
     low : k < edges
     low = omega (arith, u .low, u .high, u .place)
 
-    blank-on : (r : ℕ) (z : List ℕ) → r < length ps → at z W ≡ 0 → at (begun t r z) W ≡ 0
-    unfolding begun
+    blank-on : (r : ℕ) (z : List ℕ) → r < length ps → at z W ≡ 0 → at (poolBegun t r z) W ≡ 0
+    unfolding poolBegun
     blank-on r z m e =
         by-choice (λ (y : List ℕ). at y W ≡ 0) (hasStart t r) _ z
         (λ o.
-        let F : ℕ = tokenPlace (firstEdge t r) in
+        let F : ℕ = tokenPlace (startEdge t r) in
         getD-set-other (set z (madePlace r) 1) (instancePlace r 0 + F) W 1 0 (λ q. apart r m o q)
         ∙ getD-set-other z (madePlace r) W 1 0 (λ q. omega (arith, q, m, model .high))
         ∙ e)
         (λ o. e)
       where
-        apart : (r : ℕ) (m : r < length ps) (o : hasStart t r ≡ true) → W ≡ instancePlace r 0 + tokenPlace (firstEdge t r) → ⊥
+        apart : (r : ℕ) (m : r < length ps) (o : hasStart t r ≡ true) → W ≡ instancePlace r 0 + tokenPlace (startEdge t r) → ⊥
         apart r m o q =
             let a = edge-within r m o in
             by-order r p (λ z. omega (arith, q, z, named, low, a .0, a .1))
             (λ z.
-            let same : k ≡ tokenPlace (firstEdge t r) = omega (arith, q, z, named, low, a .0, a .1) in
+            let same : k ≡ tokenPlace (startEdge t r) = omega (arith, q, z, named, low, a .0, a .1) in
             edge-kept r m o (subst (Unmentioned (elsIn ps r)) same (subst (λ (y : ℕ). Unmentioned (elsIn ps y) k) z u)))
             (λ z. omega (arith, q, z, named, low, a .0, a .1))
 
     pub fresh-blank : (v : ℕ) → at (fresh t v) W ≡ 0
     unfolding fresh
     fresh-blank v =
-        getD-set-other (iter (begun t) (replicate stateWords 0) (poolCount t)) versionAt W v 0 (λ q. omega (arith, q, l, model .high, named, low))
-        ∙ iter-keeps (begun t) (replicate stateWords 0) (λ (z : List ℕ). at z W ≡ 0) (poolCount t) (λ r z m e. blank-on r z (omega (arith, m, counts ps model room)) e) (getD-replicate stateWords W 0 0 (omega (arith, l, model .high, named, low)))
+        getD-set-other (iter (poolBegun t) (replicate stateWords 0) (poolCount t)) versionAt W v 0 (λ q. omega (arith, q, l, model .high, named, low))
+        ∙ iter-keeps (poolBegun t) (replicate stateWords 0) (λ (z : List ℕ). at z W ≡ 0) (poolCount t) (λ r z m e. blank-on r z (omega (arith, m, counts ps model room)) e) (getD-replicate stateWords W 0 0 (omega (arith, l, model .high, named, low)))

@@ -24,7 +24,7 @@ use Rattle.base_table.specs.Table.{kindIn, modeIn, entryCount, exitCount, entry
 use Rattle.base_state.specs.Places.{tokenPlace}
 use Rattle.base_state.specs.Instances.{tokens}
 use Rattle.check_limits.proofs.SameLaws.{Same}
-use Rattle.meaning.specs.Requirements.{touched, first, branchCount, hasRoom, hasRooms}
+use Rattle.meaning.specs.Requirements.{touched, firstTouched, branchCount, edgeHasRoom, hasRooms}
 use Rattle.meaning.specs.Changes.{more, putOne, puts}
 use Rattle.proof_steps.proofs.Choices.{by-test, by-choice, chosen, passed}
 use Rattle.proof_steps.proofs.ChangesFit.{touched-within}
@@ -139,7 +139,7 @@ module _ (els : List (List ℕ)) (x y : List ℕ) (phase b : ℕ) (known : Known
     same-ways = λ i. if eqb (row i .takes) branch then entries i else if eqb (row i .puts) branch then exits i else 1
 
     abbrev from : ℕ
-    from = first (m .puts) b
+    from = firstTouched (m .puts) b
 
     within : (j : ℕ) → j < touched (m .puts) (exitCount x) → from + j < exitCount x
     within j l = touched-within (m .puts) b (exitCount x) j leaving l
@@ -151,7 +151,7 @@ module _ (els : List (List ℕ)) (x y : List ℕ) (phase b : ℕ) (known : Known
     unfolding puts putOne
     same-putting c k k′ r =
         let q : A c (puts x m b k) (puts y m′ b k′) =
-        subst (A c (puts x m b k)) (λ i. iter (putOne y (first (sym row i .puts) b)) k′ (touched (sym row i .puts) (sym exits i)))
+        subst (A c (puts x m b k)) (λ i. iter (putOne y (firstTouched (sym row i .puts) b)) k′ (touched (sym row i .puts) (sym exits i)))
         (iter-both (A c) (putOne x from) (putOne y from) (touched (m .puts) (exitCount x))
         (λ j l a a′ o.
         word-alike (Kept els) (Unmentioned els) c x y m m′ b same-pairing more more (tokenPlace (exitAt x (from + j))) (tokenPlace (exitAt y (from + j))) (λ n. refl)
@@ -160,9 +160,9 @@ module _ (els : List (List ℕ)) (x y : List ℕ) (phase b : ℕ) (known : Known
         record { long = q .long; same = q .same; few = λ w u. (let z = q .few w u in omega (arith, z)) }
 
     same-rooms : (c : ℕ → ℕ) (k k′ : List ℕ) → A c k k′ → hasRooms y k′ m′ b ≡ hasRooms x k m b
-    unfolding hasRooms hasRoom
+    unfolding hasRooms edgeHasRoom
     same-rooms c k k′ r =
-        (λ i. all (λ j. ltb (tokens k′ (exitAt y (first (row i .puts) b + j))) countMost) (touched (row i .puts) (exits i)))
+        (λ i. all (λ j. ltb (tokens k′ (exitAt y (firstTouched (row i .puts) b + j))) countMost) (touched (row i .puts) (exits i)))
         ∙ all-same _ _ (touched (m .puts) (exitCount x))
         (λ j l. ap (λ n. ltb n countMost) (ap (tokens k′) (exit-same (from + j) (within j l)) ∙ r .same (tokenPlace (exitAt x (from + j))) (known .exits-kept (from + j) (within j l))))
 
@@ -257,13 +257,13 @@ module _ (els : List (List ℕ)) (x y : List ℕ) (phase b : ℕ) (known : Known
     -- what is put
     puts-old : (k : List ℕ) → puts x m b k ≡ k
     unfolding puts touched iter if_then_else_
-    puts-old k = ap (λ (c : ℕ). iter (putOne x (first c b)) k (touched c (exitCount x))) puts-none
+    puts-old k = ap (λ (c : ℕ). iter (putOne x (firstTouched c b)) k (touched c (exitCount x))) puts-none
 
     puts-new : (k : List ℕ) → puts y m′ b k ≡ set k F (more (at k F))
-    unfolding puts putOne touched first iter if_then_else_
+    unfolding puts putOne touched firstTouched iter if_then_else_
     puts-new k =
-        ap (λ (c : ℕ). iter (putOne y (first c b)) k (touched c (exitCount y))) puts-one
-        ∙ ap (λ (n : ℕ). iter (putOne y (first every b)) k n) one-exit
+        ap (λ (c : ℕ). iter (putOne y (firstTouched c b)) k (touched c (exitCount y))) puts-one
+        ∙ ap (λ (n : ℕ). iter (putOne y (firstTouched every b)) k n) one-exit
 
     sent-putting : (c : ℕ → ℕ) (k k′ : List ℕ) → A c k k′ → A (λ w. c w + extra w) (puts x m b k) (puts y m′ b k′)
     sent-putting c k k′ r =
@@ -285,10 +285,10 @@ module _ (els : List (List ℕ)) (x y : List ℕ) (phase b : ℕ) (known : Known
             (λ i. let z : at (set k′ F (more (at k′ F))) w ≡ at k′ w = ap (λ (y : List ℕ). at y w) (set-out k′ F (more (at k′ F)) i) in omega (arith, z, r .few w u))
 
     sent-rooms : (c : ℕ → ℕ) → c F < countMost → (k k′ : List ℕ) → A c k k′ → hasRooms y k′ m′ b ≡ true
-    unfolding hasRooms hasRoom touched first all if_then_else_
+    unfolding hasRooms edgeHasRoom touched firstTouched all if_then_else_
     sent-rooms c f k k′ r =
-        ap (λ (c : ℕ). all (hasRoom y k′ (first c b)) (touched c (exitCount y))) puts-one
-        ∙ ap (λ (n : ℕ). all (hasRoom y k′ (first every b)) n) one-exit
+        ap (λ (c : ℕ). all (edgeHasRoom y k′ (firstTouched c b)) (touched c (exitCount y))) puts-one
+        ∙ ap (λ (n : ℕ). all (edgeHasRoom y k′ (firstTouched every b)) n) one-exit
         ∙ lt-ltb (at k′ F) countMost (omega (arith, f, r .few F unmentioned))
 
     pub sent-ready : Ready els x y phase b

@@ -33,7 +33,7 @@ use Rattle.meaning.specs.Expressions.{fieldOf, operandOf, expressionOf}
 use Rattle.meaning.specs.Conditions.{conditionOf, defaultAt, leftOut, otherFalse, holds}
 use Rattle.meaning.specs.Templates.{binds, itemValue, gathered, evaluated, bindOne, bound}
 use Rattle.meaning.specs.Assignments.{Assigned, assignedValue, assignOne, assigned}
-use Rattle.meaning.specs.Requirements.{touched, first, hasToken, hasTokens, canLower, waits, isAlone, countsPermit, granted, hasRooms, canRaise, roomy}
+use Rattle.meaning.specs.Requirements.{touched, firstTouched, hasToken, hasTokens, canLower, waits, isAlone, countsPermit, granted, hasRooms, canRaise, roomy}
 use Rattle.meaning.specs.Changes.{takeOne, taken, countChanged, activeChanged, readyChanged, puts, cleared, moved}
 use Rattle.proof_steps.proofs.ChangesFit.{touched-within}
 use Rattle.proof_versions.proofs.Laws.{all-same}
@@ -170,8 +170,8 @@ module _ (K U : ℕ → Type 0) (c : ℕ → ℕ) (x y : List ℕ) (m m′ : Mov
     tokens-same : hasTokens y h′ m′ b ≡ hasTokens x h m b
     unfolding hasTokens hasToken
     tokens-same =
-        (λ i. all (λ j. ltb 0 (tokens h′ (entryAt y (first (P .deeds .takes i) b + j)))) (touched (P .deeds .takes i) (P .entries i)))
-        ∙ all-same _ _ (touched (m .takes) (entryCount x)) (λ j l. ap (ltb 0) (token-same (first (m .takes) b + j) (touched-within (m .takes) b (entryCount x) j (P .taking) l)))
+        (λ i. all (λ j. ltb 0 (tokens h′ (entryAt y (firstTouched (P .deeds .takes i) b + j)))) (touched (P .deeds .takes i) (P .entries i)))
+        ∙ all-same _ _ (touched (m .takes) (entryCount x)) (λ j l. ap (ltb 0) (token-same (firstTouched (m .takes) b + j) (touched-within (m .takes) b (entryCount x) j (P .taking) l)))
 
     alone-same : isAlone y h′ m′ ≡ isAlone x h m
     unfolding isAlone waits
@@ -265,8 +265,8 @@ module _ (K U : ℕ → Type 0) (c : ℕ → ℕ) (x y : List ℕ) (m m′ : Mov
   pub taken-alike : (h h′ : List ℕ) → A h h′ → A (taken x m b h) (taken y m′ b h′)
   unfolding taken takeOne
   taken-alike h h′ r =
-      let from : ℕ = first (m .takes) b in
-      subst (A (taken x m b h)) (λ i. iter (takeOne y (first (sym (P .deeds .takes) i) b)) h′ (touched (sym (P .deeds .takes) i) (sym (P .entries) i)))
+      let from : ℕ = firstTouched (m .takes) b in
+      subst (A (taken x m b h)) (λ i. iter (takeOne y (firstTouched (sym (P .deeds .takes) i) b)) h′ (touched (sym (P .deeds .takes) i) (sym (P .entries) i)))
       (iter-both A (takeOne x from) (takeOne y from) (touched (m .takes) (entryCount x))
       (λ j l k k′ q.
       let u = touched-within (m .takes) b (entryCount x) j (P .taking) l in

@@ -14,7 +14,7 @@ use Rattle.base_words.specs.Seek.{seek}
 use Rattle.base_words.specs.Writes.{writes}
 use Rattle.base_kinds.specs.Kinds.{kindOf, used}
 use Rattle.base_kinds.specs.Moves.{modeOf, isRule, ruleOf, moveOf}
-use Rattle.base_table.specs.Table.{numbered, poolOf, limitOf, entryCount, exitCount}
+use Rattle.base_table.specs.Table.{hasNumber, poolOf, limitOf, entryCount, exitCount}
 use Rattle.meaning.specs.declared.Name.{Name}
 use Rattle.meaning.specs.Values.{sumOf, differenceOf, equalOf, lessOf, isTrue, isFalse, isDefined, numberIn}
 use Rattle.meaning.specs.Tuples.{valueOf, sameTuple}
@@ -24,14 +24,16 @@ use Rattle.meaning.specs.Expressions.{fieldOf, operandOf, expressionOf}
 use Rattle.meaning.specs.Conditions.{conditionOf, defaultAt, leftOut, otherFalse, holds}
 use Rattle.meaning.specs.Templates.{binds, itemValue, gathered, evaluated, bindOne, bound}
 use Rattle.meaning.specs.Assignments.{assignedValue, assignOne, assigned}
-use Rattle.meaning.specs.Requirements.{touched, first, branchCount, instanceNamed, hasToken, hasTokens, canLower, waits, isAlone, countsPermit, granted, belowLimit, hasRoom, hasRooms, canRaise, roomy}
+use Rattle.meaning.specs.Requirements.{touched, firstTouched, branchCount, instanceNamed, hasToken, hasTokens, canLower, waits, isAlone, countsPermit, granted, belowLimit, edgeHasRoom, hasRooms, canRaise, roomy}
 use Rattle.meaning.specs.Changes.{expected, received, worked, messageSent, takeOne, taken, more, countChanged, activeChanged, readyChanged, putOne, puts, cleared, moved}
 use Rattle.meaning.specs.Refusals.{firstRefusal}
 use Rattle.meaning.specs.Step.{elementNamed, moveNamed, instanceOf, sharedOf, before, siteOf, exists, template, work, sent, defined, matches, afterTaking, queued, space, refusalsAt, refusals, instanceAfter, madeAfter, instancesAfter, queuesAfter, traffic, step}
 use Rattle.check_occurrences.specs.Occurrences.{conditionCount, receivedCount, sentCount, ofKind, asExit, asEntry, asFirst, asTask, asReceived, asSent, isDefault, defaults, defaultOnce, bindsField, timesBound, templateOnce, boundOnce}
 use Rattle.check_model.specs.Checks.{check1, check2, check3, edgeRight, check4, check5, poolReceives, poolSends, notSentThere, check6, check7, check8, lowest}
-use Rattle.text_lexer.specs.Lexer.{among, between, isBlank, isSign, isDigit, isLetter, isWord, past, tokenOf, tokenHere, tokenAt, ifWord, ifSign, ifAssign, ifEnd}
-use Rattle.text_numerals.specs.Numerals.{valueFrom, leadingZero, numberOf, isFieldLetter, fieldBehind, fieldFrom, fieldOf as fieldOf-of-numerals, sameBytes, asNumber, asField, operandOf as operandOf-of-numerals, ifValue, ifTooLarge, ifNumber, ifField, ifOutOfRange}
+use Rattle.text_lexer.specs.Lexer.{isBlank, isSign, isWord, tokenOf, tokenHere, tokenAt, ifWord, ifSign, ifAssign, ifEnd}
+use Rattle.base_bytes.specs.Bytes.{among, between, isDigit, isLetter, past}
+use Rattle.text_numerals.specs.Numerals.{valueFrom, leadingZero, numberOf, isFieldLetter, fieldBehind, fieldFrom, fieldOf as fieldOf-of-numerals, asNumber, asField, operandOf as operandOf-of-numerals, ifValue, ifTooLarge, ifNumber, ifField, ifOutOfRange}
+use Rattle.base_bytes.specs.Bytes.{sameBytes}
 use Rattle.text_readers.specs.Reading.{ifAt, onward, _then_, signAt, assignAt, endAt, keepNumber, number, field, keepOperand, operand, modeNamed, keepMode, mode, isSpelled, startsNumber, startsField, startsSign}
 use Rattle.text_terms.specs.Terms.{joint, expression, bind, templateItem, comparison, condition, assignment, guarded}
 use Rattle.text_bounds.specs.Bounds.{starts, oneTooMany, tooMany, counted}
@@ -42,7 +44,7 @@ use Rattle.text_ends.specs.Rewriting.{isEndSnd, timesIn, mentioned, isUnused, f
 use Rattle.text_read.specs.Notation.{checked, judged, readInto}
 use Rattle.base_state.specs.Versions.{present, isVersion}
 use Rattle.state_fits.specs.Fits.{isStart, startPlace, hasStart}
-use Rattle.state_fits.specs.Fresh.{firstEdge, begun, fresh}
+use Rattle.state_fits.specs.Fresh.{startEdge, poolBegun, fresh}
 use Rattle.write_lines.specs.Lines.{stepLine}
 use Rattle.write_lines.proofs.LineLaws.{step-short}
 use Rattle.log_write.specs.Times.{stampText}
@@ -57,7 +59,7 @@ use Rattle.proof_oldlogs.specs.Points.{text, said, old, steps, acts, poi
 use Rattle.proof_oldlogs.proofs.Theorems.{old-history-lawful}
 
 pub points-hold : each (λ (b : Bool). b) points ≡ true
-unfolding isEndSnd timesIn mentioned isUnused firstFrom lowestUnused withOne sendingTo endOf firstEnd treated endSends allTreated rewritten unusedCount roomFor hasRoom-of-ends all sum total each tab joined those iter if_then_else_ seek writes kindOf used modeOf isRule ruleOf moveOf numbered poolOf limitOf entryCount exitCount sumOf differenceOf equalOf lessOf isTrue isFalse isDefined numberIn valueOf sameTuple has without times messagesOf messageWord messagesWord queueWord withMessages tidied fieldOf operandOf expressionOf conditionOf defaultAt leftOut otherFalse holds binds itemValue gathered evaluated bindOne bound assignedValue assignOne assigned touched first branchCount instanceNamed hasToken hasTokens canLower waits isAlone countsPermit granted belowLimit hasRoom hasRooms canRaise roomy expected received worked messageSent takeOne taken more countChanged activeChanged readyChanged putOne puts cleared moved firstRefusal elementNamed moveNamed instanceOf sharedOf before siteOf exists template work sent defined matches afterTaking queued space refusalsAt refusals instanceAfter madeAfter instancesAfter queuesAfter traffic step conditionCount receivedCount sentCount ofKind asExit asEntry asFirst asTask asReceived asSent isDefault defaults defaultOnce bindsField timesBound templateOnce boundOnce check1 check2 check3 edgeRight check4 check5 poolReceives poolSends notSentThere check6 check7 check8 lowest among between isBlank isSign isDigit isLetter isWord past tokenOf tokenHere tokenAt ifWord ifSign ifAssign ifEnd valueFrom leadingZero numberOf sameBytes asNumber isFieldLetter fieldBehind fieldFrom fieldOf-of-numerals asField operandOf-of-numerals ifValue ifTooLarge ifNumber ifField ifOutOfRange ifAt onward _then_ signAt assignAt endAt keepNumber number field keepOperand operand modeNamed keepMode mode isSpelled startsNumber startsField startsSign joint expression bind templateItem comparison condition assignment guarded starts oneTooMany tooMany counted itemOf itemsFrom items inside series message receiving receivingBranches oneEdge taskPart partOf isKeyword kindNamed blank partsFrom partsOf elementOf element startsElement putBefore barred elementAlone elementsAt poolWord opening closing closed insidePool poolOfWord pool startsPool poolsAt model flat filled poolTable tableOf checked judged readInto
+unfolding isEndSnd timesIn mentioned isUnused firstFrom lowestUnused withOne sendingTo endOf firstEnd treated endSends allTreated rewritten unusedCount roomFor hasRoom-of-ends all sum total each tab joined those iter if_then_else_ seek writes kindOf used modeOf isRule ruleOf moveOf hasNumber poolOf limitOf entryCount exitCount sumOf differenceOf equalOf lessOf isTrue isFalse isDefined numberIn valueOf sameTuple has without times messagesOf messageWord messagesWord queueWord withMessages tidied fieldOf operandOf expressionOf conditionOf defaultAt leftOut otherFalse holds binds itemValue gathered evaluated bindOne bound assignedValue assignOne assigned touched firstTouched branchCount instanceNamed hasToken hasTokens canLower waits isAlone countsPermit granted belowLimit edgeHasRoom hasRooms canRaise roomy expected received worked messageSent takeOne taken more countChanged activeChanged readyChanged putOne puts cleared moved firstRefusal elementNamed moveNamed instanceOf sharedOf before siteOf exists template work sent defined matches afterTaking queued space refusalsAt refusals instanceAfter madeAfter instancesAfter queuesAfter traffic step conditionCount receivedCount sentCount ofKind asExit asEntry asFirst asTask asReceived asSent isDefault defaults defaultOnce bindsField timesBound templateOnce boundOnce check1 check2 check3 edgeRight check4 check5 poolReceives poolSends notSentThere check6 check7 check8 lowest among between isBlank isSign isDigit isLetter isWord past tokenOf tokenHere tokenAt ifWord ifSign ifAssign ifEnd valueFrom leadingZero numberOf sameBytes asNumber isFieldLetter fieldBehind fieldFrom fieldOf-of-numerals asField operandOf-of-numerals ifValue ifTooLarge ifNumber ifField ifOutOfRange ifAt onward _then_ signAt assignAt endAt keepNumber number field keepOperand operand modeNamed keepMode mode isSpelled startsNumber startsField startsSign joint expression bind templateItem comparison condition assignment guarded starts oneTooMany tooMany counted itemOf itemsFrom items inside series message receiving receivingBranches oneEdge taskPart partOf isKeyword kindNamed blank partsFrom partsOf elementOf element startsElement putBefore barred elementAlone elementsAt poolWord opening closing closed insidePool poolOfWord pool startsPool poolsAt model flat filled poolTable tableOf checked judged readInto
 points-hold = refl
 
 -- THE HISTORY: its six steps were accepted, and the log that was printed of it is lawful
@@ -71,11 +73,11 @@ steps-most number i e (x ∷ xs) = omega (arith, steps-most number i e xs, one (
     one false = omega arith
 
 accepted : allOldAccepted old acts (fresh old present) ≡ true
-unfolding allOldAccepted oldDid oldStepped leaving isStart startPlace hasStart firstEdge begun fresh isEndSnd timesIn mentioned isUnused firstFrom lowestUnused withOne sendingTo endOf firstEnd treated endSends allTreated rewritten unusedCount roomFor hasRoom-of-ends all sum total each tab joined those iter if_then_else_ seek writes kindOf used modeOf isRule ruleOf moveOf numbered poolOf limitOf entryCount exitCount sumOf differenceOf equalOf lessOf isTrue isFalse isDefined numberIn valueOf sameTuple has without times messagesOf messageWord messagesWord queueWord withMessages tidied fieldOf operandOf expressionOf conditionOf defaultAt leftOut otherFalse holds binds itemValue gathered evaluated bindOne bound assignedValue assignOne assigned touched first branchCount instanceNamed hasToken hasTokens canLower waits isAlone countsPermit granted belowLimit hasRoom hasRooms canRaise roomy expected received worked messageSent takeOne taken more countChanged activeChanged readyChanged putOne puts cleared moved firstRefusal elementNamed moveNamed instanceOf sharedOf before siteOf exists template work sent defined matches afterTaking queued space refusalsAt refusals instanceAfter madeAfter instancesAfter queuesAfter traffic step conditionCount receivedCount sentCount ofKind asExit asEntry asFirst asTask asReceived asSent isDefault defaults defaultOnce bindsField timesBound templateOnce boundOnce check1 check2 check3 edgeRight check4 check5 poolReceives poolSends notSentThere check6 check7 check8 lowest among between isBlank isSign isDigit isLetter isWord past tokenOf tokenHere tokenAt ifWord ifSign ifAssign ifEnd valueFrom leadingZero numberOf sameBytes asNumber isFieldLetter fieldBehind fieldFrom fieldOf-of-numerals asField operandOf-of-numerals ifValue ifTooLarge ifNumber ifField ifOutOfRange ifAt onward _then_ signAt assignAt endAt keepNumber number field keepOperand operand modeNamed keepMode mode isSpelled startsNumber startsField startsSign joint expression bind templateItem comparison condition assignment guarded starts oneTooMany tooMany counted itemOf itemsFrom items inside series message receiving receivingBranches oneEdge taskPart partOf isKeyword kindNamed blank partsFrom partsOf elementOf element startsElement putBefore barred elementAlone elementsAt poolWord opening closing closed insidePool poolOfWord pool startsPool poolsAt model flat filled poolTable tableOf checked judged readInto
+unfolding allOldAccepted oldDid oldStepped leaving isStart startPlace hasStart startEdge poolBegun fresh isEndSnd timesIn mentioned isUnused firstFrom lowestUnused withOne sendingTo endOf firstEnd treated endSends allTreated rewritten unusedCount roomFor hasRoom-of-ends all sum total each tab joined those iter if_then_else_ seek writes kindOf used modeOf isRule ruleOf moveOf hasNumber poolOf limitOf entryCount exitCount sumOf differenceOf equalOf lessOf isTrue isFalse isDefined numberIn valueOf sameTuple has without times messagesOf messageWord messagesWord queueWord withMessages tidied fieldOf operandOf expressionOf conditionOf defaultAt leftOut otherFalse holds binds itemValue gathered evaluated bindOne bound assignedValue assignOne assigned touched firstTouched branchCount instanceNamed hasToken hasTokens canLower waits isAlone countsPermit granted belowLimit edgeHasRoom hasRooms canRaise roomy expected received worked messageSent takeOne taken more countChanged activeChanged readyChanged putOne puts cleared moved firstRefusal elementNamed moveNamed instanceOf sharedOf before siteOf exists template work sent defined matches afterTaking queued space refusalsAt refusals instanceAfter madeAfter instancesAfter queuesAfter traffic step conditionCount receivedCount sentCount ofKind asExit asEntry asFirst asTask asReceived asSent isDefault defaults defaultOnce bindsField timesBound templateOnce boundOnce check1 check2 check3 edgeRight check4 check5 poolReceives poolSends notSentThere check6 check7 check8 lowest among between isBlank isSign isDigit isLetter isWord past tokenOf tokenHere tokenAt ifWord ifSign ifAssign ifEnd valueFrom leadingZero numberOf sameBytes asNumber isFieldLetter fieldBehind fieldFrom fieldOf-of-numerals asField operandOf-of-numerals ifValue ifTooLarge ifNumber ifField ifOutOfRange ifAt onward _then_ signAt assignAt endAt keepNumber number field keepOperand operand modeNamed keepMode mode isSpelled startsNumber startsField startsSign joint expression bind templateItem comparison condition assignment guarded starts oneTooMany tooMany counted itemOf itemsFrom items inside series message receiving receivingBranches oneEdge taskPart partOf isKeyword kindNamed blank partsFrom partsOf elementOf element startsElement putBefore barred elementAlone elementsAt poolWord opening closing closed insidePool poolOfWord pool startsPool poolsAt model flat filled poolTable tableOf checked judged readInto
 accepted = refl
 
 read : readInto text [] .number ≡ 0
-unfolding isEndSnd timesIn mentioned isUnused firstFrom lowestUnused withOne sendingTo endOf firstEnd treated endSends allTreated rewritten unusedCount roomFor hasRoom-of-ends all sum total each tab joined those iter if_then_else_ seek writes kindOf used modeOf isRule ruleOf moveOf numbered poolOf limitOf entryCount exitCount sumOf differenceOf equalOf lessOf isTrue isFalse isDefined numberIn valueOf sameTuple has without times messagesOf messageWord messagesWord queueWord withMessages tidied fieldOf operandOf expressionOf conditionOf defaultAt leftOut otherFalse holds binds itemValue gathered evaluated bindOne bound assignedValue assignOne assigned touched first branchCount instanceNamed hasToken hasTokens canLower waits isAlone countsPermit granted belowLimit hasRoom hasRooms canRaise roomy expected received worked messageSent takeOne taken more countChanged activeChanged readyChanged putOne puts cleared moved firstRefusal elementNamed moveNamed instanceOf sharedOf before siteOf exists template work sent defined matches afterTaking queued space refusalsAt refusals instanceAfter madeAfter instancesAfter queuesAfter traffic step conditionCount receivedCount sentCount ofKind asExit asEntry asFirst asTask asReceived asSent isDefault defaults defaultOnce bindsField timesBound templateOnce boundOnce check1 check2 check3 edgeRight check4 check5 poolReceives poolSends notSentThere check6 check7 check8 lowest among between isBlank isSign isDigit isLetter isWord past tokenOf tokenHere tokenAt ifWord ifSign ifAssign ifEnd valueFrom leadingZero numberOf sameBytes asNumber isFieldLetter fieldBehind fieldFrom fieldOf-of-numerals asField operandOf-of-numerals ifValue ifTooLarge ifNumber ifField ifOutOfRange ifAt onward _then_ signAt assignAt endAt keepNumber number field keepOperand operand modeNamed keepMode mode isSpelled startsNumber startsField startsSign joint expression bind templateItem comparison condition assignment guarded starts oneTooMany tooMany counted itemOf itemsFrom items inside series message receiving receivingBranches oneEdge taskPart partOf isKeyword kindNamed blank partsFrom partsOf elementOf element startsElement putBefore barred elementAlone elementsAt poolWord opening closing closed insidePool poolOfWord pool startsPool poolsAt model flat filled poolTable tableOf checked judged readInto
+unfolding isEndSnd timesIn mentioned isUnused firstFrom lowestUnused withOne sendingTo endOf firstEnd treated endSends allTreated rewritten unusedCount roomFor hasRoom-of-ends all sum total each tab joined those iter if_then_else_ seek writes kindOf used modeOf isRule ruleOf moveOf hasNumber poolOf limitOf entryCount exitCount sumOf differenceOf equalOf lessOf isTrue isFalse isDefined numberIn valueOf sameTuple has without times messagesOf messageWord messagesWord queueWord withMessages tidied fieldOf operandOf expressionOf conditionOf defaultAt leftOut otherFalse holds binds itemValue gathered evaluated bindOne bound assignedValue assignOne assigned touched firstTouched branchCount instanceNamed hasToken hasTokens canLower waits isAlone countsPermit granted belowLimit edgeHasRoom hasRooms canRaise roomy expected received worked messageSent takeOne taken more countChanged activeChanged readyChanged putOne puts cleared moved firstRefusal elementNamed moveNamed instanceOf sharedOf before siteOf exists template work sent defined matches afterTaking queued space refusalsAt refusals instanceAfter madeAfter instancesAfter queuesAfter traffic step conditionCount receivedCount sentCount ofKind asExit asEntry asFirst asTask asReceived asSent isDefault defaults defaultOnce bindsField timesBound templateOnce boundOnce check1 check2 check3 edgeRight check4 check5 poolReceives poolSends notSentThere check6 check7 check8 lowest among between isBlank isSign isDigit isLetter isWord past tokenOf tokenHere tokenAt ifWord ifSign ifAssign ifEnd valueFrom leadingZero numberOf sameBytes asNumber isFieldLetter fieldBehind fieldFrom fieldOf-of-numerals asField operandOf-of-numerals ifValue ifTooLarge ifNumber ifField ifOutOfRange ifAt onward _then_ signAt assignAt endAt keepNumber number field keepOperand operand modeNamed keepMode mode isSpelled startsNumber startsField startsSign joint expression bind templateItem comparison condition assignment guarded starts oneTooMany tooMany counted itemOf itemsFrom items inside series message receiving receivingBranches oneEdge taskPart partOf isKeyword kindNamed blank partsFrom partsOf elementOf element startsElement putBefore barred elementAlone elementsAt poolWord opening closing closed insidePool poolOfWord pool startsPool poolsAt model flat filled poolTable tableOf checked judged readInto
 read = refl
 
 -- no event has a moment; a step's line is not long

@@ -23,7 +23,7 @@ use Rattle.base_kinds.specs.declared.moves.Move.{Move}
 use Rattle.base_kinds.specs.Kinds.{kindOf, used, endSnd, interSnd}
 use Rattle.base_kinds.specs.Moves.{every, moves, noMove, rules, modeOf, isRule, ruleOf, moveOf}
 use Rattle.base_table.specs.Places.{kindPlace, taskPlace, modePlace, entriesPlace, exitsPlace, edgePlace, poolPlace, elementWords}
-use Rattle.base_table.specs.Table.{elementCount, elementAt, numbered, poolOf, kindIn, modeIn, entryCount, exitCount, entryAt, exitAt}
+use Rattle.base_table.specs.Table.{elementCount, elementAt, hasNumber, poolOf, kindIn, modeIn, entryCount, exitCount, entryAt, exitAt}
 use Rattle.base_state.specs.Places.{tokenPlace}
 use Rattle.check_limits.specs.Limits.{taskFits, partsFit, elementFits}
 use Rattle.check_limits.proofs.SameLaws.{Same}
@@ -36,10 +36,10 @@ use Rattle.text_read.specs.Notation.{tableOf}
 use Rattle.proof_steps.proofs.Choices.{chosen-true}
 use Rattle.proof_steps.proofs.Elements.{entry-within, exit-within}
 use Rattle.proof_steps.proofs.Rows.{row-kind}
-use Rattle.proof_trips.proofs.FitsLaws.{task-fits}
-use Rattle.proof_ends.proofs.Models.{Every, every-in, Right, Fit, Model}
-use Rattle.proof_ends.proofs.Sends as Sends
-use Rattle.proof_ends.proofs.Counts.{entries-few, exits-few, entry-mentioned, exit-mentioned}
+use Rattle.proof_roundtrip.proofs.FitsLaws.{task-fits}
+use Rattle.proof_roundtrip.proofs.EndModels.{Every, every-in, Right, Fit, Model}
+use Rattle.proof_roundtrip.proofs.EndSends as Sends
+use Rattle.proof_roundtrip.proofs.EndCounts.{entries-few, exits-few, entry-mentioned, exit-mentioned}
 use Rattle.proof_roundtrip.specs.Blocks.{wordsAt, blockAt}
 use Rattle.proof_saved.proofs.SavedStates.{counts, counts′, fit as fit-of, has as has-room, old as old-block, new as new-block}
 use Rattle.proof_oldlogs.proofs.Elements.{Paired, Deeds}
@@ -293,7 +293,7 @@ module _ (ps : List Pool) (model : Model ps) (room : each hasRoom ps ≡ true) w
 
   -- the pool with a number stands at the same place
   pub pools-same : (number : ℕ) → poolOf t′ number ≡ poolOf t number
-  unfolding poolOf numbered
+  unfolding poolOf hasNumber
   pools-same number =
       ap (seek (λ p. eqb (at t′ (poolPlace p)) number)) (counts′ ps model room)
       ∙ seek-ext (λ p. eqb (at t′ (poolPlace p)) number) (λ p. eqb (at t (poolPlace p)) number) (length ps) (λ p l. ap (λ k. eqb k number) (number-same p l))

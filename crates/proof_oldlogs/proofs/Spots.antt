@@ -20,11 +20,11 @@ use Rattle.base_kinds.specs.Kinds.{endSnd}
 use Rattle.base_table.specs.Table.{exitAt}
 use Rattle.text_ends.specs.Rewriting.{isEndSnd, mentioned, lowestUnused, sendingTo, endOf, firstEnd, treated, endSends, allTreated, unusedCount, roomFor}
 use Rattle.text_ends.proofs.RewriteLaws.{found, is-end, treated-total, treated-long}
-use Rattle.proof_ends.proofs.Models.{Every, every-in, Right}
-use Rattle.proof_ends.proofs.Sends.{kind-is, exit-is}
-use Rattle.proof_ends.proofs.Counts.{mentions}
-use Rattle.proof_ends.proofs.Rewritten.{no-end-at}
-use Rattle.proof_ends.proofs.Turns.{edge-is, below, unmentioned, after, turned-by}
+use Rattle.proof_roundtrip.proofs.EndModels.{Every, every-in, Right}
+use Rattle.proof_roundtrip.proofs.EndSends.{kind-is, exit-is}
+use Rattle.proof_roundtrip.proofs.EndCounts.{mentions}
+use Rattle.proof_roundtrip.proofs.Rewritten.{no-end-at}
+use Rattle.proof_roundtrip.proofs.Turns.{edge-is, below, unmentioned, after, turned-by}
 
 pub total-at : (g : List ℕ → ℕ) (xs : List (List ℕ)) (k : ℕ) → k < length xs → g (getD xs k []) ≤ total g xs
 unfolding total

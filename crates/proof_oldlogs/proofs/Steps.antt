@@ -23,7 +23,7 @@ use Rattle.base_kinds.specs.declared.moves.Move.{Move}
 use Rattle.base_kinds.specs.Kinds.{endSnd}
 use Rattle.base_kinds.specs.Moves.{making}
 use Rattle.base_table.specs.Places.{kindPlace, poolPlace, elementWords}
-use Rattle.base_table.specs.Table.{poolCount, elementCount, elementAt, numbered, poolOf, limitOf, kindIn, exitAt}
+use Rattle.base_table.specs.Table.{poolCount, elementCount, elementAt, hasNumber, poolOf, limitOf, kindIn, exitAt}
 use Rattle.base_state.specs.Places.{tokenPlace, instanceWords, instancePlace, storeWords, sharedWords, sharedPlace, instancesWords}
 use Rattle.base_state.specs.Instances.{madeCount}
 use Rattle.check_limits.specs.Limits.{tableFits}
@@ -51,7 +51,7 @@ use Rattle.proof_steps.proofs.Traffic.{state-instances}
 use Rattle.proof_valid.proofs.ChecksHold.{valid-fits}
 use Rattle.proof_paper.proofs.Pools.{instance-long}
 use Rattle.proof_versions.proofs.Laws.{tab-same}
-use Rattle.proof_ends.proofs.Models.{Model}
+use Rattle.proof_roundtrip.proofs.EndModels.{Model}
 use Rattle.proof_saved.proofs.SavedStates.{counts, counts′, fit, limit-same}
 use Rattle.proof_oldlogs.specs.OldLogs.{isStepOf}
 use Rattle.proof_oldlogs.proofs.Alike.{Alike, choice-both}
@@ -396,9 +396,9 @@ module _ (ps : List Pool) (model : Model ps) (room : each hasRoom ps ≡ true) (
 
   -- the tokens on the edges of endSnds
   pub number-named : n .pool ≡ poolIn ps p .number
-  unfolding poolOf numbered
+  unfolding poolOf hasNumber
   number-named =
-      let w = sought (numbered t (n .pool)) (poolCount t) .1 (f .pool) in
+      let w = sought (hasNumber t (n .pool)) (poolCount t) .1 (f .pool) in
       sym (eqb-true (at t (poolPlace p)) (n .pool) w) ∙ number-is ps model room p l
 
   extra-counted : (k : ℕ) → k < length els → isEndSnd (getD els k []) ≡ true → both .extra (tokenPlace (edgeIn (endsIn ps p) k)) ≤ oneIf (isStepOf (poolIn ps p .number) i k (aStep n))

@@ -41,8 +41,8 @@ use Rattle.engine.proofs.CallLaws.{lent-fits, asked-good}
 use Rattle.engine.proofs.KeepsValid.{did-valid, fresh-valid}
 use Rattle.proof_steps.proofs.Choices.{by-test, chosen, passed}
 use Rattle.proof_steps.proofs.EveryStep.{Fitting}
-use Rattle.proof_ends.proofs.Models.{Model}
-use Rattle.proof_ends.proofs.Rewritten.{rewritten-fits, rewritten-sound, none-left}
+use Rattle.proof_roundtrip.proofs.EndModels.{Model}
+use Rattle.proof_roundtrip.proofs.Rewritten.{rewritten-fits, rewritten-sound, none-left}
 use Rattle.proof_roundtrip.proofs.LowestLaws.{lowest-same}
 use Rattle.proof_roundtrip.proofs.ReadPools.{model-fit}
 use Rattle.proof_roundtrip.proofs.ReadTables.{table-small, table-fits, blocks-are}

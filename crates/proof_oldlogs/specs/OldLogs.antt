@@ -19,7 +19,7 @@ use Rattle.text_ends.specs.Rewriting.{isEndSnd}
 use Rattle.text_passes.specs.Model.{noPool}
 use Rattle.text_read.specs.Notation.{tableOf}
 use Rattle.write_lines.specs.Lines.{stepLine}
-use Rattle.xml_skip.specs.declared.Skipped.the-variants.{Past}
+use Rattle.xml_skip.specs.declared.Reached.the-variants.{Past}
 use Rattle.log_text.specs.Logs.{scan, linesOf}
 use Rattle.log_lines.specs.Entries.{entryOf}
 use Rattle.engine.specs.Engine.{Left, Stepped, leaving}

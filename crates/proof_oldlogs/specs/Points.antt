@@ -9,7 +9,7 @@ use Rattle.meaning.specs.declared.Name.{Name}
 use Rattle.meaning.specs.Tuples.{empty}
 use Rattle.meaning.specs.Step.{step}
 use Rattle.text_read.specs.Notation.{model, tableOf, rewritten}
-use Rattle.text_numerals.specs.Numerals.{sameBytes}
+use Rattle.base_bytes.specs.Bytes.{sameBytes}
 use Rattle.engine.specs.Calls.{Act, aStep}
 
 abbrev pub text : List ℕ
@@ -25,11 +25,11 @@ abbrev pub new : List ℕ
 new = tableOf (map rewritten said)
 
 -- a step of instance 0 at an element, by a branch
-abbrev pub named : ℕ → ℕ → Name
-named e b = record { pool = 1; instance = 0; element = e; phase = 0; branch = b; given = empty }
+abbrev pub branchStep : ℕ → ℕ → Name
+branchStep e b = record { pool = 1; instance = 0; element = e; phase = 0; branch = b; given = empty }
 
 abbrev pub steps : List Name
-steps = named 0 0 ∷ named 1 0 ∷ named 2 0 ∷ named 2 1 ∷ named 3 0 ∷ named 3 0 ∷ []
+steps = branchStep 0 0 ∷ branchStep 1 0 ∷ branchStep 2 0 ∷ branchStep 2 1 ∷ branchStep 3 0 ∷ branchStep 3 0 ∷ []
 
 abbrev pub acts : List Act
 acts = map aStep steps
@@ -40,7 +40,7 @@ holding j k = 1 ∷ 0 ∷ 0 ∷ 0 ∷ 0 ∷ 0 ∷ 0 ∷ 0 ∷ j ∷ k ∷ []
 
 -- the step's number over a table, and what it leaves of these words
 abbrev pub gives : List ℕ → List ℕ → ℕ → List ℕ → Bool
-gives t s number left = eqb (step t s [] (named 3 0) .answer .number) number && sameBytes (step t s [] (named 3 0) .instances) left
+gives t s number left = eqb (step t s [] (branchStep 3 0) .answer .number) number && sameBytes (step t s [] (branchStep 3 0) .instances) left
 
 abbrev pub points : List Bool
 points =

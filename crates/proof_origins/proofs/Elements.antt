@@ -20,12 +20,12 @@ use Rattle.base_table.specs.Places.{entriesPlace, exitsPlace, assignedIn}
 use Rattle.base_table.specs.Table.{kindIn, taskIn, modeIn, entryCount, exitCount, entryAt, exitAt, conditionAt, messageName, messageLength, itemAt, assignmentCount, assignmentAt}
 use Rattle.check_limits.specs.Limits.{partsFit, elementFits}
 use Rattle.write_decimals.specs.Decimals.{shown}
-use Rattle.write_shown.specs.Shown.{between, shownField, shownItem, shownTuple, shownMessage, shownEntries, shownExits, shownGuarded, shownGuardedList, shownReceiving, shownReceivingList, shownAssignment, shownAssignments, shownTask, shownPart, shownParts, shownElement}
+use Rattle.write_shown.specs.Shown.{enclosedBy, shownField, shownItem, shownTuple, shownMessage, shownEntries, shownExits, shownGuarded, shownGuardedList, shownReceiving, shownReceivingList, shownAssignment, shownAssignments, shownTask, shownPart, shownParts, shownElement}
 use Rattle.proof_steps.proofs.Choices.{chosen, passed}
 use Rattle.paper.specs.Syntax.{Element, end}
 use Rattle.proof_paper.specs.Decoders.{span, chain, expAt, itemOf, templateOf, messageOf, assignmentOf, assignmentsOf, modeAt, guardOf, entriesOf, exitsOf, choiceOf, receiptOf, ofEachKind, elementOf}
 use Rattle.proof_paper.proofs.Words.{mode-few, mode-some, assignment-fits, condition-fits, item-expression, item-plain}
-use Rattle.proof_origins.specs.Display.{among, enclosed, list, fieldText, expText, itemText, condText, messageText, edgesText, choiceText, receiptText, Assignment, inOrder, assignmentText, assignmentsText, modeText, taskText, behindEach, called, elementText}
+use Rattle.proof_origins.specs.Display.{betweenSigns, enclosed, list, fieldText, expText, itemText, condText, messageText, edgesText, choiceText, receiptText, Assignment, inOrder, assignmentText, assignmentsText, modeText, taskText, behindEach, called, elementText}
 use Rattle.proof_origins.proofs.Lists.{separated-is}
 use Rattle.proof_origins.proofs.Pieces.{expression-text, item-text, sent-text, condition-text, mode-text}
 
@@ -81,7 +81,7 @@ module _ (el : List ℕ) where
   message-text : {A : Type 0} (b : ℕ) (f : A → List ℕ) (h : ℕ → A) → ((j : ℕ) → j < messageLength el b → shownItem (itemAt el b j) ≡ f (h j)) → shownMessage el b ≡ messageText f (messageName el b) (span h 0 (messageLength el b))
   unfolding shownMessage shownTuple messageText list
   message-text b f h e =
-      ap (λ w. shown (messageName el b) ++ (code ":" ∷ between (code "<") (code ">") w)) (separated-is (code ",") (λ j. shownItem (itemAt el b j)) h f (messageLength el b) e)
+      ap (λ w. shown (messageName el b) ++ (code ":" ∷ enclosedBy (code "<") (code ">") w)) (separated-is (code ",") (λ j. shownItem (itemAt el b j)) h f (messageLength el b) e)
 
   -- ASSIGNMENTS
   abbrev assigned : ℕ → Assignment
@@ -121,8 +121,8 @@ module _ (el : List ℕ) (fits : elementFits el ≡ true) where
   entries-text : kind .entries ≡ many → shownEntries el ≡ edgesText (entriesOf el)
   unfolding shownEntries edgesText entriesOf list entryCount
   entries-text e =
-      ap (between (code "{") (code "}"))
-      (separated-is (code ",") (λ j. shown (entryAt el j)) (entryAt el) shown (at el entriesPlace) (λ j l. refl) ∙ ap (λ n. among (code ",") shown (span (entryAt el) 0 n)) (sym (many-are (kind .entries) (at el entriesPlace) e)))
+      ap (enclosedBy (code "{") (code "}"))
+      (separated-is (code ",") (λ j. shown (entryAt el j)) (entryAt el) shown (at el entriesPlace) (λ j l. refl) ∙ ap (λ n. betweenSigns (code ",") shown (span (entryAt el) 0 n)) (sym (many-are (kind .entries) (at el entriesPlace) e)))
 
   exit-count : kind .exits ≡ many → exits ≡ exitCount el
   unfolding exitCount
@@ -131,33 +131,33 @@ module _ (el : List ℕ) (fits : elementFits el ≡ true) where
   exits-text : kind .exits ≡ many → shownExits el ≡ edgesText (exitsOf el)
   unfolding shownExits edgesText exitsOf list
   exits-text e =
-      ap (between (code "{") (code "}"))
-      (separated-is (code ",") (λ j. shown (exitAt el j)) (exitAt el) shown exits (λ j l. refl) ∙ ap (λ n. among (code ",") shown (span (exitAt el) 0 n)) (exit-count e))
+      ap (enclosedBy (code "{") (code "}"))
+      (separated-is (code ",") (λ j. shown (exitAt el j)) (exitAt el) shown exits (λ j l. refl) ∙ ap (λ n. betweenSigns (code ",") shown (span (exitAt el) 0 n)) (exit-count e))
 
   -- branches
   guarded-text : kind .exits ≡ many → kind .conditions ≡ many → shownGuardedList el ≡ enclosed (code "{") (code "}") (list choiceText (span (choiceOf el) 0 (exitCount el)))
   unfolding shownGuardedList shownGuarded list choiceText choiceOf
   guarded-text e c =
-      ap (between (code "{") (code "}"))
+      ap (enclosedBy (code "{") (code "}"))
       (separated-is (code ",") (shownGuarded el) (choiceOf el) choiceText exits
-      (λ b l. ap (λ w. between (code "(") (code ")") (shown (exitAt el b) ++ (code "," ∷ w))) (condition-text (conditionAt el b) (kind .conditions) (condition-fits el fits b (subst (λ n. b < n) (sym (many-are (kind .conditions) exits c)) l))))
-      ∙ ap (λ n. among (code ",") choiceText (span (choiceOf el) 0 n)) (exit-count e))
+      (λ b l. ap (λ w. enclosedBy (code "(") (code ")") (shown (exitAt el b) ++ (code "," ∷ w))) (condition-text (conditionAt el b) (kind .conditions) (condition-fits el fits b (subst (λ n. b < n) (sym (many-are (kind .conditions) exits c)) l))))
+      ∙ ap (λ n. betweenSigns (code ",") choiceText (span (choiceOf el) 0 n)) (exit-count e))
 
   receiving-text : kind .exits ≡ many → kind .receives + kind .sends ≡ many → shownReceivingList el ≡ list receiptText (span (receiptOf el) 0 (exitCount el))
   unfolding shownReceivingList shownReceiving list receiptText receiptOf
   receiving-text e c =
       separated-is (code ",") (shownReceiving el) (receiptOf el) receiptText exits
-      (λ b l. ap (λ w. between (code "(") (code ")") (w ++ (code "," ∷ shown (exitAt el b)))) (received-text b (subst (λ n. b < n) (sym (many-are (kind .receives + kind .sends) exits c)) l)))
-      ∙ ap (λ n. among (code ",") receiptText (span (receiptOf el) 0 n)) (exit-count e)
+      (λ b l. ap (λ w. enclosedBy (code "(") (code ")") (w ++ (code "," ∷ shown (exitAt el b)))) (received-text b (subst (λ n. b < n) (sym (many-are (kind .receives + kind .sends) exits c)) l)))
+      ∙ ap (λ n. betweenSigns (code ",") receiptText (span (receiptOf el) 0 n)) (exit-count e)
 
   -- a task
   assignments-text : shownAssignments el ≡ assignmentsText (assignmentsOf el)
   unfolding shownAssignments shownAssignment shownField assignmentsText assignmentText fieldText assignmentsOf list
   assignments-text =
-      ap (between (code "{") (code "}"))
+      ap (enclosedBy (code "{") (code "}"))
       (separated-is (code ",") (λ j. shownAssignment (assignmentAt el j)) (assigned el) assignmentText (assignmentCount el)
       (λ j l. ap (λ w. fieldText (at (assignmentAt el j) 0) ++ (code ":" ∷ code "=" ∷ w)) (expression-text (drop assignedIn (assignmentAt el j)) (assignment-fits el fits j l)))
-      ∙ ap (among (code ",") assignmentText) (sym (in-order el 0 (assignmentCount el))))
+      ∙ ap (betweenSigns (code ",") assignmentText) (sym (in-order el 0 (assignmentCount el))))
 
   task-text : kind .task ≡ one → kind .conditions ≡ one → shownTask el ≡ taskText (taskIn el) (modeAt el) (guardOf el) (assignmentsOf el)
   unfolding shownTask taskText modeAt guardOf

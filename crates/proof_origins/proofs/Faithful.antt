@@ -13,7 +13,7 @@ use borrow.Author.Tests.{eqb-true, ltb-true, lt-ltb, le-leb}
 use Rattle.base_words.specs.All.{all}
 use Rattle.base_words.specs.Pick.{if_then_else_}
 use Rattle.base_words.specs.Words.{at}
-use Rattle.base_words.specs.Counts.{pools, edges, tasks, fields, names, instances, named}
+use Rattle.base_words.specs.Counts.{pools, edges, tasks, fields, names, instances, fieldsNamed}
 use Rattle.base_words.proofs.AllLaws.{and-left, and-right, all-at}
 use Rattle.base_words.proofs.PickLaws.{and-true, and-false-left}
 use Rattle.base_words.proofs.ListLaws.{getD-tab}
@@ -39,7 +39,7 @@ use Rattle.proof_listing.proofs.PoolFound.{pool-found}
 use Rattle.engine.specs.Calls.{Valid}
 use Rattle.engine.proofs.CallLaws.{table-fits, checks-hold, state-fits, long-instances}
 use Rattle.paper.specs.States.{Local, blank, Multiset, Configuration, ownOf}
-use Rattle.proof_paper.specs.Decoders.{guarded, localOf, nothing, queueOf, storeOf, tupleOf, valuesOf, isPool}
+use Rattle.proof_paper.specs.Decoders.{insideOr, localOf, nothing, queueOf, storeOf, tupleOf, valuesOf, isPool}
 use Rattle.proof_paper.specs.Calls.{stateOf}
 use Rattle.proof_paper.proofs.Stores.{same-if, is-inside}
 use Rattle.proof_paper.proofs.Pools.{instance-alike}
@@ -47,7 +47,7 @@ use Rattle.proof_paper.proofs.Mail.{times-values}
 use Rattle.proof_demands.proofs.Counts.{times-length}
 
 -- what stands inside is told apart
-told-apart : {A : Type 0} (b : Bool) (none x y : A) → b ≡ true → guarded none b x ≡ guarded none b y → x ≡ y
+told-apart : {A : Type 0} (b : Bool) (none x y : A) → b ≡ true → insideOr none b x ≡ insideOr none b y → x ≡ y
 told-apart b none x y e h = sym (chosen b x none e) ∙ h ∙ chosen b y none e
 
 -- a number below n * w is i * w + k
@@ -98,13 +98,13 @@ module _ (g h : List ℕ) (f : Filled g) (f′ : Filled h) (e : ownOf (localOf g
   field-same d l =
       let own : localOf g .σd d ≡ localOf h .σd d = told-apart (ltb d fields) Undefined (localOf g .σd d) (localOf h .σd d) (lt-ltb d fields l) (ap (λ (σ : Local). σ .σd d) e) in
       pair-same (at g (definedPlace d)) (at g (valuePlace d)) (at h (definedPlace d)) (at h (valuePlace d)) (f d l) (f′ d l)
-      (told-apart (ltb d named) Undefined (fieldOf g d) (fieldOf h d) (lt-ltb d named (omega arith)) own)
+      (told-apart (ltb d fieldsNamed) Undefined (fieldOf g d) (fieldOf h d) (lt-ltb d fieldsNamed (omega arith)) own)
 
   pair-at : (d : ℕ) → d < fields → (at g (definedPlace 0 + 2 * d) ≡ at h (definedPlace 0 + 2 * d)) × (at g (definedPlace 0 + (2 * d + 1)) ≡ at h (definedPlace 0 + (2 * d + 1)))
   pair-at d l = let q : valuePlace d ≡ definedPlace 0 + (2 * d + 1) = omega arith in (field-same d l .0, subst (λ i. at g i ≡ at h i) q (field-same d l .1))
 
   -- a count of one of the numbers 1 to top
-  count-same : (place : ℕ → ℕ) (top : ℕ) (σ : Local → ℕ → ℕ) → ((x : List ℕ) (n : ℕ) → σ (ownOf (localOf x)) n ≡ guarded 0 (within 1 top n) (at x (place n)))
+  count-same : (place : ℕ → ℕ) (top : ℕ) (σ : Local → ℕ → ℕ) → ((x : List ℕ) (n : ℕ) → σ (ownOf (localOf x)) n ≡ insideOr 0 (within 1 top n) (at x (place n)))
       → (n k : ℕ) → 1 ≤ n → n ≤ top → place n ≡ k → at g k ≡ at h k
   count-same place top σ is n k l r q =
       subst (λ i. at g i ≡ at h i) q
@@ -261,14 +261,14 @@ module _ (t y z : List ℕ) (vy : Valid t y) (vz : Valid t z) where
     unfolding isPool
     made-back p h = let l = ltb-true (poolOf t p) (poolCount t) h in let f = few in e (madePlace (poolOf t p)) (omega arith)
 
-    own-back : (p i : ℕ) → guarded blank (isPool t p && ltb i (madeCount s (poolOf t p))) (ownOf (localOf (instanceOf s (poolOf t p) i))) ≡ guarded blank (isPool t p && ltb i (madeCount r (poolOf t p))) (ownOf (localOf (instanceOf r (poolOf t p) i)))
+    own-back : (p i : ℕ) → insideOr blank (isPool t p && ltb i (madeCount s (poolOf t p))) (ownOf (localOf (instanceOf s (poolOf t p) i))) ≡ insideOr blank (isPool t p && ltb i (madeCount r (poolOf t p))) (ownOf (localOf (instanceOf r (poolOf t p) i)))
     unfolding isPool
     own-back p i =
         by-test (isPool t p)
         (λ h.
         let l = ltb-true (poolOf t p) (poolCount t) h in
         let f = few in
-        ap (λ n. guarded blank (isPool t p && ltb i n) (ownOf (localOf (instanceOf s (poolOf t p) i)))) (made-back p h)
+        ap (λ n. insideOr blank (isPool t p && ltb i n) (ownOf (localOf (instanceOf s (poolOf t p) i)))) (made-back p h)
         ∙ same-if (isPool t p && ltb i (madeCount r (poolOf t p))) blank _ _
         (λ w.
         let m = ltb-true i (madeCount r (poolOf t p)) (and-right (isPool t p) (ltb i (madeCount r (poolOf t p))) w) in

@@ -13,7 +13,7 @@ use Rattle.write_shown.specs.Shown.{lead, separated}
 use Rattle.proof_steps.proofs.Choices.{by-test, chosen, passed}
 use Rattle.proof_paper.specs.Decoders.{span}
 use Rattle.proof_paper.proofs.Spans.{from-here, from-next}
-use Rattle.proof_origins.specs.Display.{behind, among}
+use Rattle.proof_origins.specs.Display.{behind, betweenSigns}
 
 -- a choice between texts is the text of the choice between things
 pub each-way : {A : Type 0} (text : A → List ℕ) (b : Bool) (x y : List ℕ) (u v : A) → (b ≡ true → x ≡ text u) → (b ≡ false → y ≡ text v) → (if b then x else y) ≡ text (if b then u else v)
@@ -36,8 +36,8 @@ module _ {A : Type 0} (s : ℕ) (g : ℕ → List ℕ) (h : ℕ → A) (f : A �
       joined-front (λ i. s ∷ g (k + i)) n
       ∙ ap₂ (λ u v. s ∷ (u ++ v)) z (ap (λ (F : ℕ → List ℕ). joined F n) (λ i j. s ∷ g (from-next k j i)) ∙ r)
 
-  pub separated-is : (n : ℕ) → ((j : ℕ) → j < n → g j ≡ f (h j)) → separated s g n ≡ among s f (span h 0 n)
-  unfolding separated joined lead among span if_then_else_
+  pub separated-is : (n : ℕ) → ((j : ℕ) → j < n → g j ≡ f (h j)) → separated s g n ≡ betweenSigns s f (span h 0 n)
+  unfolding separated joined lead betweenSigns span if_then_else_
   separated-is zero e = refl
   separated-is (suc n) e =
       let r : joined (λ i. s ∷ g (1 + i)) n ≡ behind s f (span h 1 n) = behind-is 1 n (λ j l. e (1 + j) (omega arith)) in

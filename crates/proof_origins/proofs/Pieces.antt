@@ -11,7 +11,7 @@ use lib.Seq.{getD-drop}
 use borrow.Author.Tests.{eqb-true, eqb-false, eq-eqb, ne-eqb}
 use Rattle.base_words.specs.Pick.{if_then_else_}
 use Rattle.base_words.specs.Words.{at}
-use Rattle.base_words.specs.Counts.{named}
+use Rattle.base_words.specs.Counts.{fieldsNamed}
 use Rattle.base_words.proofs.AllLaws.{and-left, and-right}
 use Rattle.base_kinds.specs.Moves as Row
 use Rattle.base_table.specs.Places.{operandWords, aField, operandNumber, formPlace, leftPlace, rightPlace, single, plus, minus, binding, equals, below}
@@ -39,7 +39,7 @@ module _ (x : List ℕ) where
       ∙ sym (ap operandText (chosen (eqb (at x p) 0) (number (at x (p + operandNumber))) _ e)))
       (λ e.
       let r = passed-true (eqb (at (drop p x) 0) 0) true _ fits (ap (λ y. eqb y 0) u ∙ e) in
-      chosen (eqb (at (drop p x) 0) aField) (shownField (at (drop p x) operandNumber)) _ (and-left (eqb (at (drop p x) 0) aField) (ltb (at (drop p x) operandNumber) named) r)
+      chosen (eqb (at (drop p x) 0) aField) (shownField (at (drop p x) operandNumber)) _ (and-left (eqb (at (drop p x) 0) aField) (ltb (at (drop p x) operandNumber) fieldsNamed) r)
       ∙ ap shownField w
       ∙ sym (ap operandText (passed (eqb (at x p) 0) _ (field (at x (p + operandNumber))) e)))
 

@@ -9,8 +9,8 @@ use Rattle.base_words.specs.Counts.{textMost}
 use Rattle.text_read.specs.Notation.{ReadInto, readInto}
 use Rattle.engine.specs.Engine.{valid, writtenTo}
 use Rattle.proof_valid.proofs.ChecksHold.{valid-fits, valid-sound}
-use Rattle.proof_tokens.specs.Sequence.{tokens}
-use Rattle.proof_tokens.proofs.SameTokens.{number-alike, table-alike}
+use Rattle.proof_places.specs.Sequence.{tokens}
+use Rattle.proof_places.proofs.SameTokens.{number-alike, table-alike}
 use Rattle.proof_roundtrip.proofs.RoundTrip.{read-back}
 use Rattle.proof_lengths.proofs.Short.{short}
 use Rattle.proof_demands.specs.Demands.{Table, textIn}

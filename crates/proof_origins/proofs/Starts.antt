@@ -17,7 +17,7 @@ use Rattle.base_words.specs.Counts.{names, fields}
 use Rattle.base_words.proofs.ListLaws.{getD-tab}
 use Rattle.base_words.proofs.SeekLaws.{sought, seek-found}
 use Rattle.base_kinds.specs.Kinds as Kinds
-use Rattle.base_table.specs.Table.{poolCount, elementCount, elementAt, numbered, poolOf, kindIn, entryAt}
+use Rattle.base_table.specs.Table.{poolCount, elementCount, elementAt, hasNumber, poolOf, kindIn, entryAt}
 use Rattle.base_state.specs.Places.{instanceWords, madePlace, instancePlace, sharedPlace, versionAt, instancesWords, copyWords, queuePlace}
 use Rattle.base_state.specs.Instances.{instancesOf, queuesOf, versionOf, madeCount, withTokens}
 use Rattle.check_limits.specs.Limits.{tableFits}
@@ -27,7 +27,7 @@ use Rattle.meaning.specs.Messages.{times}
 use Rattle.meaning.specs.Queues.{messageAt, messagesOf}
 use Rattle.meaning.specs.Step.{instanceOf}
 use Rattle.state_fits.specs.Fits.{isStart, startPlace, hasStart}
-use Rattle.state_fits.specs.Fresh.{firstEdge, fresh}
+use Rattle.state_fits.specs.Fresh.{startEdge, fresh}
 use Rattle.state_fits.proofs.FreshLaws.{Startable, Pools, firstPlace, pools-blank, pools-begun, pools-behind, blank-at}
 use Rattle.state_fits.proofs.FreshFits.{startable, fresh-word, fresh-version, queue-fresh}
 use Rattle.state_fits.proofs.UsableLaws.{start-kind}
@@ -38,11 +38,11 @@ use Rattle.proof_steps.proofs.Elements.{pools-few}
 use Rattle.proof_valid.proofs.ChecksHold.{valid-fits}
 use Rattle.paper.specs.Syntax.{Element, end, Pool, Each, none, more}
 use Rattle.paper.specs.States.{Local, blank, _edges:_, put, ownOf}
-use Rattle.proof_paper.specs.Decoders.{span, guarded, localOf, nothing, queueOf, storeOf, isPool, ofEachKind, elementOf, processOf, poolAt, collaborationOf}
+use Rattle.proof_paper.specs.Decoders.{span, insideOr, localOf, nothing, queueOf, storeOf, isPool, ofEachKind, elementOf, processAt, poolAt, collaborationOf}
 use Rattle.proof_paper.specs.Calls.{stateOf}
 use Rattle.proof_paper.proofs.Stores.{same-if, tokens-put}
 use Rattle.proof_paper.proofs.Pools.{own-alike, blank-is}
-use Rattle.proof_origins.specs.Initial.{first, waits, begins, beginningAt, isBeginning, beginning, beginningOf, count, opening, initial}
+use Rattle.proof_origins.specs.Initial.{ofFirst, waits, begins, beginningAt, isBeginning, beginning, beginningOf, instancesBegun, opening, initial}
 
 -- THE FIRST of a function's values that passes a test stands where `seek` finds it
 module _ {A B : Type 0} (f : ℕ → A) (test : A → Bool) (get : A → B) (none : B) where
@@ -52,8 +52,8 @@ module _ {A B : Type 0} (f : ℕ → A) (test : A → Bool) (get : A → B) (non
   abbrev found : ℕ → B
   found n = if ltb (seek passes n) n then get (f (seek passes n)) else none
 
-  first-from : (k n m : ℕ) → k + n ≡ m → ((j : ℕ) → j < k → passes j ≡ false) → first test get none (span f k n) ≡ found m
-  unfolding first span
+  first-from : (k n m : ℕ) → k + n ≡ m → ((j : ℕ) → j < k → passes j ≡ false) → ofFirst test get none (span f k n) ≡ found m
+  unfolding ofFirst span
   first-from k zero m e below =
       let s = sought passes m in
       sym (passed (ltb (seek passes m) m) _ none (by-test (ltb (seek passes m) m) (λ y. let l = ltb-true (seek passes m) m y in absurd (false≢true (sym (below (seek passes m) (omega arith)) ∙ s .1 l))) (λ y. y)))
@@ -63,7 +63,7 @@ module _ {A B : Type 0} (f : ℕ → A) (test : A → Bool) (get : A → B) (non
       let z : k ≡ seek passes m = seek-found passes m k (omega arith) reach y in
       chosen (passes k) (get (f k)) _ y ∙ ap (λ i. get (f i)) z ∙ sym (chosen (ltb (seek passes m) m) _ none (lt-ltb (seek passes m) m (omega arith))))
       (λ y.
-      passed (passes k) _ (first test get none (span f (suc k) n)) y
+      passed (passes k) _ (ofFirst test get none (span f (suc k) n)) y
       ∙ first-from (suc k) n m (omega arith) (λ j l. by-test (eqb j k) (λ q. ap passes (eqb-true j k q) ∙ y) (λ q. let d = eqb-false j k q in below j (omega arith))))
     where
       reach : seek passes k ≡ k
@@ -71,7 +71,7 @@ module _ {A B : Type 0} (f : ℕ → A) (test : A → Bool) (get : A → B) (non
           let s = sought passes k in
           by-test (ltb (seek passes k) k) (λ y. let l = ltb-true (seek passes k) k y in absurd (false≢true (sym (below (seek passes k) l) ∙ s .1 l))) (λ y. let l = ltb-false (seek passes k) k y in omega (arith, s .0))
 
-  first-is : (n : ℕ) → first test get none (span f 0 n) ≡ found n
+  first-is : (n : ℕ) → ofFirst test get none (span f 0 n) ≡ found n
   first-is n = first-from 0 n n (omega arith) (λ j l. absurd (omega arith))
 
 seek-alike : (f g : ℕ → Bool) → ((j : ℕ) → f j ≡ g j) → (n : ℕ) → seek f n ≡ seek g n
@@ -107,8 +107,8 @@ module _ (el : List ℕ) where
 
 -- A POOL and a collaboration
 module _ (t : List ℕ) where
-  process-begins : (p : ℕ) → beginning (processOf t p) ≡ (if hasStart t p then begins (firstEdge t p) else waits)
-  unfolding processOf hasStart startPlace isStart firstEdge
+  process-begins : (p : ℕ) → beginning (processAt t p) ≡ (if hasStart t p then begins (startEdge t p) else waits)
+  unfolding processAt hasStart startPlace isStart startEdge
   process-begins p =
       let n : ℕ = elementCount t p in
       let s : ℕ = startPlace t p in
@@ -117,8 +117,8 @@ module _ (t : List ℕ) where
       ∙ ap (λ k. if ltb k n then beginningAt (elementOf (elementAt t p k)) else waits) w
       ∙ same-if (ltb s n) waits _ _ (λ y. element-begins (elementAt t p s) ∙ chosen (eqb (kindIn (elementAt t p s)) Kinds.start) _ waits (eq-eqb (kindIn (elementAt t p s)) Kinds.start (start-kind t p y)))
 
-  pool-begins : (p : ℕ) → beginningOf (collaborationOf t) p ≡ (if isPool t p then beginning (processOf t (poolOf t p)) else waits)
-  unfolding beginningOf collaborationOf poolAt isPool poolOf numbered
+  pool-begins : (p : ℕ) → beginningOf (collaborationOf t) p ≡ (if isPool t p then beginning (processAt t (poolOf t p)) else waits)
+  unfolding beginningOf collaborationOf poolAt isPool poolOf hasNumber
   pool-begins p = first-is (poolAt t) (λ (P : Pool). eqb (P .name) p) (λ (P : Pool). beginning (P .process)) waits (poolCount t)
 
 -- THE FRESH STATE of a table within the limits
@@ -160,28 +160,28 @@ module _ (t : List ℕ) (v : ℕ) (fits : tableFits t ≡ true) where
       (λ y. ap (at (set (replicate copyWords 0) d 1)) (eqb-true k d y) ∙ getD-set-same (replicate copyWords 0) d 1 0 (omega (arith, length-replicate {A = ℕ} copyWords 0)) ∙ sym (ap oneIf y))
       (λ y. getD-set-other (replicate copyWords 0) d k 1 0 (eqb-false k d y) ∙ blank-at copyWords k ∙ sym (ap oneIf y))
 
-  opened : (q : ℕ) → q < poolCount t → hasStart t q ≡ true → ownOf (localOf (instanceOf s q 0)) ≡ opening (begins (firstEdge t q))
+  opened : (q : ℕ) → q < poolCount t → hasStart t q ≡ true → ownOf (localOf (instanceOf s q 0)) ≡ opening (begins (startEdge t q))
   unfolding opening
   opened q l e =
       let d = ask .first q l e in
-      own-alike (instanceOf s q 0) (withTokens (replicate copyWords 0) (firstEdge t q) 1) (λ k r. word-begun q l e k r ∙ sym (one-word (firstPlace t q) k (omega (arith, d .0, d .1))))
-      ∙ ap ownOf (tokens-put (replicate copyWords 0) (length-replicate {A = ℕ} copyWords 0) (firstEdge t q) 1 (d .0) (d .1))
-      ∙ ap (λ (σ : Local). σ edges: put (σ .σe) (firstEdge t q) 1) (blank-is copyWords)
+      own-alike (instanceOf s q 0) (withTokens (replicate copyWords 0) (startEdge t q) 1) (λ k r. word-begun q l e k r ∙ sym (one-word (firstPlace t q) k (omega (arith, d .0, d .1))))
+      ∙ ap ownOf (tokens-put (replicate copyWords 0) (length-replicate {A = ℕ} copyWords 0) (startEdge t q) 1 (d .0) (d .1))
+      ∙ ap (λ (σ : Local). σ edges: put (σ .σe) (startEdge t q) 1) (blank-is copyWords)
 
   -- a pool by its place, and by its number
-  pool-count : (q : ℕ) → q < poolCount t → madeCount s q ≡ count (beginning (processOf t q))
-  unfolding count
+  pool-count : (q : ℕ) → q < poolCount t → madeCount s q ≡ instancesBegun (beginning (processAt t q))
+  unfolding instancesBegun
   pool-count q l =
       by-test (hasStart t q)
-      (λ e. made-begun q l e ∙ ap count (sym (process-begins t q ∙ chosen (hasStart t q) _ waits e)))
-      (λ e. made-blank q l e ∙ ap count (sym (process-begins t q ∙ passed (hasStart t q) _ waits e)))
+      (λ e. made-begun q l e ∙ ap instancesBegun (sym (process-begins t q ∙ chosen (hasStart t q) _ waits e)))
+      (λ e. made-blank q l e ∙ ap instancesBegun (sym (process-begins t q ∙ passed (hasStart t q) _ waits e)))
 
-  pool-opening : (q i : ℕ) → q < poolCount t → guarded blank (ltb i (madeCount s q)) (ownOf (localOf (instanceOf s q i))) ≡ (if eqb i 0 then opening (beginning (processOf t q)) else blank)
+  pool-opening : (q i : ℕ) → q < poolCount t → insideOr blank (ltb i (madeCount s q)) (ownOf (localOf (instanceOf s q i))) ≡ (if eqb i 0 then opening (beginning (processAt t q)) else blank)
   unfolding opening
   pool-opening q i l =
       by-test (hasStart t q)
       (λ e.
-      let b : beginning (processOf t q) ≡ begins (firstEdge t q) = process-begins t q ∙ chosen (hasStart t q) _ waits e in
+      let b : beginning (processAt t q) ≡ begins (startEdge t q) = process-begins t q ∙ chosen (hasStart t q) _ waits e in
       let m = made-begun q l e in
       by-test (eqb i 0)
       (λ y.
@@ -190,28 +190,28 @@ module _ (t : List ℕ) (v : ℕ) (fits : tableFits t ≡ true) where
       ∙ ap (λ j. ownOf (localOf (instanceOf s q j))) w ∙ opened q l e ∙ ap opening (sym b) ∙ sym (chosen (eqb i 0) _ blank y))
       (λ y. let w = eqb-false i 0 y in passed (ltb i (madeCount s q)) _ blank (le-ltb i (madeCount s q) (omega arith)) ∙ sym (passed (eqb i 0) _ blank y)))
       (λ e.
-      let b : beginning (processOf t q) ≡ waits = process-begins t q ∙ passed (hasStart t q) _ waits e in
+      let b : beginning (processAt t q) ≡ waits = process-begins t q ∙ passed (hasStart t q) _ waits e in
       let m = made-blank q l e in
       passed (ltb i (madeCount s q)) _ blank (le-ltb i (madeCount s q) (omega arith))
       ∙ by-test (eqb i 0) (λ y. sym (chosen (eqb i 0) _ blank y ∙ ap opening b)) (λ y. sym (passed (eqb i 0) _ blank y)))
 
-  made-initial : (p : ℕ) → guarded 0 (isPool t p) (madeCount s (poolOf t p)) ≡ count (beginningOf C p)
-  unfolding count isPool
+  made-initial : (p : ℕ) → insideOr 0 (isPool t p) (madeCount s (poolOf t p)) ≡ instancesBegun (beginningOf C p)
+  unfolding instancesBegun isPool
   made-initial p =
       by-test (isPool t p)
-      (λ y. chosen (isPool t p) _ 0 y ∙ pool-count (poolOf t p) (ltb-true (poolOf t p) (poolCount t) y) ∙ ap count (sym (pool-begins t p ∙ chosen (isPool t p) _ waits y)))
-      (λ y. passed (isPool t p) _ 0 y ∙ ap count (sym (pool-begins t p ∙ passed (isPool t p) _ waits y)))
+      (λ y. chosen (isPool t p) _ 0 y ∙ pool-count (poolOf t p) (ltb-true (poolOf t p) (poolCount t) y) ∙ ap instancesBegun (sym (pool-begins t p ∙ chosen (isPool t p) _ waits y)))
+      (λ y. passed (isPool t p) _ 0 y ∙ ap instancesBegun (sym (pool-begins t p ∙ passed (isPool t p) _ waits y)))
 
-  instance-initial : (p i : ℕ) → guarded blank (isPool t p && ltb i (madeCount s (poolOf t p))) (ownOf (localOf (instanceOf s (poolOf t p) i))) ≡ (if eqb i 0 then opening (beginningOf C p) else blank)
+  instance-initial : (p i : ℕ) → insideOr blank (isPool t p && ltb i (madeCount s (poolOf t p))) (ownOf (localOf (instanceOf s (poolOf t p) i))) ≡ (if eqb i 0 then opening (beginningOf C p) else blank)
   unfolding opening isPool
   instance-initial p i =
       by-test (isPool t p)
       (λ y.
-      ap (λ b. guarded blank (b && ltb i (madeCount s (poolOf t p))) (ownOf (localOf (instanceOf s (poolOf t p) i)))) y
+      ap (λ b. insideOr blank (b && ltb i (madeCount s (poolOf t p))) (ownOf (localOf (instanceOf s (poolOf t p) i)))) y
       ∙ pool-opening (poolOf t p) i (ltb-true (poolOf t p) (poolCount t) y)
       ∙ ap (λ b. if eqb i 0 then opening b else blank) (sym (pool-begins t p ∙ chosen (isPool t p) _ waits y)))
       (λ y.
-      ap (λ b. guarded blank (b && ltb i (madeCount s (poolOf t p))) (ownOf (localOf (instanceOf s (poolOf t p) i)))) y
+      ap (λ b. insideOr blank (b && ltb i (madeCount s (poolOf t p))) (ownOf (localOf (instanceOf s (poolOf t p) i)))) y
       ∙ passed false _ blank refl
       ∙ by-test (eqb i 0) (λ w. sym (chosen (eqb i 0) _ blank w ∙ ap opening (pool-begins t p ∙ passed (isPool t p) _ waits y))) (λ w. sym (passed (eqb i 0) _ blank w)))
 
@@ -219,14 +219,14 @@ module _ (t : List ℕ) (v : ℕ) (fits : tableFits t ≡ true) where
   unfolding messagesOf tab
   queue-empty m = ap (λ n. tab (messageAt (queuesOf z) m) n) (queue-fresh t v ask (queuePlace m))
 
-  mail-initial : (m : ℕ) → guarded nothing (ltb m names) (queueOf (queuesOf z) m) ≡ nothing
+  mail-initial : (m : ℕ) → insideOr nothing (ltb m names) (queueOf (queuesOf z) m) ≡ nothing
   unfolding times
   mail-initial m =
       by-test (ltb m names)
       (λ y. chosen (ltb m names) _ nothing y ∙ ap (λ (ms : List Tuple). record { times = λ vs. times (record { length = length vs; values = vs }) ms; size = length ms }) (queue-empty m))
       (λ y. passed (ltb m names) _ nothing y)
 
-  store-initial : (d : ℕ) → guarded Undefined (ltb d fields) (storeOf s d) ≡ Undefined
+  store-initial : (d : ℕ) → insideOr Undefined (ltb d fields) (storeOf s d) ≡ Undefined
   unfolding storeOf
   store-initial d =
       by-test (ltb d fields)

@@ -13,14 +13,14 @@ use Rattle.base_table.specs.Places.{poolPlace, limitPlace}
 use Rattle.base_table.specs.Table.{poolCount, elementCount, elementAt, limitOf}
 use Rattle.check_limits.specs.Limits.{tableFits}
 use Rattle.write_decimals.specs.Decimals.{shown}
-use Rattle.write_shown.specs.Shown.{lead, separated, between, shownElement, shownElements, shownLimit, shownPool, shownPools, shownTable}
+use Rattle.write_shown.specs.Shown.{lead, separated, enclosedBy, shownElement, shownElements, shownLimit, shownPool, shownPools, shownTable}
 use Rattle.engine.specs.Engine.{valid}
 use Rattle.proof_steps.proofs.Choices.{passed}
 use Rattle.proof_steps.proofs.Elements.{pools-few, element-fits}
 use Rattle.proof_valid.proofs.ChecksHold.{valid-fits}
 use Rattle.paper.specs.Syntax.{Mark}
-use Rattle.proof_paper.specs.Decoders.{elementOf, processOf, poolAt, collaborationOf}
-use Rattle.proof_origins.specs.Display.{among, elementText, markText, limitText, poolText, display}
+use Rattle.proof_paper.specs.Decoders.{elementOf, processAt, poolAt, collaborationOf}
+use Rattle.proof_origins.specs.Display.{betweenSigns, elementText, markText, limitText, poolText, display}
 use Rattle.proof_origins.proofs.Lists.{each-way, separated-is, joined-least}
 use Rattle.proof_origins.proofs.Elements.{element-text}
 
@@ -42,8 +42,8 @@ module _ (t : List ℕ) (p : ℕ) where
       (λ e. ap (λ k. code "," ∷ shown k) (sym (passed (eqb n 0) 1 n e)))
 
 module _ (t : List ℕ) (fits : tableFits t ≡ true) where
-  elements-text : (p : ℕ) → p < poolCount t → shownElements t p ≡ among (code "|") elementText (processOf t p)
-  unfolding shownElements processOf
+  elements-text : (p : ℕ) → p < poolCount t → shownElements t p ≡ betweenSigns (code "|") elementText (processAt t p)
+  unfolding shownElements processAt
   elements-text p l =
       separated-is (code "|") (λ e. shownElement (elementAt t p e)) (λ e. elementOf (elementAt t p e)) elementText (elementCount t p)
       (λ e r. element-text (elementAt t p e) (element-fits t fits p l e r))
@@ -51,7 +51,7 @@ module _ (t : List ℕ) (fits : tableFits t ≡ true) where
   pool-text : (p : ℕ) → p < poolCount t → shownPool t p ≡ poolText (poolAt t p)
   unfolding shownPool poolText poolAt
   pool-text p l =
-      ap₂ (λ u v. u ++ between (code "(") (code ")") (shown (at t (poolPlace p)) ++ (code "," ∷ v))) (mark-text t p)
+      ap₂ (λ u v. u ++ enclosedBy (code "(") (code ")") (shown (at t (poolPlace p)) ++ (code "," ∷ v))) (mark-text t p)
       (ap₂ _++_ (elements-text p l) (limit-text t p))
 
   table-text : shownTable t ≡ display (collaborationOf t)

@@ -15,15 +15,15 @@ unfoldable pub behind : {A : Type 0} → ℕ → (A → List ℕ) → List A →
 behind s f [] = []
 behind s f (x ∷ xs) = s ∷ (f x ++ behind s f xs)
 
-unfoldable pub among : {A : Type 0} → ℕ → (A → List ℕ) → List A → List ℕ
-among s f [] = []
-among s f (x ∷ xs) = f x ++ behind s f xs
+unfoldable pub betweenSigns : {A : Type 0} → ℕ → (A → List ℕ) → List A → List ℕ
+betweenSigns s f [] = []
+betweenSigns s f (x ∷ xs) = f x ++ behind s f xs
 
 abbrev pub enclosed : ℕ → ℕ → List ℕ → List ℕ
 enclosed opener closer w = opener ∷ (w ++ (closer ∷ []))
 
 unfoldable pub list : {A : Type 0} → (A → List ℕ) → List A → List ℕ
-list f xs = among (code ",") f xs
+list f xs = betweenSigns (code ",") f xs
 
 -- OPERANDS, EXPRESSIONS, ITEMS, CONDITIONS. Fields are d0 to d15 and, behind them, the stores s0 to s15
 unfoldable pub fieldText : ℕ → List ℕ
@@ -126,8 +126,8 @@ limitText Mark.miPool n = code "," ∷ shown n
 unfoldable pub poolText : Pool → List ℕ
 poolText P =
     markText (P .mark)
-    ++ enclosed (code "(") (code ")") (shown (P .name) ++ (code "," ∷ (among (code "|") elementText (P .process) ++ limitText (P .mark) (P .limit))))
+    ++ enclosed (code "(") (code ")") (shown (P .name) ++ (code "," ∷ (betweenSigns (code "|") elementText (P .process) ++ limitText (P .mark) (P .limit))))
 
 -- A COLLABORATION: its pools with bars between them, and a newline
 unfoldable pub display : List Pool → List ℕ
-display C = among (code "|") poolText C ++ (code "\n" ∷ [])
+display C = betweenSigns (code "|") poolText C ++ (code "\n" ∷ [])

@@ -10,9 +10,9 @@ use Rattle.paper.specs.Syntax.{Element, start, startRcv, end, terminate, endSnd
 use Rattle.paper.specs.States.{Local, unmarked, unset, blank, _edges:_, put, Configuration}
 
 -- what is got of the first thing of a list that passes a test
-unfoldable pub first : {A B : Type 0} → (A → Bool) → (A → B) → B → List A → B
-first test get none [] = none
-first test get none (x ∷ xs) = if test x then get x else first test get none xs
+unfoldable pub ofFirst : {A B : Type 0} → (A → Bool) → (A → B) → B → List A → B
+ofFirst test get none [] = none
+ofFirst test get none (x ∷ xs) = if test x then get x else ofFirst test get none xs
 
 -- a process begins at the first edge of its start, or waits for a message
 pub data Beginning : Type 0 where
@@ -41,16 +41,16 @@ isBeginning waits = false
 isBeginning (begins e) = true
 
 abbrev pub beginning : List Element → Beginning
-beginning P = first (λ el. isBeginning (beginningAt el)) beginningAt waits P
+beginning P = ofFirst (λ el. isBeginning (beginningAt el)) beginningAt waits P
 
 -- the beginning of the pool named p; a name that no pool has waits for ever
 unfoldable pub beginningOf : List Pool → ℕ → Beginning
-beginningOf C p = first (λ (P : Pool). eqb (P .name) p) (λ (P : Pool). beginning (P .process)) waits C
+beginningOf C p = ofFirst (λ (P : Pool). eqb (P .name) p) (λ (P : Pool). beginning (P .process)) waits C
 
 -- how many instances there are of it, and the first of them
-unfoldable pub count : Beginning → ℕ
-count waits = 0
-count (begins e) = 1
+unfoldable pub instancesBegun : Beginning → ℕ
+instancesBegun waits = 0
+instancesBegun (begins e) = 1
 
 unfoldable pub opening : Beginning → Local
 opening waits = blank
@@ -59,7 +59,7 @@ opening (begins e) = blank edges: put unmarked e 1
 unfoldable pub initial : List Pool → Configuration
 initial C = record {
   σi = λ p i. if eqb i 0 then opening (beginningOf C p) else blank;
-  made = λ p. count (beginningOf C p);
+  made = λ p. instancesBegun (beginningOf C p);
   σm = λ m. record { times = λ vs. 0; size = 0 };
   σds = unset;
 }

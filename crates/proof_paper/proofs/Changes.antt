@@ -19,7 +19,7 @@ use Rattle.base_kinds.specs.Moves.{up, down}
 use Rattle.base_table.specs.Table.{taskIn, entryCount, exitCount, entryAt, exitAt}
 use Rattle.base_state.specs.Places.{tokenPlace, activePlace, readyPlace, copyWords}
 use Rattle.base_state.specs.Instances.{tokens, activeCount, readyCount, withTokens, withActive, withReady}
-use Rattle.meaning.specs.Requirements.{touched, first}
+use Rattle.meaning.specs.Requirements.{touched, firstTouched}
 use Rattle.meaning.specs.Changes.{takeOne, taken, more, countChanged, activeChanged, readyChanged, putOne, puts}
 use Rattle.proof_steps.proofs.Choices.{by-test, chosen, passed}
 use Rattle.proof_steps.proofs.MadeAfter.{more-one}
@@ -30,10 +30,10 @@ use Rattle.proof_paper.proofs.Stores.{tokens-put, active-put, ready-put
 
 -- the edges that a move takes from and puts on
 abbrev pub takenEdges : List ℕ → Move → ℕ → List ℕ
-takenEdges el m b = span (λ j. entryAt el (first (m .takes) b + j)) 0 (touched (m .takes) (entryCount el))
+takenEdges el m b = span (λ j. entryAt el (firstTouched (m .takes) b + j)) 0 (touched (m .takes) (entryCount el))
 
 abbrev pub putEdges : List ℕ → Move → ℕ → List ℕ
-putEdges el m b = span (λ j. exitAt el (first (m .puts) b + j)) 0 (touched (m .puts) (exitCount el))
+putEdges el m b = span (λ j. exitAt el (firstTouched (m .puts) b + j)) 0 (touched (m .puts) (exitCount el))
 
 -- a count by its cell
 unfoldable pub changed : ℕ → (ℕ → ℕ) → ℕ → ℕ → ℕ
@@ -115,32 +115,32 @@ module _ (cell n x : ℕ) (store : ℕ → List ℕ) (σ : ℕ → ℕ) (into : 
 
 -- A MOVE m at an element el by branch b
 module _ (el : List ℕ) (m : Move) (b : ℕ) where
-  module _ (entries : (j : ℕ) → j < touched (m .takes) (entryCount el) → (1 ≤ entryAt el (first (m .takes) b + j)) × (entryAt el (first (m .takes) b + j) ≤ edges))
+  module _ (entries : (j : ℕ) → j < touched (m .takes) (entryCount el) → (1 ≤ entryAt el (firstTouched (m .takes) b + j)) × (entryAt el (firstTouched (m .takes) b + j) ≤ edges))
       (h : List ℕ) (long : length h ≡ copyWords) where
     pub taken-long : length (taken el m b h) ≡ copyWords
     unfolding taken takeOne
-    taken-long = length-turned (λ j. entryAt el (first (m .takes) b + j)) (λ v. v - 1) (λ v. v - 1) decs (unfold decs in λ σ. refl) (unfold decs in λ σ k ks. refl) h long (touched (m .takes) (entryCount el))
+    taken-long = length-turned (λ j. entryAt el (firstTouched (m .takes) b + j)) (λ v. v - 1) (λ v. v - 1) decs (unfold decs in λ σ. refl) (unfold decs in λ σ k ks. refl) h long (touched (m .takes) (entryCount el))
 
     -- dec(σe, E)
     pub taken-is : localOf (taken el m b h) ≡ (localOf h edges: decs (localOf h .σe) (takenEdges el m b))
     unfolding taken takeOne decs
     taken-is =
-        turned (λ j. entryAt el (first (m .takes) b + j)) (λ v. v - 1) (λ v. v - 1) decs (λ σ. refl) (λ σ k ks. refl) h long
+        turned (λ j. entryAt el (firstTouched (m .takes) b + j)) (λ v. v - 1) (λ v. v - 1) decs (λ σ. refl) (λ σ k ks. refl) h long
         (touched (m .takes) (entryCount el)) entries (λ j l. refl)
 
-  module _ (exits : (j : ℕ) → j < touched (m .puts) (exitCount el) → (1 ≤ exitAt el (first (m .puts) b + j)) × (exitAt el (first (m .puts) b + j) ≤ edges))
-      (apart : (j k : ℕ) → j < touched (m .puts) (exitCount el) → k < touched (m .puts) (exitCount el) → (j ≡ k → ⊥) → exitAt el (first (m .puts) b + j) ≡ exitAt el (first (m .puts) b + k) → ⊥)
-      (h : List ℕ) (long : length h ≡ copyWords) (room : (j : ℕ) → j < touched (m .puts) (exitCount el) → tokens h (exitAt el (first (m .puts) b + j)) < countMost) where
+  module _ (exits : (j : ℕ) → j < touched (m .puts) (exitCount el) → (1 ≤ exitAt el (firstTouched (m .puts) b + j)) × (exitAt el (firstTouched (m .puts) b + j) ≤ edges))
+      (apart : (j k : ℕ) → j < touched (m .puts) (exitCount el) → k < touched (m .puts) (exitCount el) → (j ≡ k → ⊥) → exitAt el (firstTouched (m .puts) b + j) ≡ exitAt el (firstTouched (m .puts) b + k) → ⊥)
+      (h : List ℕ) (long : length h ≡ copyWords) (room : (j : ℕ) → j < touched (m .puts) (exitCount el) → tokens h (exitAt el (firstTouched (m .puts) b + j)) < countMost) where
     -- inc(σe, E)
     pub puts-is : localOf (puts el m b h) ≡ (localOf h edges: incs (localOf h .σe) (putEdges el m b))
     unfolding puts putOne incs
     puts-is =
-        turned (λ j. exitAt el (first (m .puts) b + j)) more (λ v. v + 1) incs (λ σ. refl) (λ σ k ks. refl) h long
+        turned (λ j. exitAt el (firstTouched (m .puts) b + j)) more (λ v. v + 1) incs (λ σ. refl) (λ σ k ks. refl) h long
         (touched (m .puts) (exitCount el)) exits
         (λ j l.
         let w = exits j l in
-        let s : tokens (iter (λ k g. withTokens g (exitAt el (first (m .puts) b + k)) (more (tokens g (exitAt el (first (m .puts) b + k))))) h j) (exitAt el (first (m .puts) b + j)) ≡ tokens h (exitAt el (first (m .puts) b + j)) =
-        raised-other (λ k. tokenPlace (exitAt el (first (m .puts) b + k))) h j (tokenPlace (exitAt el (first (m .puts) b + j)))
+        let s : tokens (iter (λ k g. withTokens g (exitAt el (firstTouched (m .puts) b + k)) (more (tokens g (exitAt el (firstTouched (m .puts) b + k))))) h j) (exitAt el (firstTouched (m .puts) b + j)) ≡ tokens h (exitAt el (firstTouched (m .puts) b + j)) =
+        raised-other (λ k. tokenPlace (exitAt el (firstTouched (m .puts) b + k))) h j (tokenPlace (exitAt el (firstTouched (m .puts) b + j)))
         (λ k r q. let v = exits k (omega arith) in apart j k l (omega arith) (λ e. omega arith) (omega (arith, w .0, v .0))) in
         more-one _ (omega (arith, s, room j l)))
 

@@ -19,7 +19,7 @@ use Rattle.base_table.specs.Places.{entriesPlace, exitsPlace}
 use Rattle.base_table.specs.Table.{kindIn, taskIn, modeIn, entryCount, exitCount, entryAt, exitAt, conditionAt, messageName}
 use Rattle.check_limits.specs.Limits.{conditionFits, partsFit, elementFits}
 use Rattle.meaning.specs.declared.Truth.the-variants.{True, False}
-use Rattle.meaning.specs.Requirements.{touched, first, branchCount}
+use Rattle.meaning.specs.Requirements.{touched, firstTouched, branchCount}
 use Rattle.paper.specs.Syntax.{default, Choice, Element, start, startRcv, end, terminate, endSnd, interRcv, interSnd, eventBased, andSplit, andJoin, xorJoin, xorSplit, task, taskRcv, taskSnd, Each, none, more}
 use Rattle.paper.specs.States.{Local}
 use Rattle.paper.specs.Evaluation.{truth}
@@ -151,14 +151,14 @@ module _ (v : ℕ) (el : List ℕ) (fits : elementFits el ≡ true) (L : Local) 
 
   -- WHERE A LINE HAS A CHOICE
   xor-join-law : Law (row 10)
-  unfolding entriesOf touched first if_then_else_ branchCount ofEachKind kindOf used width
+  unfolding entriesOf touched firstTouched if_then_else_ branchCount ofEachKind kindOf used width
   xor-join-law k q = (
     ap width (element-is k) ∙ length-span (entryAt el) 0 (entryCount el),
     (λ b l. by-branch (xor-join-rule (given b) b (entryAt el b) (stands-from-zero (entryAt el) (entryCount el) b l)) (element-is k) (just-one (entryAt el) b) (one-exit k refl)),
   )
 
   event-law : Law (row 7)
-  unfolding receiptOf touched first if_then_else_ branchCount ofEachKind kindOf used width
+  unfolding receiptOf touched firstTouched if_then_else_ branchCount ofEachKind kindOf used width
   event-law k q = (
     ap width (element-is k) ∙ length-span (receiptOf el) 0 (exitCount el),
     (λ b l. by-branch (event-rule (given b) b (exitAt el b) (stands-from-zero (receiptOf el) (exitCount el) b l)) (element-is k) (one-entry k refl) (just-one (exitAt el) b)),
@@ -168,7 +168,7 @@ module _ (v : ℕ) (el : List ℕ) (fits : elementFits el ≡ true) (L : Local) 
   Picked b = Chosen (given b) b (choiceOf el b) (span (choiceOf el) 0 (exitCount el))
 
   xor-split-law : Law (row 11)
-  unfolding choiceOf touched first if_then_else_ branchCount ofEachKind kindOf used width
+  unfolding choiceOf touched firstTouched if_then_else_ branchCount ofEachKind kindOf used width
   xor-split-law k q = (
     ap width (element-is k) ∙ length-span (choiceOf el) 0 (exitCount el),
     (λ b l. by-branch (xor-split-rule (given b) b (choiceOf el b) (stands-from-zero (choiceOf el) (exitCount el) b l) (chooses b) (grants b l)) (element-is k) (one-entry k refl) (just-one (exitAt el) b)),
@@ -203,7 +203,7 @@ module _ (v : ℕ) (el : List ℕ) (fits : elementFits el ≡ true) (L : Local) 
       absurd (false≢true (and-left false (partsFit (kindOf 0) el) (subst (λ y. not (eqb (kindOf y .letters) 0) && partsFit (kindOf y) el ≡ true) k fits)))
 
   laws : Each Law moves
-  unfolding entriesOf exitsOf touched first if_then_else_ branchCount ofEachKind kindOf used width span
+  unfolding entriesOf exitsOf touched firstTouched if_then_else_ branchCount ofEachKind kindOf used width span
   laws =
       more (λ k q. by-rule (start-rule here) refl refl (element-is k) (one-entry k refl) (one-exit k refl))
       (more (λ k q. by-rule (start-rcv-rule here) refl refl (element-is k) refl (one-exit k refl))

@@ -14,7 +14,7 @@ use Rattle.base_words.specs.All.{all}
 use Rattle.base_words.specs.Iter.{iter}
 use Rattle.base_words.specs.Pick.{if_then_else_}
 use Rattle.base_words.specs.Words.{at}
-use Rattle.base_words.specs.Counts.{fields, values, assignments, named}
+use Rattle.base_words.specs.Counts.{fields, values, assignments, fieldsNamed}
 use Rattle.base_words.proofs.AllLaws.{and-left, and-right, all-at, all-of}
 use Rattle.base_words.proofs.PickLaws.{and-true, and-false-left, and-false-right}
 use Rattle.base_table.specs.Places.{operandNumber, formPlace, leftPlace, binding, assignedIn}
@@ -98,7 +98,7 @@ fields-start h long = record { long = long; rest = refl }
 pub fields-then : (h g k : List ℕ) → FieldsOnly h g → FieldsOnly g k → FieldsOnly h k
 fields-then h g k p q = record { long = q .long; rest = q .rest ∙ ap (λ (L : Local). L fields: localOf k .σd) (p .rest) }
 
-field-stored : (h g : List ℕ) (d v : ℕ) → d < named → FieldsOnly h g → FieldsOnly h (withField g d v)
+field-stored : (h g : List ℕ) (d v : ℕ) → d < fieldsNamed → FieldsOnly h g → FieldsOnly h (withField g d v)
 field-stored h g d v l p =
     let e = field-put g (p .long) d v l in
     record {
@@ -123,7 +123,7 @@ module _ (el : List ℕ) (b : ℕ) (g : Tuple) where
   abbrev item : ℕ → Item
   item j = itemOf (itemAt el b j)
 
-  module _ (right : (j : ℕ) → j < len → isBind j ≡ true → boundField j < named) (few : len ≤ values) (h : List ℕ) (long : length h ≡ copyWords) where
+  module _ (right : (j : ℕ) → j < len → isBind j ≡ true → boundField j < fieldsNamed) (few : len ≤ values) (h : List ℕ) (long : length h ≡ copyWords) where
     abbrev st : ℕ → List ℕ
     st j = iter (bindOne el b g) h j
 
@@ -415,7 +415,7 @@ module _ (el : List ℕ) (b : ℕ) (h : List ℕ) (few : messageLength el b ≤ 
       )
 
 -- THE ASSIGNMENTS
-module _ (el : List ℕ) (few : assignmentCount el ≤ assignments) (right : (j : ℕ) → j < assignmentCount el → at (assignmentAt el j) 0 < named)
+module _ (el : List ℕ) (few : assignmentCount el ≤ assignments) (right : (j : ℕ) → j < assignmentCount el → at (assignmentAt el j) 0 < fieldsNamed)
     (fits : (j : ℕ) → j < assignmentCount el → expressionFits (drop assignedIn (assignmentAt el j)) ≡ true) (h : List ℕ) (long : length h ≡ copyWords) where
   abbrev count : ℕ
   count = assignmentCount el

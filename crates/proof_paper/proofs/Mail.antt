@@ -25,7 +25,7 @@ use Rattle.step_queues.proofs.ReadLaws.{messages-other}
 use Rattle.step_queues.proofs.ChangeLaws.{messages-sending, messages-consuming, times-sending, times-consuming}
 use Rattle.proof_steps.proofs.Choices.{by-test, chosen, passed}
 use Rattle.paper.specs.States.{put, Multiset, same, _joined_, _without_}
-use Rattle.proof_paper.specs.Decoders.{span, guarded, nothing, queueOf, tupleOf, valuesOf}
+use Rattle.proof_paper.specs.Decoders.{span, insideOr, nothing, queueOf, tupleOf, valuesOf}
 use Rattle.proof_paper.proofs.Stores.{same-if, put-is}
 use Rattle.proof_paper.proofs.Spans.{from-here, from-next, length-span, getD-span, span-alike}
 
@@ -131,7 +131,7 @@ times-has g (x ∷ xs) l =
 
 -- THE MAIL, read from queues
 abbrev pub mailOf : List ℕ → ℕ → Multiset
-mailOf q m = guarded nothing (ltb m names) (queueOf q m)
+mailOf q m = insideOr nothing (ltb m names) (queueOf q m)
 
 module _ (q : List ℕ) (m : ℕ) (long : length q ≡ queueWords * names) (name : m < names) (tidy : Tidy q m) (rooms : (k : ℕ) → k < names → messageCount q k ≤ messages) (g : Tuple) where
   abbrev ms : List Tuple

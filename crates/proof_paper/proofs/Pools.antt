@@ -10,13 +10,13 @@ use lib.Dec.{eqb, ltb}
 use lib.ListN.{length, replicate}
 use borrow.Author.Tests.{eqb-true, ltb-true, ltb-false, lt-ltb, le-ltb}
 use Rattle.base_words.specs.Words.{at}
-use Rattle.base_words.specs.Counts.{pools, edges, tasks, fields, instances, named}
+use Rattle.base_words.specs.Counts.{pools, edges, tasks, fields, instances, fieldsNamed}
 use Rattle.base_words.proofs.AllLaws.{and-right}
 use Rattle.base_words.proofs.PickLaws.{and-true, and-false-left}
 use Rattle.base_words.proofs.ListLaws.{length-tab, getD-tab}
 use Rattle.base_words.proofs.SeekLaws.{sought}
 use Rattle.base_table.specs.Places.{poolPlace}
-use Rattle.base_table.specs.Table.{poolCount, numbered, poolOf}
+use Rattle.base_table.specs.Table.{poolCount, hasNumber, poolOf}
 use Rattle.base_state.specs.Places.{tokenPlace, activePlace, readyPlace, definedPlace, valuePlace, instanceWords, madePlace, instancePlace, storeWords, sharedPlace, instancesWords}
 use Rattle.base_state.specs.Instances.{madeCount}
 use Rattle.check_limits.specs.Limits.{within, tableFits}
@@ -32,7 +32,7 @@ use Rattle.proof_steps.proofs.Seen.{seen-own, seen-shared}
 use Rattle.proof_steps.proofs.OnlyOwn.{only-own, own-words, own-stores, own-made}
 use Rattle.proof_steps.proofs.MadeAfter.{Makes}
 use Rattle.paper.specs.States.{Local, blank, put, _beside_, ownOf, storesOf}
-use Rattle.proof_paper.specs.Decoders.{guarded, localOf, isPool, storeOf}
+use Rattle.proof_paper.specs.Decoders.{insideOr, localOf, isPool, storeOf}
 use Rattle.proof_paper.proofs.Stores.{same-if, put-is, inside}
 
 -- the same words, the same instance
@@ -62,7 +62,7 @@ instance-alike s r p i e = own-alike (instanceOf r p i) (instanceOf s p i) (λ k
 
 -- WHAT A STEP SEES: its instance, and the stores beside it
 abbrev pub board : List ℕ → ℕ → Value
-board s d = guarded Undefined (ltb d fields) (storeOf s d)
+board s d = insideOr Undefined (ltb d fields) (storeOf s d)
 
 module _ (s own : List ℕ) (long : length own ≡ instanceWords) where
   abbrev seenWords : List ℕ
@@ -86,10 +86,10 @@ module _ (s own : List ℕ) (long : length own ≡ instanceWords) where
       chosen (ltb (d - fields) fields) _ Undefined w
       ∙ sym (store-seen (d - fields) r)
       ∙ ap (fieldOf seenWords) e
-      ∙ sym (chosen (ltb d named) _ Undefined (lt-ltb d named (omega arith))))
+      ∙ sym (chosen (ltb d fieldsNamed) _ Undefined (lt-ltb d fieldsNamed (omega arith))))
       (λ w.
       let r = ltb-false (d - fields) fields w in
-      passed (ltb (d - fields) fields) _ Undefined w ∙ sym (passed (ltb d named) _ Undefined (le-ltb d named (omega arith))))
+      passed (ltb (d - fields) fields) _ Undefined w ∙ sym (passed (ltb d fieldsNamed) _ Undefined (le-ltb d fieldsNamed (omega arith))))
 
   own-same : ownOf (localOf own) ≡ ownOf (localOf seenWords)
   own-same = own-alike own seenWords (λ k l. sym (seen-own s own long k l))
@@ -109,7 +109,7 @@ zero-at zero k = refl
 zero-at (suc n) zero = refl
 zero-at (suc n) (suc k) = zero-at n k
 
-either : {A : Type 0} (none : A) (b : Bool) (x : A) → x ≡ none → guarded none b x ≡ none
+either : {A : Type 0} (none : A) (b : Bool) (x : A) → x ≡ none → insideOr none b x ≡ none
 either none b x e = by-test b (λ y. chosen b x none y ∙ e) (λ y. passed b x none y)
 
 pub blank-is : (n : ℕ) → ownOf (localOf (replicate n 0)) ≡ blank
@@ -118,15 +118,15 @@ blank-is n = λ i. record {
   σe = λ j. either 0 (within 1 edges j) (at (replicate n 0) (tokenPlace j)) (zero-at n (tokenPlace j)) i;
   σd = λ d.
       either Undefined (ltb d fields) (localOf (replicate n 0) .σd d)
-      (either Undefined (ltb d named) (fieldOf (replicate n 0) d) (chosen (eqb (at (replicate n 0) (definedPlace d)) 0) Undefined _ (ap (λ y. eqb y 0) (zero-at n (definedPlace d))))) i;
+      (either Undefined (ltb d fieldsNamed) (fieldOf (replicate n 0) d) (chosen (eqb (at (replicate n 0) (definedPlace d)) 0) Undefined _ (ap (λ y. eqb y 0) (zero-at n (definedPlace d))))) i;
   active = λ j. either 0 (within 1 tasks j) (at (replicate n 0) (activePlace j)) (zero-at n (activePlace j)) i;
   ready = λ j. either 0 (within 1 tasks j) (at (replicate n 0) (readyPlace j)) (zero-at n (readyPlace j)) i;
 }
 
 -- a pool that is there has the number asked for
 pub pool-number : (t : List ℕ) (p : ℕ) → isPool t p ≡ true → at t (poolPlace (poolOf t p)) ≡ p
-unfolding isPool poolOf numbered
-pool-number t p e = eqb-true _ p (sought (numbered t p) (poolCount t) .1 (ltb-true (poolOf t p) (poolCount t) e))
+unfolding isPool poolOf hasNumber
+pool-number t p e = eqb-true _ p (sought (hasNumber t p) (poolCount t) .1 (ltb-true (poolOf t p) (poolCount t) e))
 
 -- AFTER A STEP that found its pool
 module _ (t s : List ℕ) (n : Name) (fits : tableFits t ≡ true) (long : length s ≡ instancesWords) (there : poolNamed t n < poolCount t)
@@ -170,7 +170,7 @@ module _ (t s : List ℕ) (n : Name) (fits : tableFits t ≡ true) (long : lengt
       (let a = few in λ e. omega arith)
 
   abbrev held : List ℕ → ℕ → ℕ → Local
-  held z p i = guarded blank (isPool t p && ltb i (madeCount z (poolOf t p))) (ownOf (localOf (instanceOf z (poolOf t p) i)))
+  held z p i = insideOr blank (isPool t p && ltb i (madeCount z (poolOf t p))) (ownOf (localOf (instanceOf z (poolOf t p) i)))
 
   place-other : (p : ℕ) → (p ≡ n .pool → ⊥) → isPool t p ≡ true → poolOf t p ≡ P → ⊥
   unfolding isPool
@@ -184,7 +184,7 @@ module _ (t s : List ℕ) (n : Name) (fits : tableFits t ≡ true) (long : lengt
       let l : poolOf t p < poolCount t = ltb-true (poolOf t p) (poolCount t) e in
       let w = pools-few t fits in
       let m : madeCount r (poolOf t p) ≡ madeCount s (poolOf t p) = made-other (poolOf t p) (omega arith) (place-other p ne e) in
-      ap (λ y. guarded blank (isPool t p && ltb i y) (ownOf (localOf (instanceOf r (poolOf t p) i)))) m
+      ap (λ y. insideOr blank (isPool t p && ltb i y) (ownOf (localOf (instanceOf r (poolOf t p) i)))) m
       ∙ same-if (isPool t p && ltb i (madeCount s (poolOf t p))) blank _ _ (λ g.
       let q = others (poolOf t p) l in
       let h : i < madeCount s (poolOf t p) = ltb-true i (madeCount s (poolOf t p)) (and-right (isPool t p) (ltb i (madeCount s (poolOf t p))) g) in
@@ -207,7 +207,7 @@ module _ (t s : List ℕ) (n : Name) (fits : tableFits t ≡ true) (long : lengt
 
   instance-other : (i : ℕ) → (i ≡ i₀ → ⊥) → held r (n .pool) i ≡ held s (n .pool) i
   instance-other i ne =
-      ap (λ y. guarded blank (isPool t (n .pool) && y) (ownOf (localOf (instanceOf r P i)))) (below-same i ne)
+      ap (λ y. insideOr blank (isPool t (n .pool) && y) (ownOf (localOf (instanceOf r P i)))) (below-same i ne)
       ∙ same-if (isPool t (n .pool) && ltb i (madeCount s P)) blank _ _ (λ g.
       let q = others P there in
       let h : i < madeCount s P = ltb-true i (madeCount s P) (and-right (isPool t (n .pool)) (ltb i (madeCount s P)) g) in
@@ -242,15 +242,15 @@ module _ (t s : List ℕ) (n : Name) (fits : tableFits t ≡ true) (long : lengt
       by-test (ltb d fields)
       (λ w.
       let l = ltb-true d fields w in
-      chosen (ltb d fields) _ Undefined w ∙ store-after d l ∙ sym (chosen (ltb (fields + d) named) _ Undefined (lt-ltb (fields + d) named (omega arith))))
-      (λ w. let l = ltb-false d fields w in passed (ltb d fields) _ Undefined w ∙ sym (passed (ltb (fields + d) named) _ Undefined (le-ltb (fields + d) named (omega arith))))
+      chosen (ltb d fields) _ Undefined w ∙ store-after d l ∙ sym (chosen (ltb (fields + d) fieldsNamed) _ Undefined (lt-ltb (fields + d) fieldsNamed (omega arith))))
+      (λ w. let l = ltb-false d fields w in passed (ltb d fields) _ Undefined w ∙ sym (passed (ltb (fields + d) fieldsNamed) _ Undefined (le-ltb (fields + d) fieldsNamed (omega arith))))
 
   pub stores-after : board r ≡ storesOf (localOf (instanceAfter (siteOf t s n)))
   stores-after = λ i d. board-after d i
 
   -- how many are made
   abbrev counted : List ℕ → ℕ → ℕ
-  counted z p = guarded 0 (isPool t p) (madeCount z (poolOf t p))
+  counted z p = insideOr 0 (isPool t p) (madeCount z (poolOf t p))
 
   pub made-after : counted r ≡ put (counted s) (n .pool) (madeAfter (siteOf t s n))
   unfolding isPool

@@ -30,7 +30,7 @@ use Rattle.meaning.specs.declared.Value.{Value}
 use Rattle.meaning.specs.Values.{isTrue, isFalse}
 use Rattle.meaning.specs.Conditions.{conditionOf, defaultAt, leftOut, otherFalse, holds}
 use Rattle.meaning.specs.Requirements as Needs
-use Rattle.meaning.specs.Requirements.{touched, first, hasToken, hasTokens, canLower, isAlone, countsPermit, granted, hasRoom, hasRooms, canRaise, roomy}
+use Rattle.meaning.specs.Requirements.{touched, firstTouched, hasToken, hasTokens, canLower, isAlone, countsPermit, granted, edgeHasRoom, hasRooms, canRaise, roomy}
 use Rattle.meaning.specs.Changes.{taken, activeChanged, readyChanged, puts, cleared, moved}
 use Rattle.proof_steps.proofs.Choices.{by-test, chosen, passed, chosen-true, passed-true, or-left, or-right, or-either}
 use Rattle.proof_steps.proofs.Elements.{task-few, entry-within, exit-within}
@@ -72,10 +72,10 @@ module _ (el : List ℕ) (m : Move) (b : ℕ) (site : Site el m b) (h : List ℕ
   n = taskIn el
 
   abbrev entry : ℕ → ℕ
-  entry j = entryAt el (first (m .takes) b + j)
+  entry j = entryAt el (firstTouched (m .takes) b + j)
 
   abbrev exit : ℕ → ℕ
-  exit j = exitAt el (first (m .puts) b + j)
+  exit j = exitAt el (firstTouched (m .puts) b + j)
 
   abbrev taking : ℕ
   taking = touched (m .takes) (entryCount el)
@@ -84,14 +84,14 @@ module _ (el : List ℕ) (m : Move) (b : ℕ) (site : Site el m b) (h : List ℕ
   putting = touched (m .puts) (exitCount el)
 
   entry-in : (j : ℕ) → j < taking → (1 ≤ entry j) × (entry j ≤ edges)
-  entry-in j l = entry-within el (site .fits) (first (m .takes) b + j) (touched-within (m .takes) b (entryCount el) j (site .entry-few) l)
+  entry-in j l = entry-within el (site .fits) (firstTouched (m .takes) b + j) (touched-within (m .takes) b (entryCount el) j (site .entry-few) l)
 
   exit-in : (j : ℕ) → j < putting → (1 ≤ exit j) × (exit j ≤ edges)
-  exit-in j l = exit-within el (site .fits) (first (m .puts) b + j) (touched-within (m .puts) b (exitCount el) j (site .exit-few) l)
+  exit-in j l = exit-within el (site .fits) (firstTouched (m .puts) b + j) (touched-within (m .puts) b (exitCount el) j (site .exit-few) l)
 
   exit-apart : (j k : ℕ) → j < putting → k < putting → (j ≡ k → ⊥) → exit j ≡ exit k → ⊥
   exit-apart j k l r ne =
-      site .apart (first (m .puts) b + j) (first (m .puts) b + k) (touched-within (m .puts) b (exitCount el) j (site .exit-few) l) (touched-within (m .puts) b (exitCount el) k (site .exit-few) r)
+      site .apart (firstTouched (m .puts) b + j) (firstTouched (m .puts) b + k) (touched-within (m .puts) b (exitCount el) j (site .exit-few) l) (touched-within (m .puts) b (exitCount el) k (site .exit-few) r)
       (λ z. ne (omega arith))
 
   few : n ≤ tasks
@@ -139,7 +139,7 @@ module _ (el : List ℕ) (m : Move) (b : ℕ) (site : Site el m b) (h : List ℕ
     takes-there =
         each-from-zero entry (λ e. 0 < L .σe e) taking (λ j l.
         let w = entry-in j l in
-        let t : 0 < tokens h (entry j) = ltb-true 0 (tokens h (entry j)) (all-at (hasToken el h (first (m .takes) b)) taking (and-left tokened lowered (and-left (tokened && lowered) readied first-three)) j l) in
+        let t : 0 < tokens h (entry j) = ltb-true 0 (tokens h (entry j)) (all-at (hasToken el h (firstTouched (m .takes) b)) taking (and-left tokened lowered (and-left (tokened && lowered) readied first-three)) j l) in
         subst (λ v. 0 < v) (sym (tokens-are h (entry j) (w .0) (w .1))) t)
 
     pub active-there : eqb (m .active) down ≡ true → 0 < L .active n
@@ -169,7 +169,7 @@ module _ (el : List ℕ) (m : Move) (b : ℕ) (site : Site el m b) (h : List ℕ
       and-true (tokened && lowered && readied) (isAlone el h m)
       (and-true (tokened && lowered) readied
       (and-true tokened lowered
-      (all-of (hasToken el h (first (m .takes) b)) taking (λ j l. let w = entry-in j l in lt-ltb 0 (tokens h (entry j)) (subst (λ v. 0 < v) (tokens-are h (entry j) (w .0) (w .1)) (at-from-zero entry (λ e. 0 < L .σe e) taking t j l))))
+      (all-of (hasToken el h (firstTouched (m .takes) b)) taking (λ j l. let w = entry-in j l in lt-ltb 0 (tokens h (entry j)) (subst (λ v. 0 < v) (tokens-are h (entry j) (w .0) (w .1)) (at-from-zero entry (λ e. 0 < L .σe e) taking t j l))))
       (when (eqb (m .active) down) _ (λ e. lt-ltb 0 (activeCount h n) (subst (λ v. 0 < v) (active-is h n (site .task (inl (lowers-task (m .active) e))) few) (a e)))))
       (when (eqb (m .ready) down) _ (λ e. lt-ltb 0 (readyCount h n) (subst (λ v. 0 < v) (ready-is h n (site .task (inr (lowers-task (m .ready) e))) few) (r e)))))
       (when (eqb (m .alone) on) _ (λ e. when (Needs.waits el h) _ (λ q.
@@ -290,8 +290,8 @@ module _ (el : List ℕ) (m : Move) (b : ℕ) (site : Site el m b) (h : List ℕ
 
     module _ (r : roomy el T m b ≡ true) where
       rooms-at : (j : ℕ) → j < putting → tokens T (exit j) < countMost
-      unfolding roomy hasRooms hasRoom
-      rooms-at j l = ltb-true (tokens T (exit j)) countMost (all-at (hasRoom el T (first (m .puts) b)) putting (and-left roomed raised (and-left (roomed && raised) reraised r)) j l)
+      unfolding roomy hasRooms edgeHasRoom
+      rooms-at j l = ltb-true (tokens T (exit j)) countMost (all-at (edgeHasRoom el T (firstTouched (m .puts) b)) putting (and-left roomed raised (and-left (roomed && raised) reraised r)) j l)
 
       active-room : eqb (m .active) up ≡ true → activeCount T n < countMost
       unfolding roomy canRaise
@@ -343,10 +343,10 @@ module _ (el : List ℕ) (m : Move) (b : ℕ) (site : Site el m b) (h : List ℕ
       moved-is = by-test c clearing-is moving-is
 
     pub rooms-back : Each (room (decs (L .σe) (takenEdges el m b))) (putEdges el m b) → (eqb (m .active) up ≡ true → room (L .active) n) → (eqb (m .ready) up ≡ true → room (L .ready) n) → roomy el T m b ≡ true
-    unfolding roomy hasRooms hasRoom canRaise
+    unfolding roomy hasRooms edgeHasRoom canRaise
     rooms-back p u v =
         and-true (roomed && raised) reraised
         (and-true roomed raised
-        (all-of (hasRoom el T (first (m .puts) b)) putting (λ j l. lt-ltb (tokens T (exit j)) countMost (subst (λ y. y < countMost) (sym (tokens-T j l)) (at-from-zero exit (room (decs (L .σe) (takenEdges el m b))) putting p j l))))
+        (all-of (edgeHasRoom el T (firstTouched (m .puts) b)) putting (λ j l. lt-ltb (tokens T (exit j)) countMost (subst (λ y. y < countMost) (sym (tokens-T j l)) (at-from-zero exit (room (decs (L .σe) (takenEdges el m b))) putting p j l))))
         (when (eqb (m .active) up) _ (λ e. lt-ltb (activeCount T n) countMost (subst (λ y. y < countMost) (sym (active-T (site .task (inl (raises-task (m .active) e))))) (u e)))))
         (when (eqb (m .ready) up) _ (λ e. lt-ltb (readyCount T n) countMost (subst (λ y. y < countMost) (sym (ready-T (site .task (inr (raises-task (m .ready) e))))) (v e))))

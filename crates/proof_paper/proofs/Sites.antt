@@ -12,7 +12,7 @@ use borrow.Author.Tests.{eqb-true, ne-eqb, not-true}
 use Rattle.base_words.specs.Each.{each}
 use Rattle.base_words.specs.Pick.{if_then_else_}
 use Rattle.base_words.specs.Words.{at}
-use Rattle.base_words.specs.Counts.{fields, values, named}
+use Rattle.base_words.specs.Counts.{fields, values, fieldsNamed}
 use Rattle.base_words.proofs.ListLaws.{each-at}
 use Rattle.base_kinds.specs.declared.moves.Move.{Move}
 use Rattle.base_kinds.specs.declared.Kind.{Kind}
@@ -174,7 +174,7 @@ module _ (t s : List ℕ) (v : valid t ≡ true) (n : Name) (f : Found t s n) wh
     abbrev short : messageLength el b ≤ values
     short = length-few t s n (valid-fits t v) f talks
 
-    right : (j : ℕ) → j < messageLength el b → eqb (at (itemAt el b j) formPlace) binding ≡ true → at (itemAt el b j) (leftPlace + operandNumber) < named
+    right : (j : ℕ) → j < messageLength el b → eqb (at (itemAt el b j) formPlace) binding ≡ true → at (itemAt el b j) (leftPlace + operandNumber) < fieldsNamed
     right j l z = bound-field el fits b here j l (eqb-true _ binding z)
 
     pub bound-only-fields : FieldsOnly h (bound el b g h)

@@ -54,7 +54,7 @@ use Rattle.paper.specs.States.{Local, blank, _fields:_, put, inc, Multiset, Con
 use Rattle.paper.specs.Evaluation.{Evals, Matches, Updates, both}
 use Rattle.paper.specs.Processes.{Internal, kill, Label, waits as Waits, Moves}
 use Rattle.paper.specs.Collaborations.{Seen, Runs, Steps, C-Create, C-Internal, C-Receive, C-Deliver}
-use Rattle.proof_paper.specs.Decoders.{span, chain, messageOf, assignmentsOf, modeAt, elementOf, processOf, poolAt, collaborationOf, localOf, isPool, configurationOf, namedOf, valuesOf, seenAs, toldOf}
+use Rattle.proof_paper.specs.Decoders.{span, chain, messageOf, assignmentsOf, modeAt, elementOf, processAt, poolAt, collaborationOf, localOf, isPool, configurationOf, namedOf, valuesOf, seenAs, toldOf}
 use Rattle.proof_paper.proofs.Stores.{put-is}
 use Rattle.proof_paper.proofs.Spans.{stands-from-zero, zero-stands}
 use Rattle.proof_paper.proofs.Fields.{FieldsOnly, fields-start, fields-then, none-only, bindingOf}
@@ -99,7 +99,7 @@ module _ (t s q : List ℕ) (v : valid t ≡ true) (state : Fitting t s q) (n : 
 
   -- WHERE: the pool and the element stand in the collaboration
   runs-there : p₀ < poolCount t → n .element < elementCount t p₀ → Runs (collaborationOf t) (namedOf n) (poolAt t p₀) (elementOf el)
-  unfolding collaborationOf poolAt processOf elementNamed isPool
+  unfolding collaborationOf poolAt processAt elementNamed isPool
   runs-there l r = record {
     place = p₀;
     pool-stands = stands-from-zero (poolAt t) (poolCount t) p₀ l;
@@ -109,7 +109,7 @@ module _ (t s q : List ℕ) (v : valid t ≡ true) (state : Fitting t s q) (n : 
 
   runs-found : {P : Pool} {e : Element} → Runs (collaborationOf t) (namedOf n) P e
       → (p₀ < poolCount t) × (n .element < elementCount t p₀) × (e ≡ elementOf el) × (P .limit ≡ limitOf t p₀)
-  unfolding collaborationOf poolAt processOf elementNamed
+  unfolding collaborationOf poolAt processAt elementNamed
   runs-found {P} {e} r =
       let (l, i) = zero-stands (poolAt t) P (poolCount t) (r .place) (r .pool-stands) in
       let k : at t (poolPlace (r .place)) ≡ n .pool = sym (ap (λ (y : Pool). y .name) i) ∙ r .pool-named in

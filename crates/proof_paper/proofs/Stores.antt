@@ -9,7 +9,7 @@ use lib.ListN.{length, set, length-set}
 use lib.Seq.{getD-set-same, getD-set-other}
 use borrow.Author.Tests.{eqb-true, eqb-false, ltb-true, lt-ltb, le-leb, leb-true}
 use Rattle.base_words.specs.Words.{at}
-use Rattle.base_words.specs.Counts.{edges, tasks, fields, named}
+use Rattle.base_words.specs.Counts.{edges, tasks, fields, fieldsNamed}
 use Rattle.base_words.proofs.AllLaws.{and-left, and-right}
 use Rattle.base_words.proofs.PickLaws.{and-true}
 use Rattle.base_words.proofs.WritesLaws.{writes-in, writes-above}
@@ -22,10 +22,10 @@ use Rattle.meaning.specs.Expressions.{fieldOf}
 use Rattle.meaning.specs.Changes.{cleared}
 use Rattle.proof_steps.proofs.Choices.{by-test, chosen, passed}
 use Rattle.paper.specs.States.{unmarked, put, _edges:_, _fields:_, _active:_, _ready:_}
-use Rattle.proof_paper.specs.Decoders.{guarded, localOf}
+use Rattle.proof_paper.specs.Decoders.{insideOr, localOf}
 
 -- a choice of equal things, and one that is made
-pub same-if : {A : Type 0} (b : Bool) (none x y : A) → (b ≡ true → x ≡ y) → guarded none b x ≡ guarded none b y
+pub same-if : {A : Type 0} (b : Bool) (none x y : A) → (b ≡ true → x ≡ y) → insideOr none b x ≡ insideOr none b y
 same-if b none x y f = by-test b (λ e. chosen b x none e ∙ f e ∙ sym (chosen b y none e)) (λ e. passed b x none e ∙ sym (passed b y none e))
 
 pub inside : (low high n : ℕ) → within low high n ≡ true → (low ≤ n) × (n ≤ high)
@@ -43,7 +43,7 @@ put-is σ τ k v e f = λ i j.
 -- NUMBERS 1 to top, number j at its place
 module _ (place : ℕ → ℕ) (top : ℕ) (h : List ℕ) where
   abbrev seen : List ℕ → ℕ → ℕ
-  seen g j = guarded 0 (within 1 top j) (at g (place j))
+  seen g j = insideOr 0 (within 1 top j) (at g (place j))
 
   seen-same : (k v : ℕ) → ((j : ℕ) → 1 ≤ j → j ≤ top → place j ≡ k → ⊥) → seen (set h k v) ≡ seen h
   seen-same k v ne = λ i j. same-if (within 1 top j) 0 (at (set h k v) (place j)) (at h (place j)) (λ w. let b = inside 1 top j w in getD-set-other h k (place j) v 0 (ne j (b .0) (b .1))) i
@@ -57,11 +57,11 @@ module _ (place : ℕ → ℕ) (top : ℕ) (h : List ℕ) where
 -- FIELDS
 module _ (h : List ℕ) where
   abbrev known : List ℕ → ℕ → Value
-  known g d = guarded Undefined (ltb d named) (fieldOf g d)
+  known g d = insideOr Undefined (ltb d fieldsNamed) (fieldOf g d)
 
   known-same : (g : List ℕ) → ((k : ℕ) → definedPlace 0 ≤ k → at g k ≡ at h k) → known g ≡ known h
   unfolding fieldOf
-  known-same g e = λ i d. same-if (ltb d named) Undefined (fieldOf g d) (fieldOf h d) (λ w.
+  known-same g e = λ i d. same-if (ltb d fieldsNamed) Undefined (fieldOf g d) (fieldOf h d) (λ w.
       let a : at g (definedPlace d) ≡ at h (definedPlace d) = e (definedPlace d) (omega arith) in
       let b : at g (valuePlace d) ≡ at h (valuePlace d) = e (valuePlace d) (omega arith) in
       rw (a, b)) i
@@ -93,7 +93,7 @@ module _ (h : List ℕ) (long : length h ≡ copyWords) where
   }
 
   -- A FIELD
-  module _ (d v : ℕ) (few : d < named) where
+  module _ (d v : ℕ) (few : d < fieldsNamed) where
     abbrev marked : List ℕ
     marked = set h (definedPlace d) 1
 
@@ -104,7 +104,7 @@ module _ (h : List ℕ) (long : length h ≡ copyWords) where
         let b : at (withField h d v) (valuePlace d) ≡ v = getD-set-same marked (valuePlace d) v 0 (omega (arith, length-set h (definedPlace d) 1)) in
         passed (eqb (at (withField h d v) (definedPlace d)) 0) Undefined _ (ap (λ y. eqb y 0) a) ∙ ap Number b
 
-    field-other : (j : ℕ) → j < named → (j ≡ d → ⊥) → fieldOf (withField h d v) j ≡ fieldOf h j
+    field-other : (j : ℕ) → j < fieldsNamed → (j ≡ d → ⊥) → fieldOf (withField h d v) j ≡ fieldOf h j
     unfolding fieldOf
     field-other j l ne =
         let a : at (withField h d v) (definedPlace j) ≡ at h (definedPlace j) = getD-set-other marked (valuePlace d) (definedPlace j) v 0 (λ q. omega arith) ∙ getD-set-other h (definedPlace d) (definedPlace j) 1 0 (λ q. ne (omega arith)) in
@@ -116,14 +116,14 @@ module _ (h : List ℕ) (long : length h ≡ copyWords) where
       σe = (seen-same tokenPlace edges marked (valuePlace d) v (λ j a b q. omega arith) ∙ seen-same tokenPlace edges h (definedPlace d) 1 (λ j a b q. omega arith)) i;
       σd =
           put-is (localOf h .σd) (localOf (withField h d v) .σd) d (Number v)
-          (chosen (ltb d named) _ Undefined (lt-ltb d named few) ∙ field-there)
-          (λ j ne. same-if (ltb j named) Undefined _ _ (λ w. field-other j (ltb-true j named w) ne)) i;
+          (chosen (ltb d fieldsNamed) _ Undefined (lt-ltb d fieldsNamed few) ∙ field-there)
+          (λ j ne. same-if (ltb j fieldsNamed) Undefined _ _ (λ w. field-other j (ltb-true j fieldsNamed w) ne)) i;
       active = (seen-same activePlace tasks marked (valuePlace d) v (λ j a b q. omega arith) ∙ seen-same activePlace tasks h (definedPlace d) 1 (λ j a b q. omega arith)) i;
       ready = (seen-same readyPlace tasks marked (valuePlace d) v (λ j a b q. omega arith) ∙ seen-same readyPlace tasks h (definedPlace d) 1 (λ j a b q. omega arith)) i;
     }
 
   -- ALL COUNTS CLEARED
-  zeroed : (place : ℕ → ℕ) (top : ℕ) → ((j : ℕ) → 1 ≤ j → j ≤ top → place j < definedPlace 0) → (j : ℕ) → guarded 0 (within 1 top j) (at (cleared h) (place j)) ≡ 0
+  zeroed : (place : ℕ → ℕ) (top : ℕ) → ((j : ℕ) → 1 ≤ j → j ≤ top → place j < definedPlace 0) → (j : ℕ) → insideOr 0 (within 1 top j) (at (cleared h) (place j)) ≡ 0
   unfolding cleared
   zeroed place top low j =
       by-test (within 1 top j)

@@ -9,7 +9,7 @@ use lib.ListN.{drop}
 use lib.Seq.{getD-drop}
 use borrow.Author.Tests.{eqb-true, eqb-false, ne-eqb, ltb-true, lt-ltb}
 use Rattle.base_words.specs.Words.{at}
-use Rattle.base_words.specs.Counts.{named}
+use Rattle.base_words.specs.Counts.{fieldsNamed}
 use Rattle.base_words.proofs.AllLaws.{and-left, and-right}
 use Rattle.base_table.specs.Places.{operandWords, aField, operandNumber, formPlace, leftPlace, rightPlace, single, plus, minus, always, equals, below}
 use Rattle.base_table.specs.Places as Places
@@ -58,10 +58,10 @@ module _ (h : List ℕ) where
       (λ e. ap (operand σ) (chosen (eqb (at x p) 0) (number (at x (p + operandNumber))) _ e) ∙ sym (chosen (eqb (at x p) 0) _ _ e))
       (λ e.
       let r = passed-true (eqb (at (drop p x) 0) 0) true _ fits (ap (λ y. eqb y 0) a ∙ e) in
-      let l : at (drop p x) operandNumber < named = ltb-true (at (drop p x) operandNumber) named (and-right (eqb (at (drop p x) 0) aField) (ltb (at (drop p x) operandNumber) named) r) in
+      let l : at (drop p x) operandNumber < fieldsNamed = ltb-true (at (drop p x) operandNumber) fieldsNamed (and-right (eqb (at (drop p x) 0) aField) (ltb (at (drop p x) operandNumber) fieldsNamed) r) in
       let d : at (drop p x) operandNumber ≡ at x (p + operandNumber) = getD-drop p x operandNumber 0 in
       ap (operand σ) (passed (eqb (at x p) 0) (number (at x (p + operandNumber))) _ e)
-      ∙ chosen (ltb (at x (p + operandNumber)) named) _ Undefined (lt-ltb (at x (p + operandNumber)) named (omega (arith, l, d)))
+      ∙ chosen (ltb (at x (p + operandNumber)) fieldsNamed) _ Undefined (lt-ltb (at x (p + operandNumber)) fieldsNamed (omega (arith, l, d)))
       ∙ sym (passed (eqb (at x p) 0) _ _ e))
 
   -- AN EXPRESSION

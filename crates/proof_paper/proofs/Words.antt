@@ -10,7 +10,7 @@ use lib.Seq.{getD-drop, drop-drop}
 use borrow.Author.Tests.{eqb-true, eqb-false, eq-eqb, ne-eqb, leb-true}
 use Rattle.base_words.specs.All.{all}
 use Rattle.base_words.specs.Words.{at}
-use Rattle.base_words.specs.Counts.{branches, tasks, names, named, values, assignments}
+use Rattle.base_words.specs.Counts.{branches, tasks, names, fieldsNamed, values, assignments}
 use Rattle.base_words.proofs.AllLaws.{and-left, and-right, all-at}
 use Rattle.base_kinds.specs.declared.Kind.{Kind}
 use Rattle.base_kinds.specs.Kinds.{none, one, many, kindOf, used}
@@ -111,7 +111,7 @@ module _ (el : List ℕ) (fits : elementFits el ≡ true) where
       let h = parts .assignments in
       let e : assignmentPlace 0 + assignmentWords * j ≡ assignmentPlace j = omega arith in
       let r : assignmentFits (assignmentAt el j) ≡ true = subst (λ k. assignmentFits (drop k el) ≡ true) e (things-from el (assignmentPlace 0) assignmentWords assignments (assignmentCount el) assignmentFits h j l) in
-      and-right (ltb (at (assignmentAt el j) 0) named) (expressionFits (drop assignedIn (assignmentAt el j))) r
+      and-right (ltb (at (assignmentAt el j) 0) fieldsNamed) (expressionFits (drop assignedIn (assignmentAt el j))) r
 
   -- A CONDITION
   pub condition-fits : (b : ℕ) → b < used (kind .conditions) (at el exitsPlace) → conditionFits (kind .conditions) (conditionAt el b) ≡ true

@@ -7,7 +7,7 @@ use lib.Dec.{eqb, ltb}
 use lib.ListN.{length, getD, drop}
 use Rattle.base_words.specs.Pick.{if_then_else_}
 use Rattle.base_words.specs.Words.{at}
-use Rattle.base_words.specs.Counts.{edges, tasks, fields, names, named}
+use Rattle.base_words.specs.Counts.{edges, tasks, fields, names, fieldsNamed}
 use Rattle.base_table.specs.Places.{operandNumber, formPlace, leftPlace, rightPlace, plus, minus, binding, always, equals, below, assignedIn, poolPlace, limitPlace}
 use Rattle.base_table.specs.Table.{poolCount, elementCount, elementAt, poolOf, limitOf, kindIn, taskIn, modeIn, entryCount, exitCount, entryAt, exitAt, conditionAt, messageName, messageLength, itemAt, assignmentCount, assignmentAt}
 use Rattle.base_state.specs.Places.{sharedPlace}
@@ -111,26 +111,26 @@ unfoldable pub elementOf : List ℕ → Element
 elementOf el = getD (ofEachKind el) (kindIn el) (end 0)
 
 -- A TABLE t: its pools
-unfoldable pub processOf : List ℕ → ℕ → List Element
-processOf t p = span (λ e. elementOf (elementAt t p e)) 0 (elementCount t p)
+unfoldable pub processAt : List ℕ → ℕ → List Element
+processAt t p = span (λ e. elementOf (elementAt t p e)) 0 (elementCount t p)
 
 unfoldable pub poolAt : List ℕ → ℕ → Pool
-poolAt t p = record { mark = if eqb (at t (limitPlace p)) 0 then Mark.pool else Mark.miPool; name = at t (poolPlace p); process = processOf t p; limit = limitOf t p }
+poolAt t p = record { mark = if eqb (at t (limitPlace p)) 0 then Mark.pool else Mark.miPool; name = at t (poolPlace p); process = processAt t p; limit = limitOf t p }
 
 unfoldable pub collaborationOf : List ℕ → List Pool
 collaborationOf t = span (poolAt t) 0 (poolCount t)
 
 -- AN INSTANCE, h its words, or those that a step sees, with the stores behind its fields: what stands at a number of the right range, and nothing at
 -- another
-abbrev pub guarded : {A : Type 0} → A → Bool → A → A
-guarded none inside x = if inside then x else none
+abbrev pub insideOr : {A : Type 0} → A → Bool → A → A
+insideOr none inside x = if inside then x else none
 
 abbrev pub localOf : List ℕ → Local
 localOf h = record {
-  σe = λ e. guarded 0 (within 1 edges e) (tokens h e);
-  σd = λ d. guarded Undefined (ltb d named) (fieldOf h d);
-  active = λ n. guarded 0 (within 1 tasks n) (activeCount h n);
-  ready = λ n. guarded 0 (within 1 tasks n) (readyCount h n);
+  σe = λ e. insideOr 0 (within 1 edges e) (tokens h e);
+  σd = λ d. insideOr Undefined (ltb d fieldsNamed) (fieldOf h d);
+  active = λ n. insideOr 0 (within 1 tasks n) (activeCount h n);
+  ready = λ n. insideOr 0 (within 1 tasks n) (readyCount h n);
 }
 
 -- A STATE of table t, s its instances and q its queues: a pool by its number, an instance that is made, a message name 0 to 15
@@ -155,10 +155,10 @@ storeOf s d = if eqb (at s (sharedPlace + 2 * d)) 0 then Undefined else Number (
 
 abbrev pub configurationOf : List ℕ → List ℕ → List ℕ → Configuration
 configurationOf t s q = record {
-  σi = λ p i. guarded blank (isPool t p && ltb i (madeCount s (poolOf t p))) (ownOf (localOf (instanceOf s (poolOf t p) i)));
-  made = λ p. guarded 0 (isPool t p) (madeCount s (poolOf t p));
-  σm = λ m. guarded nothing (ltb m names) (queueOf q m);
-  σds = λ d. guarded Undefined (ltb d fields) (storeOf s d);
+  σi = λ p i. insideOr blank (isPool t p && ltb i (madeCount s (poolOf t p))) (ownOf (localOf (instanceOf s (poolOf t p) i)));
+  made = λ p. insideOr 0 (isPool t p) (madeCount s (poolOf t p));
+  σm = λ m. insideOr nothing (ltb m names) (queueOf q m);
+  σds = λ d. insideOr Undefined (ltb d fields) (storeOf s d);
 }
 
 -- THE NAME of a step

@@ -6,7 +6,8 @@ use native.Mathlib.Omega.{arith}
 use Rattle.base_words.specs.Pick.{if_then_else_}
 use Rattle.base_words.specs.Text.{bytes}
 use Rattle.base_words.specs.Words.{at}
-use Rattle.text_lexer.specs.Lexer.{among, between, isBlank, isWord, isLetter, isDigit, isSign, past, tokenOf, tokenHere, tokenAt}
+use Rattle.text_lexer.specs.Lexer.{isBlank, isWord, isSign, tokenOf, tokenHere, tokenAt}
+use Rattle.base_bytes.specs.Bytes.{among, between, isLetter, isDigit, past}
 use Rattle.proof_places.specs.Places.{Agree}
 
 -- one that goes on; not one with another number

@@ -7,7 +7,7 @@ use Prim.Native.Nat.{ℕ, _-_}
 use lib.Dec.{eqb, leb}
 use lib.ListN.{set}
 use Rattle.base_words.specs.Pick.{if_then_else_}
-use Rattle.base_words.specs.Counts.{named}
+use Rattle.base_words.specs.Counts.{fieldsNamed}
 use Rattle.base_table.specs.Places.{modePlace}
 use Rattle.text_lexer.specs.declared.Form.{Form}
 use Rattle.text_lexer.specs.declared.Form.the-variants.{Word, Sign, Assign, End, Other}
@@ -19,7 +19,7 @@ use Rattle.text_numerals.specs.declared.Operand.the-variants.{Number as OfNumbe
 use Rattle.text_numerals.specs.Numerals.{numberOf, fieldOf, operandOf}
 use Rattle.text_readers.specs.declared.Read.{Read}
 use Rattle.text_readers.specs.declared.Read.the-variants.{At, Refused}
-use Rattle.text_readers.specs.Reading.{Parsed, Reader, misplaced, excessive, passed, refused, ifAt, onward, _then_, placeOf, behind, letters, signAt, assignAt, endAt, sign, assign, keepNumber, number, field, keepOperand, operand, modeNamed, keepMode, mode}
+use Rattle.text_readers.specs.Reading.{Parsed, Reader, misplaced, excessive, passedTo, refusedAt, ifAt, onward, _then_, placeOf, behind, letters, signAt, assignAt, endAt, sign, assign, keepNumber, number, field, keepOperand, operand, modeNamed, keepMode, mode}
 use Rattle.text_read.specs.Notation.{Got}
 
 -- reading ends here; the token here is refused, with 3 or else with 2; it is passed; its form and its letters say how to go on
@@ -178,9 +178,9 @@ word-reads Other rf rg = rg
 
 -- ONE TOKEN, at p and with q behind it: it is passed or refused, wherever it stands
 data One (F : ℕ → ℕ → Parsed) : Type 0 where
-  on : (y : List ℕ) → ((p q : ℕ) → F p q ≡ passed q y) → One F
-  off : (y : List ℕ) → ((p q : ℕ) → F p q ≡ refused misplaced p y) → One F
-  out : (y : List ℕ) → ((p q : ℕ) → F p q ≡ refused excessive p y) → One F
+  on : (y : List ℕ) → ((p q : ℕ) → F p q ≡ passedTo q y) → One F
+  off : (y : List ℕ) → ((p q : ℕ) → F p q ≡ refusedAt misplaced p y) → One F
+  out : (y : List ℕ) → ((p q : ℕ) → F p q ≡ refusedAt excessive p y) → One F
 
 one-course : {F : ℕ → ℕ → Parsed} → One F → Course (List ℕ)
 one-course (on y e) = pass (stop y)
@@ -239,7 +239,7 @@ assign-one Other x = off x (λ p q. refl)
 number-one : (v : Number) (least most place : ℕ) (x : List ℕ) → One (λ p q. keepNumber v least most place p q x)
 unfolding keepNumber
 number-one (Value v) least most place x =
-    if-one (leb least v && leb v most) {F = λ p q. passed q (set x place v)} {G = λ p q. refused excessive p x} (on (set x place v) (λ p q. refl)) (out x (λ p q. refl))
+    if-one (leb least v && leb v most) {F = λ p q. passedTo q (set x place v)} {G = λ p q. refusedAt excessive p x} (on (set x place v) (λ p q. refl)) (out x (λ p q. refl))
 number-one TooLarge least most place x = out x (λ p q. refl)
 number-one NotANumber least most place x = off x (λ p q. refl)
 
@@ -252,9 +252,9 @@ operand-one NotAnOperand place x = off x (λ p q. refl)
 
 mode-one : (m : ℕ) (x : List ℕ) → One (λ p q. keepMode m p q x)
 unfolding keepMode
-mode-one m x = if-one (eqb m 0) {F = λ p q. refused misplaced p x} {G = λ p q. passed q (set x modePlace m)} (off x (λ p q. refl)) (on (set x modePlace m) (λ p q. refl))
+mode-one m x = if-one (eqb m 0) {F = λ p q. refusedAt misplaced p x} {G = λ p q. passedTo q (set x modePlace m)} (off x (λ p q. refl)) (on (set x modePlace m) (λ p q. refl))
 
-no-word : (x : List ℕ) → One (λ p q. refused misplaced p x)
+no-word : (x : List ℕ) → One (λ p q. refusedAt misplaced p x)
 no-word x = off x (λ p q. refl)
 
 pub sign-reads : (s : ℕ) → Reads (sign s)
@@ -270,36 +270,36 @@ assign-reads = one-token assign (λ m w x p q. record { end = ifAssign m (At q) 
 pub number-reads : (least most place : ℕ) → Reads (number least most place)
 unfolding number
 number-reads least most place =
-    one-token (number least most place) (λ m w x p q. ifWord m (keepNumber (numberOf w) least most place p q x) (refused misplaced p x)) (λ t at x. refl)
+    one-token (number least most place) (λ m w x p q. ifWord m (keepNumber (numberOf w) least most place p q x) (refusedAt misplaced p x)) (λ t at x. refl)
     (λ m w x. word-one m (number-one (numberOf w) least most place x) (no-word x))
 
 pub field-reads : (place : ℕ) → Reads (field place)
 unfolding field
 field-reads place =
-    one-token (field place) (λ m w x p q. ifWord m (keepNumber (fieldOf w) 0 (named - 1) place p q x) (refused misplaced p x)) (λ t at x. refl)
-    (λ m w x. word-one m (number-one (fieldOf w) 0 (named - 1) place x) (no-word x))
+    one-token (field place) (λ m w x p q. ifWord m (keepNumber (fieldOf w) 0 (fieldsNamed - 1) place p q x) (refusedAt misplaced p x)) (λ t at x. refl)
+    (λ m w x. word-one m (number-one (fieldOf w) 0 (fieldsNamed - 1) place x) (no-word x))
 
 pub operand-reads : (place : ℕ) → Reads (operand place)
 unfolding operand
 operand-reads place =
-    one-token (operand place) (λ m w x p q. ifWord m (keepOperand (operandOf w) place p q x) (refused misplaced p x)) (λ t at x. refl)
+    one-token (operand place) (λ m w x p q. ifWord m (keepOperand (operandOf w) place p q x) (refusedAt misplaced p x)) (λ t at x. refl)
     (λ m w x. word-one m (operand-one (operandOf w) place x) (no-word x))
 
 pub mode-reads : Reads mode
 unfolding mode
 mode-reads =
-    one-token mode (λ m w x p q. ifWord m (keepMode (modeNamed w) p q x) (refused misplaced p x)) (λ t at x. refl)
+    one-token mode (λ m w x p q. ifWord m (keepMode (modeNamed w) p q x) (refusedAt misplaced p x)) (λ t at x. refl)
     (λ m w x. word-one m (mode-one (modeNamed w) x) (no-word x))
 
 -- a refusal at the token; the token passed, whatever it is; nothing read
-pub refused-reads : (change : List ℕ → List ℕ) → Reads (λ t at x. refused misplaced (placeOf t at) (change x))
+pub refused-reads : (change : List ℕ → List ℕ) → Reads (λ t at x. refusedAt misplaced (placeOf t at) (change x))
 refused-reads change = record { from = λ x. refusing (change x) }
 
-pub still-reads : (change : List ℕ → List ℕ) → Reads (λ t at x. passed at (change x))
+pub still-reads : (change : List ℕ → List ℕ) → Reads (λ t at x. passedTo at (change x))
 still-reads change = record { from = λ x. stopped (change x) }
 
 abbrev pub skip : (List ℕ → List ℕ) → Reader
-skip change t at x = passed (behind t at) (change x)
+skip change t at x = passedTo (behind t at) (change x)
 
 pub skip-reads : (change : List ℕ → List ℕ) → Reads (skip change)
 unfolding follow

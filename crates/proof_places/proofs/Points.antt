@@ -2,8 +2,10 @@
 use mathlib.Core.Path.{_≡_, refl}
 use Rattle.base_words.specs.Pick.{if_then_else_}
 use Rattle.base_words.specs.Text.{bytes}
-use Rattle.text_lexer.specs.Lexer.{among, between, isBlank, isWord, isLetter, isDigit, isSign, past, tokenOf, tokenHere, tokenAt, ifWord, ifSign}
-use Rattle.text_numerals.specs.Numerals.{valueFrom, leadingZero, numberOf, sameBytes}
+use Rattle.text_lexer.specs.Lexer.{isBlank, isWord, isSign, tokenOf, tokenHere, tokenAt, ifWord, ifSign}
+use Rattle.base_bytes.specs.Bytes.{among, between, isLetter, isDigit, past}
+use Rattle.text_numerals.specs.Numerals.{valueFrom, leadingZero, numberOf}
+use Rattle.base_bytes.specs.Bytes.{sameBytes}
 use Rattle.text_readers.specs.declared.Read.the-variants.{Refused}
 use Rattle.text_readers.specs.Reading.{ifAt, onward, _then_, signAt, keepNumber, number}
 use Rattle.text_read.specs.Notation.{barred, poolWord, opening, insidePool, poolOfWord, pool, poolsAt, model}

@@ -11,8 +11,9 @@ use Rattle.base_words.specs.Counts.{edges}
 use Rattle.base_kinds.specs.Kinds.{kindOf}
 use Rattle.base_table.specs.Places.{formPlace, leftPlace, always, default, entriesPlace, exitsPlace}
 use Rattle.text_lexer.specs.Lexer.{ifWord, ifSign}
-use Rattle.text_numerals.specs.Numerals.{numberOf, fieldOf, sameBytes}
-use Rattle.text_readers.specs.Reading.{Reader, misplaced, refused, ifAt, onward, _then_, nothing, placeOf, signAt, sign, operand, isSpelled, startsNumber, startsField, startsSign}
+use Rattle.text_numerals.specs.Numerals.{numberOf, fieldOf}
+use Rattle.base_bytes.specs.Bytes.{sameBytes}
+use Rattle.text_readers.specs.Reading.{Reader, misplaced, refusedAt, ifAt, onward, _then_, nothing, placeOf, signAt, sign, operand, isSpelled, startsNumber, startsField, startsSign}
 use Rattle.text_terms.specs.Terms.{store, joint, expression, bind, templateItem, comparison, condition, assignment, guarded}
 use Rattle.text_parts.specs.declared.Series.{Series}
 use Rattle.text_parts.specs.Parts.{anEdge, aTemplateItem, aMessageItem, anAssignment, edgeList, guardedList, assignmentList, tuple, itemOf, starts, tooMany, counted, itemsFrom, items, inside, series, message, receiving, receivingBranches, oneEdge, taskPart, partOf}
@@ -61,7 +62,7 @@ condition-reads defaults place =
     (if sameBytes w (bytes "true") then skip (λ x. set x (place + formPlace) always) t at x
     else if defaults && sameBytes w (bytes "default") then skip (λ x. set x (place + formPlace) default) t at x
     else (operand (place + leftPlace) then comparison place) t at x)
-    (refused misplaced (placeOf t at) x))
+    (refusedAt misplaced (placeOf t at) x))
     (λ m w.
     word-reads m
     (if-each (sameBytes w (bytes "true")) (skip-reads (λ x. set x (place + formPlace) always))
@@ -200,8 +201,8 @@ element-reads =
     token-reads
     (λ m w t at x.
     ifWord m
-    (if eqb (kindNamed w) 0 then refused misplaced (placeOf t at) (blank 0 x) else (skip (blank (kindNamed w)) then partsOf (kindNamed w)) t at x)
-    (refused misplaced (placeOf t at) (blank 0 x)))
+    (if eqb (kindNamed w) 0 then refusedAt misplaced (placeOf t at) (blank 0 x) else (skip (blank (kindNamed w)) then partsOf (kindNamed w)) t at x)
+    (refusedAt misplaced (placeOf t at) (blank 0 x)))
     (λ m w.
     word-reads m
     (if-each (eqb (kindNamed w) 0) (refused-reads (blank 0)) (skip-reads (blank (kindNamed w)) next parts-reads (kindNamed w)))

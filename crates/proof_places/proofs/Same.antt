@@ -10,7 +10,7 @@ use Rattle.base_words.specs.Words.{part}
 use Rattle.text_lexer.specs.declared.Token.{Token}
 use Rattle.text_lexer.specs.declared.Form.the-variants.{End}
 use Rattle.text_lexer.specs.Lexer.{tokenAt}
-use Rattle.text_lexer.proofs.PieceLaws.{by-order}
+use Rattle.base_bytes.proofs.PieceLaws.{by-order}
 use Rattle.text_lexer.proofs.TokenLaws.{token-place, token-from, token-order, token-some, token-end, at-none}
 use Rattle.text_lexer.proofs.LocalLaws.{same-less, token-again, token-local, token-same}
 use Rattle.text_readers.specs.Reading.{placeOf, behind, letters}

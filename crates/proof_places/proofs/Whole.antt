@@ -13,7 +13,7 @@ use Rattle.check_model.specs.Checks.{Pool}
 use Rattle.text_lexer.specs.Lexer.{tokenAt, ifWord}
 use Rattle.text_readers.specs.declared.Read.{Read}
 use Rattle.text_readers.specs.declared.Read.the-variants.{At, Refused}
-use Rattle.text_readers.specs.Reading.{Reader, misplaced, excessive, passed, ifAt, onward, _then_, placeOf, behind, letters, signAt, endAt}
+use Rattle.text_readers.specs.Reading.{Reader, misplaced, excessive, passedTo, ifAt, onward, _then_, placeOf, behind, letters, signAt, endAt}
 use Rattle.text_read.specs.Notation.{Got, oneTooMany, putBefore, barred, elementAlone, elementsAt, plain, poolWord, opening, closing, noPool, unread, closed, insidePool, poolOfWord, pool, startsPool, poolsAt, model}
 use Rattle.proof_places.proofs.Course.{Course, stop, refuse, pass, look, follow, Follows, Reads, got, by, stopped, refusing, after, if-end, turned, _next_, sign-or, by-token, if-follows, word-follows, if-reads, sign-reads, number-reads, skip, skip-reads, end-follows, Told, told, many-follows}
 use Rattle.proof_places.proofs.Readers.{element-reads, element-told}
@@ -51,7 +51,7 @@ inside-follows k x =
     ((skip-reads (λ x. x) next opening-reads) .from x)
     (λ y.
     after {f = elementsAt} {g = λ els t c. closed (closing k t c y) els} (λ els. noPool) elements-follow
-    (λ els. turned (λ z. closed (passed 0 z) els .value) (closing-reads k .from y)))
+    (λ els. turned (λ z. closed (passedTo 0 z) els .value) (closing-reads k .from y)))
 
 pool-follows : Follows pool
 unfolding pool poolOfWord _then_ onward ifAt

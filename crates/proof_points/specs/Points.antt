@@ -15,7 +15,7 @@ use Rattle.meaning.specs.declared.Tuple.{Tuple}
 use Rattle.meaning.specs.declared.Name.{Name}
 use Rattle.meaning.specs.Tuples.{empty, sameTuple}
 use Rattle.meaning.specs.Queues.{withMessages}
-use Rattle.text_numerals.specs.Numerals.{sameBytes}
+use Rattle.base_bytes.specs.Bytes.{sameBytes}
 use Rattle.text_read.specs.Notation.{readInto, elementAlone, model, tableOf, rewritten}
 use Rattle.step_list.specs.Listing.{listed, chosen}
 use Rattle.step_run.specs.Run.{Run, ran}

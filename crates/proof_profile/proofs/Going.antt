@@ -26,7 +26,7 @@ use Rattle.base_table.specs.Table.{poolCount, elementCount, elementAt, kindIn, 
 use Rattle.base_state.specs.Places.{tokenPlace, activePlace, readyPlace, definedPlace, instanceWords, instancePlace}
 use Rattle.base_state.specs.Instances.{instancesOf, madeCount, instanceAt, tokens, activeCount, readyCount}
 use Rattle.check_nesting.specs.Nesting.{Nested}
-use Rattle.meaning.specs.Requirements.{touched, first, branchCount, hasToken, hasTokens, canLower, waits, isAlone, countsPermit}
+use Rattle.meaning.specs.Requirements.{touched, firstTouched, branchCount, hasToken, hasTokens, canLower, waits, isAlone, countsPermit}
 use Rattle.meaning.specs.Step.{instanceOf, sharedOf}
 use Rattle.state_figures.specs.Figures.{isFinished}
 use Rattle.proof_steps.proofs.Choices.{by-test, by-choice, chosen, passed, chosen-true, passed-true}
@@ -121,7 +121,7 @@ module _ (t : List ℕ) (v : valid t ≡ true) (p : ℕ) (there : p < poolCount 
         let q : touched (m .takes) (entryCount el) ≡ 0 =
         passed (eqb (m .takes) every) (entryCount el) (if eqb (m .takes) branch then 1 else 0) (ne-eqb (m .takes) every (λ y. omega (arith, y, e)))
         ∙ passed (eqb (m .takes) branch) 1 0 (ne-eqb (m .takes) branch (λ y. omega (arith, y, e))) in
-        all-of (hasToken el seen (first (m .takes) b)) (touched (m .takes) (entryCount el)) (λ j l. absurd (omega (arith, q, l)))
+        all-of (hasToken el seen (firstTouched (m .takes) b)) (touched (m .takes) (entryCount el)) (λ j l. absurd (omega (arith, q, l)))
 
     no-wait : (el : List ℕ) (m : Move) → m .alone ≡ 0 → isAlone el seen m ≡ true
     unfolding isAlone
@@ -214,16 +214,16 @@ module _ (t : List ℕ) (v : valid t ≡ true) (p : ℕ) (there : p < poolCount 
 
         -- an xorJoin, by the entry that has a token
         by-one : kindIn (P e) ≡ xorJoin → (b : ℕ) → b < entryCount (P e) → has e b ≡ true → Able
-        unfolding branchCount hasTokens hasToken first touched
+        unfolding branchCount hasTokens hasToken firstTouched touched
         by-one is b r q =
             let k : m .takes ≡ branch = o .takes ∙ chosen (eqb (kindIn (P e)) xorJoin) branch every (eq-eqb _ xorJoin is) in
             let y = eq-eqb (m .takes) branch k in
             let ne = ne-eqb (m .takes) every (λ d. omega (arith, d, k)) in
             with-branch b (subst (λ n. b < n) (sym (chosen (eqb (m .takes) branch) (entryCount (P e)) (if eqb (m .puts) branch then exitCount (P e) else 1) y)) r)
-            (all-of (hasToken (P e) seen (first (m .takes) b)) (touched (m .takes) (entryCount (P e)))
+            (all-of (hasToken (P e) seen (firstTouched (m .takes) b)) (touched (m .takes) (entryCount (P e)))
             (λ j u.
             let n : touched (m .takes) (entryCount (P e)) ≡ 1 = passed (eqb (m .takes) every) (entryCount (P e)) _ ne ∙ chosen (eqb (m .takes) branch) 1 0 y in
-            let x : b ≡ first (m .takes) b + j = (let f : first (m .takes) b ≡ b = chosen (eqb (m .takes) branch) b 0 y in omega (arith, n, u, f)) in
+            let x : b ≡ firstTouched (m .takes) b + j = (let f : firstTouched (m .takes) b ≡ b = chosen (eqb (m .takes) branch) b 0 y in omega (arith, n, u, f)) in
             subst (λ n. ltb 0 (tokens seen (entryAt (P e) n)) ≡ true) x (has-seen b r q)))
 
         -- any other, by all of them
@@ -234,15 +234,15 @@ module _ (t : List ℕ) (v : valid t ≡ true) (p : ℕ) (there : p < poolCount 
             (by-choice (λ (n : ℕ). 0 < n) (eqb (m .puts) branch) (exitCount (P e)) 1 (λ d. some-exits t v p there e l (o .puts (eqb-true _ branch d))) (λ d. omega arith))
 
         by-all : (kindIn (P e) ≡ xorJoin → ⊥) → ((j : ℕ) → j < entryCount (P e) → has e j ≡ true) → Able
-        unfolding hasTokens hasToken first touched
+        unfolding hasTokens hasToken firstTouched touched
         by-all is q =
             let k : m .takes ≡ every = o .takes ∙ passed (eqb (kindIn (P e)) xorJoin) branch every (ne-eqb _ xorJoin is) in
             let ne : m .takes ≡ branch → ⊥ = (λ d. omega (arith, d, k)) in
             with-branch 0 (some-branch ne)
-            (all-of (hasToken (P e) seen (first (m .takes) 0)) (touched (m .takes) (entryCount (P e)))
+            (all-of (hasToken (P e) seen (firstTouched (m .takes) 0)) (touched (m .takes) (entryCount (P e)))
             (λ j u.
             let n : touched (m .takes) (entryCount (P e)) ≡ entryCount (P e) = chosen (eqb (m .takes) every) (entryCount (P e)) _ (eq-eqb _ every k) in
-            let x : j ≡ first (m .takes) 0 + j = (let f : first (m .takes) 0 ≡ 0 = passed (eqb (m .takes) branch) 0 0 (ne-eqb _ branch ne) in omega (arith, f)) in
+            let x : j ≡ firstTouched (m .takes) 0 + j = (let f : firstTouched (m .takes) 0 ≡ 0 = passed (eqb (m .takes) branch) 0 0 (ne-eqb _ branch ne) in omega (arith, f)) in
             subst (λ n. ltb 0 (tokens seen (entryAt (P e) n)) ≡ true) x (has-seen j (omega (arith, n, u)) (q j (omega (arith, n, u))))))
 
       by-able : (e : ℕ) → e < c → able e ≡ true → Able

@@ -22,7 +22,7 @@ use Rattle.engine.specs.Engine.{lentNumber, stepped, postedTo}
 use Rattle.engine.specs.Calls.{Act, aStep, aPost, did, polledTo}
 use Rattle.engine.specs.Profile.{nestedOf}
 use Rattle.engine.proofs.CallLaws.{by-lent}
-use Rattle.proof_demands.specs.Demands.{among, postNumbers, Made, byAct}
+use Rattle.proof_demands.specs.Demands.{isOneOf, postNumbers, Made, byAct}
 use Rattle.proof_demands.proofs.Numbers.{post-numbers}
 use Rattle.proof_demands.proofs.NeverBad.{made-valid}
 use Rattle.proof_demands.proofs.PollSteps.{by-first}
@@ -59,8 +59,8 @@ module _ (t : List ℕ) (yes : nestedOf t .number ≡ 0) where
       (λ l. let q = step-number t z (made-valid t (zero-nested t yes .0) z m) n in let r = no-pool (instancesOf z) (queuesOf z) n l in omega (arith, e, q, r))
 
   post-18 : (z : List ℕ) (name : ℕ) (g : Tuple) → postedTo t z name g .number ≡ 18 → ⊥
-  unfolding among if_then_else_
-  post-18 z name g e = false≢true (ap (among postNumbers) (sym e) ∙ post-numbers t z name g)
+  unfolding isOneOf if_then_else_
+  post-18 z name g e = false≢true (ap (isOneOf postNumbers) (sym e) ∙ post-numbers t z name g)
 
   act-18 : (z : List ℕ) → Made t z → (a : Act) → did t a z .number ≡ 18 → ⊥
   unfolding did

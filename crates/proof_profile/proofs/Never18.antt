@@ -19,7 +19,7 @@ use Rattle.base_state.specs.Places.{tokenPlace, activePlace, readyPlace, define
 use Rattle.base_state.specs.Instances.{instancesOf, queuesOf, tokens, activeCount}
 use Rattle.check_limits.specs.Limits.{elementFits}
 use Rattle.meaning.specs.declared.Name.{Name}
-use Rattle.meaning.specs.Requirements.{touched, first, hasRoom, hasRooms, canRaise, roomy}
+use Rattle.meaning.specs.Requirements.{touched, firstTouched, edgeHasRoom, hasRooms, canRaise, roomy}
 use Rattle.meaning.specs.Changes.{takeOne, taken}
 use Rattle.meaning.specs.Refusals.{Refusal, _unless_, firstRefusal}
 use Rattle.meaning.specs.Step.{Site, siteOf, poolNamed, elementNamed, moveNamed, work, afterTaking, exists, refusalsAt, refusals}
@@ -67,7 +67,7 @@ module _ (t : List ℕ) (v : valid t ≡ true) (p : ℕ) (there : p < poolCount 
       taken-small k l =
           omega (
             arith,
-            lowered-less (λ j. 0) (λ j. tokenPlace (entryAt (x .element) (first (x .move .takes) (x .branch) + j))) (work x .instance) (touched (x .move .takes) (entryCount (x .element))) k,
+            lowered-less (λ j. 0) (λ j. tokenPlace (entryAt (x .element) (firstTouched (x .move .takes) (x .branch) + j))) (work x .instance) (touched (x .move .takes) (entryCount (x .element))) k,
             work-apart k l x,
             small-seen t v p there nest s steady n f is k l,
           )
@@ -86,12 +86,12 @@ module _ (t : List ℕ) (v : valid t ≡ true) (p : ℕ) (there : p < poolCount 
       raised cell count l = by-choice (λ (b : Bool). b ≡ true) (eqb cell up) (ltb count countMost) true (λ e. lt-ltb count countMost (omega (arith, l))) (λ e. refl)
 
       rooms : hasRooms el (afterTaking x) m (n .branch) ≡ true
-      unfolding hasRooms hasRoom
+      unfolding hasRooms edgeHasRoom
       rooms =
-          all-of (hasRoom el (afterTaking x) (first (m .puts) (n .branch))) (touched (m .puts) (exitCount el))
+          all-of (edgeHasRoom el (afterTaking x) (firstTouched (m .puts) (n .branch))) (touched (m .puts) (exitCount el))
           (λ j l.
-          let e : ℕ = exitAt el (first (m .puts) (n .branch) + j) in
-          let w = exit-within el fits (first (m .puts) (n .branch) + j) (touched-within (m .puts) (n .branch) (exitCount el) j (branch-exit t s n (valid-fits t v) f) l) in
+          let e : ℕ = exitAt el (firstTouched (m .puts) (n .branch) + j) in
+          let w = exit-within el fits (firstTouched (m .puts) (n .branch) + j) (touched-within (m .puts) (n .branch) (exitCount el) j (branch-exit t s n (valid-fits t v) f) l) in
           lt-ltb (tokens (afterTaking x) e) countMost (let a = taken-small (tokenPlace e) (omega (arith, w .0, w .1)) in omega (arith, a)))
 
       pub has-room : roomy (x .element) (afterTaking x) (x .move) (x .branch) ≡ true

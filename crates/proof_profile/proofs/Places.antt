@@ -19,7 +19,7 @@ use Rattle.base_kinds.specs.Kinds.{kindOf}
 use Rattle.base_kinds.specs.Moves.{a}
 use Rattle.base_table.specs.Table.{elementCount, elementAt, kindIn, taskIn, modeIn, entryCount, exitCount, entryAt, exitAt}
 use Rattle.base_state.specs.Places.{tokenPlace, activePlace, readyPlace, definedPlace}
-use Rattle.state_fits.specs.Fits.{countPlaces, placesOf, marked, usable}
+use Rattle.state_fits.specs.Fits.{countPlaces, placesOf, allMarked, usable}
 use Rattle.state_fits.proofs.FreshLaws.{blank-at}
 use Rattle.proof_steps.proofs.Choices.{by-test}
 use Rattle.proof_listing.proofs.Counting.{sum-some, hit-same, same-hit}
@@ -74,8 +74,8 @@ module _ (el : List ℕ) (k : ℕ) where
       (λ e. let x = eqb-false (total (hit k) ins) 0 e in let s = listed (λ j. tokenPlace (entryAt el j)) (entryCount el) (omega (arith, x)) in entry (s .0) (s .1) (s .2))
 
 -- A PLACE that is marked was marked before, or is among those
-marked-from : (w ks : List ℕ) (k : ℕ) → at (marked w ks) k ≡ 1 → (at w k ≡ 1) ⊎ (0 < total (hit k) ks)
-unfolding marked total
+marked-from : (w ks : List ℕ) (k : ℕ) → at (allMarked w ks) k ≡ 1 → (at w k ≡ 1) ⊎ (0 < total (hit k) ks)
+unfolding allMarked total
 marked-from w [] k h = inl h
 marked-from w (x ∷ xs) k h =
     by-test (eqb k x)
@@ -84,7 +84,7 @@ marked-from w (x ∷ xs) k h =
 
 module _ (t : List ℕ) (p k : ℕ) where
   abbrev marks : ℕ → List ℕ
-  marks n = iter (λ e w. marked w (placesOf (elementAt t p e))) (replicate (definedPlace 0) 0) n
+  marks n = iter (λ e w. allMarked w (placesOf (elementAt t p e))) (replicate (definedPlace 0) 0) n
 
   marks-from : (n : ℕ) → at (marks n) k ≡ 1 → (e : ℕ) × (e < n) × Uses (elementAt t p e) k
   unfolding iter

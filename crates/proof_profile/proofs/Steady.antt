@@ -23,7 +23,7 @@ use Rattle.meaning.specs.declared.Name.{Name}
 use Rattle.meaning.specs.Refusals.{firstRefusal}
 use Rattle.meaning.specs.Step.{siteOf, poolNamed, moveNamed, instanceOf, sharedOf, before, refusals}
 use Rattle.state_fits.specs.Fits.{hasStart, startPlace}
-use Rattle.state_fits.specs.Fresh.{firstEdge, fresh}
+use Rattle.state_fits.specs.Fresh.{startEdge, fresh}
 use Rattle.state_fits.proofs.FreshLaws.{Startable, Holds, firstPlace, Pools, pools-begun, pools-blank}
 use Rattle.state_fits.proofs.FreshFits.{startable, fresh-word}
 use Rattle.state_fits.proofs.UsableLaws.{start-in, start-kind}
@@ -216,7 +216,7 @@ module _ (t : List ℕ) (v : valid t ≡ true) (p : ℕ) (there : p < poolCount 
     Begun i = (k : ℕ) × (k < c) × (kindIn (P k) ≡ start) × ((w d : ℕ → ℕ) → weight w d (instanceOf s₀ p i) ≡ w (entryAt (P k) 0))
 
     begun : (i : ℕ) → i < madeCount s₀ p → Begun i
-    unfolding instanceOf firstEdge
+    unfolding instanceOf startEdge
     begun i l =
         by-test (hasStart t p)
         (λ has.
@@ -226,7 +226,7 @@ module _ (t : List ℕ) (v : valid t ≡ true) (p : ℕ) (there : p < poolCount 
         let b = ask .first p there has in
         let word : (k : ℕ) → k < definedPlace 0 → at (instanceOf s₀ p 0) k ≡ hit k (firstPlace t p) =
         (λ k r. getD-tab (λ k. at s₀ (instancePlace p 0 + k)) instanceWords k 0 (omega arith) ∙ fresh-at (instancePlace p 0 + k) (omega (arith, few)) ∙ g .1 k (omega arith)) in
-        (startPlace t p, start-in t p has, start-kind t p has, λ w d. subst (λ j. weight w d (instanceOf s₀ p j) ≡ w (firstEdge t p)) o (token-weight w d (instanceOf s₀ p 0) (firstEdge t p) (b .0) (b .1) word)))
+        (startPlace t p, start-in t p has, start-kind t p has, λ w d. subst (λ j. weight w d (instanceOf s₀ p j) ≡ w (startEdge t p)) o (token-weight w d (instanceOf s₀ p 0) (startEdge t p) (b .0) (b .1) word)))
         (λ has.
         let g : Holds (Pools t ask (poolCount t)) p 0 (λ k. 0) = pools-blank t ask (poolCount t) p (omega arith) few (λ y. has) in
         let m : madeCount s₀ p ≡ 0 = fresh-at (madePlace p) (omega (arith, few)) ∙ g .0 in

@@ -28,7 +28,7 @@ use Rattle.proof_listing.proofs.PoolFound.{pool-found}
 use Rattle.engine.specs.Engine.{valid, stepped}
 use Rattle.engine.specs.Calls.{did, Valid}
 use Rattle.proof_valid.proofs.ChecksHold.{valid-fits, valid-sound}
-use Rattle.proof_demands.specs.Demands.{among, Made}
+use Rattle.proof_demands.specs.Demands.{isOneOf, Made}
 use Rattle.proof_demands.proofs.NeverBad.{made-valid}
 use Rattle.proof_demands.proofs.StatesLeft.{step-number}
 use Rattle.proof_nesting.proofs.Flows.{moveIn}
@@ -41,13 +41,13 @@ use Rattle.proof_profile.proofs.Going.{Able, some-able}
 -- refusals that hold, or whose number is among those
 abbrev Fine : List ℕ → List Refusal → Type 0
 Fine ks [] = Unit
-Fine ks (r ∷ rs) = ((r .holds ≡ true) ⊎ (among ks (r .number) ≡ true)) × Fine ks rs
+Fine ks (r ∷ rs) = ((r .holds ≡ true) ⊎ (isOneOf ks (r .number) ≡ true)) × Fine ks rs
 
-first-fine : (ks : List ℕ) (rs : List Refusal) → among ks 0 ≡ true → Fine ks rs → among ks (firstRefusal rs) ≡ true
+first-fine : (ks : List ℕ) (rs : List Refusal) → isOneOf ks 0 ≡ true → Fine ks rs → isOneOf ks (firstRefusal rs) ≡ true
 unfolding firstRefusal
 first-fine ks [] o f = o
 first-fine ks (r ∷ rs) o f =
-    by-choice (λ (k : ℕ). among ks k ≡ true) (r .holds) (firstRefusal rs) (r .number) (λ e. first-fine ks rs o (f .1))
+    by-choice (λ (k : ℕ). isOneOf ks k ≡ true) (r .holds) (firstRefusal rs) (r .number) (λ e. first-fine ks rs o (f .1))
     (λ e. ⊎-elim (λ h. absurd (false≢true (sym e ∙ h))) (λ h. h) (f .0))
 
 five : (a b c d e : Bool) → a ≡ true → b ≡ true → c ≡ true → d ≡ true → e ≡ true → a && b && c && d && e ≡ true
@@ -97,15 +97,15 @@ module _ (t : List ℕ) (v : valid t ≡ true) (p : ℕ) (there : p < poolCount 
       unfolding belowLimit siteOf
       limited = passed (eqb (moveNamed t n .also) making) (ltb (siteOf t s n .made) (siteOf t s n .limit)) true old
 
-      rest : among otherwise (firstRefusal (refusals t s (queuesOf z) n)) ≡ true
-      unfolding refusals refusalsAt among if_then_else_
+      rest : isOneOf otherwise (firstRefusal (refusals t s (queuesOf z) n)) ≡ true
+      unfolding refusals refusalsAt isOneOf if_then_else_
       rest =
           first-fine otherwise (refusals t s (queuesOf z) n) refl
           (inl is-there, (inl permits, (inr refl, (inr refl, (inr refl, (inr refl, (inr refl, (inr refl, (inl limited, (inr refl, (inl (has-room t v p there nest z right steady n (sym is) (found t s n is-there)), record {})))))))))))
 
-      goes : among otherwise (stepped t z n .answer .number) ≡ true
+      goes : isOneOf otherwise (stepped t z n .answer .number) ≡ true
       unfolding did
-      goes = ap (among otherwise) (step-number t z right n) ∙ rest
+      goes = ap (isOneOf otherwise) (step-number t z right n) ∙ rest
 
     steady-safe : Safe t z p
     unfolding did

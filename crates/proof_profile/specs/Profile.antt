@@ -13,7 +13,7 @@ use Rattle.meaning.specs.declared.Name.{Name}
 use Rattle.meaning.specs.declared.Tuple.{Tuple}
 use Rattle.meaning.specs.Step.{poolNamed}
 use Rattle.step_poll.specs.Items.{actsIn}
-use Rattle.proof_demands.specs.Demands.{among}
+use Rattle.proof_demands.specs.Demands.{isOneOf}
 use Rattle.engine.specs.Engine.{stepped}
 use Rattle.engine.specs.Calls.{Act, aStep, polledTo}
 
@@ -30,7 +30,7 @@ pub record GoesOn (t z : List ℕ) (p i : ℕ) : Type 0 where
   pub element : ℕ
   pub phase : ℕ
   pub branch : ℕ
-  pub number : (g : Tuple) → among otherwise (stepped t z (nameOf t p i element phase branch g) .answer .number) ≡ true
+  pub number : (g : Tuple) → isOneOf otherwise (stepped t z (nameOf t p i element phase branch g) .answer .number) ≡ true
 
 pub record Safe (t z : List ℕ) (p : ℕ) : Type 0 where
   -- "no edge holds more than one token in an instance, each task's two counts together are at most 1" (RULES: calls)

@@ -10,12 +10,12 @@ use lib.ListN.{length, take, length-take}
 use lib.Seq.{take-take, take-append-le, length-take-le}
 use borrow.Author.Tests.{le-ltb}
 use Rattle.base_words.specs.Pick.{if_then_else_}
-use Rattle.text_lexer.proofs.PieceLaws.{by-order}
-use Rattle.xml_skip.specs.declared.Skipped.{Skipped}
-use Rattle.xml_skip.specs.declared.Skipped.the-variants.{Past, Fault}
+use Rattle.base_bytes.proofs.PieceLaws.{by-order}
+use Rattle.xml_skip.specs.declared.Reached.{Reached}
+use Rattle.xml_skip.specs.declared.Reached.the-variants.{Past, Fault}
 use Rattle.log_text.specs.Logs.{logMost, scan, linesFrom, linesOf}
 use Rattle.log_text.proofs.LineLaws.{events-are-lines, too-long}
-use Rattle.log_repair.specs.Repair.{closed, isLost, Repair, refused, given, repairedBy, repairedTo}
+use Rattle.log_repair.specs.Repair.{closed, isLost, Repair, refused, repairGiven, repairedBy, repairedTo}
 use Rattle.proof_local.proofs.Around.{isPast}
 use Rattle.proof_local.proofs.Passed.{Ended, ended-by, has-trace, opened-in}
 use Rattle.proof_local.proofs.BrokenOff.{Ends, beginning-ends}
@@ -31,11 +31,11 @@ log-short a l = by-order (length a) logMost (λ h. h) (λ h. absurd (false≢tru
 abbrev pub Repairs : Repair → Type 0
 Repairs r = (r .number ≡ 0) ⊎ (r .number ≡ 5)
 
-given-repairs : (w : List ℕ) (events dropped : ℕ) (out : List ℕ) → Repairs (given w events dropped out)
+given-repairs : (w : List ℕ) (events dropped : ℕ) (out : List ℕ) → Repairs (repairGiven w events dropped out)
 unfolding refused
 given-repairs w events dropped out = go (gave-or w events dropped out)
   where
-    go : Gave w events dropped out (given w events dropped out) ⊎ (given w events dropped out ≡ refused 5 out) → Repairs (given w events dropped out)
+    go : Gave w events dropped out (repairGiven w events dropped out) ⊎ (repairGiven w events dropped out ≡ refused 5 out) → Repairs (repairGiven w events dropped out)
     go (inl g) = inl (ap (λ (r : Repair). r .number) (g .is))
     go (inr e) = inr (ap (λ (r : Repair). r .number) e)
 
@@ -58,7 +58,7 @@ module _ (a : List ℕ) (l : IsLog a) (n : ℕ) (inside : n ≤ length a) where
     unfolding isLost if_then_else_
     found-there = rw (le-ltb n (length t) (omega (arith, t-long))) opened-there
 
-    by-end : (s : Skipped) → Ends n s → Repairs (repairedBy s t (scan t .last) out)
+    by-end : (s : Reached) → Ends n s → Repairs (repairedBy s t (scan t .last) out)
     unfolding repairedBy if_then_else_
     by-end s (inl e) = rw e (given-repairs t (scan t .last .events) 0 out)
     by-end s (inr e) = rw (e, found-there) (given-repairs (closed t (scan t .last)) (scan t .last .events) (length t - scan t .last .kept) out)

@@ -10,13 +10,13 @@ use lib.Seq.{take-append-seam, drop-append-seam, length-take-le}
 use Rattle.base_words.specs.Text.{bytes}
 use Rattle.xml_markup.specs.Markup.{markup}
 use Rattle.xml_markup.specs.Spans.{nameAt, bytesOf}
-use Rattle.xml_skip.specs.declared.Skipped.the-variants.{Past}
+use Rattle.xml_skip.specs.declared.Reached.the-variants.{Past}
 use Rattle.xml_skip.specs.declared.Tag.{Tag}
 use Rattle.xml_skip.specs.declared.Tag.the-variants.{Open, Empty, Fault as TagFault}
 use Rattle.xml_skip.specs.Skipping.{tagOf}
 use Rattle.log_text.specs.declared.Cursor.{Cursor}
 use Rattle.log_text.specs.Logs.{logMost, scan, linesOf}
-use Rattle.log_repair.specs.Repair.{endTag, traceEnd, closing, closed}
+use Rattle.log_repair.specs.Repair.{endTag, traceEnd, closingTags, closed}
 use Rattle.proof_local.proofs.Marks.{Marked}
 use Rattle.proof_local.proofs.Passed.{Ended, ended-by}
 use Rattle.proof_local.proofs.Closing.{endTagAnd}
@@ -41,25 +41,25 @@ module _ (t : List ℕ) (e : Ended t) where
   kept-long : length (take (c .kept) t) ≡ d .at
   kept-long = length-take-le (c .kept) t (omega (arith, e .marks .place, mark-within t e)) ∙ sym (e .marks .place)
 
-  u-is : u ≡ take (d .at) t ++ closing t c
+  u-is : u ≡ take (d .at) t ++ closingTags t c
   unfolding closed
-  u-is = ap (λ (n : ℕ). take n t ++ closing t c) (sym (e .marks .place))
+  u-is = ap (λ (n : ℕ). take n t ++ closingTags t c) (sym (e .marks .place))
 
   d-long : length (take (d .at) t) ≡ d .at
   d-long = length-take-le (d .at) t (mark-within t e)
 
   pub mark-in : d .at ≤ length u
-  mark-in = omega (arith, ap length u-is, length-append (take (d .at) t) (closing t c), d-long)
+  mark-in = omega (arith, ap length u-is, length-append (take (d .at) t) (closingTags t c), d-long)
 
   pub mark-alike : take (d .at) u ≡ take (d .at) t
-  mark-alike = ap (take (d .at)) u-is ∙ ap (λ (n : ℕ). take n (take (d .at) t ++ closing t c)) (sym d-long) ∙ take-append-seam (take (d .at) t) (closing t c)
+  mark-alike = ap (take (d .at)) u-is ∙ ap (λ (n : ℕ). take n (take (d .at) t ++ closingTags t c)) (sym d-long) ∙ take-append-seam (take (d .at) t) (closingTags t c)
 
   ends : drop (d .at) u ≡ endTags (tagOf (markup t (d .trace)) (d .trace)) t (d .trace) (d .log)
-  unfolding closing
+  unfolding closingTags
   ends =
       ap (drop (d .at)) u-is
-      ∙ ap (λ (n : ℕ). drop n (take (d .at) t ++ closing t c)) (sym d-long)
-      ∙ drop-append-seam (take (d .at) t) (closing t c)
+      ∙ ap (λ (n : ℕ). drop n (take (d .at) t ++ closingTags t c)) (sym d-long)
+      ∙ drop-append-seam (take (d .at) t) (closingTags t c)
       ∙ tags-are (tagOf (markup t (c .trace)) (c .trace)) t (c .trace) (c .log)
       ∙ ap (λ (p : ℕ). endTags (tagOf (markup t p) p) t p (c .log)) (sym (e .marks .trace-is))
       ∙ ap (endTags (tagOf (markup t (d .trace)) (d .trace)) t (d .trace)) (sym (e .marks .log-is))

@@ -9,11 +9,11 @@ use borrow.Author.Tests.{eqb-false}
 use lib.ListN.{length, take}
 use Rattle.base_words.specs.Pick.{if_then_else_}
 use Rattle.state_fits.specs.Fresh.{fresh}
-use Rattle.xml_skip.specs.declared.Skipped.{Skipped}
-use Rattle.xml_skip.specs.declared.Skipped.the-variants.{Past, Fault}
+use Rattle.xml_skip.specs.declared.Reached.{Reached}
+use Rattle.xml_skip.specs.declared.Reached.the-variants.{Past, Fault}
 use Rattle.log_text.specs.Logs.{scan, linesOf}
 use Rattle.log_judge.specs.declared.Judged.{Judged}
-use Rattle.log_judge.specs.Judge.{Taking, taken, answered, lawful, judgedBy, judgedEnd, judgedFrom}
+use Rattle.log_judge.specs.Judge.{Taking, lineTaken, judgment, lawful, judgedBy, judgedEnd, judgedFrom}
 use Rattle.log_repair.specs.Repair.{repairedTo}
 use Rattle.engine.specs.Engine.{askedNumber, stepped, postedTo}
 use Rattle.engine.specs.Calls.{judgedTo}
@@ -33,7 +33,7 @@ unfolding judgedBy if_then_else_
 lines-never take [] k z e = omega (arith, e)
 lines-never take (w ∷ ws) k z e = go (eqb (take w z .number) 0) (take w z .right) e (lines-never take ws (k + 1) (take w z .state))
   where
-    go : (a b : Bool) → (if a then if b then judgedBy take ws (k + 1) (take w z .state) else answered 24 k 0 else answered 24 k (take w z .number)) .number ≡ 23 → (judgedBy take ws (k + 1) (take w z .state) .number ≡ 23 → ⊥) → ⊥
+    go : (a b : Bool) → (if a then if b then judgedBy take ws (k + 1) (take w z .state) else judgment 24 k 0 else judgment 24 k (take w z .number)) .number ≡ 23 → (judgedBy take ws (k + 1) (take w z .state) .number ≡ 23 → ⊥) → ⊥
     go true true q r = r q
     go true false q r = omega (arith, q)
     go false b q r = omega (arith, q)
@@ -43,8 +43,8 @@ module _ (m : List ℕ) (v : ℕ) where
   unfolding judgedTo judgedFrom judgedEnd if_then_else_
   log-never u l e = go (eqb (askedNumber m v) 0) (scan u .end) (l .1) e
     where
-      go : (b : Bool) (s : Skipped) → s ≡ Past (l .0) → (if b then judgedEnd s (judgedBy (taken (stepped m) (postedTo m)) (linesOf u) 0 (fresh m v)) else answered (askedNumber m v) 0 0) .number ≡ 23 → ⊥
-      go true (Past q) f k = lines-never (taken (stepped m) (postedTo m)) (linesOf u) 0 (fresh m v) k
+      go : (b : Bool) (s : Reached) → s ≡ Past (l .0) → (if b then judgedEnd s (judgedBy (lineTaken (stepped m) (postedTo m)) (linesOf u) 0 (fresh m v)) else judgment (askedNumber m v) 0 0) .number ≡ 23 → ⊥
+      go true (Past q) f k = lines-never (lineTaken (stepped m) (postedTo m)) (linesOf u) 0 (fresh m v) k
       go true (Fault q) f k = not-past q (l .0) f
       go false s f k = by-asked (λ n. n ≡ 23 → ⊥) m v (λ h. omega (arith, h)) (λ h. omega (arith, h)) (λ h. omega (arith, h)) k
 
@@ -57,8 +57,8 @@ module _ (m : List ℕ) (v : ℕ) where
     unfolding judgedTo judgedFrom judgedEnd if_then_else_
     a-log = go (eqb (askedNumber m v) 0) refl (scan a .end) refl (ap (λ (j : Judged). j .number) e)
       where
-        go : (b : Bool) → eqb (askedNumber m v) 0 ≡ b → (s : Skipped) → scan a .end ≡ s
-            → (if b then judgedEnd s (judgedBy (taken (stepped m) (postedTo m)) (linesOf a) 0 (fresh m v)) else answered (askedNumber m v) 0 0) .number ≡ 0 → IsLog a
+        go : (b : Bool) → eqb (askedNumber m v) 0 ≡ b → (s : Reached) → scan a .end ≡ s
+            → (if b then judgedEnd s (judgedBy (lineTaken (stepped m) (postedTo m)) (linesOf a) 0 (fresh m v)) else judgment (askedNumber m v) 0 0) .number ≡ 0 → IsLog a
         go true r (Past q) f k = (q, f)
         go true r (Fault q) f k = absurd (omega (arith, k))
         go false r s f k = absurd (eqb-false (askedNumber m v) 0 r k)

@@ -8,13 +8,13 @@ use lib.Dec.{eqb, ltb}
 use lib.ListN.{length, take, drop}
 use lib.Seq.{take-all}
 use Rattle.base_words.specs.Pick.{if_then_else_}
-use Rattle.xml_skip.specs.declared.Skipped.{Skipped}
-use Rattle.xml_skip.specs.declared.Skipped.the-variants.{Past, Fault}
+use Rattle.xml_skip.specs.declared.Reached.{Reached}
+use Rattle.xml_skip.specs.declared.Reached.the-variants.{Past, Fault}
 use Rattle.log_text.specs.declared.Cursor.{Cursor}
 use Rattle.log_text.specs.declared.Scanned.{Scanned}
 use Rattle.log_text.specs.Logs.{logMost, scan, linesFrom, linesOf}
 use Rattle.log_text.proofs.LineLaws.{events-are-lines}
-use Rattle.log_repair.specs.Repair.{closed, isLost, Repair, refused, given, repairedBy, repairedTo}
+use Rattle.log_repair.specs.Repair.{closed, isLost, Repair, refused, repairGiven, repairedBy, repairedTo}
 use Rattle.proof_local.proofs.Passed.{Ended, ended-by, has-trace}
 use Rattle.proof_repair.proofs.Given.{output, Gave, gave, accepted-gave}
 use Rattle.proof_repair.proofs.Closings.{closed-log, closed-events, closed-lines}
@@ -60,8 +60,8 @@ module _ (t out : List ℕ) where
       go true k = absurd (false≢true (sym (unfold if_then_else_ in k)))
       go false k = ended-by t (unfold if_then_else_ in k)
 
-  closed-right : Ended t → given (closed t (scan t .last)) (scan t .last .events) (length t - scan t .last .kept) out .number ≡ 0
-      → Right t out (given (closed t (scan t .last)) (scan t .last .events) (length t - scan t .last .kept) out)
+  closed-right : Ended t → repairGiven (closed t (scan t .last)) (scan t .last .events) (length t - scan t .last .kept) out .number ≡ 0
+      → Right t out (repairGiven (closed t (scan t .last)) (scan t .last .events) (length t - scan t .last .kept) out)
   closed-right e z =
       let g = accepted-gave (closed t (scan t .last)) (scan t .last .events) (length t - scan t .last .kept) out z in
       gave-right (closed t (scan t .last)) (scan t .last .events) (length t - scan t .last .kept) _ g
@@ -69,23 +69,23 @@ module _ (t out : List ℕ) where
       (closed-events t e (g .short))
       (closed-lines t e (g .short) ∙ all-lines (scan t .last .events) refl)
 
-  by-end : (s : Skipped) → scan t .end ≡ s → repairedBy s t (scan t .last) out .number ≡ 0 → Right t out (repairedBy s t (scan t .last) out)
+  by-end : (s : Reached) → scan t .end ≡ s → repairedBy s t (scan t .last) out .number ≡ 0 → Right t out (repairedBy s t (scan t .last) out)
   unfolding repairedBy refused if_then_else_
   by-end (Past q) e z = gave-right t (scan t .last .events) 0 _ (accepted-gave t (scan t .last .events) 0 out z) (q, e) refl (all-lines (scan t .last .events) refl)
   by-end (Fault q) e z = go (isLost q t (scan t .last)) refl z
     where
-      go : (b : Bool) → isLost q t (scan t .last) ≡ b → (if b then refused 27 out else given (closed t (scan t .last)) (scan t .last .events) (length t - scan t .last .kept) out) .number ≡ 0
-          → Right t out (if b then refused 27 out else given (closed t (scan t .last)) (scan t .last .events) (length t - scan t .last .kept) out)
+      go : (b : Bool) → isLost q t (scan t .last) ≡ b → (if b then refused 27 out else repairGiven (closed t (scan t .last)) (scan t .last .events) (length t - scan t .last .kept) out) .number ≡ 0
+          → Right t out (if b then refused 27 out else repairGiven (closed t (scan t .last)) (scan t .last .events) (length t - scan t .last .kept) out)
       go true k z = absurd (omega (arith, z))
       go false k z = closed-right (not-lost q k) z
 
   -- the trace was opened
-  ended-at : (s : Skipped) → scan t .end ≡ s → repairedBy s t (scan t .last) out .number ≡ 0 → Ended t
+  ended-at : (s : Reached) → scan t .end ≡ s → repairedBy s t (scan t .last) out .number ≡ 0 → Ended t
   unfolding repairedBy refused if_then_else_
   ended-at (Past q) e z = ended-by t (has-trace t q e)
   ended-at (Fault q) e z = go (isLost q t (scan t .last)) refl z
     where
-      go : (b : Bool) → isLost q t (scan t .last) ≡ b → (if b then refused 27 out else given (closed t (scan t .last)) (scan t .last .events) (length t - scan t .last .kept) out) .number ≡ 0 → Ended t
+      go : (b : Bool) → isLost q t (scan t .last) ≡ b → (if b then refused 27 out else repairGiven (closed t (scan t .last)) (scan t .last .events) (length t - scan t .last .kept) out) .number ≡ 0 → Ended t
       go true k z = absurd (omega (arith, z))
       go false k z = not-lost q k
 

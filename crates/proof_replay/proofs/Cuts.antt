@@ -13,15 +13,15 @@ use Rattle.base_words.specs.Pick.{if_then_else_}
 use Rattle.base_words.specs.Words.{at, greatest}
 use Rattle.base_state.specs.Versions.{isVersion}
 use Rattle.state_fits.specs.Fresh.{fresh}
-use Rattle.text_lexer.proofs.PieceLaws.{by-order}
-use Rattle.xml_skip.specs.declared.Skipped.{Skipped}
-use Rattle.xml_skip.specs.declared.Skipped.the-variants.{Past, Fault}
+use Rattle.base_bytes.proofs.PieceLaws.{by-order}
+use Rattle.xml_skip.specs.declared.Reached.{Reached}
+use Rattle.xml_skip.specs.declared.Reached.the-variants.{Past, Fault}
 use Rattle.log_text.specs.declared.Cursor.{Cursor}
 use Rattle.log_text.specs.Logs.{logMost, scan, linesFrom, linesOf}
 use Rattle.log_text.proofs.LineLaws.{events-are-lines}
 use Rattle.log_write.specs.Xes.{opening, extension, timeExtension, global, classifier, traceOpening, header, eventText, eventsText, written, footer, logText}
 use Rattle.log_judge.specs.Judge.{lawful}
-use Rattle.log_repair.specs.Repair.{closed, isLost, Repair, refused, given, repairedBy, repairedTo}
+use Rattle.log_repair.specs.Repair.{closed, isLost, Repair, refused, repairGiven, repairedBy, repairedTo}
 use Rattle.engine.specs.Engine.{valid}
 use Rattle.engine.specs.Calls.{Act, did, allAccepted, after}
 use Rattle.engine.specs.Replay.{replayedTo}
@@ -36,13 +36,13 @@ use Rattle.proof_repair.proofs.Beginnings.{Repairs, first-lines, beginning-repa
 use Rattle.proof_replay.proofs.OwnState.{first-accepted, first-posted, first-told, entries, told-replayed, printed-log}
 
 -- as many are kept as whole events were read
-kept-by : (s : Skipped) (u : List ℕ) (c : Cursor) (out : List ℕ) → repairedBy s u c out .number ≡ 0 → repairedBy s u c out .kept ≡ c .events
+kept-by : (s : Reached) (u : List ℕ) (c : Cursor) (out : List ℕ) → repairedBy s u c out .number ≡ 0 → repairedBy s u c out .kept ≡ c .events
 unfolding repairedBy refused if_then_else_
 kept-by (Past q) u c out z = ap (λ (r : Repair). r .kept) (accepted-gave u (c .events) 0 out z .is)
 kept-by (Fault q) u c out z = go (isLost q u c) z
   where
-    go : (b : Bool) → (if b then refused 27 out else given (closed u c) (c .events) (length u - c .kept) out) .number ≡ 0
-        → (if b then refused 27 out else given (closed u c) (c .events) (length u - c .kept) out) .kept ≡ c .events
+    go : (b : Bool) → (if b then refused 27 out else repairGiven (closed u c) (c .events) (length u - c .kept) out) .number ≡ 0
+        → (if b then refused 27 out else repairGiven (closed u c) (c .events) (length u - c .kept) out) .kept ≡ c .events
     go true k = absurd (omega (arith, k))
     go false k = ap (λ (r : Repair). r .kept) (accepted-gave (closed u c) (c .events) (length u - c .kept) out k .is)
 

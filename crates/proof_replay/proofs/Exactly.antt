@@ -15,7 +15,7 @@ use Rattle.proof_steps.proofs.Choices.{by-test}
 use Rattle.log_text.specs.Logs.{linesOf}
 use Rattle.log_lines.specs.Entries.{entryOf}
 use Rattle.log_judge.specs.declared.Judged.{Judged}
-use Rattle.log_judge.specs.Judge.{answered, lawful, judgedBy}
+use Rattle.log_judge.specs.Judge.{judgment, lawful, judgedBy}
 use Rattle.engine.specs.Engine.{askedNumber}
 use Rattle.engine.specs.Calls.{did, allAccepted, after, judgedTo}
 use Rattle.engine.specs.Replay.{leftTo, replayedTo}
@@ -38,17 +38,17 @@ module _ (t : List ℕ) where
     unfolding judgedBy if_then_else_
     line-on a b = rw (a, b) (ap (judgedBy (take t) ws (k + 1)) (state-is t w z))
 
-    line-untrue : eqb (take t w z .number) 0 ≡ true → take t w z .right ≡ false → judgedBy (take t) (w ∷ ws) k z ≡ answered 24 k 0
+    line-untrue : eqb (take t w z .number) 0 ≡ true → take t w z .right ≡ false → judgedBy (take t) (w ∷ ws) k z ≡ judgment 24 k 0
     unfolding judgedBy if_then_else_
     line-untrue a b = rw (a, b) refl
 
-    line-refused : eqb (take t w z .number) 0 ≡ false → judgedBy (take t) (w ∷ ws) k z ≡ answered 24 k (take t w z .number)
+    line-refused : eqb (take t w z .number) 0 ≡ false → judgedBy (take t) (w ∷ ws) k z ≡ judgment 24 k (take t w z .number)
     unfolding judgedBy if_then_else_
     line-refused a = rw a refl
 
     -- true and on, or at fault
     pub by-line : (P : Type 0) → (Tells t w z → judgedBy (take t) (w ∷ ws) k z ≡ onward → P)
-        → ((own : ℕ) → AtFault t w z own → judgedBy (take t) (w ∷ ws) k z ≡ answered 24 k own → P) → P
+        → ((own : ℕ) → AtFault t w z own → judgedBy (take t) (w ∷ ws) k z ≡ judgment 24 k own → P) → P
     by-line P on fault =
         by-test (eqb (take t w z .number) 0)
         (λ a.
@@ -106,7 +106,7 @@ module _ (t : List ℕ) where
     fault = f .fault;
   }
 
-  pub first-fault-is : (ws : List (List ℕ)) (k : ℕ) (z : List ℕ) (j own : ℕ) → judgedBy (take t) ws k z ≡ answered 24 j own → (n : ℕ) × (j ≡ k + n) × FirstFault t ws z n own
+  pub first-fault-is : (ws : List (List ℕ)) (k : ℕ) (z : List ℕ) (j own : ℕ) → judgedBy (take t) ws k z ≡ judgment 24 j own → (n : ℕ) × (j ≡ k + n) × FirstFault t ws z n own
   unfolding judgedBy
   first-fault-is [] k z j own h = absurd (omega (arith, ap (λ (d : Judged). d .number) h))
   first-fault-is (w ∷ ws) k z j own h =
@@ -115,7 +115,7 @@ module _ (t : List ℕ) where
       let f = first-fault-is ws (k + 1) (did t (actOf w) z .state) j own (sym e ∙ h) in
       (suc (f .0), omega (arith, f .1), fault-later w ws z (f .0) own tells (f .2)))
       (λ o f e.
-      let same : answered 24 k o ≡ answered 24 j own = sym e ∙ h in
+      let same : judgment 24 k o ≡ judgment 24 j own = sym e ∙ h in
       (0, omega (arith, ap (λ (d : Judged). d .beside) same), fault-here w ws z own (subst (AtFault t w z) (ap (λ (d : Judged). d .own) same) f)))
 
   -- BY THE PUBLIC CALL
@@ -133,7 +133,7 @@ module _ (t : List ℕ) where
     lawful-accepted e = tell-accepted (linesOf a) (fresh t v) (lawful-only e .2)
 
     -- "the event that 24 names is at fault with that number, and those before it are not"
-    pub fault-is : (k own : ℕ) → judgedTo t v a ≡ answered 24 k own → FirstFault t (linesOf a) (fresh t v) k own
+    pub fault-is : (k own : ℕ) → judgedTo t v a ≡ judgment 24 k own → FirstFault t (linesOf a) (fresh t v) k own
     fault-is k own e =
         let l = by-lines t v a 24 k own (λ h. omega (arith, h)) (λ h. omega (arith, h)) (λ h. omega (arith, h)) e in
         let f = first-fault-is (linesOf a) 0 (fresh t v) k own (l .1) in

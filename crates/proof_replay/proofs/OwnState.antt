@@ -18,7 +18,7 @@ use Rattle.step_run.specs.Run.{ran}
 use Rattle.log_text.specs.Logs.{logMost, linesOf}
 use Rattle.log_write.specs.Xes.{logText}
 use Rattle.log_judge.specs.declared.Judged.{Judged}
-use Rattle.log_judge.specs.Judge.{Taking, lawful, leftBy}
+use Rattle.log_judge.specs.Judge.{Taking, lawful, leftByLines}
 use Rattle.engine.specs.Engine.{RanTo, valid, askedNumber, fitting, ended, ranTo}
 use Rattle.engine.specs.Calls.{Act, aStep, aPost, did, allAccepted, after, Valid, judgedTo}
 use Rattle.engine.specs.Replay.{leftTo, replayedTo}
@@ -38,12 +38,12 @@ use Rattle.proof_replay.proofs.LineLaws.{take as line}
 
 module _ (t : List ℕ) where
   -- the lines of accepted calls leave the state after them
-  pub told-left : (acts : List Act) (z : List ℕ) → Valid t z → allAccepted t acts z ≡ true → AllWords t acts z → leftBy (line t) (told t acts z) z ≡ after t acts z
-  unfolding told allAccepted AllWords leftBy after
+  pub told-left : (acts : List Act) (z : List ℕ) → Valid t z → allAccepted t acts z ≡ true → AllWords t acts z → leftByLines (line t) (told t acts z) z ≡ after t acts z
+  unfolding told allAccepted AllWords leftByLines after
   told-left [] z v h words = refl
   told-left (a ∷ rest) z v h words =
       let e : did t a z .number ≡ 0 = eqb-true (did t a z .number) 0 (and-left (eqb (did t a z .number) 0) (allAccepted t rest (did t a z .state)) h) in
-      ap (λ (x : Taking). leftBy (line t) (told t rest (did t a z .state)) (x .state)) (act-again t z v a e (words .0))
+      ap (λ (x : Taking). leftByLines (line t) (told t rest (did t a z .state)) (x .state)) (act-again t z v a e (words .0))
       ∙ told-left rest (did t a z .state) (did-valid t a z v) (and-right (eqb (did t a z .number) 0) (allAccepted t rest (did t a z .state)) h) (words .1)
 
   -- calls one after the other
@@ -93,7 +93,7 @@ module _ (t : List ℕ) where
           let j : replayedTo t v b z .answer ≡ lawful = replay-answer t v b z ∙ e in
           let s : replayedTo t v b z .state ≡ after t acts (fresh t v) =
           replay-left t v b z (ap (λ (d : Judged). d .number) e)
-          ∙ ap (λ (ws : List (List ℕ)). leftBy (line t) ws (fresh t v)) lines
+          ∙ ap (λ (ws : List (List ℕ)). leftByLines (line t) ws (fresh t v)) lines
           ∙ told-left acts (fresh t v) (fresh-valid t v asked) accepted words in
           λ i. record { answer = j i; state = s i }
 

@@ -10,10 +10,10 @@ use borrow.Author.Tests.{eqb-true, eqb-false, ne-eqb}
 use Rattle.base_words.specs.Pick.{if_then_else_}
 use Rattle.state_fits.specs.Fresh.{fresh}
 use Rattle.proof_steps.proofs.Choices.{by-test, by-choice}
-use Rattle.xml_skip.specs.declared.Skipped.the-variants.{Past}
+use Rattle.xml_skip.specs.declared.Reached.the-variants.{Past}
 use Rattle.log_text.specs.Logs.{scan, linesOf}
 use Rattle.log_judge.specs.declared.Judged.{Judged}
-use Rattle.log_judge.specs.Judge.{Taking, answered, lawful, judgedBy, judgedEnd, judgedFrom, leftBy}
+use Rattle.log_judge.specs.Judge.{Taking, judgment, lawful, judgedBy, judgedEnd, judgedFrom, leftByLines}
 use Rattle.engine.specs.Engine.{askedNumber, fitting}
 use Rattle.engine.specs.Calls.{Valid, judgedTo}
 use Rattle.engine.specs.Replay.{Replayed, keptBy, leftTo, replayedTo, resumedTo}
@@ -28,36 +28,36 @@ use Rattle.proof_replay.proofs.LineLaws.{take}
 -- BY ANY WAY to take a line
 module _ (give : List ℕ → List ℕ → Taking) where
   -- lines behind lawful ones, and behind ones with a fault
-  pub judged-both : (xs ys : List (List ℕ)) (k : ℕ) (z : List ℕ) → judgedBy give xs k z ≡ lawful → judgedBy give (xs ++ ys) k z ≡ judgedBy give ys (k + length xs) (leftBy give xs z)
-  unfolding judgedBy leftBy if_then_else_
+  pub judged-both : (xs ys : List (List ℕ)) (k : ℕ) (z : List ℕ) → judgedBy give xs k z ≡ lawful → judgedBy give (xs ++ ys) k z ≡ judgedBy give ys (k + length xs) (leftByLines give xs z)
+  unfolding judgedBy leftByLines if_then_else_
   judged-both [] ys k z h = ap (λ (n : ℕ). judgedBy give ys n z) (let e : k ≡ k + 0 = omega arith in e)
   judged-both (w ∷ xs) ys k z h = go (eqb (give w z .number) 0) (give w z .right) (judged-both xs ys (k + 1) (give w z .state)) h
     where
       go : (a b : Bool)
-          → (judgedBy give xs (k + 1) (give w z .state) ≡ lawful → judgedBy give (xs ++ ys) (k + 1) (give w z .state) ≡ judgedBy give ys (k + 1 + length xs) (leftBy give xs (give w z .state)))
-          → (if a then if b then judgedBy give xs (k + 1) (give w z .state) else answered 24 k 0 else answered 24 k (give w z .number)) ≡ lawful
-          → (if a then if b then judgedBy give (xs ++ ys) (k + 1) (give w z .state) else answered 24 k 0 else answered 24 k (give w z .number)) ≡ judgedBy give ys (k + length (w ∷ xs)) (leftBy give xs (give w z .state))
+          → (judgedBy give xs (k + 1) (give w z .state) ≡ lawful → judgedBy give (xs ++ ys) (k + 1) (give w z .state) ≡ judgedBy give ys (k + 1 + length xs) (leftByLines give xs (give w z .state)))
+          → (if a then if b then judgedBy give xs (k + 1) (give w z .state) else judgment 24 k 0 else judgment 24 k (give w z .number)) ≡ lawful
+          → (if a then if b then judgedBy give (xs ++ ys) (k + 1) (give w z .state) else judgment 24 k 0 else judgment 24 k (give w z .number)) ≡ judgedBy give ys (k + length (w ∷ xs)) (leftByLines give xs (give w z .state))
       go true true on e =
           on e
-          ∙ ap (λ (n : ℕ). judgedBy give ys n (leftBy give xs (give w z .state))) (let p : k + 1 + length xs ≡ k + length (w ∷ xs) = omega arith in p)
+          ∙ ap (λ (n : ℕ). judgedBy give ys n (leftByLines give xs (give w z .state))) (let p : k + 1 + length xs ≡ k + length (w ∷ xs) = omega arith in p)
       go true false on e = absurd (omega (arith, ap (λ (j : Judged). j .number) e))
       go false b on e = absurd (omega (arith, ap (λ (j : Judged). j .number) e))
 
-  pub fault-both : (xs ys : List (List ℕ)) (k : ℕ) (z : List ℕ) (j own : ℕ) → judgedBy give xs k z ≡ answered 24 j own → judgedBy give (xs ++ ys) k z ≡ answered 24 j own
+  pub fault-both : (xs ys : List (List ℕ)) (k : ℕ) (z : List ℕ) (j own : ℕ) → judgedBy give xs k z ≡ judgment 24 j own → judgedBy give (xs ++ ys) k z ≡ judgment 24 j own
   unfolding judgedBy if_then_else_
   fault-both [] ys k z j own h = absurd (omega (arith, ap (λ (d : Judged). d .number) h))
   fault-both (w ∷ xs) ys k z j own h = go (eqb (give w z .number) 0) (give w z .right) (fault-both xs ys (k + 1) (give w z .state) j own) h
     where
       go : (a b : Bool)
-          → (judgedBy give xs (k + 1) (give w z .state) ≡ answered 24 j own → judgedBy give (xs ++ ys) (k + 1) (give w z .state) ≡ answered 24 j own)
-          → (if a then if b then judgedBy give xs (k + 1) (give w z .state) else answered 24 k 0 else answered 24 k (give w z .number)) ≡ answered 24 j own
-          → (if a then if b then judgedBy give (xs ++ ys) (k + 1) (give w z .state) else answered 24 k 0 else answered 24 k (give w z .number)) ≡ answered 24 j own
+          → (judgedBy give xs (k + 1) (give w z .state) ≡ judgment 24 j own → judgedBy give (xs ++ ys) (k + 1) (give w z .state) ≡ judgment 24 j own)
+          → (if a then if b then judgedBy give xs (k + 1) (give w z .state) else judgment 24 k 0 else judgment 24 k (give w z .number)) ≡ judgment 24 j own
+          → (if a then if b then judgedBy give (xs ++ ys) (k + 1) (give w z .state) else judgment 24 k 0 else judgment 24 k (give w z .number)) ≡ judgment 24 j own
       go true true on e = on e
       go true false on e = e
       go false b on e = e
 
-  pub left-both : (xs ys : List (List ℕ)) (z : List ℕ) → leftBy give (xs ++ ys) z ≡ leftBy give ys (leftBy give xs z)
-  unfolding leftBy
+  pub left-both : (xs ys : List (List ℕ)) (z : List ℕ) → leftByLines give (xs ++ ys) z ≡ leftByLines give ys (leftByLines give xs z)
+  unfolding leftByLines
   left-both [] ys z = refl
   left-both (w ∷ xs) ys z = left-both xs ys (give w z .state)
 
@@ -68,8 +68,8 @@ module _ (give : List ℕ → List ℕ → Taking) where
   judged-later (w ∷ ys) n k z = go (eqb (give w z .number) 0) (give w z .right) (judged-later ys n (k + 1) (give w z .state))
     where
       go : (a b : Bool) → judgedBy give ys (n + (k + 1)) (give w z .state) ≡ later n (judgedBy give ys (k + 1) (give w z .state))
-          → (if a then if b then judgedBy give ys (n + k + 1) (give w z .state) else answered 24 (n + k) 0 else answered 24 (n + k) (give w z .number))
-          ≡ later n (if a then if b then judgedBy give ys (k + 1) (give w z .state) else answered 24 k 0 else answered 24 k (give w z .number))
+          → (if a then if b then judgedBy give ys (n + k + 1) (give w z .state) else judgment 24 (n + k) 0 else judgment 24 (n + k) (give w z .number))
+          ≡ later n (if a then if b then judgedBy give ys (k + 1) (give w z .state) else judgment 24 k 0 else judgment 24 k (give w z .number))
       go true true e = ap (λ (m : ℕ). judgedBy give ys m (give w z .state)) (let p : n + k + 1 ≡ n + (k + 1) = omega arith in p) ∙ e
       go true false e = refl
       go false b e = refl
@@ -82,7 +82,7 @@ log-by-lines give a z l = rw (l .1) refl
 -- AN ANSWER COUNTED ON from n events: the same number
 later-number : (n : ℕ) (j : Judged) → later n j .number ≡ j .number
 unfolding later
-later-number n j = by-choice (λ (d : Judged). d .number ≡ j .number) (eqb (j .number) 24) (answered 24 (n + j .beside) (j .own)) j (λ e. sym (eqb-true (j .number) 24 e)) (λ e. refl)
+later-number n j = by-choice (λ (d : Judged). d .number ≡ j .number) (eqb (j .number) 24) (judgment 24 (n + j .beside) (j .own)) j (λ e. sym (eqb-true (j .number) 24 e)) (λ e. refl)
 
 refused-same : (j : Judged) (x y z : List ℕ) → (j .number ≡ 0 → ⊥) → keptBy j x z ≡ keptBy j y z
 unfolding keptBy if_then_else_
@@ -116,7 +116,7 @@ module _ (t a b c : List ℕ) (la : IsLog a) (lb : IsLog b) (lc : IsLog c) (both
 
     left : leftTo t c z ≡ leftTo t b y
     unfolding leftTo
-    left = ap (λ (ws : List (List ℕ)). leftBy (take t) ws z) both ∙ left-both (take t) (linesOf a) (linesOf b) z
+    left = ap (λ (ws : List (List ℕ)). leftByLines (take t) ws z) both ∙ left-both (take t) (linesOf a) (linesOf b) z
 
     -- what is left of both, x being lent
     together : fitting t y ≡ true → (x : List ℕ) → keptBy (judgedBy (take t) (linesOf c) 0 z) (leftTo t c z) x ≡ keptBy (later n (resumedTo t y b .answer)) (resumedTo t y b .state) x
@@ -153,7 +153,7 @@ module _ (t a b c : List ℕ) (la : IsLog a) (lb : IsLog b) (lc : IsLog c) (both
       ∙ ap (λ (q : List ℕ). keptBy (later n (resumedTo t q b .answer)) (resumedTo t q b .state) z) (sym s)
 
   -- a fault in the first is the fault of both
-  pub first-part-at-fault : (v k own : ℕ) → judgedTo t v a ≡ answered 24 k own → judgedTo t v c ≡ answered 24 k own
+  pub first-part-at-fault : (v k own : ℕ) → judgedTo t v a ≡ judgment 24 k own → judgedTo t v c ≡ judgment 24 k own
   first-part-at-fault v k own e =
       let l = by-lines t v a 24 k own (λ h. omega (arith, h)) (λ h. omega (arith, h)) (λ h. omega (arith, h)) e in
       log-judged t v (l .0) c (lc .0) (lc .1)

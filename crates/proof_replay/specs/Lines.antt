@@ -8,7 +8,7 @@ use lib.ListN.{length}
 use Rattle.base_words.specs.Pick.{if_then_else_}
 use Rattle.log_lines.specs.Entries.{entryOf}
 use Rattle.log_judge.specs.declared.Judged.{Judged}
-use Rattle.log_judge.specs.Judge.{answered}
+use Rattle.log_judge.specs.Judge.{judgment}
 use Rattle.engine.specs.Calls.{Act, aStep, aPost, did, after}
 use Rattle.proof_logs.specs.Told.{lineTold}
 
@@ -47,4 +47,4 @@ pub record FirstFault (t : List ℕ) (ws : List (List ℕ)) (z : List ℕ) (k ow
 
 -- an answer where n events are before those that were judged
 unfoldable pub later : ℕ → Judged → Judged
-later n j = if eqb (j .number) 24 then answered 24 (n + j .beside) (j .own) else j
+later n j = if eqb (j .number) 24 then judgment 24 (n + j .beside) (j .own) else j

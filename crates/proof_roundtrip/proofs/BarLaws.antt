@@ -12,13 +12,14 @@ use Rattle.base_words.specs.Each.{joined, tab}
 use Rattle.base_words.specs.Pick.{if_then_else_}
 use Rattle.base_words.proofs.JoinLaws.{joined-ext}
 use Rattle.base_words.proofs.PickLaws.{pick-no}
-use Rattle.text_lexer.specs.Lexer.{isSign, among}
+use Rattle.text_lexer.specs.Lexer.{isSign}
+use Rattle.base_bytes.specs.Bytes.{among}
 use Rattle.text_lexer.proofs.TokenLaws.{left-at}
 use Rattle.text_readers.specs.declared.Read.the-variants.{At, Refused}
 use Rattle.text_readers.specs.Reading.{ifAt, signAt}
 use Rattle.text_read.specs.Notation.{Got, putBefore, barred}
 use Rattle.write_shown.specs.Shown.{lead, separated}
-use Rattle.proof_trips.proofs.SignReads.{sign-hit}
+use Rattle.proof_roundtrip.proofs.SignReads.{sign-hit}
 
 -- a list's first thing, and the others
 pub tab-front : {A : Type 0} (v : ℕ → A) (n : ℕ) → tab v (suc n) ≡ v 0 ∷ tab (λ k. v (suc k)) n

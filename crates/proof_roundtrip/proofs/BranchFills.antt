@@ -15,8 +15,8 @@ use Rattle.base_table.specs.Places.{elementWords, exitsPlace, edgePlace, condit
 use Rattle.check_limits.specs.Limits.{things, edgesFit, conditionFits, messageFits}
 use Rattle.text_readers.specs.Reading.{startsSign}
 use Rattle.text_parts.specs.Parts.{guardedList, guarded, itemOf, starts, series, receiving, receivingBranches}
-use Rattle.proof_trips.proofs.ReadsLaws.{Both}
-use Rattle.proof_trips.proofs.NumberReads.{Span}
+use Rattle.proof_roundtrip.proofs.ReadsLaws.{Both}
+use Rattle.proof_roundtrip.proofs.NumberReads.{Span}
 use Rattle.proof_roundtrip.proofs.FitLaws.{edges-most}
 use Rattle.check_limits.proofs.SameLaws.{things-same, edges-same, condition-same, message-same}
 use Rattle.proof_roundtrip.proofs.FillLaws.{Fills, span-region, either-region, idle-sign, fills-then, fills-before, fills-behind, fills-wider}

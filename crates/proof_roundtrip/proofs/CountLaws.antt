@@ -11,7 +11,7 @@ use lib.ListN.{drop}
 use lib.Seq.{getD-drop}
 use borrow.Author.Tests.{eqb-true, eq-eqb, leb-true}
 use Rattle.base_words.specs.All.{all}
-use Rattle.base_words.specs.Counts.{branches, named, values}
+use Rattle.base_words.specs.Counts.{branches, fieldsNamed, values}
 use Rattle.base_words.specs.Sum.{sum, hit, oneIf}
 use Rattle.base_words.specs.Words.{at}
 use Rattle.base_words.proofs.PickLaws.{pick-yes}
@@ -23,8 +23,8 @@ use Rattle.check_limits.specs.Limits.{messageFits, elementFits}
 use Rattle.check_limits.proofs.SameLaws.{all-ext, used-most}
 use Rattle.text_elements.specs.Elements.{kindCount}
 use Rattle.check_occurrences.specs.Occurrences.{conditionCount, receivedCount, sentCount, ofKind, asExit, asEntry, asFirst, asTask, asReceived, asSent, isDefault, defaults, defaultOnce, bindsField, timesBound, templateOnce, boundOnce}
-use Rattle.proof_trips.proofs.FitsLaws.{things-right, message-length, entries-fit, exits-fit, messages-fit}
-use Rattle.proof_trips.proofs.TripLaws.{or-either}
+use Rattle.proof_roundtrip.proofs.FitsLaws.{things-right, message-length, entries-fit, exits-fit, messages-fit}
+use Rattle.proof_roundtrip.proofs.TripLaws.{or-either}
 use Rattle.proof_roundtrip.proofs.KindLaws.{kind-bounds, of-kind}
 use Rattle.proof_roundtrip.proofs.FitLaws.{fits-kind, fits-parts, edges-most, used-few}
 
@@ -210,7 +210,7 @@ module _ (x el : List ℕ) (same : (i : ℕ) → i < elementWords → at x i ≡
 
   template-same : (j : ℕ) → j < receivedCount el → templateOnce x j ≡ templateOnce el j
   unfolding templateOnce
-  template-same j h = all-ext (λ d. leb (timesBound x j d) 1) (λ d. leb (timesBound el j d) 1) named (λ d u. ap (λ (v : ℕ). leb v 1) (times-same j d h))
+  template-same j h = all-ext (λ d. leb (timesBound x j d) 1) (λ d. leb (timesBound el j d) 1) fieldsNamed (λ d u. ap (λ (v : ℕ). leb v 1) (times-same j d h))
 
   pub bound-same : boundOnce x ≡ boundOnce el
   unfolding boundOnce

@@ -12,7 +12,7 @@ use Rattle.base_kinds.specs.Kinds.{kindOf}
 use Rattle.base_table.specs.Places.{kindPlace, taskPlace, modePlace, entriesPlace, exitsPlace, conditionPlace, messagePlace, assignmentsPlace, elementWords}
 use Rattle.base_table.specs.Table.{kindIn}
 use Rattle.check_limits.specs.Limits.{partsFit, elementFits}
-use Rattle.proof_trips.specs.Trip.{regionOf}
+use Rattle.proof_roundtrip.specs.Trip.{regionOf}
 use Rattle.proof_roundtrip.proofs.KindLaws.{kind-bounds}
 use Rattle.proof_roundtrip.proofs.RowLaws.{Has, row-task, row-entries, row-exits, row-condition, row-conditions, row-message, row-messages}
 use Rattle.proof_roundtrip.proofs.FitLaws.{fits-kind, fits-parts, no-task-number, no-mode, no-assignments, no-entries, no-exits, no-condition, no-conditions, no-message, no-messages}

@@ -18,7 +18,7 @@ use Rattle.base_kinds.specs.Kinds.{one, many}
 use Rattle.base_table.specs.Places.{elementWords, edgePlace}
 use Rattle.check_limits.specs.Limits.{things, countFits, edgeFits, edgesFit}
 use Rattle.text_parts.specs.Parts.{edgeList, itemOf, starts, series, oneEdge}
-use Rattle.proof_trips.proofs.NumberReads.{Span}
+use Rattle.proof_roundtrip.proofs.NumberReads.{Span}
 use Rattle.check_limits.proofs.SameLaws.{edges-same}
 use Rattle.proof_roundtrip.proofs.FillLaws.{Fills, span-region, fills-then, fills-wider, fills-store}
 use Rattle.proof_roundtrip.proofs.WordFills.{Ranged, fills-number}

@@ -20,10 +20,10 @@ use Rattle.base_kinds.specs.Kinds.{kindOf, used, none, one, many}
 use Rattle.base_table.specs.Places.{taskPlace, modePlace, entriesPlace, exitsPlace, conditionPlace, messagePlace, assignmentsPlace, assignmentPlace, expressionWords, messageWords, assignmentWords}
 use Rattle.check_limits.specs.Limits.{things, countFits, edgesFit, taskFits, conditionFits, conditionsFit, messageFits, messagesFit, assignmentFits, assignmentsFit, partsFit}
 use Rattle.text_elements.specs.Elements.{kindCount}
-use Rattle.proof_trips.specs.Trip.{spans, regionOf}
-use Rattle.proof_trips.proofs.NumberReads.{Span}
-use Rattle.proof_trips.proofs.FitsLaws.{used-one, used-many}
-use Rattle.proof_trips.proofs.TripLaws.{or-either}
+use Rattle.proof_roundtrip.specs.Trip.{spans, regionOf}
+use Rattle.proof_roundtrip.proofs.NumberReads.{Span}
+use Rattle.proof_roundtrip.proofs.FitsLaws.{used-one, used-many}
+use Rattle.proof_roundtrip.proofs.TripLaws.{or-either}
 use Rattle.proof_roundtrip.proofs.KindLaws.{of-kind}
 use Rattle.proof_roundtrip.proofs.RowLaws.{listed, Has, Either, has, either, either-of}
 use Rattle.proof_roundtrip.proofs.FitLaws.{used-few}

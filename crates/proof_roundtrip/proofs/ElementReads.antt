@@ -19,16 +19,17 @@ use Rattle.base_table.specs.Places.{elementWords}
 use Rattle.base_table.specs.Table.{kindIn}
 use Rattle.check_limits.specs.Limits.{elementFits}
 use Rattle.text_lexer.specs.declared.Token.{Token}
-use Rattle.text_lexer.specs.Lexer.{isWord, isLetter, isDigit, isSign, among, between, ifWord}
+use Rattle.text_lexer.specs.Lexer.{isWord, isSign, ifWord}
+use Rattle.base_bytes.specs.Bytes.{isLetter, isDigit, among, between}
 use Rattle.text_lexer.proofs.TokenLaws.{left-at, bytes-at}
-use Rattle.text_readers.specs.Reading.{misplaced, passed, refused, _then_}
+use Rattle.text_readers.specs.Reading.{misplaced, passedTo, refusedAt, _then_}
 use Rattle.text_elements.specs.Elements.{kindNamed, blank, partsOf, elementOf, element}
 use Rattle.write_shown.specs.Shown.{shownPart, shownParts, shownElement}
-use Rattle.proof_trips.specs.Trip.{Below, stops, ends}
-use Rattle.proof_trips.proofs.ReadsLaws.{Onto, Reads, Both, Nowhere, anything, reads-then}
-use Rattle.proof_trips.proofs.SignReads.{reads-sign}
-use Rattle.proof_trips.proofs.NumberReads.{Worded, word-token}
-use Rattle.proof_trips.proofs.PartTrips.{part-trip}
+use Rattle.proof_roundtrip.specs.Trip.{Below, mayFollow, ends}
+use Rattle.proof_roundtrip.proofs.ReadsLaws.{Onto, Reads, Both, Nowhere, anything, reads-then}
+use Rattle.proof_roundtrip.proofs.SignReads.{reads-sign}
+use Rattle.proof_roundtrip.proofs.NumberReads.{Worded, word-token}
+use Rattle.proof_roundtrip.proofs.PartTrips.{part-trip}
 use Rattle.proof_roundtrip.proofs.BlankLaws.{blank-kind, blank-length, blank-zero}
 use Rattle.proof_roundtrip.proofs.KindLaws.{kind-bounds, keyword-names, keyword-word, keyword-some}
 use Rattle.proof_roundtrip.proofs.RowLaws.{row-lastly, row-length}
@@ -84,29 +85,29 @@ module _ (el : List ℕ) (small : (i : ℕ) → at el i ≤ greatest) (fit : ele
   keyword = record { some = keyword-some (kindIn el) low high; plain = keyword-word (kindIn el) low high }
 
   -- the sign behind the keyword
-  row-stops : (rest : List ℕ) → stops (shownRow ++ rest) ≡ true
+  row-stops : (rest : List ℕ) → mayFollow (shownRow ++ rest) ≡ true
   unfolding shownRow shownParts
   row-stops rest = go (kindOf (kindIn el) .parts)
     where
-      first : (c : ℕ) (cs : List ℕ) (b : Bool) → stops (((if b then [] else code "(" ∷ (shownPart c el ++ shownParts (code ",") cs el)) ++ (code ")" ∷ [])) ++ rest) ≡ true
-      first c cs true = unfold if_then_else_ stops isWord isLetter isDigit between in refl
-      first c cs false = unfold if_then_else_ stops isWord isLetter isDigit between in refl
+      first : (c : ℕ) (cs : List ℕ) (b : Bool) → mayFollow (((if b then [] else code "(" ∷ (shownPart c el ++ shownParts (code ",") cs el)) ++ (code ")" ∷ [])) ++ rest) ≡ true
+      first c cs true = unfold if_then_else_ mayFollow isWord isLetter isDigit between in refl
+      first c cs false = unfold if_then_else_ mayFollow isWord isLetter isDigit between in refl
 
-      go : (cs : List ℕ) → stops ((shownParts (code "(") cs el ++ (code ")" ∷ [])) ++ rest) ≡ true
-      go [] = unfold stops isWord isLetter isDigit between in refl
+      go : (cs : List ℕ) → mayFollow ((shownParts (code "(") cs el ++ (code ")" ∷ [])) ++ rest) ≡ true
+      go [] = unfold mayFollow isWord isLetter isDigit between in refl
       go (c ∷ cs) = first c cs (eqb c (code " "))
 
   -- THE LAW
   pub element-trip : (text rest x : List ℕ) (from : ℕ) → drop from text ≡ shownElement el ++ rest → length x ≡ elementWords → elementWords ≤ length el
-      → element text from x ≡ passed (from + length (shownElement el)) (take elementWords el)
+      → element text from x ≡ passedTo (from + length (shownElement el)) (take elementWords el)
   unfolding shownElement shownRow
   element-trip text rest x from d l long =
       taken
       ∙ ap (λ (k : ℕ). elementOf k from text (from + length (keywordOf (kindIn el))) x) (keyword-names (kindIn el) low high)
       ∙ chosen
       ∙ y .1
-      ∙ ap (λ (z : List ℕ). passed (from + length w + length shownRow) z) (whole x (y .0) l long (y .2))
-      ∙ ap (λ (q : ℕ). passed q (take elementWords el)) (let z : from + length w + length shownRow ≡ from + length (w ++ shownRow) = omega (arith, length-append w shownRow) in z)
+      ∙ ap (λ (z : List ℕ). passedTo (from + length w + length shownRow) z) (whole x (y .0) l long (y .2))
+      ∙ ap (λ (q : ℕ). passedTo q (take elementWords el)) (let z : from + length w + length shownRow ≡ from + length (w ++ shownRow) = omega (arith, length-append w shownRow) in z)
     where
       w : List ℕ
       w = keywordOf (kindIn el)
@@ -114,13 +115,13 @@ module _ (el : List ℕ) (small : (i : ℕ) → at el i ≤ greatest) (fit : ele
       d₁ : drop from text ≡ keywordOf (kindIn el) ++ (shownRow ++ rest)
       d₁ = unfold shownRow in d ∙ append-assoc (keywordOf (kindIn el)) shownRow rest
 
-      y : (z : List ℕ) × (partsOf (kindIn el) text (from + length (keywordOf (kindIn el))) (blank (kindIn el) x) ≡ passed (from + length (keywordOf (kindIn el)) + length shownRow) z) × Onto el (blank (kindIn el) x) z (Both (Stored (kindOf (kindIn el) .parts)) Nowhere)
+      y : (z : List ℕ) × (partsOf (kindIn el) text (from + length (keywordOf (kindIn el))) (blank (kindIn el) x) ≡ passedTo (from + length (keywordOf (kindIn el)) + length shownRow) z) × Onto el (blank (kindIn el) x) z (Both (Stored (kindOf (kindIn el) .parts)) Nowhere)
       y = reads-row .reads text rest (blank (kindIn el) x) (from + length (keywordOf (kindIn el))) (left-at text from (keywordOf (kindIn el)) (shownRow ++ rest) d₁) refl (blank-length (kindIn el) x ∙ l) (blank-below el x l)
 
       taken : element text from x ≡ elementOf (kindNamed (keywordOf (kindIn el))) from text (from + length (keywordOf (kindIn el))) x
       taken =
           unfold element ifWord in
-          ap (λ (k : Token). ifWord (k .form) (elementOf (kindNamed (part text (k .at) (k .next))) (k .at) text (k .next) x) (refused misplaced (k .at) (blank 0 x)))
+          ap (λ (k : Token). ifWord (k .form) (elementOf (kindNamed (part text (k .at) (k .next))) (k .at) text (k .next) x) (refusedAt misplaced (k .at) (blank 0 x)))
           (word-token text (keywordOf (kindIn el)) (shownRow ++ rest) from d₁ keyword (row-stops rest))
           ∙ ap (λ (v : List ℕ). elementOf (kindNamed v) from text (from + length (keywordOf (kindIn el))) x)
           (bytes-at text from (keywordOf (kindIn el)) (shownRow ++ rest) d₁)

@@ -11,7 +11,7 @@ use lib.Dec.{eqb, ltb}
 use lib.ListN.{length, drop}
 use lib.Seq.{getD-drop, drop-drop}
 use borrow.Author.Tests.{eq-eqb, ne-eqb, le-leb, lt-ltb}
-use Rattle.base_words.specs.Counts.{named}
+use Rattle.base_words.specs.Counts.{fieldsNamed}
 use Rattle.base_words.specs.Pick.{if_then_else_}
 use Rattle.base_words.specs.Text.{bytes}
 use Rattle.base_words.specs.Words.{at, greatest}
@@ -21,14 +21,14 @@ use Rattle.base_kinds.specs.Kinds.{none, many}
 use Rattle.base_table.specs.Places.{elementWords, assignmentPlace}
 use Rattle.check_limits.specs.Limits.{zeros, operandFits, expressionFits, bindFits, itemFits, conditionFits, assignmentFits}
 use Rattle.text_lexer.specs.Lexer.{tokenAt}
-use Rattle.text_numerals.specs.Numerals.{sameBytes}
+use Rattle.base_bytes.specs.Bytes.{sameBytes}
 use Rattle.text_readers.specs.declared.Read.{Read}
 use Rattle.text_readers.specs.declared.Read.the-variants.{At, Refused}
-use Rattle.text_readers.specs.Reading.{Parsed, Reader, misplaced, passed, ifAt, _then_, placeOf, behind, letters, signAt, operand}
+use Rattle.text_readers.specs.Reading.{Parsed, Reader, misplaced, passedTo, ifAt, _then_, placeOf, behind, letters, signAt, operand}
 use Rattle.text_parts.specs.Parts.{store, joint, expression, bind, templateItem, comparison, condition, assignment}
-use Rattle.proof_trips.proofs.ReadsLaws.{Both}
-use Rattle.proof_trips.proofs.NumberReads.{Span}
-use Rattle.proof_trips.proofs.ExpressionLaws.{fits-pair}
+use Rattle.proof_roundtrip.proofs.ReadsLaws.{Both}
+use Rattle.proof_roundtrip.proofs.NumberReads.{Span}
+use Rattle.proof_roundtrip.proofs.ExpressionLaws.{fits-pair}
 use Rattle.check_limits.proofs.SameLaws.{Same, zeros-same, operand-same, expression-same, item-same, condition-same, assignment-same}
 use Rattle.proof_roundtrip.proofs.FillLaws.{Fills, Filled, span-region, idle-sign, idle-assign, fills-then, fills-behind, fills-wider, fills-either, fills-store}
 use Rattle.proof_roundtrip.proofs.WordFills.{Ranged, word-passed, fills-field, fills-operand}
@@ -50,7 +50,7 @@ choose (Refused n p) f g w e = inr e
 
 pub fills-choice : (s : ℕ) {f g : Reader} {R : ℕ → Type 0} {Q : List ℕ → Type 0} → Fills f R Q → Fills g R Q → Fills (λ text from x. ifAt (signAt s text from) (λ a. f text a x) (g text from x)) R Q
 fills-choice s {f} {g} a b =
-    fills-either (λ text x from q y e. ⊎-elim (λ m. inl m) (λ m. inr (from, m)) (choose (signAt s text from) (λ k. f text k x) (g text from x) (passed q y) e)) a b
+    fills-either (λ text x from q y e. ⊎-elim (λ m. inl m) (λ m. inr (from, m)) (choose (signAt s text from) (λ k. f text k x) (g text from x) (passedTo q y) e)) a b
 
 -- WITHIN THE LIMITS, by the form
 module _ (x : List ℕ) where
@@ -73,9 +73,9 @@ module _ (x : List ℕ) where
   unfolding itemFits
   item-expression receives f = sym (pick-no (eqb (at x 0) 4) _ _ _ (ne-eqb (at x 0) 4 (λ e. omega (arith, e, expression-low f))) refl) ∙ f
 
-  item-bind : (receives : ℕ) → (receives ≡ none → ⊥) → at x 0 ≡ 4 → at x 1 ≡ 1 → at x 2 < named → zeros (drop 3 x) 2 ≡ true → itemFits receives x ≡ true
+  item-bind : (receives : ℕ) → (receives ≡ none → ⊥) → at x 0 ≡ 4 → at x 1 ≡ 1 → at x 2 < fieldsNamed → zeros (drop 3 x) 2 ≡ true → itemFits receives x ≡ true
   unfolding itemFits bindFits if_then_else_
-  item-bind receives n e f d z = rw (e, f, ne-eqb receives none n, lt-ltb (at x 2) named d, z)
+  item-bind receives n e f d z = rw (e, f, ne-eqb receives none n, lt-ltb (at x 2) fieldsNamed d, z)
 
   condition-plain : (conditions : ℕ) → at x 0 ≡ 1 → zeros (drop 1 x) 4 ≡ true → conditionFits conditions x ≡ true
   unfolding conditionFits if_then_else_
@@ -235,7 +235,7 @@ module _ (place : ℕ) (h : place + 5 ≤ elementWords) where
         }
       where
         go : (text x : List ℕ) (from q : ℕ) (y : List ℕ) → length x ≡ elementWords → ((i : ℕ) → Span place 5 i → at x i ≡ 0) → (b c : Bool) → (c ≡ true → conditions ≡ many)
-            → (if b then store (place + 0) 1 text (behind text from) x else if c then store (place + 0) 2 text (behind text from) x else (operand (place + 1) then comparison place) text from x) ≡ passed q y
+            → (if b then store (place + 0) 1 text (behind text from) x else if c then store (place + 0) 2 text (behind text from) x else (operand (place + 1) then comparison place) text from x) ≡ passedTo q y
             → Filled x y (Span place 5) Fit
         go text x from q y l o true c m e = alone 1 (omega arith) (λ x. condition-plain x conditions) .fills text x (behind text from) q y (unfold if_then_else_ in e) l o
         go text x from q y l o false true m e = alone 2 (omega arith) (λ x. condition-default x conditions (m refl)) .fills text x (behind text from) q y (unfold if_then_else_ in e) l o
@@ -254,6 +254,6 @@ fills-assignment j h =
         → ((i : ℕ) → Span (assignmentPlace j) 6 i → (Both (λ i. i ≡ assignmentPlace j) (Span (assignmentPlace j + 1) 5) i → ⊥) → at y i ≡ 0) → assignmentFits (drop (assignmentPlace j) y) ≡ true
     fit y q z =
         unfold assignmentFits in
-        and-true (ltb (at (drop (assignmentPlace j) y) 0) named) (expressionFits (drop 1 (drop (assignmentPlace j) y)))
-        (lt-ltb (at (drop (assignmentPlace j) y) 0) named (omega (arith, q .0 .1, getD-drop (assignmentPlace j) y 0 0 ∙ ap (at y) (let e : assignmentPlace j + 0 ≡ assignmentPlace j = omega arith in e))))
+        and-true (ltb (at (drop (assignmentPlace j) y) 0) fieldsNamed) (expressionFits (drop 1 (drop (assignmentPlace j) y)))
+        (lt-ltb (at (drop (assignmentPlace j) y) 0) fieldsNamed (omega (arith, q .0 .1, getD-drop (assignmentPlace j) y 0 0 ∙ ap (at y) (let e : assignmentPlace j + 0 ≡ assignmentPlace j = omega arith in e))))
         (ap expressionFits (drop-drop 1 (assignmentPlace j) y) ∙ q .1)

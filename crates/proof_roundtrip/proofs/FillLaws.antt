@@ -12,30 +12,30 @@ use Rattle.base_words.specs.Words.{at, greatest}
 use Rattle.base_table.specs.Places.{elementWords}
 use Rattle.text_readers.specs.declared.Read.{Read}
 use Rattle.text_readers.specs.declared.Read.the-variants.{At, Refused}
-use Rattle.text_readers.specs.Reading.{Parsed, Reader, passed, refused, ifAt, onward, _then_, sign, assign}
+use Rattle.text_readers.specs.Reading.{Parsed, Reader, passedTo, refusedAt, ifAt, onward, _then_, sign, assign}
 use Rattle.text_parts.specs.Parts.{store}
-use Rattle.proof_trips.proofs.ReadsLaws.{Both}
-use Rattle.proof_trips.proofs.NumberReads.{Span}
+use Rattle.proof_roundtrip.proofs.ReadsLaws.{Both}
+use Rattle.proof_roundtrip.proofs.NumberReads.{Span}
 
 -- a refusal does not pass
-pub refused-passed : (n p q : ℕ) (x y : List ℕ) → refused n p x ≡ passed q y → ⊥
+pub refused-passed : (n p q : ℕ) (x y : List ℕ) → refusedAt n p x ≡ passedTo q y → ⊥
 unfolding ifAt
 refused-passed n p q x y e = false≢true (ap (λ (r : Parsed). ifAt (r .end) (λ k. true) false) e)
 
-pub same-words : (p q : ℕ) (x y : List ℕ) → passed p x ≡ passed q y → x ≡ y
+pub same-words : (p q : ℕ) (x y : List ℕ) → passedTo p x ≡ passedTo q y → x ≡ y
 same-words p q x y e = ap (λ (r : Parsed). r .words) e
 
 -- what was read before, where reading went on
 pub record Before (r : Parsed) (go : ℕ → List ℕ → Parsed) (z : Parsed) : Type 0 where
   pub place : ℕ
   pub words : List ℕ
-  pub first : r ≡ passed place words
+  pub first : r ≡ passedTo place words
   pub further : go place words ≡ z
 
-pub onward-passed : (r : Parsed) (go : ℕ → List ℕ → Parsed) (q : ℕ) (z : List ℕ) → onward r go ≡ passed q z → Before r go (passed q z)
+pub onward-passed : (r : Parsed) (go : ℕ → List ℕ → Parsed) (q : ℕ) (z : List ℕ) → onward r go ≡ passedTo q z → Before r go (passedTo q z)
 onward-passed r go q z e = by (r .end) refl
   where
-    by : (s : Read) → r .end ≡ s → Before r go (passed q z)
+    by : (s : Read) → r .end ≡ s → Before r go (passedTo q z)
     by (At a) h = record { place = a; words = r .words; first = ap (λ (k : Read). record { end = k; words = r .words }) h; further = sym (on a h) ∙ e }
       where
         on : (a : ℕ) → r .end ≡ At a → onward r go ≡ go a (r .words)
@@ -55,7 +55,7 @@ pub record Filled (x y : List ℕ) (R : ℕ → Type 0) (Q : List ℕ → Type 0
 pub record Fills (f : Reader) (R : ℕ → Type 0) (Q : List ℕ → Type 0) : Type 0 where
   pub decide : (i : ℕ) → Dec (R i)
   pub local : (y z : List ℕ) → ((i : ℕ) → R i → at z i ≡ at y i) → Q y → Q z
-  pub fills : (text x : List ℕ) (from q : ℕ) (y : List ℕ) → f text from x ≡ passed q y → length x ≡ elementWords → ((i : ℕ) → R i → at x i ≡ 0) → Filled x y R Q
+  pub fills : (text x : List ℕ) (from q : ℕ) (y : List ℕ) → f text from x ≡ passedTo q y → length x ≡ elementWords → ((i : ℕ) → R i → at x i ≡ 0) → Filled x y R Q
 
 -- one region or another
 pub either-region : (R S : ℕ → Type 0) (i : ℕ) → Dec (R i) → Dec (S i) → Dec (Both R S i)
@@ -80,7 +80,7 @@ fills-then {f} {g} {R} {S} {Q} {P} a b apart =
       fills = λ text x from q z e l o. both text x from q z (onward-passed (f text from x) (g text) q z (unfold _then_ in e)) l o;
     }
   where
-    both : (text x : List ℕ) (from q : ℕ) (z : List ℕ) → Before (f text from x) (g text) (passed q z) → length x ≡ elementWords → ((i : ℕ) → Both R S i → at x i ≡ 0) → Filled x z (Both R S) (λ y. Q y × P y)
+    both : (text x : List ℕ) (from q : ℕ) (z : List ℕ) → Before (f text from x) (g text) (passedTo q z) → length x ≡ elementWords → ((i : ℕ) → Both R S i → at x i ≡ 0) → Filled x z (Both R S) (λ y. Q y × P y)
     both text x from q z m l o =
         let y = m .words in
         let u = a .fills text x from (m .place) y (m .first) l (λ i r. o i (inl r)) in
@@ -94,7 +94,7 @@ fills-then {f} {g} {R} {S} {Q} {P} a b apart =
 
 -- readers that store nothing
 abbrev pub Idle : Reader → Type 0
-Idle f = (text x : List ℕ) (from q : ℕ) (y : List ℕ) → f text from x ≡ passed q y → y ≡ x
+Idle f = (text x : List ℕ) (from q : ℕ) (y : List ℕ) → f text from x ≡ passedTo q y → y ≡ x
 
 pub idle-sign : (s : ℕ) → Idle (sign s)
 idle-sign s text x from q y e = sym (ap (λ (r : Parsed). r .words) e)
@@ -110,7 +110,7 @@ fills-behind {f} {g} {R} {Q} k b =
       fills = λ text x from q z e l o. go text x from q z (onward-passed (f text from x) (g text) q z (unfold _then_ in e)) l o;
     }
   where
-    go : (text x : List ℕ) (from q : ℕ) (z : List ℕ) → Before (f text from x) (g text) (passed q z) → length x ≡ elementWords → ((i : ℕ) → R i → at x i ≡ 0) → Filled x z R Q
+    go : (text x : List ℕ) (from q : ℕ) (z : List ℕ) → Before (f text from x) (g text) (passedTo q z) → length x ≡ elementWords → ((i : ℕ) → R i → at x i ≡ 0) → Filled x z R Q
     go text x from q z m l o =
         b .fills text x (m .place) q z (ap (g text (m .place)) (sym (k text x from (m .place) (m .words) (m .first))) ∙ m .further) l o
 
@@ -122,7 +122,7 @@ fills-before {f} {g} {R} {Q} a k =
       fills = λ text x from q z e l o. go text x from q z (onward-passed (f text from x) (g text) q z (unfold _then_ in e)) l o;
     }
   where
-    go : (text x : List ℕ) (from q : ℕ) (z : List ℕ) → Before (f text from x) (g text) (passed q z) → length x ≡ elementWords → ((i : ℕ) → R i → at x i ≡ 0) → Filled x z R Q
+    go : (text x : List ℕ) (from q : ℕ) (z : List ℕ) → Before (f text from x) (g text) (passedTo q z) → length x ≡ elementWords → ((i : ℕ) → R i → at x i ≡ 0) → Filled x z R Q
     go text x from q z m l o =
         subst (λ (y : List ℕ). Filled x y R Q) (sym (k text (m .words) (m .place) q z (m .further))) (a .fills text x from (m .place) (m .words) (m .first) l o)
 
@@ -153,12 +153,12 @@ fills-wider {f} {R} {S} {Q} {P} d w p h a =
 pub fills-region : {f : Reader} {R S : ℕ → Type 0} {Q : List ℕ → Type 0} → ((i : ℕ) → Dec (S i)) → ((i : ℕ) → R i → S i) → Fills f R Q → Fills f S Q
 fills-region d w a = fills-wider d w (λ y z s. a .local y z (λ i r. s i (w i r))) (λ y q z. q) a
 
-pub fills-as : {f h : Reader} {R : ℕ → Type 0} {Q : List ℕ → Type 0} → ((text x : List ℕ) (from q : ℕ) (y : List ℕ) → h text from x ≡ passed q y → (a : ℕ) × (f text a x ≡ passed q y)) → Fills f R Q → Fills h R Q
+pub fills-as : {f h : Reader} {R : ℕ → Type 0} {Q : List ℕ → Type 0} → ((text x : List ℕ) (from q : ℕ) (y : List ℕ) → h text from x ≡ passedTo q y → (a : ℕ) × (f text a x ≡ passedTo q y)) → Fills f R Q → Fills h R Q
 fills-as k a =
     record { decide = a .decide; local = a .local; fills = λ text x from q y e l o. let m = k text x from q y e in a .fills text x (m .0) q y (m .1) l o }
 
 pub fills-either : {f g h : Reader} {R : ℕ → Type 0} {Q : List ℕ → Type 0}
-    → ((text x : List ℕ) (from q : ℕ) (y : List ℕ) → h text from x ≡ passed q y → ((a : ℕ) × (f text a x ≡ passed q y)) ⊎ ((a : ℕ) × (g text a x ≡ passed q y)))
+    → ((text x : List ℕ) (from q : ℕ) (y : List ℕ) → h text from x ≡ passedTo q y → ((a : ℕ) × (f text a x ≡ passedTo q y)) ⊎ ((a : ℕ) × (g text a x ≡ passedTo q y)))
     → Fills f R Q → Fills g R Q → Fills h R Q
 fills-either k a b =
     record {

@@ -18,8 +18,8 @@ use Rattle.base_table.specs.Places.{taskPlace, modePlace, entriesPlace, exitsPl
 use Rattle.base_table.specs.Table.{kindIn}
 use Rattle.check_limits.specs.Limits.{taskFits, countFits, edgesFit, conditionFits, messageFits, assignmentFits, partsFit, elementFits}
 use Rattle.check_limits.proofs.SameLaws.{count-most}
-use Rattle.proof_trips.proofs.NumberReads.{then-of, else-of}
-use Rattle.proof_trips.proofs.FitsLaws.{things-none, edges-count, edges-none, task-fits, entries-fit, exits-fit, conditions-fit, messages-fit, assignments-fit, task-ranges}
+use Rattle.proof_roundtrip.proofs.NumberReads.{then-of, else-of}
+use Rattle.proof_roundtrip.proofs.FitsLaws.{things-none, edges-count, edges-none, task-fits, entries-fit, exits-fit, conditions-fit, messages-fit, assignments-fit, task-ranges}
 
 -- an element has a kind, and the parts of its row
 module _ (el : List ℕ) (h : elementFits el ≡ true) where

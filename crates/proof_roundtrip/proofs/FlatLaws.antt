@@ -10,7 +10,7 @@ use lib.Seq.{getD-append-add}
 use Rattle.base_words.specs.Words.{at, greatest}
 use Rattle.text_read.specs.Notation.{flat, filled}
 use Rattle.proof_roundtrip.proofs.BlankLaws.{zero-word}
-use Rattle.proof_ends.proofs.Models.{Every}
+use Rattle.proof_roundtrip.proofs.EndModels.{Every}
 
 -- each thing of a list
 pub every-at : {A : Type 0} (P : A → Type 0) (xs : List A) (d : A) (j : ℕ) → Every P xs → j < length xs → P (getD xs j d)

@@ -14,8 +14,9 @@ use Rattle.base_words.specs.Seek.{seek}
 use Rattle.base_words.proofs.AllLaws.{all-at}
 use Rattle.base_kinds.specs.declared.Kind.{Kind}
 use Rattle.base_kinds.specs.Kinds.{kinds, noKind, kindOf, keywordOf}
-use Rattle.text_lexer.specs.Lexer.{isWord, isLetter, isDigit, between}
-use Rattle.text_numerals.specs.Numerals.{sameBytes}
+use Rattle.text_lexer.specs.Lexer.{isWord}
+use Rattle.base_bytes.specs.Bytes.{isLetter, isDigit, between}
+use Rattle.base_bytes.specs.Bytes.{sameBytes}
 use Rattle.text_elements.specs.Elements.{isKeyword, kindNamed, kindCount}
 
 -- a row with a keyword is one of the fifteen

@@ -1,3 +1,15 @@
+pub mod ReadsLaws
+pub mod SignReads
+pub mod TripLaws
+pub mod NumberReads
+pub mod ExpressionLaws
+pub mod ExpressionReads
+pub mod ListReads
+pub mod FitsLaws
+pub mod PartReads
+pub mod CodeLaws
+pub mod PartTrips
+pub mod TripPoints
 pub mod KindLaws
 pub mod RowLaws
 pub mod FitLaws
@@ -32,3 +44,8 @@ pub mod ReadTables
 pub mod PlainLaws
 pub mod RoundTrip
 pub mod Points
+pub mod EndModels
+pub mod EndSends
+pub mod EndCounts
+pub mod Turns
+pub mod Rewritten

@@ -18,10 +18,10 @@ use Rattle.base_words.proofs.AllLaws.{all-of}
 use Rattle.base_words.proofs.PickLaws.{and-true}
 use Rattle.base_table.specs.Places.{elementWords}
 use Rattle.check_limits.specs.Limits.{zeros, things}
-use Rattle.text_readers.specs.Reading.{Reader, misplaced, excessive, passed, refused, ifAt, onward, _then_, placeOf, signAt, sign}
+use Rattle.text_readers.specs.Reading.{Reader, misplaced, excessive, passedTo, refusedAt, ifAt, onward, _then_, placeOf, signAt, sign}
 use Rattle.text_parts.specs.declared.Series.{Series}
 use Rattle.text_parts.specs.Parts.{store, itemOf, starts, tooMany, counted, itemsFrom, items, inside, series}
-use Rattle.proof_trips.proofs.NumberReads.{Span, then-of, else-of}
+use Rattle.proof_roundtrip.proofs.NumberReads.{Span, then-of, else-of}
 use Rattle.proof_roundtrip.proofs.FillLaws.{refused-passed, same-words, Fills, Filled, filled-set, idle-sign, fills-then, fills-before, fills-behind, fills-wider, fills-as, fills-store, either-region}
 use Rattle.proof_roundtrip.proofs.ExpressionFills.{zeros-of, fills-choice}
 
@@ -33,7 +33,7 @@ things-of y base w n k right r z =
     (all-of (λ j. right (drop (w * j) (drop base y))) k (λ j l. ap right (drop-drop (w * j) base y) ∙ r j l))
     (ap (λ (x : List ℕ). zeros x (w * (n - k))) (drop-drop (w * k) base y) ∙ zeros-of y (base + w * k) (w * (n - k)) (λ i a b. z i (a, b)))
 
-too-many : (b : Bool) (p q : ℕ) (x y : List ℕ) → tooMany b p x ≡ passed q y → ⊥
+too-many : (b : Bool) (p q : ℕ) (x y : List ℕ) → tooMany b p x ≡ passedTo q y → ⊥
 unfolding tooMany
 too-many b p q x y e = refused-passed (if b then excessive else misplaced) p q x y e
 
@@ -104,7 +104,7 @@ module _ (item : ℕ → Reader) (starting : List ℕ → ℕ → Bool) (least c
         fills = λ text x from q y e l o. go (ltb k least) refl text x from q y e l;
       }
     where
-      go : (b : Bool) → ltb k least ≡ b → (text x : List ℕ) (from q : ℕ) (y : List ℕ) → (if b then refused misplaced (placeOf text from) x else passed from (set x count k)) ≡ passed q y → length x ≡ elementWords
+      go : (b : Bool) → ltb k least ≡ b → (text x : List ℕ) (from q : ℕ) (y : List ℕ) → (if b then refusedAt misplaced (placeOf text from) x else passedTo from (set x count k)) ≡ passedTo q y → length x ≡ elementWords
           → Filled x y (λ i. i ≡ count) (λ y. (at y count ≡ k) × (least ≤ k))
       go true t text x from q y e l = absurd (refused-passed misplaced (placeOf text from) q x y (unfold if_then_else_ in e))
       go false t text x from q y e l =
@@ -166,8 +166,8 @@ module _ (item : ℕ → Reader) (starting : List ℕ → ℕ → Bool) (least c
           which j l o (no e) = q .1 .right j (omega (arith, l, e)) o
 
       whole : (text x : List ℕ) (from q : ℕ) (y : List ℕ)
-          → onward (item k text from x) (λ q y. ifAt (signAt (code ",") text q) (λ a. itemsFrom item starting least count n (k + 1) text a y) (counted least count (k + 1) text q y)) ≡ passed q y
-          → (item k then (λ text from x. ifAt (signAt (code ",") text from) (λ a. itemsFrom item starting least count n (k + 1) text a x) (counted least count (k + 1) text from x))) text from x ≡ passed q y
+          → onward (item k text from x) (λ q y. ifAt (signAt (code ",") text q) (λ a. itemsFrom item starting least count n (k + 1) text a y) (counted least count (k + 1) text q y)) ≡ passedTo q y
+          → (item k then (λ text from x. ifAt (signAt (code ",") text from) (λ a. itemsFrom item starting least count n (k + 1) text a x) (counted least count (k + 1) text from x))) text from x ≡ passedTo q y
       whole text x from q y e = unfold _then_ in e
 
   pub fills-all : Fills (itemsFrom item starting least count top 0) (Region 0 top) (Many 0 0 top)
@@ -204,8 +204,8 @@ module _ (s : Series) {R : ℕ → Type 0} {P : List ℕ → Type 0} (all-items 
     where
       go : (b : Bool) → eqb (s .least) 0 ≡ b → Fills (inside s) R P
       go true e =
-          fills-as (λ text x from q y h. (from, then-of (eqb (s .least) 0) _ _ (passed q y) h e)) (fills-choice (s .closer) (empty (eqb-true (s .least) 0 e)) closed)
-      go false e = fills-as (λ text x from q y h. (from, else-of (eqb (s .least) 0) _ _ (passed q y) h e)) closed
+          fills-as (λ text x from q y h. (from, then-of (eqb (s .least) 0) _ _ (passedTo q y) h e)) (fills-choice (s .closer) (empty (eqb-true (s .least) 0 e)) closed)
+      go false e = fills-as (λ text x from q y h. (from, else-of (eqb (s .least) 0) _ _ (passedTo q y) h e)) closed
 
   pub fills-series : Fills (series s) R P
   unfolding series

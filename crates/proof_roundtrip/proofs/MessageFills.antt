@@ -19,7 +19,7 @@ use Rattle.base_table.specs.Places.{elementWords, messagePlace, lengthPlace, it
 use Rattle.check_limits.specs.Limits.{things, itemFits, messageFits}
 use Rattle.text_readers.specs.Reading.{Reader}
 use Rattle.text_parts.specs.Parts.{aTemplateItem, aMessageItem, tuple, itemOf, starts, series, message}
-use Rattle.proof_trips.proofs.NumberReads.{Span}
+use Rattle.proof_roundtrip.proofs.NumberReads.{Span}
 use Rattle.check_limits.proofs.SameLaws.{things-same, item-same, message-same}
 use Rattle.proof_roundtrip.proofs.FillLaws.{Fills, span-region, idle-sign, fills-then, fills-behind, fills-wider}
 use Rattle.proof_roundtrip.proofs.WordFills.{Ranged, fills-number}

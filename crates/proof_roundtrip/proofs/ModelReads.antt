@@ -22,11 +22,12 @@ use Rattle.base_table.specs.Table.{poolCount, elementCount, elementAt}
 use Rattle.check_limits.specs.Limits.{tableFits}
 use Rattle.text_lexer.specs.declared.Token.{Token}
 use Rattle.text_lexer.specs.declared.Form.the-variants.{End}
-use Rattle.text_lexer.specs.Lexer.{isBlank, among, placed, tokenAt, ifSign, ifEnd}
+use Rattle.text_lexer.specs.Lexer.{isBlank, placed, tokenAt, ifSign, ifEnd}
+use Rattle.base_bytes.specs.Bytes.{among}
 use Rattle.text_lexer.proofs.TokenLaws.{end-at}
 use Rattle.text_readers.specs.declared.Read.{Read}
 use Rattle.text_readers.specs.declared.Read.the-variants.{At, Refused}
-use Rattle.text_readers.specs.Reading.{Parsed, misplaced, passed, ifAt, signAt, endAt}
+use Rattle.text_readers.specs.Reading.{Parsed, misplaced, passedTo, ifAt, signAt, endAt}
 use Rattle.text_elements.specs.Elements.{element}
 use Rattle.check_model.specs.Checks.{Pool}
 use Rattle.text_read.specs.Notation.{Got, elementAlone, pool, startsPool, poolsAt, model}
@@ -80,7 +81,7 @@ module _ (t : List ℕ) (small : (i : ℕ) → at t i ≤ greatest) (fit : table
       small-here : (i : ℕ) → at (elementAt t p e) i ≤ greatest
       small-here i = subst (λ (v : ℕ). v ≤ greatest) (sym (getD-drop (elementPlace p e) t i 0)) (small (elementPlace p e + i))
 
-      alone : (text : List ℕ) (from n : ℕ) (w : List ℕ) → element text from (replicate elementWords 0) ≡ passed (from + n) w → elementAlone text from ≡ record { end = At (from + n); value = w }
+      alone : (text : List ℕ) (from n : ℕ) (w : List ℕ) → element text from (replicate elementWords 0) ≡ passedTo (from + n) w → elementAlone text from ≡ record { end = At (from + n); value = w }
       alone text from n w e = unfold elementAlone in ap (λ (r : Parsed). record { end = r .end; value = r .words }) e
 
   pool-read : (p : ℕ) → p < poolCount t → Comes pool (shownPool t p) (blockAt t p)

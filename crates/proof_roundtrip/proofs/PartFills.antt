@@ -20,9 +20,9 @@ use Rattle.base_table.specs.Places.{entriesPlace, exitsPlace, conditionPlace, m
 use Rattle.check_limits.specs.Limits.{things, edgesFit, taskFits, conditionFits, messageFits, assignmentFits}
 use Rattle.text_readers.specs.Reading.{Reader, _then_}
 use Rattle.text_parts.specs.Parts.{partOf}
-use Rattle.proof_trips.specs.Trip.{regionOf}
-use Rattle.proof_trips.proofs.NumberReads.{then-of, else-of}
-use Rattle.proof_trips.proofs.FitsLaws.{task-ranges}
+use Rattle.proof_roundtrip.specs.Trip.{regionOf}
+use Rattle.proof_roundtrip.proofs.NumberReads.{then-of, else-of}
+use Rattle.proof_roundtrip.proofs.FitsLaws.{task-ranges}
 use Rattle.proof_roundtrip.proofs.RegionLaws.{region-entry, region-entries, region-exit, region-exits, region-guarded, region-receiving-exits, region-receiving-messages, region-template, region-message, region-number, region-mode, region-guard, region-assignments}
 use Rattle.proof_roundtrip.proofs.FillLaws.{Fills, fills-wider, fills-region}
 use Rattle.proof_roundtrip.proofs.EdgeFills.{fills-one, fills-several}

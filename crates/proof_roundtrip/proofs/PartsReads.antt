@@ -13,15 +13,16 @@ use Rattle.base_words.specs.Pick.{if_then_else_}
 use Rattle.base_words.specs.Words.{at}
 use Rattle.base_words.proofs.AllLaws.{and-left, and-right}
 use Rattle.base_words.proofs.PickLaws.{pick-yes, pick-no}
-use Rattle.text_lexer.specs.Lexer.{isSign, among}
+use Rattle.text_lexer.specs.Lexer.{isSign}
+use Rattle.base_bytes.specs.Bytes.{among}
 use Rattle.text_readers.specs.Reading.{Reader, nothing, _then_, sign}
 use Rattle.text_parts.specs.Parts.{partOf}
 use Rattle.text_elements.specs.Elements.{partsFrom}
 use Rattle.write_shown.specs.Shown.{shownPart, shownParts}
-use Rattle.proof_trips.specs.Trip.{Trip, closes, ends, behindPart, regionOf}
-use Rattle.proof_trips.proofs.ReadsLaws.{Reads, reads-nothing, reads-before, reads-of, reads-as, reads-text, reads-wider, reads-then}
-use Rattle.proof_trips.proofs.SignReads.{reads-sign}
-use Rattle.proof_trips.proofs.TripLaws.{or-either}
+use Rattle.proof_roundtrip.specs.Trip.{Trip, mayClose, ends, behindPart, regionOf}
+use Rattle.proof_roundtrip.proofs.ReadsLaws.{Reads, reads-nothing, reads-before, reads-of, reads-as, reads-text, reads-wider, reads-then}
+use Rattle.proof_roundtrip.proofs.SignReads.{reads-sign}
+use Rattle.proof_roundtrip.proofs.TripLaws.{or-either}
 use Rattle.proof_roundtrip.proofs.RowLaws.{listed, bare, lastly}
 use Rattle.proof_roundtrip.proofs.RegionLaws.{or-right}
 
@@ -77,8 +78,8 @@ listed-place (d ∷ cs) c h = go (eqb d (code " ")) refl (listed-place cs c)
         ⊎-elim (λ q. (0, omega arith, q, λ z. eqb-false d 32 e (sym q ∙ z))) (λ q. let r = k q in (suc (r .0), omega (arith, r .1), r .2, r .3)) (listed-cases d cs e c h)
 
 -- what stands behind a part: the next part, or what stands behind them all
-ends-closes : (rest : List ℕ) → ends rest ≡ true → closes rest ≡ true
-unfolding ends closes
+ends-closes : (rest : List ℕ) → ends rest ≡ true → mayClose rest ≡ true
+unfolding ends mayClose
 ends-closes [] e = absurd (false≢true e)
 ends-closes (b ∷ rest) e = rw (eqb-true b 41 e)
 
@@ -87,20 +88,20 @@ unfolding shownParts bare
 none-shown [] el s h = refl
 none-shown (c ∷ cs) el s h = sym (pick-yes (eqb c (code " ")) _ _ _ h refl)
 
-more-closes : (cs el rest : List ℕ) → ends rest ≡ true → closes (shownParts (code ",") cs el ++ rest) ≡ true
+more-closes : (cs el rest : List ℕ) → ends rest ≡ true → mayClose (shownParts (code ",") cs el ++ rest) ≡ true
 unfolding shownParts
 more-closes [] el rest e = ends-closes rest e
 more-closes (c ∷ cs) el rest e = go (eqb c (code " "))
   where
-    go : (b : Bool) → closes ((if b then [] else code "," ∷ (shownPart c el ++ shownParts (code ",") cs el)) ++ rest) ≡ true
+    go : (b : Bool) → mayClose ((if b then [] else code "," ∷ (shownPart c el ++ shownParts (code ",") cs el)) ++ rest) ≡ true
     go true = unfold if_then_else_ in ends-closes rest e
-    go false = unfold if_then_else_ closes in refl
+    go false = unfold if_then_else_ mayClose in refl
 
 part-followed : (c : ℕ) (cs el rest : List ℕ) → not (eqb c (code "B")) || bare cs ≡ true → ends rest ≡ true → behindPart c (shownParts (code ",") cs el ++ rest) ≡ true
 unfolding behindPart
 part-followed c cs el rest h e = go (eqb c (code "B")) h
   where
-    go : (b : Bool) → not b || bare cs ≡ true → (if b then ends (shownParts (code ",") cs el ++ rest) else closes (shownParts (code ",") cs el ++ rest)) ≡ true
+    go : (b : Bool) → not b || bare cs ≡ true → (if b then ends (shownParts (code ",") cs el ++ rest) else mayClose (shownParts (code ",") cs el ++ rest)) ≡ true
     go true h = unfold if_then_else_ in ap (λ (w : List ℕ). ends (w ++ rest)) (none-shown cs el 44 h) ∙ e
     go false h = unfold if_then_else_ in more-closes cs el rest e
 

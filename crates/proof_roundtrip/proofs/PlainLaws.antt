@@ -19,8 +19,8 @@ use Rattle.base_table.specs.Table.{poolCount, elementCount, elementAt}
 use Rattle.check_limits.specs.Limits.{poolFits, tableFits}
 use Rattle.check_model.specs.Checks.{Pool}
 use Rattle.text_ends.specs.Rewriting.{isEndSnd, endSends}
-use Rattle.proof_ends.proofs.Models.{Every, every-last}
-use Rattle.proof_ends.proofs.Rewritten.{Plain}
+use Rattle.proof_roundtrip.proofs.EndModels.{Every, every-last}
+use Rattle.proof_roundtrip.proofs.Rewritten.{Plain}
 use Rattle.proof_roundtrip.specs.Blocks.{wordsAt, blockAt, blocksOf}
 use Rattle.proof_roundtrip.proofs.TableFits.{pools-fit, elements-high, elements-held}
 

@@ -15,8 +15,10 @@ use Rattle.base_words.specs.Sum.{sum}
 use Rattle.base_words.specs.Text.{bytes}
 use Rattle.base_kinds.specs.Kinds.{kindOf, used}
 use Rattle.base_table.specs.Table.{entryCount, exitCount}
-use Rattle.text_lexer.specs.Lexer.{among, between, isBlank, isWord, isLetter, isDigit, isSign, past, tokenOf, tokenHere, tokenAt, ifWord, ifSign, ifEnd}
-use Rattle.text_numerals.specs.Numerals.{valueFrom, leadingZero, numberOf, sameBytes}
+use Rattle.text_lexer.specs.Lexer.{isBlank, isWord, isSign, tokenOf, tokenHere, tokenAt, ifWord, ifSign, ifEnd}
+use Rattle.base_bytes.specs.Bytes.{among, between, isLetter, isDigit, past}
+use Rattle.text_numerals.specs.Numerals.{valueFrom, leadingZero, numberOf}
+use Rattle.base_bytes.specs.Bytes.{sameBytes}
 use Rattle.text_readers.specs.declared.Read.the-variants.{At}
 use Rattle.text_readers.specs.Reading.{ifAt, onward, signAt, endAt, keepNumber, number, _then_}
 use Rattle.text_parts.specs.Parts.{itemOf, itemsFrom, items, inside, series, message, starts, tooMany, counted, oneEdge, partOf}

@@ -18,19 +18,20 @@ use Rattle.base_words.proofs.PickLaws.{pick-yes, pick-no}
 use Rattle.base_table.specs.Places.{poolPlace, limitPlace}
 use Rattle.base_table.specs.Table.{elementCount, elementAt}
 use Rattle.text_lexer.specs.declared.Token.{Token}
-use Rattle.text_lexer.specs.Lexer.{isWord, isLetter, isDigit, isSign, among, between, ifWord}
+use Rattle.text_lexer.specs.Lexer.{isWord, isSign, ifWord}
+use Rattle.base_bytes.specs.Bytes.{isLetter, isDigit, among, between}
 use Rattle.text_lexer.proofs.TokenLaws.{left-at, bytes-at}
-use Rattle.text_numerals.specs.Numerals.{sameBytes}
+use Rattle.base_bytes.specs.Bytes.{sameBytes}
 use Rattle.text_readers.specs.declared.Read.the-variants.{At, Refused}
-use Rattle.text_readers.specs.Reading.{Parsed, misplaced, passed, ifAt}
+use Rattle.text_readers.specs.Reading.{Parsed, misplaced, passedTo, ifAt}
 use Rattle.write_decimals.specs.Decimals.{shown}
 use Rattle.text_elements.specs.Elements.{startsElement}
 use Rattle.check_model.specs.Checks.{Pool}
 use Rattle.text_read.specs.Notation.{elementAlone, elementsAt, plain, poolWord, opening, closing, unread, closed, insidePool, poolOfWord, pool}
 use Rattle.write_shown.specs.Shown.{shownElement, shownElements, shownLimit, shownPool}
-use Rattle.proof_trips.specs.Trip.{stops}
-use Rattle.proof_trips.proofs.SignReads.{opens, sign-miss, sign-stops}
-use Rattle.proof_trips.proofs.NumberReads.{Worded, word-token}
+use Rattle.proof_roundtrip.specs.Trip.{mayFollow}
+use Rattle.proof_roundtrip.proofs.SignReads.{opens, sign-miss, sign-stops}
+use Rattle.proof_roundtrip.proofs.NumberReads.{Worded, word-token}
 use Rattle.proof_roundtrip.specs.Blocks.{wordsAt, blockAt}
 use Rattle.proof_roundtrip.proofs.BarLaws.{Comes, separated-trip}
 use Rattle.proof_roundtrip.proofs.OpenReads.{behind-number, opening-trip, closing-plain, closing-multiple}
@@ -40,12 +41,12 @@ block n m els = record { number = n; limit = m; elements = els }
 
 -- inside the parentheses: its number, its elements, its end
 inside-at : (k : ℕ) (text : List ℕ) (h : Parsed) (a c : ℕ) (w : List ℕ) (els : List (List ℕ)) (r : Parsed)
-    → h ≡ passed a w → elementsAt text a ≡ record { end = At c; value = els } → closing k text c w ≡ r → insidePool k text h ≡ closed r els
+    → h ≡ passedTo a w → elementsAt text a ≡ record { end = At c; value = els } → closing k text c w ≡ r → insidePool k text h ≡ closed r els
 unfolding insidePool ifAt
 inside-at k text h a c w els r e f g = rw (e, f, g)
 
 -- the word of a pool, and what is inside
-pool-at : (text w rest : List ℕ) (from k : ℕ) → drop from text ≡ w ++ rest → Worded w → stops rest ≡ true → poolWord w ≡ k → (k ≡ 0 → ⊥)
+pool-at : (text w rest : List ℕ) (from k : ℕ) → drop from text ≡ w ++ rest → Worded w → mayFollow rest ≡ true → poolWord w ≡ k → (k ≡ 0 → ⊥)
     → pool text from ≡ insidePool k text (opening text (from + length w) (0 ∷ 0 ∷ []))
 pool-at text w rest from k d g s e n =
     taken
@@ -73,7 +74,7 @@ module _ (text rest : List ℕ) (from n : ℕ) (els : List (List ℕ)) (es : Lis
   plain-trip d h =
       pool-at text (bytes "pool") (code "(" ∷ (shown n ++ (code "," ∷ (es ++ (code ")" ∷ rest))))) from 1 d (record { some = omega arith; plain = unfold each isWord isLetter isDigit between in refl })
       (sign-stops (code "(") _ (unfold isSign among in refl)) (unfold poolWord sameBytes if_then_else_ in refl) (λ e. omega (arith, e))
-      ∙ inside-at 1 text _ a (a + length es) (n ∷ 0 ∷ []) els (passed (a + length es + 1) (n ∷ 0 ∷ []))
+      ∙ inside-at 1 text _ a (a + length es) (n ∷ 0 ∷ []) els (passedTo (a + length es + 1) (n ∷ 0 ∷ []))
       (opening-trip text (es ++ (code ")" ∷ rest)) (from + 4) n l u d₁) (h a d₂) (closing-plain text rest (a + length es) (n ∷ 0 ∷ []) (left-at text a es (code ")" ∷ rest) d₂))
       ∙ done
     where
@@ -86,7 +87,7 @@ module _ (text rest : List ℕ) (from n : ℕ) (els : List (List ℕ)) (es : Lis
       d₂ : drop a text ≡ es ++ (code ")" ∷ rest)
       d₂ = behind-number text (es ++ (code ")" ∷ rest)) (from + 4) (code "(") (code ",") n d₁
 
-      done : closed (passed (a + length es + 1) (n ∷ 0 ∷ [])) els ≡ record { end = At (from + (4 + (length (shown n) + 2 + (length es + 1)))); value = block n 0 els }
+      done : closed (passedTo (a + length es + 1) (n ∷ 0 ∷ [])) els ≡ record { end = At (from + (4 + (length (shown n) + 2 + (length es + 1)))); value = block n 0 els }
       done = unfold closed in ap (λ (q : ℕ). record { end = At q; value = block n 0 els }) (omega arith)
 
   -- `miPool(n,..,m)`
@@ -96,7 +97,7 @@ module _ (text rest : List ℕ) (from n : ℕ) (els : List (List ℕ)) (es : Lis
   multiple-trip m lm um d h =
       pool-at text (bytes "miPool") (code "(" ∷ (shown n ++ (code "," ∷ (es ++ (code "," ∷ (shown m ++ (code ")" ∷ rest))))))) from 2 d (record { some = omega arith; plain = unfold each isWord isLetter isDigit between in refl })
       (sign-stops (code "(") _ (unfold isSign among in refl)) (unfold poolWord sameBytes if_then_else_ in refl) (λ e. omega (arith, e))
-      ∙ inside-at 2 text _ a (a + length es) (n ∷ 0 ∷ []) els (passed (a + length es + (length (shown m) + 2)) (n ∷ m ∷ []))
+      ∙ inside-at 2 text _ a (a + length es) (n ∷ 0 ∷ []) els (passedTo (a + length es + (length (shown m) + 2)) (n ∷ m ∷ []))
       (opening-trip text (es ++ (code "," ∷ (shown m ++ (code ")" ∷ rest)))) (from + 6) n l u d₁) (h a d₂)
       (closing-multiple text rest (a + length es) m n lm um (left-at text a es (code "," ∷ (shown m ++ (code ")" ∷ rest))) d₂))
       ∙ done
@@ -110,7 +111,7 @@ module _ (text rest : List ℕ) (from n : ℕ) (els : List (List ℕ)) (es : Lis
       d₂ : drop a text ≡ es ++ (code "," ∷ (shown m ++ (code ")" ∷ rest)))
       d₂ = behind-number text (es ++ (code "," ∷ (shown m ++ (code ")" ∷ rest)))) (from + 6) (code "(") (code ",") n d₁
 
-      done : closed (passed (a + length es + (length (shown m) + 2)) (n ∷ m ∷ [])) els ≡ record { end = At (from + (6 + (length (shown n) + 2 + (length es + (length (shown m) + 2))))); value = block n m els }
+      done : closed (passedTo (a + length es + (length (shown m) + 2)) (n ∷ m ∷ [])) els ≡ record { end = At (from + (6 + (length (shown n) + 2 + (length es + (length (shown m) + 2))))); value = block n m els }
       done = unfold closed in ap (λ (q : ℕ). record { end = At q; value = block n m els }) (omega arith)
 
 around : (w num els lim rest : List ℕ) → (w ++ (code "(" ∷ ((num ++ (code "," ∷ (els ++ lim))) ++ (code ")" ∷ [])))) ++ rest ≡ w ++ (code "(" ∷ (num ++ (code "," ∷ (els ++ (lim ++ (code ")" ∷ rest))))))

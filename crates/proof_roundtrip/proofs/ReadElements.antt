@@ -18,10 +18,10 @@ use Rattle.base_kinds.specs.Kinds.{kindOf}
 use Rattle.base_table.specs.Places.{elementWords, kindPlace}
 use Rattle.check_limits.specs.Limits.{partsFit, elementFits}
 use Rattle.text_lexer.specs.Lexer.{tokenAt}
-use Rattle.text_readers.specs.Reading.{misplaced, passed, refused, placeOf, behind, letters}
+use Rattle.text_readers.specs.Reading.{misplaced, passedTo, refusedAt, placeOf, behind, letters}
 use Rattle.text_elements.specs.Elements.{kindCount, isKeyword, kindNamed, blank, partsOf, elementOf, element}
-use Rattle.proof_trips.specs.Trip.{spans, regionOf}
-use Rattle.proof_ends.proofs.Models.{Right}
+use Rattle.proof_roundtrip.specs.Trip.{spans, regionOf}
+use Rattle.proof_roundtrip.proofs.EndModels.{Right}
 use Rattle.proof_roundtrip.proofs.BlankLaws.{blank-kind, blank-length, blank-zero}
 use Rattle.proof_roundtrip.proofs.KindLaws.{of-kind}
 use Rattle.proof_roundtrip.proofs.FillLaws.{Fills, Filled, refused-passed, idle-sign, fills-before}
@@ -55,7 +55,7 @@ module _ (k : ℕ) (l : 0 < k) (u : k < kindCount + 1) where
   stored-not : (i : ℕ) → stores (kindOf k .parts) i ≡ true → i ≡ kindPlace → ⊥
   stored-not i s e = false≢true (sym (row-kind k l u) ∙ ap (stores (kindOf k .parts)) (sym e) ∙ s)
 
-  right-parts : (text x : List ℕ) (from q : ℕ) (y : List ℕ) → length x ≡ elementWords → partsOf k text from (blank k x) ≡ passed q y → Right y
+  right-parts : (text x : List ℕ) (from q : ℕ) (y : List ℕ) → length x ≡ elementWords → partsOf k text from (blank k x) ≡ passedTo q y → Right y
   right-parts text x from q y n e = right (fills-parts .fills text (blank k x) from q y e (blank-length k x ∙ n) (λ i s. blank-zero k x i (stored-not i s)))
     where
       right : Filled (blank k x) y (λ i. stores (kindOf k .parts) i ≡ true) (Good (kindOf k) (kindOf k .parts)) → Right y
@@ -81,16 +81,16 @@ module _ (k : ℕ) (l : 0 < k) (u : k < kindCount + 1) where
               ap (λ (j : ℕ). not (eqb (kindOf j .letters) 0) && partsFit (kindOf j) y) kind
               ∙ and-true (not (eqb (kindOf k .letters) 0)) (partsFit (kindOf k) y) (row-letters k l u) (parts-right k l u y (f .good) zero)
 
-right-element : (k p : ℕ) (text x : List ℕ) (from q : ℕ) (y : List ℕ) → k < kindCount + 1 → length x ≡ elementWords → elementOf k p text from x ≡ passed q y → Right y
+right-element : (k p : ℕ) (text x : List ℕ) (from q : ℕ) (y : List ℕ) → k < kindCount + 1 → length x ≡ elementWords → elementOf k p text from x ≡ passedTo q y → Right y
 unfolding elementOf
 right-element k p text x from q y u n e = go (eqb k 0) refl e
   where
-    go : (b : Bool) → eqb k 0 ≡ b → (if b then refused misplaced p (blank 0 x) else partsOf k text from (blank k x)) ≡ passed q y → Right y
+    go : (b : Bool) → eqb k 0 ≡ b → (if b then refusedAt misplaced p (blank 0 x) else partsOf k text from (blank k x)) ≡ passedTo q y → Right y
     go true z e = absurd (refused-passed misplaced p q (blank 0 x) y (unfold if_then_else_ in e))
     go false z e = let m = eqb-false k 0 z in right-parts k (omega (arith, m)) u text x from q y n (unfold if_then_else_ in e)
 
 -- THE LAW
-pub element-right : (text x : List ℕ) (from q : ℕ) (y : List ℕ) → length x ≡ elementWords → element text from x ≡ passed q y → Right y
+pub element-right : (text x : List ℕ) (from q : ℕ) (y : List ℕ) → length x ≡ elementWords → element text from x ≡ passedTo q y → Right y
 unfolding element
 element-right text x from q y n e =
     right-element (kindNamed (letters text from)) (placeOf text from) text x (behind text from) q y (named-most (letters text from)) n

@@ -16,11 +16,11 @@ use Rattle.text_lexer.specs.declared.Form.the-variants.{Word, Sign, Assign, End
 use Rattle.text_lexer.specs.Lexer.{tokenAt, ifWord}
 use Rattle.text_readers.specs.declared.Read.{Read}
 use Rattle.text_readers.specs.declared.Read.the-variants.{At, Refused}
-use Rattle.text_readers.specs.Reading.{Parsed, Reader, misplaced, passed, ifAt, onward, _then_, placeOf, behind, letters, signAt, endAt, sign, number}
+use Rattle.text_readers.specs.Reading.{Parsed, Reader, misplaced, passedTo, ifAt, onward, _then_, placeOf, behind, letters, signAt, endAt, sign, number}
 use Rattle.text_elements.specs.Elements.{element, startsElement}
 use Rattle.check_model.specs.Checks.{Pool}
 use Rattle.text_read.specs.Notation.{Got, oneTooMany, putBefore, barred, elementAlone, elementsAt, plain, poolWord, opening, closing, unread, closed, insidePool, poolOfWord, pool, startsPool, poolsAt, model}
-use Rattle.proof_ends.proofs.Models.{Every, Right, Fit, Model}
+use Rattle.proof_roundtrip.proofs.EndModels.{Every, Right, Fit, Model}
 use Rattle.proof_roundtrip.proofs.FillLaws.{onward-passed}
 use Rattle.proof_roundtrip.proofs.WordFills.{Kept, number-passed}
 use Rattle.proof_roundtrip.proofs.ReadElements.{element-right}
@@ -78,8 +78,8 @@ elements-good text from q e = barred-some elementAlone startsElement Right eleme
 
 -- A POOL
 -- a number between two signs
-number-kept : (least most place : ℕ) (g : Reader) (text x y : List ℕ) (from q : ℕ) (w : List ℕ) → x ≡ y → ((text z : List ℕ) (from q : ℕ) (w : List ℕ) → g text from z ≡ passed q w → w ≡ z)
-    → onward (number least most place text from y) (g text) ≡ passed q w → Kept least most place x w
+number-kept : (least most place : ℕ) (g : Reader) (text x y : List ℕ) (from q : ℕ) (w : List ℕ) → x ≡ y → ((text z : List ℕ) (from q : ℕ) (w : List ℕ) → g text from z ≡ passedTo q w → w ≡ z)
+    → onward (number least most place text from y) (g text) ≡ passedTo q w → Kept least most place x w
 number-kept least most place g text x y from q w e idle h =
     let o = onward-passed (number least most place text from y) (g text) q w h in
     let k = number-passed least most place text y from (o .place) (o .words) (o .first) in
@@ -88,30 +88,30 @@ number-kept least most place g text x y from q w e idle h =
     same-put : (v : ℕ) (z : List ℕ) → set y place v ≡ z → w ≡ z → set x place v ≡ w
     same-put v z a b = ap (λ (u : List ℕ). set u place v) e ∙ a ∙ sym b
 
-between-kept : (a b least most place : ℕ) (text x : List ℕ) (from q : ℕ) (w : List ℕ) → (sign a then number least most place then sign b) text from x ≡ passed q w → Kept least most place x w
+between-kept : (a b least most place : ℕ) (text x : List ℕ) (from q : ℕ) (w : List ℕ) → (sign a then number least most place then sign b) text from x ≡ passedTo q w → Kept least most place x w
 unfolding _then_
 between-kept a b least most place text x from q w e =
     let m = onward-passed (sign a text from x) ((number least most place then sign b) text) q w e in
     number-kept least most place (sign b) text x (m .words) (m .place) q w (ap (λ (r : Parsed). r .words) (m .first)) (λ text z from q w h. sym (ap (λ (r : Parsed). r .words) h)) (m .further)
 
 -- its number, and its limit
-opening-words : (text : List ℕ) (from a : ℕ) (w : List ℕ) → opening text from (0 ∷ 0 ∷ []) ≡ passed a w → (v : ℕ) × (1 ≤ v) × (v ≤ poolNumbers) × (v ∷ 0 ∷ [] ≡ w)
+opening-words : (text : List ℕ) (from a : ℕ) (w : List ℕ) → opening text from (0 ∷ 0 ∷ []) ≡ passedTo a w → (v : ℕ) × (1 ≤ v) × (v ≤ poolNumbers) × (v ∷ 0 ∷ [] ≡ w)
 unfolding opening
 opening-words text from a w e = let k = between-kept (code "(") (code ",") 1 poolNumbers 0 text (0 ∷ 0 ∷ []) from a w e in (k .value, k .low, k .high, k .put)
 
 abbrev Closed : ℕ → List ℕ → Type 0
 Closed v w = (at w 0 ≡ v) × (at w limitIn ≤ instances)
 
-closing-words : (k v : ℕ) (text : List ℕ) (from q : ℕ) (w : List ℕ) → closing k text from (v ∷ 0 ∷ []) ≡ passed q w → Closed v w
+closing-words : (k v : ℕ) (text : List ℕ) (from q : ℕ) (w : List ℕ) → closing k text from (v ∷ 0 ∷ []) ≡ passedTo q w → Closed v w
 unfolding closing
 closing-words k v text from q w e = go (eqb k plain) e
   where
-    go : (b : Bool) → (if b then sign (code ")") else sign (code ",") then number 1 instances limitIn then sign (code ")")) text from (v ∷ 0 ∷ []) ≡ passed q w → Closed v w
+    go : (b : Bool) → (if b then sign (code ")") else sign (code ",") then number 1 instances limitIn then sign (code ")")) text from (v ∷ 0 ∷ []) ≡ passedTo q w → Closed v w
     go true e = unfold if_then_else_ in subst (Closed v) (ap (λ (r : Parsed). r .words) e) (refl, omega arith)
     go false e = unfold if_then_else_ in let k = between-kept (code ",") (code ")") 1 instances limitIn text (v ∷ 0 ∷ []) from q w e in subst (Closed v) (k .put) (refl, k .high)
 
 -- what was read where reading passed
-passed-as : (r : Parsed) (q : ℕ) → r .end ≡ At q → r ≡ passed q (r .words)
+passed-as : (r : Parsed) (q : ℕ) → r .end ≡ At q → r ≡ passedTo q (r .words)
 passed-as r q e = ap (λ (z : Read). record { end = z; words = r .words }) e
 
 closed-fit : (r : Parsed) (els : List (List ℕ)) (q v : ℕ) → 1 ≤ v → v ≤ poolNumbers → Closed v (r .words) → Elements elements els → closed r els .end ≡ At q → Fit (closed r els .value)
@@ -125,7 +125,7 @@ unfolding ifAt
 got-passed (At a) go q f e = f a refl e
 got-passed (Refused n p) go q f e = absurd (not-at n p q e)
 
-closing-end : (r : Parsed) (els : List (List ℕ)) (q : ℕ) → closed r els .end ≡ At q → r ≡ passed q (r .words)
+closing-end : (r : Parsed) (els : List (List ℕ)) (q : ℕ) → closed r els .end ≡ At q → r ≡ passedTo q (r .words)
 unfolding closed
 closing-end r els q e = passed-as r q e
 

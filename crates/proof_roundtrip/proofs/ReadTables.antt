@@ -27,8 +27,8 @@ use Rattle.proof_roundtrip.proofs.TableFits.{element-long}
 use Rattle.check_limits.proofs.SameLaws.{element-same}
 use Rattle.proof_roundtrip.proofs.ExpressionFills.{zeros-of}
 use Rattle.proof_roundtrip.proofs.ListFills.{things-of}
-use Rattle.proof_ends.proofs.Models.{Every, every-in, Right, Fit, Model}
-use Rattle.proof_ends.proofs.Rewritten.{Plain, no-end-at}
+use Rattle.proof_roundtrip.proofs.EndModels.{Every, every-in, Right, Fit, Model}
+use Rattle.proof_roundtrip.proofs.Rewritten.{Plain, no-end-at}
 use Rattle.proof_roundtrip.proofs.FlatLaws.{every-at, every-map, every-as, at-filled, length-filled, Wide, length-flat, at-flat, flat-beyond, Small, small-flat}
 
 -- a list by its places

@@ -7,7 +7,7 @@ use lib.Dec.{eqb, leb, ltb}
 use borrow.Author.Tests.{le-leb, lt-ltb, eq-eqb}
 use Rattle.base_words.proofs.PickLaws.{and-true}
 use Rattle.base_table.specs.Places.{taskPlace, modePlace, entriesPlace, exitsPlace, conditionPlace, messagePlace, assignmentsPlace, elementWords}
-use Rattle.proof_trips.specs.Trip.{spans, regionOf}
+use Rattle.proof_roundtrip.specs.Trip.{spans, regionOf}
 use Rattle.base_words.specs.Pick.{if_then_else_}
 
 span-in : (from to i : ℕ) → from ≤ i → i < to → spans from to i ≡ true

@@ -17,8 +17,8 @@ use Rattle.check_model.specs.Checks.{Pool, lowest}
 use Rattle.check_lowest.specs.Model.{modelOf}
 use Rattle.text_read.specs.Notation.{Got, ReadInto, model, tableOf, rewritten, hasRoom, checked, judged, readInto}
 use Rattle.write_shown.specs.Shown.{shownTable}
-use Rattle.proof_ends.proofs.Models.{Every, Model}
-use Rattle.proof_ends.proofs.Rewritten.{Plain, left-alone, room-without, none-left, rewritten-fits, rewritten-sound}
+use Rattle.proof_roundtrip.proofs.EndModels.{Every, Model}
+use Rattle.proof_roundtrip.proofs.Rewritten.{Plain, left-alone, room-without, none-left, rewritten-fits, rewritten-sound}
 use Rattle.proof_roundtrip.specs.Blocks.{blocksOf}
 use Rattle.proof_roundtrip.proofs.ModelReads.{model-read}
 use Rattle.proof_roundtrip.proofs.TableLaws.{table-same}

@@ -20,10 +20,10 @@ use Rattle.base_table.specs.Places.{taskPlace, modePlace, entriesPlace, exitsPl
 use Rattle.text_readers.specs.Reading.{Reader, _then_, nothing, sign}
 use Rattle.text_parts.specs.Parts.{partOf}
 use Rattle.text_elements.specs.Elements.{kindCount, partsFrom}
-use Rattle.proof_trips.specs.Trip.{spans, regionOf}
-use Rattle.proof_trips.proofs.ReadsLaws.{Both}
-use Rattle.proof_trips.proofs.NumberReads.{else-of}
-use Rattle.proof_trips.proofs.TripLaws.{or-either}
+use Rattle.proof_roundtrip.specs.Trip.{spans, regionOf}
+use Rattle.proof_roundtrip.proofs.ReadsLaws.{Both}
+use Rattle.proof_roundtrip.proofs.NumberReads.{else-of}
+use Rattle.proof_roundtrip.proofs.TripLaws.{or-either}
 use Rattle.proof_roundtrip.proofs.KindLaws.{of-kind}
 use Rattle.proof_roundtrip.proofs.RowLaws.{listed}
 use Rattle.proof_roundtrip.proofs.RegionLaws.{or-right}

@@ -12,7 +12,7 @@ use Rattle.base_words.specs.All.{all}
 use Rattle.base_words.specs.Pick.{if_then_else_}
 use Rattle.base_kinds.specs.Kinds.{kindOf, one, many}
 use Rattle.text_elements.specs.Elements.{kindCount}
-use Rattle.proof_trips.proofs.TripLaws.{or-either}
+use Rattle.proof_roundtrip.proofs.TripLaws.{or-either}
 use Rattle.proof_roundtrip.proofs.KindLaws.{of-kind}
 
 -- a part's code stands in a row, before its blanks

@@ -17,8 +17,8 @@ use Rattle.base_table.specs.Table.{poolCount, elementCount, elementAt}
 use Rattle.check_limits.specs.Limits.{within, zeros, things, elementFits, heldFits, poolFits, tableFits}
 use Rattle.check_limits.proofs.SameLaws.{held-all}
 use Rattle.text_ends.specs.Rewriting.{isEndSnd}
-use Rattle.proof_trips.proofs.ExpressionLaws.{zeros-at}
-use Rattle.proof_trips.proofs.FitsLaws.{within-low, within-high, things-right, things-none}
+use Rattle.proof_roundtrip.proofs.ExpressionLaws.{zeros-at}
+use Rattle.proof_roundtrip.proofs.FitsLaws.{within-low, within-high, things-right, things-none}
 
 -- ITS POOLS
 module _ (t : List ℕ) (h : tableFits t ≡ true) where

@@ -19,8 +19,8 @@ use Rattle.base_table.specs.Places.{elementWords, taskPlace, modePlace, conditi
 use Rattle.check_limits.specs.Limits.{within, things, taskFits, conditionFits, assignmentFits}
 use Rattle.text_readers.specs.Reading.{Reader}
 use Rattle.text_parts.specs.Parts.{assignmentList, itemOf, starts, series, taskPart}
-use Rattle.proof_trips.proofs.ReadsLaws.{Both}
-use Rattle.proof_trips.proofs.NumberReads.{Span}
+use Rattle.proof_roundtrip.proofs.ReadsLaws.{Both}
+use Rattle.proof_roundtrip.proofs.NumberReads.{Span}
 use Rattle.check_limits.proofs.SameLaws.{things-same, assignment-same}
 use Rattle.proof_roundtrip.proofs.FillLaws.{Fills, span-region, idle-sign, fills-then, fills-behind, fills-wider}
 use Rattle.proof_roundtrip.proofs.WordFills.{Ranged, fills-number, fills-mode}

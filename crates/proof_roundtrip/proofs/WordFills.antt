@@ -9,7 +9,7 @@ use lib.Dec.{eqb, leb, ltb}
 use lib.ListN.{length, drop, set, length-set}
 use lib.Seq.{getD-drop, getD-set-same, getD-set-other}
 use borrow.Author.Tests.{leb-true, ltb-true, eqb-false, lt-ltb}
-use Rattle.base_words.specs.Counts.{fields, stores, named}
+use Rattle.base_words.specs.Counts.{fields, stores, fieldsNamed}
 use Rattle.base_words.specs.Pick.{if_then_else_}
 use Rattle.base_words.specs.Text.{bytes}
 use Rattle.base_words.specs.Words.{at, greatest}
@@ -19,19 +19,21 @@ use Rattle.base_table.specs.Places.{elementWords, modePlace, aField, operandNum
 use Rattle.check_limits.specs.Limits.{operandFits}
 use Rattle.text_lexer.specs.declared.Form.{Form}
 use Rattle.text_lexer.specs.declared.Form.the-variants.{Word, Sign, Assign, End, Other}
-use Rattle.text_lexer.specs.Lexer.{isDigit, tokenAt, ifWord}
+use Rattle.text_lexer.specs.Lexer.{tokenAt, ifWord}
+use Rattle.base_bytes.specs.Bytes.{isDigit}
 use Rattle.text_numerals.specs.declared.Number.{Number}
 use Rattle.text_numerals.specs.declared.Number.the-variants.{Value, TooLarge, NotANumber}
 use Rattle.text_numerals.specs.declared.Operand.{Operand}
 use Rattle.text_numerals.specs.declared.Operand.the-variants.{Number as OfNumber, Field, OutOfRange, NotAnOperand}
-use Rattle.text_numerals.specs.Numerals.{valueFrom, leadingZero, numberOf, isFieldLetter, fieldBehind, fieldFrom, fieldOf, sameBytes, asNumber, asField, operandOf, ifValue}
-use Rattle.text_readers.specs.Reading.{Parsed, misplaced, excessive, passed, refused, placeOf, behind, letters, keepNumber, number, field, keepOperand, operand, modeNamed, keepMode, mode}
-use Rattle.proof_trips.proofs.NumberReads.{Span}
+use Rattle.text_numerals.specs.Numerals.{valueFrom, leadingZero, numberOf, isFieldLetter, fieldBehind, fieldFrom, fieldOf, asNumber, asField, operandOf, ifValue}
+use Rattle.base_bytes.specs.Bytes.{sameBytes}
+use Rattle.text_readers.specs.Reading.{Parsed, misplaced, excessive, passedTo, refusedAt, placeOf, behind, letters, keepNumber, number, field, keepOperand, operand, modeNamed, keepMode, mode}
+use Rattle.proof_roundtrip.proofs.NumberReads.{Span}
 use Rattle.proof_roundtrip.proofs.FillLaws.{refused-passed, same-words, Filled, Fills, filled-set, span-region}
 use Rattle.check_limits.proofs.SameLaws.{operand-same}
 
 -- a word is read where reading passes
-pub word-passed : (form : Form) (u : Parsed) (n p q : ℕ) (x y : List ℕ) → ifWord form u (refused n p x) ≡ passed q y → u ≡ passed q y
+pub word-passed : (form : Form) (u : Parsed) (n p q : ℕ) (x y : List ℕ) → ifWord form u (refusedAt n p x) ≡ passedTo q y → u ≡ passedTo q y
 unfolding ifWord
 word-passed Word u n p q x y e = e
 word-passed (Sign s) u n p q x y e = absurd (refused-passed n p q x y e)
@@ -40,7 +42,7 @@ word-passed End u n p q x y e = absurd (refused-passed n p q x y e)
 word-passed Other u n p q x y e = absurd (refused-passed n p q x y e)
 
 -- a test is passed
-pub test-passed : (b : Bool) (u : Parsed) (n p q : ℕ) (x y : List ℕ) → (if b then u else refused n p x) ≡ passed q y → (b ≡ true) × (u ≡ passed q y)
+pub test-passed : (b : Bool) (u : Parsed) (n p q : ℕ) (x y : List ℕ) → (if b then u else refusedAt n p x) ≡ passedTo q y → (b ≡ true) × (u ≡ passedTo q y)
 unfolding if_then_else_
 test-passed true u n p q x y e = (refl, e)
 test-passed false u n p q x y e = absurd (refused-passed n p q x y e)
@@ -84,10 +86,10 @@ pub record Kept (least most place : ℕ) (x y : List ℕ) : Type 0 where
   pub high : value ≤ most
   pub put : set x place value ≡ y
 
-kept : (n : Number) (least most place p q r : ℕ) (x y : List ℕ) → keepNumber n least most place p q x ≡ passed r y → Kept least most place x y
+kept : (n : Number) (least most place p q r : ℕ) (x y : List ℕ) → keepNumber n least most place p q x ≡ passedTo r y → Kept least most place x y
 unfolding keepNumber
 kept (Value v) least most place p q r x y e =
-    let m = test-passed (leb least v && leb v most) (passed q (set x place v)) excessive p r x y e in
+    let m = test-passed (leb least v && leb v most) (passedTo q (set x place v)) excessive p r x y e in
     record {
       value = v;
       low = leb-true least v (and-left (leb least v) (leb v most) (m .0));
@@ -97,7 +99,7 @@ kept (Value v) least most place p q r x y e =
 kept TooLarge least most place p q r x y e = absurd (refused-passed excessive p r x y e)
 kept NotANumber least most place p q r x y e = absurd (refused-passed misplaced p r x y e)
 
-pub number-passed : (least most place : ℕ) (text x : List ℕ) (from q : ℕ) (y : List ℕ) → number least most place text from x ≡ passed q y → Kept least most place x y
+pub number-passed : (least most place : ℕ) (text x : List ℕ) (from q : ℕ) (y : List ℕ) → number least most place text from x ≡ passedTo q y → Kept least most place x y
 unfolding number
 number-passed least most place text x from q y e =
     kept (numberOf (letters text from)) least most place (placeOf text from) (behind text from) q x y (word-passed (tokenAt text from .form) _ misplaced (placeOf text from) q x y e)
@@ -140,7 +142,7 @@ fills-field place h =
 -- OPERANDS: a number that is a word, or a field
 abbrev Sound : Operand → Type 0
 Sound (OfNumber v) = v ≤ greatest
-Sound (Field d) = d < named
+Sound (Field d) = d < fieldsNamed
 Sound OutOfRange = 0 ≤ greatest
 Sound NotAnOperand = 0 ≤ greatest
 
@@ -150,7 +152,7 @@ sound-number (Value v) h = h v refl
 sound-number TooLarge h = omega arith
 sound-number NotANumber h = omega arith
 
-sound-behind : (before count : ℕ) → before + count ≤ named → (n : Number) → Sound (asField (fieldBehind before count n))
+sound-behind : (before count : ℕ) → before + count ≤ fieldsNamed → (n : Number) → Sound (asField (fieldBehind before count n))
 unfolding asField fieldBehind
 sound-behind before count h (Value v) = go (ltb v count) refl
   where
@@ -204,11 +206,11 @@ module _ (x : List ℕ) (place u v : ℕ) (l : length x ≡ elementWords) (h : p
       one i s (yes e) = subst (λ (k : ℕ). k ≤ greatest) (sym (ap (at stored) e ∙ first)) su
       one i s (no n) = subst (λ (k : ℕ). k ≤ greatest) (sym (ap (at stored) (let q : i ≡ place + 1 = omega (arith, s .0, s .1, n) in q) ∙ second)) sv
 
-operand-words : (x : List ℕ) (place u v : ℕ) → at x place ≡ u → at x (place + 1) ≡ v → operandFits (drop place x) ≡ (if eqb u 0 then true else eqb u aField && ltb v named)
+operand-words : (x : List ℕ) (place u v : ℕ) → at x place ≡ u → at x (place + 1) ≡ v → operandFits (drop place x) ≡ (if eqb u 0 then true else eqb u aField && ltb v fieldsNamed)
 unfolding operandFits
 operand-words x place u v e f = rw (getD-drop place x 0 0 ∙ ap (at x) (let q : place + 0 ≡ place = omega arith in q) ∙ e, getD-drop place x 1 0 ∙ f)
 
-filled-operand : (o : Operand) (place p q r : ℕ) (x y : List ℕ) → Sound o → place + 1 < elementWords → length x ≡ elementWords → keepOperand o place p q x ≡ passed r y → Filled x y (Span place 2) (λ y. operandFits (drop place y) ≡ true)
+filled-operand : (o : Operand) (place p q r : ℕ) (x y : List ℕ) → Sound o → place + 1 < elementWords → length x ≡ elementWords → keepOperand o place p q x ≡ passedTo r y → Filled x y (Span place 2) (λ y. operandFits (drop place y) ≡ true)
 unfolding keepOperand
 filled-operand (OfNumber v) place p q r x y s h l e =
     subst (λ (z : List ℕ). Filled x z (Span place 2) (λ y. operandFits (drop place y) ≡ true)) (same-words q r _ y e)
@@ -216,7 +218,7 @@ filled-operand (OfNumber v) place p q r x y s h l e =
 filled-operand (Field d) place p q r x y s h l e =
     subst (λ (z : List ℕ). Filled x z (Span place 2) (λ y. operandFits (drop place y) ≡ true)) (same-words q r _ y e)
     (filled-two x place 1 d l h (omega arith) (omega (arith, s))
-    (operand-words (stored x place 1 d l h) place 1 d (first x place 1 d l h) (second x place 1 d l h) ∙ (unfold if_then_else_ in lt-ltb d named s)))
+    (operand-words (stored x place 1 d l h) place 1 d (first x place 1 d l h) (second x place 1 d l h) ∙ (unfold if_then_else_ in lt-ltb d fieldsNamed s)))
 filled-operand OutOfRange place p q r x y s h l e = absurd (refused-passed excessive p r x y e)
 filled-operand NotAnOperand place p q r x y s h l e = absurd (refused-passed misplaced p r x y e)
 
@@ -241,11 +243,11 @@ mode-most w = go (sameBytes w (bytes "a")) (sameBytes w (bytes "na_c")) (sameByt
     go false false true = unfold if_then_else_ in omega arith
     go false false false = unfold if_then_else_ in omega arith
 
-kept-mode : (m p q r : ℕ) (x y : List ℕ) → m ≤ 3 → keepMode m p q x ≡ passed r y → Kept 1 3 modePlace x y
+kept-mode : (m p q r : ℕ) (x y : List ℕ) → m ≤ 3 → keepMode m p q x ≡ passedTo r y → Kept 1 3 modePlace x y
 unfolding keepMode
 kept-mode m p q r x y h e = go (eqb m 0) refl e
   where
-    go : (b : Bool) → eqb m 0 ≡ b → (if b then refused misplaced p x else passed q (set x modePlace m)) ≡ passed r y → Kept 1 3 modePlace x y
+    go : (b : Bool) → eqb m 0 ≡ b → (if b then refusedAt misplaced p x else passedTo q (set x modePlace m)) ≡ passedTo r y → Kept 1 3 modePlace x y
     go true z e = absurd (refused-passed misplaced p r x y (unfold if_then_else_ in e))
     go false z e = let n = eqb-false m 0 z in record { value = m; low = omega (arith, n); high = h; put = same-words q r (set x modePlace m) y (unfold if_then_else_ in e) }
 

@@ -31,18 +31,18 @@ use Rattle.base_state.specs.Instances.{madeCount, instanceAt}
 use Rattle.check_tally.specs.Tally.{count}
 use Rattle.check_occurrences.specs.Occurrences.{ofKind}
 use Rattle.check_model.specs.Checks.{Pool}
-use Rattle.state_fits.specs.Fits.{isStart, startPlace, hasStart, madeFits, countPlaces, placesOf, marked, usable, placeFits, instanceFits, fieldsFit, instancesFit, sharedFits, queueFits, stateFits}
+use Rattle.state_fits.specs.Fits.{isStart, startPlace, hasStart, madeFits, countPlaces, placesOf, allMarked, usable, placeFits, instanceFits, fieldsFit, instancesFit, sharedFits, queueFits, stateFits}
 use Rattle.text_ends.specs.Rewriting.{isEndSnd, sendingTo, endOf, firstEnd, lowestUnused, treated, endSends, allTreated, rewritten, unusedCount, roomFor, hasRoom}
 use Rattle.text_ends.proofs.RewriteLaws.{each-places, found, is-end, treated-total}
 use Rattle.text_passes.specs.Model.{noPool}
 use Rattle.text_read.specs.Notation.{tableOf}
 use Rattle.proof_steps.proofs.Choices.{chosen}
 use Rattle.proof_steps.proofs.PoolFits.{PoolFit, pool-parts, pool-back}
-use Rattle.proof_ends.proofs.Models.{Every, every-in, Right, Fit, Model}
-use Rattle.proof_ends.proofs.Sends.{was, kind-is, exit-is, other}
-use Rattle.proof_ends.proofs.Counts.{entries-few, exits-few}
-use Rattle.proof_ends.proofs.Turns.{Turned, after, turned-by}
-use Rattle.proof_ends.proofs.Rewritten.{all-right, rewritten-fits}
+use Rattle.proof_roundtrip.proofs.EndModels.{Every, every-in, Right, Fit, Model}
+use Rattle.proof_roundtrip.proofs.EndSends.{was, kind-is, exit-is, other}
+use Rattle.proof_roundtrip.proofs.EndCounts.{entries-few, exits-few}
+use Rattle.proof_roundtrip.proofs.Turns.{Turned, after, turned-by}
+use Rattle.proof_roundtrip.proofs.Rewritten.{all-right, rewritten-fits}
 use Rattle.proof_roundtrip.specs.Blocks.{wordsAt, blockAt, blocksOf}
 use Rattle.proof_roundtrip.proofs.TableLaws.{tab-ext}
 use Rattle.proof_roundtrip.proofs.ReadTables.{blocks-are}
@@ -51,8 +51,8 @@ use Rattle.proof_roundtrip.proofs.ReadTables.{blocks-are}
 abbrev placed : ℕ → List ℕ → ℕ
 placed k el = count k (placesOf el)
 
-marked-at : (k : ℕ) (w ks : List ℕ) → k < length w → at w k ≤ 1 → at (marked w ks) k ≡ oneIf (ltb 0 (at w k + count k ks))
-unfolding marked total
+marked-at : (k : ℕ) (w ks : List ℕ) → k < length w → at w k ≤ 1 → at (allMarked w ks) k ≡ oneIf (ltb 0 (at w k + count k ks))
+unfolding allMarked total
 marked-at k w [] l h = go (at w k) h
   where
     go : (n : ℕ) → n ≤ 1 → n ≡ oneIf (ltb 0 (n + 0))
@@ -61,7 +61,7 @@ marked-at k w [] l h = go (at w k) h
     go (suc (suc n)) h = absurd (omega (arith, h))
 marked-at k w (x ∷ ks) l h = go (eqb x k) refl (marked-at k (set w x 1) ks (omega (arith, l, length-set w x 1)))
   where
-    go : (b : Bool) → eqb x k ≡ b → (at (set w x 1) k ≤ 1 → at (marked (set w x 1) ks) k ≡ oneIf (ltb 0 (at (set w x 1) k + count k ks))) → at (marked (set w x 1) ks) k ≡ oneIf (ltb 0 (at w k + (oneIf b + count k ks)))
+    go : (b : Bool) → eqb x k ≡ b → (at (set w x 1) k ≤ 1 → at (allMarked (set w x 1) ks) k ≡ oneIf (ltb 0 (at (set w x 1) k + count k ks))) → at (allMarked (set w x 1) ks) k ≡ oneIf (ltb 0 (at w k + (oneIf b + count k ks)))
     go true e more =
         let q : at (set w x 1) k ≡ 1 = subst (λ y. at (set w y 1) k ≡ 1) (sym (eqb-true x k e)) (getD-set-same w k 1 0 l) in
         more (omega (arith, q))
@@ -70,14 +70,14 @@ marked-at k w (x ∷ ks) l h = go (eqb x k) refl (marked-at k (set w x 1) ks (om
         let q : at (set w x 1) k ≡ at w k = getD-set-other w x k 1 0 (λ z. eqb-false x k e (sym z)) in
         more (omega (arith, q, h)) ∙ ap (λ n. oneIf (ltb 0 (n + count k ks))) q ∙ ap (λ n. oneIf (ltb 0 (at w k + n))) (let z : count k ks ≡ 0 + count k ks = omega arith in z)
 
-length-marked : (w ks : List ℕ) → length (marked w ks) ≡ length w
-unfolding marked
+length-marked : (w ks : List ℕ) → length (allMarked w ks) ≡ length w
+unfolding allMarked
 length-marked w [] = refl
 length-marked w (k ∷ ks) = length-marked (set w k 1) ks ∙ length-set w k 1
 
 module _ (g : ℕ → List ℕ) (k : ℕ) (l : k < definedPlace 0) where
   abbrev uses : ℕ → List ℕ
-  uses n = iter (λ e w. marked w (g e)) (replicate (definedPlace 0) 0) n
+  uses n = iter (λ e w. allMarked w (g e)) (replicate (definedPlace 0) 0) n
 
   uses-long : (n : ℕ) → length (uses n) ≡ definedPlace 0
   unfolding iter

@@ -15,11 +15,12 @@ use Rattle.base_words.proofs.PickLaws.{and-true}
 use Rattle.text_readers.specs.Reading.{excessive}
 use Rattle.text_read.specs.Notation.{elementAlone, readInto}
 use Rattle.draw_walk.specs.Walk.{Walk}
-use Rattle.draw_faults.specs.Amiss.{hasParticipants, isPool, isDrawing}
+use Rattle.draw_faults.specs.Amiss.{isDrawing}
+use Rattle.draw_numbers.specs.Who.{hasParticipants, isPool}
 use Rattle.draw_limits.specs.Excess.{firstBeyond}
 use Rattle.draw_model.specs.Content.{elementsOf, processOf, poolDrawn, poolIf, content}
-use Rattle.draw_read.specs.Drawings.{tooLong, notXml, notRun, walked, thingsOf, drawInto}
-use Rattle.proof_ends.proofs.Models.{Every, Fit, Model}
+use Rattle.draw_read.specs.Drawings.{tooLong, notXml, notRun, walkedText, thingsOf, drawInto}
+use Rattle.proof_roundtrip.proofs.EndModels.{Every, Fit, Model}
 use Rattle.proof_roundtrip.proofs.BarLaws.{Comes}
 use Rattle.proof_drawings.proofs.SettledLaws.{Settled}
 use Rattle.proof_drawings.proofs.Fitting.{drawing-few}
@@ -91,7 +92,7 @@ module _ (text t : List ℕ) (h : drawInto text t .number ≡ 0) where
   unfolding collaborationOf
   full =
       let c = drawn-clear text t h in
-      pools-full text (thingsOf text) (walked text .count) (c .drawn) (c .beyond) (things-settled text (drawing-few text (thingsOf text) (walked text .count) (c .drawn))) (things-placed text) (accepted text t h)
+      pools-full text (thingsOf text) (walkedText text .count) (c .drawn) (c .beyond) (things-settled text (drawing-few text (thingsOf text) (walkedText text .count) (c .drawn))) (things-placed text) (accepted text t h)
 
   pub accepted-spelled : readInto (spell (collaborationOf text)) t ≡ drawInto text t
   accepted-spelled = spelled text t (λ e. omega (arith, e, h)) (λ e. omega (arith, e, h)) (λ e. omega (arith, e, h)) (λ e. omega (arith, e, h)) full

@@ -21,11 +21,11 @@ use Rattle.base_table.specs.Places.{always, taskPlace, modePlace, entriesPlace,
 use Rattle.base_table.specs.Table.{taskIn, modeIn, entryAt, exitAt, conditionAt, messageName, messageLength, itemAt, assignmentCount, assignmentAt}
 use Rattle.check_limits.specs.Limits.{taskFits, elementFits}
 use Rattle.write_decimals.specs.Decimals.{shown}
-use Rattle.write_shown.specs.Shown.{separated, commas, between, shownCondition, shownTuple, shownItem, shownMessage, shownExits, shownGuarded, shownGuardedList, shownReceiving, shownReceivingList, shownMode, shownAssignment, shownAssignments, shownTask}
+use Rattle.write_shown.specs.Shown.{separated, commas, enclosedBy, shownCondition, shownTuple, shownItem, shownMessage, shownExits, shownGuarded, shownGuardedList, shownReceiving, shownReceivingList, shownMode, shownAssignment, shownAssignments, shownTask}
 use Rattle.draw_things.specs.Things.{room, oneMore, sort, within, source, target, kind, isNode, sequenceFlow}
 use Rattle.draw_kinds.specs.Counting.{sourceIn, firstWith, ofSort}
-use Rattle.draw_faults.specs.Amiss.{isOfKind, isSender, isReceiver}
-use Rattle.draw_limits.specs.Numbers.{countBefore, isTask, isStart, isOf, aTask, taskOf, edgeOf, firstEdgeOf}
+use Rattle.draw_numbers.specs.Who.{isOfKind, isSender, isReceiver}
+use Rattle.draw_numbers.specs.Numbers.{countBefore, isTask, isStart, isOf, aTask, taskOf, edgeOf, firstEdgeOf}
 use Rattle.draw_model.specs.Drawn.{withEdge, withForm, withGuard, withBranch, exitBehind, receivedBy, sentBy, withMessage, withTask, withFirst, headOf, exitBy, elementDrawn}
 use Rattle.proof_steps.proofs.Elements.{rowOf, fitting-parts}
 use Rattle.proof_steps.proofs.Choices.{passed-true}
@@ -183,7 +183,7 @@ module _ (t w : List ℕ) (n k : ℕ) (few : n ≤ room) (fits : elementFits (el
     message-text : (v : ℕ) → at head (messagePlace 0) ≡ v → shownMessage x 0 ≡ shown v ++ bytes ":<>"
     unfolding shownMessage shownTuple
     message-text v e =
-        ap₂ (λ (u m : ℕ). shown u ++ (code ":" ∷ between (code "<") (code ">") (commas (λ j. shownItem (itemAt x 0 j)) m)))
+        ap₂ (λ (u m : ℕ). shown u ++ (code ":" ∷ enclosedBy (code "<") (code ">") (commas (λ j. shownItem (itemAt x 0 j)) m)))
         (frame .high (messagePlace 0) (omega arith) ∙ e) (frame .high (lengthPlace 0) (omega arith) ∙ head-empty 0 (omega arith))
         ∙ (unfold separated joined in refl)
 
@@ -217,7 +217,7 @@ module _ (t w : List ℕ) (n k : ℕ) (few : n ≤ room) (fits : elementFits (el
         nothing-assigned : shownAssignments x ≡ bytes "{}"
         nothing-assigned =
             unfold shownAssignments in
-            ap (λ (m : ℕ). between (code "{") (code "}") (commas (λ j. shownAssignment (assignmentAt x j)) m)) (frame .high assignmentsPlace (omega arith) ∙ head-idle)
+            ap (λ (m : ℕ). enclosedBy (code "{") (code "}") (commas (λ j. shownAssignment (assignmentAt x j)) m)) (frame .high assignmentsPlace (omega arith) ∙ head-idle)
             ∙ (unfold separated joined in refl)
 
     -- a start is no task
@@ -261,7 +261,7 @@ module _ (t w : List ℕ) (n k : ℕ) (few : n ≤ room) (fits : elementFits (el
     in-choice : (e i : ℕ) (y : List ℕ) → length y ≡ elementWords → at y entriesPlace < 8 → i < 8 → shownGuarded (withEdge entriesPlace e y) i ≡ shownGuarded y i
     unfolding shownGuarded
     in-choice e i y l r u =
-        ap₂ (λ (v : ℕ) (c : List ℕ). between (code "(") (code ")") (shown v ++ (code "," ∷ c))) (edge-other entriesPlace e y (exitsPlace + 1 + i) (λ q. omega (arith, q)) (λ q. omega (arith, q, r)))
+        ap₂ (λ (v : ℕ) (c : List ℕ). enclosedBy (code "(") (code ")") (shown v ++ (code "," ∷ c))) (edge-other entriesPlace e y (exitsPlace + 1 + i) (λ q. omega (arith, q)) (λ q. omega (arith, q, r)))
         (condition-same y (withEdge entriesPlace e y) (conditionPlace i) (λ q s. edge-other entriesPlace e y (conditionPlace i + q) (λ z. omega (arith, z)) (λ z. omega (arith, z, r))))
 
     module _ (j : ℕ) (y : List ℕ) (l : length y ≡ elementWords) (r : at y exitsPlace < 8) where
@@ -280,7 +280,7 @@ module _ (t w : List ℕ) (n k : ℕ) (few : n ≤ room) (fits : elementFits (el
       older : (i : ℕ) → i < at y exitsPlace → shownGuarded (withEdge exitsPlace (edgeOf w j) y₁) i ≡ shownGuarded y i
       unfolding shownGuarded
       older i u =
-          ap₂ (λ (v : ℕ) (c : List ℕ). between (code "(") (code ")") (shown v ++ (code "," ∷ c)))
+          ap₂ (λ (v : ℕ) (c : List ℕ). enclosedBy (code "(") (code ")") (shown v ++ (code "," ∷ c)))
           (edge-other exitsPlace (edgeOf w j) y₁ (exitsPlace + 1 + i) (λ q. omega (arith, q)) (λ q. omega (arith, q, u, same-count)) ∙ kept .low (exitsPlace + 1 + i) (omega (arith, u, r)))
           (condition-same y (withEdge exitsPlace (edgeOf w j) y₁) (conditionPlace i)
           (λ q s. edge-other exitsPlace (edgeOf w j) y₁ (conditionPlace i + q) (λ z. omega (arith, z)) (λ z. omega (arith, z, same-count, r)) ∙ kept .low (conditionPlace i + q) (omega (arith, s, u))))
@@ -288,7 +288,7 @@ module _ (t w : List ℕ) (n k : ℕ) (few : n ≤ room) (fits : elementFits (el
       newest : j < n → source w j ≡ k → shownGuarded (withEdge exitsPlace (edgeOf w j) y₁) (at y exitsPlace) ≡ guarded (d t w n k few) (flowAt t w n j)
       unfolding shownGuarded guarded
       newest u e =
-          ap₂ (λ (v c : List ℕ). between (code "(") (code ")") (v ++ (code "," ∷ c)))
+          ap₂ (λ (v c : List ℕ). enclosedBy (code "(") (code ")") (v ++ (code "," ∷ c)))
           (ap shown (ap (λ (q : ℕ). at (withEdge exitsPlace (edgeOf w j) y₁) (exitsPlace + 1 + q)) (sym same-count) ∙ edge-new exitsPlace (edgeOf w j) y₁ (omega (arith, l, kept .long, same-count, r))) ∙ sym (edge-is t w n few j (omega (arith, u))))
           (condition-same y₁ (withEdge exitsPlace (edgeOf w j) y₁) (conditionPlace (at y exitsPlace))
           (λ q s. edge-other exitsPlace (edgeOf w j) y₁ (conditionPlace (at y exitsPlace) + q) (λ z. omega (arith, z)) (λ z. omega (arith, z, same-count, r)))
@@ -323,7 +323,7 @@ module _ (t w : List ℕ) (n k : ℕ) (few : n ≤ room) (fits : elementFits (el
     exit-branch j y = sym (pick-yes (eqb (kind w k) kinds.eventBased) _ _ _ gate refl)
 
     abbrev branchText : List ℕ → ℕ → List ℕ
-    branchText y i = between (code "(") (code ")") ((shown (messageName y i) ++ bytes ":<>") ++ (code "," ∷ shown (exitAt y i)))
+    branchText y i = enclosedBy (code "(") (code ")") ((shown (messageName y i) ++ bytes ":<>") ++ (code "," ∷ shown (exitAt y i)))
 
     abbrev awaited : ℕ → List ℕ
     awaited j = caught (d t w n k few) (flowAt t w n j)
@@ -333,7 +333,7 @@ module _ (t w : List ℕ) (n k : ℕ) (few : n ≤ room) (fits : elementFits (el
 
     in-branch : (e i : ℕ) (y : List ℕ) → length y ≡ elementWords → at y entriesPlace < 8 → i < 8 → branchText (withEdge entriesPlace e y) i ≡ branchText y i
     in-branch e i y l r u =
-        ap₂ (λ (m v : ℕ). between (code "(") (code ")") ((shown m ++ bytes ":<>") ++ (code "," ∷ shown v)))
+        ap₂ (λ (m v : ℕ). enclosedBy (code "(") (code ")") ((shown m ++ bytes ":<>") ++ (code "," ∷ shown v)))
         (edge-other entriesPlace e y (messagePlace i) (λ q. omega (arith, q)) (λ q. omega (arith, q, r))) (edge-other entriesPlace e y (exitsPlace + 1 + i) (λ q. omega (arith, q)) (λ q. omega (arith, q, r)))
 
     in-empty : (e : ℕ) (y : List ℕ) → length y ≡ elementWords → at y entriesPlace < 8 → Empty y → Empty (withEdge entriesPlace e y)
@@ -351,14 +351,14 @@ module _ (t w : List ℕ) (n k : ℕ) (few : n ≤ room) (fits : elementFits (el
 
       earlier : (i : ℕ) → i < at y exitsPlace → branchText (withEdge exitsPlace (exitBehind w n j) y₂) i ≡ branchText y i
       earlier i u =
-          ap₂ (λ (m v : ℕ). between (code "(") (code ")") ((shown m ++ bytes ":<>") ++ (code "," ∷ shown v)))
+          ap₂ (λ (m v : ℕ). enclosedBy (code "(") (code ")") ((shown m ++ bytes ":<>") ++ (code "," ∷ shown v)))
           (edge-other exitsPlace (exitBehind w n j) y₂ (messagePlace i) (λ q. omega (arith, q)) (λ q. omega (arith, q, same-exits, r)) ∙ set-other y (messagePlace (at y exitsPlace)) (messagePlace i) m (λ q. omega (arith, q, u)))
           (edge-other exitsPlace (exitBehind w n j) y₂ (exitsPlace + 1 + i) (λ q. omega (arith, q)) (λ q. omega (arith, q, same-exits, u)) ∙ set-other y (messagePlace (at y exitsPlace)) (exitsPlace + 1 + i) m (λ q. omega (arith, q, u, r)))
 
       latest : j < n → ofSort sequenceFlow w j ≡ true → source w j ≡ k → branchText (withEdge exitsPlace (exitBehind w n j) y₂) (at y exitsPlace) ≡ caught (d t w n k few) (flowAt t w n j)
       unfolding caught
       latest u s e =
-          ap₂ (λ (m v : List ℕ). between (code "(") (code ")") (m ++ (code "," ∷ v)))
+          ap₂ (λ (m v : List ℕ). enclosedBy (code "(") (code ")") (m ++ (code "," ∷ v)))
           (ap (λ (v : ℕ). shown v ++ bytes ":<>")
           (edge-other exitsPlace (exitBehind w n j) y₂ (messagePlace (at y exitsPlace)) (λ q. omega (arith, q)) (λ q. omega (arith, q, same-exits, r)) ∙ set-here y (messagePlace (at y exitsPlace)) m (omega (arith, l, r)))
           ∙ sym (received-is t w n few (target w j)))
@@ -395,7 +395,7 @@ module _ (t w : List ℕ) (n k : ℕ) (few : n ≤ room) (fits : elementFits (el
     branches-left : (i : ℕ) → i < at x exitsPlace → shownReceiving x i ≡ getD (gathered (leaves t w n k few) awaited n) i []
     unfolding shownReceiving shownMessage shownTuple separated joined
     branches-left i l =
-        ap (λ (m : ℕ). between (code "(") (code ")") ((shown (messageName x i) ++ (code ":" ∷ between (code "<") (code ">") (commas (λ j. shownItem (itemAt x i j)) m))) ++ (code "," ∷ shown (exitAt x i))))
+        ap (λ (m : ℕ). enclosedBy (code "(") (code ")") ((shown (messageName x i) ++ (code ":" ∷ enclosedBy (code "<") (code ">") (commas (λ j. shownItem (itemAt x i j)) m))) ++ (code "," ∷ shown (exitAt x i))))
         (empty .lengths i (omega (arith, l, exits-are t w n k few fits, outs t w n k few fits)))
         ∙ sym (ap (λ (z : List ℕ). branchText z i) (el-is t w n k few))
         ∙ after-left t w n k few (head-long t w n k few) (head-bare t w n k few) (head-none t w n k few) (ins t w n k few fits) (outs t w n k few fits)

@@ -27,17 +27,18 @@ use Rattle.text_passes.proofs.FillLaws.{AtMost, none, some, Block, Fits}
 use Rattle.text_readers.specs.declared.Read.the-variants.{At}
 use Rattle.text_read.specs.Notation.{elementAlone, pool, model}
 use Rattle.write_decimals.specs.Decimals.{shown}
-use Rattle.write_shown.specs.Shown.{between, shownElement}
+use Rattle.write_shown.specs.Shown.{enclosedBy, shownElement}
 use Rattle.draw_things.specs.Things.{room, sort, within, source, target, kind, isNode, sequenceFlow, branch}
 use Rattle.draw_kinds.specs.Counting.{sourceIn, isWith, ofSort, countWith, firstWith}
 use Rattle.draw_kinds.specs.Roles.{flowsOut, kindDrawn}
-use Rattle.draw_faults.specs.Amiss.{hasParticipants, isPool, hasPool, isOfKind, isStrange, isLoose, isWrongBranch, isAmiss, amissAsFlow, isRight, isDrawing}
-use Rattle.draw_limits.specs.Numbers.{countBefore, isElement, maximumOf}
+use Rattle.draw_faults.specs.Amiss.{isStrange, isLoose, isWrongBranch, isAmiss, amissAsFlow, isRight, isDrawing}
+use Rattle.draw_numbers.specs.Who.{hasParticipants, isPool, hasPool, isOfKind}
+use Rattle.draw_numbers.specs.Numbers.{countBefore, isElement, maximumOf}
 use Rattle.draw_limits.specs.Excess.{firstBeyond}
 use Rattle.draw_model.specs.Drawn.{elementDrawn}
 use Rattle.draw_model.specs.Content.{elementIf, elementsOf, limitOf, processOf, numberOf, poolDrawn, poolIf, content}
 use Rattle.draw_read.proofs.RoomLaws.{content-fits}
-use Rattle.proof_ends.proofs.Models.{Every, Right}
+use Rattle.proof_roundtrip.proofs.EndModels.{Every, Right}
 use Rattle.proof_roundtrip.proofs.BarLaws.{Comes}
 use Rattle.proof_map.proofs.Picked.{as-many}
 use Rattle.proof_drawings.proofs.TestLaws.{and-then, or-left, or-right, not-not}
@@ -238,8 +239,8 @@ module _ (t w : List ℕ) (n : ℕ) (drawn : isDrawing t w n ≡ true) (beyond :
 
         go : (b : Bool) → ltb (multiplicityOf w n k) n ≡ b
             → Comes pool
-            (if b then bytes "miPool" ++ between (code "(") (code ")") (shown (numberOf owned w k) ++ (code "," ∷ (parted (code "|") (map (element D) (elementsIn D (processOf owned w k))) ++ (code "," ∷ shown (maximumOf t w (multiplicityOf w n k))))))
-            else bytes "pool" ++ between (code "(") (code ")") (shown (numberOf owned w k) ++ (code "," ∷ parted (code "|") (map (element D) (elementsIn D (processOf owned w k))))))
+            (if b then bytes "miPool" ++ enclosedBy (code "(") (code ")") (shown (numberOf owned w k) ++ (code "," ∷ (parted (code "|") (map (element D) (elementsIn D (processOf owned w k))) ++ (code "," ∷ shown (maximumOf t w (multiplicityOf w n k))))))
+            else bytes "pool" ++ enclosedBy (code "(") (code ")") (shown (numberOf owned w k) ++ (code "," ∷ parted (code "|") (map (element D) (elementsIn D (processOf owned w k))))))
             (record { number = numberOf owned w k; limit = if b then maximumOf t w (multiplicityOf w n k) else 0; elements = elementsOf t w n (processOf owned w k) })
         go true e =
             unfold if_then_else_ in

@@ -18,11 +18,11 @@ use Rattle.base_table.specs.Places.{entriesPlace, exitsPlace}
 use Rattle.base_table.specs.Table.{kindIn, entryAt, exitAt}
 use Rattle.check_limits.specs.Limits.{countFits, elementFits}
 use Rattle.write_decimals.specs.Decimals.{shown}
-use Rattle.write_shown.specs.Shown.{between, shownMessage, shownEntries, shownExits, shownGuardedList, shownReceivingList, shownTask, shownPart, shownParts, shownElement}
+use Rattle.write_shown.specs.Shown.{enclosedBy, shownMessage, shownEntries, shownExits, shownGuardedList, shownReceivingList, shownTask, shownPart, shownParts, shownElement}
 use Rattle.draw_things.specs.Things.{room, sort, within, source, target, kind, isNode, sequenceFlow}
 use Rattle.draw_kinds.specs.Counting.{sourceIn, firstWith, ofSort}
-use Rattle.draw_faults.specs.Amiss.{isOfKind, sends, receives, isSender, isReceiver}
-use Rattle.draw_limits.specs.Numbers.{isStart}
+use Rattle.draw_numbers.specs.Who.{isOfKind, sends, receives, isSender, isReceiver}
+use Rattle.draw_numbers.specs.Numbers.{isStart}
 use Rattle.draw_model.specs.Drawn.{elementDrawn}
 use Rattle.proof_steps.proofs.Elements.{rowOf}
 use Rattle.proof_lengths.proofs.FewParts.{entries-fit, exits-fit}
@@ -34,19 +34,19 @@ use Rattle.proof_spelling.proofs.Texts.{one-fits, one-entry, many-entri
 use Rattle.proof_spelling.proofs.Branches.{one-exit, many-exits, receives-text, sends-text, task-text, start-entry, choices-text, catches-text}
 
 -- PARTS between their signs
-one-part : (p : List ℕ) → (code "(" ∷ (p ++ [])) ++ (code ")" ∷ []) ≡ between (code "(") (code ")") (parted (code ",") (p ∷ []))
+one-part : (p : List ℕ) → (code "(" ∷ (p ++ [])) ++ (code ")" ∷ []) ≡ enclosedBy (code "(") (code ")") (parted (code ",") (p ∷ []))
 unfolding parted
 one-part p = ap (λ (z : List ℕ). code "(" ∷ (z ++ (code ")" ∷ []))) (append-nil p)
 
-two-parts : (p q : List ℕ) → (code "(" ∷ (p ++ (code "," ∷ (q ++ [])))) ++ (code ")" ∷ []) ≡ between (code "(") (code ")") (parted (code ",") (p ∷ q ∷ []))
+two-parts : (p q : List ℕ) → (code "(" ∷ (p ++ (code "," ∷ (q ++ [])))) ++ (code ")" ∷ []) ≡ enclosedBy (code "(") (code ")") (parted (code ",") (p ∷ q ∷ []))
 unfolding parted
 two-parts p q = ap (λ (z : List ℕ). code "(" ∷ ((p ++ (code "," ∷ z)) ++ (code ")" ∷ []))) (append-nil q)
 
-three-parts : (p q r : List ℕ) → (code "(" ∷ (p ++ (code "," ∷ (q ++ (code "," ∷ (r ++ [])))))) ++ (code ")" ∷ []) ≡ between (code "(") (code ")") (parted (code ",") (p ∷ q ∷ r ∷ []))
+three-parts : (p q r : List ℕ) → (code "(" ∷ (p ++ (code "," ∷ (q ++ (code "," ∷ (r ++ [])))))) ++ (code ")" ∷ []) ≡ enclosedBy (code "(") (code ")") (parted (code ",") (p ∷ q ∷ r ∷ []))
 unfolding parted
 three-parts p q r = ap (λ (z : List ℕ). code "(" ∷ ((p ++ (code "," ∷ (q ++ (code "," ∷ z)))) ++ (code ")" ∷ []))) (append-nil r)
 
-four-parts : (p q r s : List ℕ) → (code "(" ∷ (p ++ (code "," ∷ (q ++ (code "," ∷ (r ++ (code "," ∷ (s ++ [])))))))) ++ (code ")" ∷ []) ≡ between (code "(") (code ")") (parted (code ",") (p ∷ q ∷ r ∷ s ∷ []))
+four-parts : (p q r s : List ℕ) → (code "(" ∷ (p ++ (code "," ∷ (q ++ (code "," ∷ (r ++ (code "," ∷ (s ++ [])))))))) ++ (code ")" ∷ []) ≡ enclosedBy (code "(") (code ")") (parted (code ",") (p ∷ q ∷ r ∷ s ∷ []))
 unfolding parted
 four-parts p q r s = ap (λ (z : List ℕ). code "(" ∷ ((p ++ (code "," ∷ (q ++ (code "," ∷ (r ++ (code "," ∷ z)))))) ++ (code ")" ∷ []))) (append-nil s)
 

@@ -19,7 +19,7 @@ use Rattle.base_words.proofs.JoinLaws.{joined-ext, those-joined}
 use Rattle.base_words.proofs.SeekLaws.{sought}
 use Rattle.base_words.proofs.SumLaws.{sum-zero, sum-ext}
 use Rattle.write_shown.specs.Shown.{lead, separated}
-use Rattle.draw_limits.specs.Numbers.{countBefore}
+use Rattle.draw_numbers.specs.Numbers.{countBefore}
 use Rattle.proof_roundtrip.proofs.BarLaws.{fronted, separated-front}
 use Rattle.proof_map.proofs.Picked.{as-many}
 use Rattle.proof_spelling.specs.Spelling.{gathered, parted, firstAt, foremost}

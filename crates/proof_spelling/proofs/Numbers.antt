@@ -17,8 +17,8 @@ use Rattle.base_kinds.specs.Kinds as kinds
 use Rattle.write_decimals.specs.Decimals.{shown}
 use Rattle.draw_things.specs.Things.{room, oneMore, sort, within, source, target, kind, isNode, messageFlow, sequenceFlow, task, receiveTask}
 use Rattle.draw_kinds.specs.Counting.{sourceIn, targetIn, isWith, firstWith, ofSort, countSort}
-use Rattle.draw_faults.specs.Amiss.{isOfKind}
-use Rattle.draw_limits.specs.Numbers.{countBefore, isTask, isEdge, isStart, isBeforeFirst, isOf, aTask, anEdge, taskOf, edgeOf, firstEdgeOf, messageOf}
+use Rattle.draw_numbers.specs.Who.{isOfKind}
+use Rattle.draw_numbers.specs.Numbers.{countBefore, isTask, isEdge, isStart, isBeforeFirst, isOf, aTask, anEdge, taskOf, edgeOf, firstEdgeOf, messageOf}
 use Rattle.draw_model.specs.Drawn.{receivedBy, sentBy, exitBehind}
 use Rattle.proof_map.proofs.Picked.{as-many}
 use Rattle.proof_spelling.specs.Spelling.{Collaboration, Node, Flow, Message, gathered, nodeAt, flowAt, messageAt, collaborationIn, numberedFlows, flowsBefore, edge, startsBefore, firstEdge, tasksBefore, work, received, sent, flowsInto, flowsFrom, firstAt, foremost}

@@ -18,17 +18,18 @@ use Rattle.base_table.specs.Places.{elementWords}
 use Rattle.check_model.specs.Checks.{Pool}
 use Rattle.text_lexer.specs.declared.Token.{Token}
 use Rattle.text_lexer.specs.declared.Form.the-variants.{End}
-use Rattle.text_lexer.specs.Lexer.{isWord, isLetter, isDigit, isSign, isBlank, among, between as amidst, placed, tokenAt, ifSign, ifEnd}
+use Rattle.text_lexer.specs.Lexer.{isWord, isSign, isBlank, placed, tokenAt, ifSign, ifEnd}
+use Rattle.base_bytes.specs.Bytes.{isLetter, isDigit, among, between as amidst}
 use Rattle.text_lexer.proofs.TokenLaws.{left-at, end-at}
 use Rattle.text_readers.specs.declared.Read.{Read}
 use Rattle.text_readers.specs.declared.Read.the-variants.{At, Refused}
-use Rattle.text_readers.specs.Reading.{Parsed, misplaced, passed, ifAt, signAt, endAt}
+use Rattle.text_readers.specs.Reading.{Parsed, misplaced, passedTo, ifAt, signAt, endAt}
 use Rattle.text_elements.specs.Elements.{startsElement, element}
 use Rattle.text_read.specs.Notation.{Got, noPool, barred, elementAlone, elementsAt, pool, startsPool, poolsAt, model}
 use Rattle.write_decimals.specs.Decimals.{shown}
-use Rattle.write_shown.specs.Shown.{separated, between, shownElement}
-use Rattle.proof_trips.proofs.SignReads.{opens, sign-miss}
-use Rattle.proof_ends.proofs.Models.{Every, Right}
+use Rattle.write_shown.specs.Shown.{separated, enclosedBy, shownElement}
+use Rattle.proof_roundtrip.proofs.SignReads.{opens, sign-miss}
+use Rattle.proof_roundtrip.proofs.EndModels.{Every, Right}
 use Rattle.proof_roundtrip.proofs.BarLaws.{tab-front, Comes, separated-trip}
 use Rattle.proof_roundtrip.proofs.ElementReads.{element-trip}
 use Rattle.proof_roundtrip.proofs.PoolReads.{plain-trip, multiple-trip}
@@ -96,12 +97,12 @@ element-comes el r = record { comes = λ text rest from d. alone text from (leng
     whole : take elementWords el ≡ el
     whole = take-all elementWords el (omega (arith, r .long))
 
-    trip : (text rest : List ℕ) (from : ℕ) → drop from text ≡ shownElement el ++ rest → element text from (replicate elementWords 0) ≡ passed (from + length (shownElement el)) el
+    trip : (text rest : List ℕ) (from : ℕ) → drop from text ≡ shownElement el ++ rest → element text from (replicate elementWords 0) ≡ passedTo (from + length (shownElement el)) el
     trip text rest from d =
         element-trip el (r .small) (r .fits) text rest (replicate elementWords 0) from d (length-replicate {A = ℕ} elementWords 0) (omega (arith, r .long))
-        ∙ ap (passed (from + length (shownElement el))) whole
+        ∙ ap (passedTo (from + length (shownElement el))) whole
 
-    alone : (text : List ℕ) (from n : ℕ) → element text from (replicate elementWords 0) ≡ passed (from + n) el → elementAlone text from ≡ record { end = At (from + n); value = el }
+    alone : (text : List ℕ) (from n : ℕ) → element text from (replicate elementWords 0) ≡ passedTo (from + n) el → elementAlone text from ≡ record { end = At (from + n); value = el }
     alone text from n e = unfold elementAlone in ap (λ (r : Parsed). record { end = r .end; value = r .words }) e
 
 -- A POOL, by its elements
@@ -115,7 +116,7 @@ module _ (xs els : List (List ℕ)) (p : Pairs (Comes elementAlone) xs els) (som
       barred-read elementAlone startsElement xs els [] elements p some most text rest from misplaced (from + length inside) d (sign-miss text (from + length inside) 124 rest (left-at text from inside rest d) o)
 
   abbrev plainText : List ℕ
-  plainText = bytes "pool" ++ between (code "(") (code ")") (shown i ++ (code "," ∷ inside))
+  plainText = bytes "pool" ++ enclosedBy (code "(") (code ")") (shown i ++ (code "," ∷ inside))
 
   plain-opened : (rest : List ℕ) → plainText ++ rest ≡ bytes "pool" ++ (code "(" ∷ (shown i ++ (code "," ∷ (inside ++ (code ")" ∷ rest)))))
   plain-opened rest =
@@ -135,7 +136,7 @@ module _ (xs els : List (List ℕ)) (p : Pairs (Comes elementAlone) xs els) (som
 
   module _ (m : ℕ) (lm : 1 ≤ m) (um : m ≤ instances) where
     abbrev manyText : List ℕ
-    manyText = bytes "miPool" ++ between (code "(") (code ")") (shown i ++ (code "," ∷ (inside ++ (code "," ∷ shown m))))
+    manyText = bytes "miPool" ++ enclosedBy (code "(") (code ")") (shown i ++ (code "," ∷ (inside ++ (code "," ∷ shown m))))
 
     many-opened : (rest : List ℕ) → manyText ++ rest ≡ bytes "miPool" ++ (code "(" ∷ (shown i ++ (code "," ∷ (inside ++ (code "," ∷ (shown m ++ (code ")" ∷ rest)))))))
     many-opened rest =

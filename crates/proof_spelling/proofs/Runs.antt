@@ -20,8 +20,8 @@ use Rattle.draw_things.specs.Things.{room, oneMore, source, target, sequenceFlo
 use Rattle.draw_kinds.specs.Counting.{ofSort}
 use Rattle.draw_conditions.specs.declared.Term.{Term}
 use Rattle.draw_conditions.specs.declared.Condition.{Condition}
-use Rattle.draw_limits.specs.Numbers.{countBefore, edgeOf}
-use Rattle.draw_model.specs.Drawn.{withEdge, withForm, withTerm, withCondition, saidOrTrue, guardedBy, withGuard, withBranch, exitBy, entryBy, leavingBy, byFlow, headOf}
+use Rattle.draw_numbers.specs.Numbers.{countBefore, edgeOf}
+use Rattle.draw_model.specs.Drawn.{withEdge, withForm, withTerm, withCondition, saidOrTrue, guardedBy, withGuard, withBranch, exitBy, enteringBy, leavingBy, byFlow, headOf}
 use Rattle.proof_map.proofs.Picked.{as-many}
 use Rattle.proof_spelling.specs.Spelling.{gathered}
 use Rattle.proof_spelling.proofs.Lists.{fewer}
@@ -156,7 +156,7 @@ module _ (t w : List ℕ) (n k : ℕ) (few : n ≤ room) where
   out j x = if leaves j then exitBy t w n k j x else x
 
   flow-is : (j : ℕ) (x : List ℕ) → byFlow t w n k j x ≡ out j (into j x)
-  unfolding byFlow leavingBy entryBy
+  unfolding byFlow leavingBy enteringBy
   flow-is j x = go (ofSort sequenceFlow w j)
     where
       go : (b : Bool)

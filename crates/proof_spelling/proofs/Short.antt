@@ -13,7 +13,7 @@ use Rattle.base_words.specs.Pick.{if_then_else_}
 use Rattle.base_words.specs.Text.{bytes}
 use Rattle.write_decimals.specs.Decimals.{shown}
 use Rattle.write_decimals.proofs.DecimalLaws.{shown-short}
-use Rattle.write_shown.specs.Shown.{between, shownField, shownElement}
+use Rattle.write_shown.specs.Shown.{enclosedBy, shownField, shownElement}
 use Rattle.check_model.specs.Checks.{Pool}
 use Rattle.text_read.specs.Notation.{noPool}
 use Rattle.text_passes.proofs.FillLaws.{AtMost, Block, Fits}
@@ -21,13 +21,14 @@ use Rattle.draw_things.specs.Things.{room, sort, source, target, sequenceFlow}
 use Rattle.draw_kinds.specs.Counting.{ofSort}
 use Rattle.draw_conditions.specs.declared.Term.{Term}
 use Rattle.draw_conditions.specs.declared.Condition.{Condition}
-use Rattle.draw_faults.specs.Amiss.{hasParticipants, isPool, isDrawing}
-use Rattle.draw_limits.specs.Numbers.{countBefore, isElement}
+use Rattle.draw_faults.specs.Amiss.{isDrawing}
+use Rattle.draw_numbers.specs.Who.{hasParticipants, isPool}
+use Rattle.draw_numbers.specs.Numbers.{countBefore, isElement}
 use Rattle.draw_limits.specs.Excess.{firstBeyond}
 use Rattle.draw_model.specs.Drawn.{elementDrawn}
 use Rattle.draw_model.specs.Content.{elementsOf, processOf, poolDrawn, poolIf, content}
 use Rattle.draw_read.proofs.RoomLaws.{content-fits}
-use Rattle.proof_ends.proofs.Models.{Every, every-in}
+use Rattle.proof_roundtrip.proofs.EndModels.{Every, every-in}
 use Rattle.proof_lengths.proofs.Pieces.{both-short, between-long, separated-short}
 use Rattle.proof_map.proofs.Picked.{as-many}
 use Rattle.proof_drawings.proofs.SettledLaws.{Settled}
@@ -136,25 +137,25 @@ module _ (d : Collaboration) where
     braced-short : (w : List ℕ) → length w ≤ 88 → length (braced w) ≤ 90
     braced-short w h = omega (arith, between-long (code "{") (code "}") w, h)
 
-    called-1 : (v p : List ℕ) → length v ≤ 10 → length p ≤ 300 → length (v ++ between (code "(") (code ")") (parted (code ",") (p ∷ []))) ≤ 400
+    called-1 : (v p : List ℕ) → length v ≤ 10 → length p ≤ 300 → length (v ++ enclosedBy (code "(") (code ")") (parted (code ",") (p ∷ []))) ≤ 400
     unfolding parted
-    called-1 v p a h = omega (arith, length-append v (between (code "(") (code ")") p), between-long (code "(") (code ")") p, a, h)
+    called-1 v p a h = omega (arith, length-append v (enclosedBy (code "(") (code ")") p), between-long (code "(") (code ")") p, a, h)
 
-    called-2 : (v p q : List ℕ) → length v ≤ 10 → length p + length q ≤ 386 → length (v ++ between (code "(") (code ")") (parted (code ",") (p ∷ q ∷ []))) ≤ 400
+    called-2 : (v p q : List ℕ) → length v ≤ 10 → length p + length q ≤ 386 → length (v ++ enclosedBy (code "(") (code ")") (parted (code ",") (p ∷ q ∷ []))) ≤ 400
     unfolding parted
-    called-2 v p q a h = omega (arith, length-append v (between (code "(") (code ")") (p ++ (code "," ∷ q))), between-long (code "(") (code ")") (p ++ (code "," ∷ q)), length-append p (code "," ∷ q), a, h)
+    called-2 v p q a h = omega (arith, length-append v (enclosedBy (code "(") (code ")") (p ++ (code "," ∷ q))), between-long (code "(") (code ")") (p ++ (code "," ∷ q)), length-append p (code "," ∷ q), a, h)
 
-    called-3 : (v p q r : List ℕ) → length v ≤ 10 → length p + length q + length r ≤ 386 → length (v ++ between (code "(") (code ")") (parted (code ",") (p ∷ q ∷ r ∷ []))) ≤ 400
+    called-3 : (v p q r : List ℕ) → length v ≤ 10 → length p + length q + length r ≤ 386 → length (v ++ enclosedBy (code "(") (code ")") (parted (code ",") (p ∷ q ∷ r ∷ []))) ≤ 400
     unfolding parted
     called-3 v p q r a h =
-        omega (arith, length-append v (between (code "(") (code ")") (p ++ (code "," ∷ (q ++ (code "," ∷ r))))), between-long (code "(") (code ")") (p ++ (code "," ∷ (q ++ (code "," ∷ r)))), length-append p (code "," ∷ (q ++ (code "," ∷ r))), length-append q (code "," ∷ r), a, h)
+        omega (arith, length-append v (enclosedBy (code "(") (code ")") (p ++ (code "," ∷ (q ++ (code "," ∷ r))))), between-long (code "(") (code ")") (p ++ (code "," ∷ (q ++ (code "," ∷ r)))), length-append p (code "," ∷ (q ++ (code "," ∷ r))), length-append q (code "," ∷ r), a, h)
 
-    called-4 : (v p q r s : List ℕ) → length v ≤ 10 → length p + length q + length r + length s ≤ 385 → length (v ++ between (code "(") (code ")") (parted (code ",") (p ∷ q ∷ r ∷ s ∷ []))) ≤ 400
+    called-4 : (v p q r s : List ℕ) → length v ≤ 10 → length p + length q + length r + length s ≤ 385 → length (v ++ enclosedBy (code "(") (code ")") (parted (code ",") (p ∷ q ∷ r ∷ s ∷ []))) ≤ 400
     unfolding parted
     called-4 v p q r s a h =
         omega (
           arith,
-          length-append v (between (code "(") (code ")") (p ++ (code "," ∷ (q ++ (code "," ∷ (r ++ (code "," ∷ s))))))),
+          length-append v (enclosedBy (code "(") (code ")") (p ++ (code "," ∷ (q ++ (code "," ∷ (r ++ (code "," ∷ s))))))),
           between-long (code "(") (code ")") (p ++ (code "," ∷ (q ++ (code "," ∷ (r ++ (code "," ∷ s)))))),
           length-append p (code "," ∷ (q ++ (code "," ∷ (r ++ (code "," ∷ s))))),
           length-append q (code "," ∷ (r ++ (code "," ∷ s))),

@@ -16,13 +16,13 @@ use Rattle.text_readers.specs.Reading.{excessive}
 use Rattle.text_readers.specs.declared.Read.the-variants.{At}
 use Rattle.text_read.specs.declared.Reading.{Reading}
 use Rattle.text_read.specs.Notation.{Got, ReadInto, model, tableOf, rewritten, hasRoom, checked, answerFor, judged as judgedText, readInto}
-use Rattle.xml_skip.specs.declared.Skipped.{Skipped}
-use Rattle.xml_skip.specs.declared.Skipped.the-variants.{Past, Fault}
+use Rattle.xml_skip.specs.declared.Reached.{Reached}
+use Rattle.xml_skip.specs.declared.Reached.the-variants.{Past, Fault}
 use Rattle.draw_walk.specs.Walk.{Walk}
 use Rattle.draw_faults.specs.Amiss.{isDrawing}
 use Rattle.draw_limits.specs.Excess.{firstBeyond, beyondAt}
 use Rattle.draw_model.specs.Content.{content}
-use Rattle.draw_read.specs.Drawings.{drawingMost, tooLong, notXml, notRun, answer, checkedAs, meantBy, walked, thingsOf, judged, answered, filledBy, drawInto}
+use Rattle.draw_read.specs.Drawings.{drawingMost, tooLong, notXml, notRun, answer, checkedAs, meantBy, walkedText, thingsOf, unlessFault, answered, filledBy, drawInto}
 use Rattle.proof_drawings.proofs.Fitting.{drawing-few}
 use Rattle.proof_drawings.proofs.PlacedLaws.{things-placed, things-settled}
 use Rattle.proof_spelling.specs.Spelling.{Participant, Collaboration, collaborationIn, collaborationOf, elementsIn, spell}
@@ -48,35 +48,35 @@ module _ (text w : List ℕ) (n : ℕ) where
       go true true d q no-21 no-3 = absurd (no-3 (unfold if_then_else_ in refl))
       go true false d q no-21 no-3 = record { drawn = d; beyond = q; is = unfold if_then_else_ in refl }
 
-abbrev given : List ℕ → Bool → Skipped → Reading
-given text b e = if b then answer tooLong 0 else judged e (meantBy text (thingsOf text) (walked text .count))
+abbrev given : List ℕ → Bool → Reached → Reading
+given text b e = if b then answer tooLong 0 else unlessFault e (meantBy text (thingsOf text) (walkedText text .count))
 
 answered-judged : (text : List ℕ) → (answered text .number ≡ tooLong → ⊥) → (answered text .number ≡ notXml → ⊥) → (answered text .number ≡ notRun → ⊥) → (answered text .number ≡ excessive → ⊥)
-    → Judged text (thingsOf text) (walked text .count) (answered text)
+    → Judged text (thingsOf text) (walkedText text .count) (answered text)
 unfolding answered
-answered-judged text = go (ltb drawingMost (length text)) (walked text .end)
+answered-judged text = go (ltb drawingMost (length text)) (walkedText text .end)
   where
-    go : (b : Bool) (e : Skipped) → (given text b e .number ≡ tooLong → ⊥) → (given text b e .number ≡ notXml → ⊥) → (given text b e .number ≡ notRun → ⊥) → (given text b e .number ≡ excessive → ⊥) → Judged text (thingsOf text) (walked text .count) (given text b e)
+    go : (b : Bool) (e : Reached) → (given text b e .number ≡ tooLong → ⊥) → (given text b e .number ≡ notXml → ⊥) → (given text b e .number ≡ notRun → ⊥) → (given text b e .number ≡ excessive → ⊥) → Judged text (thingsOf text) (walkedText text .count) (given text b e)
     go true e no-1 no-20 no-21 no-3 = absurd (no-1 (unfold if_then_else_ in refl))
-    go false (Past q) no-1 no-20 no-21 no-3 = unfold if_then_else_ judged in meant-judged text (thingsOf text) (walked text .count) no-21 no-3
-    go false (Fault q) no-1 no-20 no-21 no-3 = absurd (no-20 (unfold if_then_else_ judged in refl))
+    go false (Past q) no-1 no-20 no-21 no-3 = unfold if_then_else_ unlessFault in meant-judged text (thingsOf text) (walkedText text .count) no-21 no-3
+    go false (Fault q) no-1 no-20 no-21 no-3 = absurd (no-20 (unfold if_then_else_ unlessFault in refl))
 
 -- the same of a text that is walked to its end, of a drawing in which nothing is amiss or beyond
-pub passed-judged : (text : List ℕ) (q : ℕ) → ltb drawingMost (length text) ≡ false → walked text .end ≡ Past q → isDrawing text (thingsOf text) (walked text .count) ≡ true
-    → ltb (firstBeyond text (thingsOf text) (walked text .count)) (walked text .count) ≡ false → Judged text (thingsOf text) (walked text .count) (answered text)
-passed-judged text q l e d b = record { drawn = d; beyond = b; is = whole ∙ ap (λ (s : Skipped). judged s (meantBy text (thingsOf text) (walked text .count))) e ∙ walked-on ∙ meant }
+pub passed-judged : (text : List ℕ) (q : ℕ) → ltb drawingMost (length text) ≡ false → walkedText text .end ≡ Past q → isDrawing text (thingsOf text) (walkedText text .count) ≡ true
+    → ltb (firstBeyond text (thingsOf text) (walkedText text .count)) (walkedText text .count) ≡ false → Judged text (thingsOf text) (walkedText text .count) (answered text)
+passed-judged text q l e d b = record { drawn = d; beyond = b; is = whole ∙ ap (λ (s : Reached). unlessFault s (meantBy text (thingsOf text) (walkedText text .count))) e ∙ walked-on ∙ meant }
   where
-    whole : answered text ≡ judged (walked text .end) (meantBy text (thingsOf text) (walked text .count))
+    whole : answered text ≡ unlessFault (walkedText text .end) (meantBy text (thingsOf text) (walkedText text .count))
     whole = unfold answered in sym (pick-no (ltb drawingMost (length text)) _ _ _ l refl)
 
-    walked-on : judged (Past q) (meantBy text (thingsOf text) (walked text .count)) ≡ meantBy text (thingsOf text) (walked text .count)
-    walked-on = unfold judged in refl
+    walked-on : unlessFault (Past q) (meantBy text (thingsOf text) (walkedText text .count)) ≡ meantBy text (thingsOf text) (walkedText text .count)
+    walked-on = unfold unlessFault in refl
 
-    meant : meantBy text (thingsOf text) (walked text .count) ≡ checkedAs (content text (thingsOf text) (walked text .count))
+    meant : meantBy text (thingsOf text) (walkedText text .count) ≡ checkedAs (content text (thingsOf text) (walkedText text .count))
     meant =
         unfold meantBy in
-        sym (pick-no (not (isDrawing text (thingsOf text) (walked text .count))) _ _ _ (ap not d)
-        (pick-no (ltb (firstBeyond text (thingsOf text) (walked text .count)) (walked text .count)) _ _ _ b refl))
+        sym (pick-no (not (isDrawing text (thingsOf text) (walkedText text .count))) _ _ _ (ap not d)
+        (pick-no (ltb (firstBeyond text (thingsOf text) (walkedText text .count)) (walkedText text .count)) _ _ _ b refl))
 
 -- what is checked of a model is the same of a drawing and of a text
 checked-same : (ps : List Pool) (t : List ℕ) → checked (lowest ps) ps t ≡ filledBy (checkedAs ps) ps t
@@ -100,15 +100,15 @@ module _ (text t : List ℕ) where
   abbrev pub Full : Type 0
   Full = each (λ (p : Participant). ltb 0 (length (elementsIn D (p .process)))) (D .participants) ≡ true
 
-  module _ (due : Judged text (thingsOf text) (walked text .count) (answered text)) (full : Full) where
+  module _ (due : Judged text (thingsOf text) (walkedText text .count) (answered text)) (full : Full) where
     -- its text is read as the model that it means, and is not too long
-    spelled-model : model (spell D) ≡ record { end = At (length (spell D)); value = content text (thingsOf text) (walked text .count) }
+    spelled-model : model (spell D) ≡ record { end = At (length (spell D)); value = content text (thingsOf text) (walkedText text .count) }
     unfolding collaborationOf
-    spelled-model = content-read text (thingsOf text) (walked text .count) (due .drawn) (due .beyond) (things-settled text (drawing-few text (thingsOf text) (walked text .count) (due .drawn))) (things-placed text) full
+    spelled-model = content-read text (thingsOf text) (walkedText text .count) (due .drawn) (due .beyond) (things-settled text (drawing-few text (thingsOf text) (walkedText text .count) (due .drawn))) (things-placed text) full
 
     short : length (spell D) ≤ textMost
     unfolding collaborationOf
-    short = spelled-short text (thingsOf text) (walked text .count) (due .drawn) (due .beyond) (things-settled text (drawing-few text (thingsOf text) (walked text .count) (due .drawn))) (things-placed text)
+    short = spelled-short text (thingsOf text) (walkedText text .count) (due .drawn) (due .beyond) (things-settled text (drawing-few text (thingsOf text) (walkedText text .count) (due .drawn))) (things-placed text)
 
     pub spelled-due : readInto (spell D) t ≡ drawInto text t
     unfolding readInto drawInto
@@ -116,10 +116,10 @@ module _ (text t : List ℕ) where
         sym (pick-no (ltb textMost (length (spell D))) _ _ _ (le-ltb textMost (length (spell D)) short) refl)
         ∙ ap (λ (g : Got (List Pool)). judgedText (g .end) (g .value) t) spelled-model
         ∙ judge
-        ∙ ap (λ (a : Reading). filledBy a (content text (thingsOf text) (walked text .count)) t) (sym (due .is))
+        ∙ ap (λ (a : Reading). filledBy a (content text (thingsOf text) (walkedText text .count)) t) (sym (due .is))
       where
-        judge : judgedText (At (length (spell D))) (content text (thingsOf text) (walked text .count)) t ≡ filledBy (checkedAs (content text (thingsOf text) (walked text .count))) (content text (thingsOf text) (walked text .count)) t
-        judge = unfold judgedText in checked-same (content text (thingsOf text) (walked text .count)) t
+        judge : judgedText (At (length (spell D))) (content text (thingsOf text) (walkedText text .count)) t ≡ filledBy (checkedAs (content text (thingsOf text) (walkedText text .count))) (content text (thingsOf text) (walkedText text .count)) t
+        judge = unfold judgedText in checked-same (content text (thingsOf text) (walkedText text .count)) t
 
   -- THE THEOREM
   pub spelled : (drawInto text t .number ≡ tooLong → ⊥) → (drawInto text t .number ≡ notXml → ⊥) → (drawInto text t .number ≡ notRun → ⊥) → (drawInto text t .number ≡ excessive → ⊥) → Full

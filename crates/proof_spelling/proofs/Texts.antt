@@ -23,14 +23,14 @@ use Rattle.base_table.specs.Places.{aField, always, default, equals, formPlace,
 use Rattle.base_table.specs.Table.{kindIn, taskIn, modeIn, entryAt, exitAt, conditionAt, messageName, messageLength, itemAt, assignmentCount, assignmentAt}
 use Rattle.check_limits.specs.Limits.{countFits, taskFits, elementFits}
 use Rattle.write_decimals.specs.Decimals.{shown}
-use Rattle.write_shown.specs.Shown.{lead, separated, commas, between, shownField, shownOperand, shownPair, shownCondition, shownTuple, shownItem, shownMessage, shownEntries, shownExits, shownGuarded, shownGuardedList, shownReceiving, shownReceivingList, shownMode, shownAssignment, shownAssignments, shownTask}
+use Rattle.write_shown.specs.Shown.{lead, separated, commas, enclosedBy, shownField, shownOperand, shownPair, shownCondition, shownTuple, shownItem, shownMessage, shownEntries, shownExits, shownGuarded, shownGuardedList, shownReceiving, shownReceivingList, shownMode, shownAssignment, shownAssignments, shownTask}
 use Rattle.draw_things.specs.Things.{room, oneMore, sort, within, source, target, kind, isNode, place, sequenceFlow, conditionExpression}
 use Rattle.draw_kinds.specs.Counting.{sourceIn, withinIn, firstWith, ofSort}
 use Rattle.draw_conditions.specs.declared.Term.{Term}
 use Rattle.draw_conditions.specs.declared.Condition.{Condition}
 use Rattle.draw_conditions.specs.Conditions.{absent, bare, conditionAt as conditionSaid}
-use Rattle.draw_faults.specs.Amiss.{isOfKind, isSender, isReceiver, sends, receives}
-use Rattle.draw_limits.specs.Numbers.{countBefore, isTask, isStart, taskOf, edgeOf, firstEdgeOf, defaultOf}
+use Rattle.draw_numbers.specs.Who.{isOfKind, isSender, isReceiver, sends, receives}
+use Rattle.draw_numbers.specs.Numbers.{countBefore, isTask, isStart, taskOf, edgeOf, firstEdgeOf, defaultOf}
 use Rattle.draw_model.specs.Drawn.{withEdge, withForm, withTerm, withCondition, saidOrTrue, guardedBy, withGuard, withBranch, exitBehind, receivedBy, sentBy, withMessage, withTask, withFirst, headOf, exitBy, byFlow, elementDrawn}
 use Rattle.proof_steps.proofs.Elements.{rowOf, fitting-parts}
 use Rattle.proof_steps.proofs.Choices.{passed-true}

@@ -14,17 +14,17 @@ use Rattle.base_words.specs.Text.{bytes}
 use Rattle.base_kinds.specs.Kinds as kinds
 use Rattle.base_table.specs.Places.{aField, always, default, equals}
 use Rattle.write_decimals.specs.Decimals.{shown}
-use Rattle.write_shown.specs.Shown.{between, shownField}
+use Rattle.write_shown.specs.Shown.{enclosedBy, shownField}
 use Rattle.draw_things.specs.Things.{sort, place, within, source, target, kind, isNode, participantMultiplicity, messageFlow, sequenceFlow, conditionExpression, task, receiveTask, branch}
 use Rattle.draw_walk.specs.Walk.{Walk}
 use Rattle.draw_kinds.specs.Counting.{withinIn, ofSort, firstWith}
 use Rattle.draw_conditions.specs.declared.Term.{Term}
 use Rattle.draw_conditions.specs.declared.Condition.{Condition}
 use Rattle.draw_conditions.specs.Conditions.{conditionAt, absent, bare}
-use Rattle.draw_faults.specs.Amiss.{isOfKind, hasParticipants, isPool}
-use Rattle.draw_limits.specs.Numbers.{maximumOf, defaultOf}
+use Rattle.draw_numbers.specs.Who.{isOfKind, hasParticipants, isPool}
+use Rattle.draw_numbers.specs.Numbers.{maximumOf, defaultOf}
 use Rattle.draw_model.specs.Content.{processOf}
-use Rattle.draw_read.specs.Drawings.{walked, thingsOf}
+use Rattle.draw_read.specs.Drawings.{walkedText, thingsOf}
 
 -- THE DATA. What is drawn is named by which of the things that the walk meets it is.
 -- A participant with a process, or a process where there are no participants; "participantMultiplicity makes a miPool, n its maximum; none makes a `pool`" (R20)
@@ -104,7 +104,7 @@ collaborationIn t w n =
     }
 
 unfoldable pub collaborationOf : Bytes → Collaboration
-collaborationOf text = collaborationIn text (thingsOf text) (walked text .count)
+collaborationOf text = collaborationIn text (thingsOf text) (walkedText text .count)
 
 -- TEXTS: pieces with a sign between them; the place of the first in a list that passes a test; the first piece
 unfoldable pub parted : ℕ → List Bytes → Bytes
@@ -183,24 +183,24 @@ unfoldable pub guard : Flow → Bytes
 guard f = if f .isDefault then bytes "default" else condition (f .condition)
 
 unfoldable pub guarded : Collaboration → Flow → Bytes
-guarded d f = between (code "(") (code ")") (edge d f ++ (code "," ∷ guard f))
+guarded d f = enclosedBy (code "(") (code ")") (edge d f ++ (code "," ∷ guard f))
 
 unfoldable pub choices : Collaboration → Node → Bytes
-choices d k = between (code "{") (code "}") (parted (code ",") (map (guarded d) (flowsFrom d (k .name))))
+choices d k = enclosedBy (code "{") (code "}") (parted (code ",") (map (guarded d) (flowsFrom d (k .name))))
 
 -- "An event gateway's branches as the gateway's own flows stand; each branch has its catch event's message and exit" (R27)
 unfoldable pub caught : Collaboration → Flow → Bytes
-caught d f = between (code "(") (code ")") (received d (f .to) ++ (code "," ∷ foremost (map (edge d) (flowsFrom d (f .to)))))
+caught d f = enclosedBy (code "(") (code ")") (received d (f .to) ++ (code "," ∷ foremost (map (edge d) (flowsFrom d (f .to)))))
 
 unfoldable pub catches : Collaboration → Node → Bytes
 catches d k = parted (code ",") (map (caught d) (flowsFrom d (k .name)))
 
 -- AN ELEMENT, in the form that document 01 gives its kind
 abbrev pub braced : Bytes → Bytes
-braced w = between (code "{") (code "}") w
+braced w = enclosedBy (code "{") (code "}") w
 
 abbrev pub called : String → List Bytes → Bytes
-called word parts = bytes word ++ between (code "(") (code ")") (parted (code ",") parts)
+called word parts = bytes word ++ enclosedBy (code "(") (code ")") (parted (code ",") parts)
 
 unfoldable pub elementBy : ℕ → Collaboration → Node → Bytes
 elementBy c d k =
@@ -232,8 +232,8 @@ elements d p = parted (code "|") (map (element d) (elementsIn d (p .process)))
 
 unfoldable pub pool : Collaboration → ℕ → Participant → Bytes
 pool d i p =
-    if p .isMany then bytes "miPool" ++ between (code "(") (code ")") (shown i ++ (code "," ∷ (elements d p ++ (code "," ∷ shown (p .maximum)))))
-    else bytes "pool" ++ between (code "(") (code ")") (shown i ++ (code "," ∷ elements d p))
+    if p .isMany then bytes "miPool" ++ enclosedBy (code "(") (code ")") (shown i ++ (code "," ∷ (elements d p ++ (code "," ∷ shown (p .maximum)))))
+    else bytes "pool" ++ enclosedBy (code "(") (code ")") (shown i ++ (code "," ∷ elements d p))
 
 unfoldable pub poolsFrom : Collaboration → ℕ → List Participant → List Bytes
 poolsFrom d i [] = []

@@ -10,7 +10,7 @@ use lib.Seq.{set-getD}
 use borrow.Author.Tests.{eqb-true, eqb-false, ltb-true, leb-false}
 use Rattle.base_words.specs.Pick.{if_then_else_}
 use Rattle.base_words.specs.Words.{at}
-use Rattle.base_words.specs.Counts.{values, assignments, countMost, named}
+use Rattle.base_words.specs.Counts.{values, assignments, countMost, fieldsNamed}
 use Rattle.base_words.proofs.IterLaws.{iter-keeps}
 use Rattle.base_kinds.specs.declared.moves.Move.{Move}
 use Rattle.base_kinds.specs.Moves.{every, branch, up, down}
@@ -25,14 +25,14 @@ use Rattle.meaning.specs.Tuples.{valueOf}
 use Rattle.meaning.specs.Expressions.{expressionOf}
 use Rattle.meaning.specs.Templates.{binds, bindOne, bound}
 use Rattle.meaning.specs.Assignments.{Assigned, assignedValue, assignOne, assigned}
-use Rattle.meaning.specs.Requirements.{touched, first}
+use Rattle.meaning.specs.Requirements.{touched, firstTouched}
 use Rattle.meaning.specs.Changes.{takeOne, taken, more, countChanged, activeChanged, readyChanged, putOne, puts}
 use Rattle.proof_steps.proofs.Choices.{by-test, by-choice}
 use Rattle.proof_steps.proofs.InstanceFits.{Fit, count-most, fit-set, fit-field}
 
 -- NUMBERS: the edges that a cell means are among the n there are; a count stays at most 255
-pub touched-within : (cell b n j : ℕ) → (cell ≡ branch → b < n) → j < touched cell n → first cell b + j < n
-unfolding touched first if_then_else_
+pub touched-within : (cell b n j : ℕ) → (cell ≡ branch → b < n) → j < touched cell n → firstTouched cell b + j < n
+unfolding touched firstTouched if_then_else_
 touched-within cell b n j few l = go (eqb cell every) refl (eqb cell branch) refl l
   where
     go : (c : Bool) → eqb cell every ≡ c → (d : Bool) → eqb cell branch ≡ d → j < (if c then n else if d then 1 else 0) → (if d then b else 0) + j < n
@@ -57,7 +57,7 @@ counted-none n = refl
 
 module _ (u el : List ℕ) where
   -- FIELDS: binds, then assignments
-  module _ (b : ℕ) (g : Tuple) (right : (j : ℕ) → binds el b j ≡ true → at (itemAt el b j) (leftPlace + operandNumber) < named) where
+  module _ (b : ℕ) (g : Tuple) (right : (j : ℕ) → binds el b j ≡ true → at (itemAt el b j) (leftPlace + operandNumber) < fieldsNamed) where
     fit-bind : (j : ℕ) (h : List ℕ) → Fit u h → Fit u (bindOne el b g j h)
     unfolding bindOne
     fit-bind j h f =
@@ -69,8 +69,8 @@ module _ (u el : List ℕ) where
     unfolding bound
     fit-bound h f = iter-keeps (bindOne el b g) h (Fit u) values (λ k y l r. fit-bind k y r) f
 
-  module _ (right : (j : ℕ) → j < assignmentCount el → at (assignmentAt el j) 0 < named) where
-    fit-value : (h : List ℕ) (d : ℕ) (v : Value) → d < named → Fit u h → Fit u (assignedValue h d v .instance)
+  module _ (right : (j : ℕ) → j < assignmentCount el → at (assignmentAt el j) 0 < fieldsNamed) where
+    fit-value : (h : List ℕ) (d : ℕ) (v : Value) → d < fieldsNamed → Fit u h → Fit u (assignedValue h d v .instance)
     unfolding assignedValue
     fit-value h d (Number v) l f = fit-field u h d v l f
     fit-value h d Undefined l f = f
@@ -107,16 +107,16 @@ module _ (u el : List ℕ) where
         → (m .takes ≡ branch → b < entryCount el) → (h : List ℕ) → Fit u h → Fit u (taken el m b h)
     unfolding taken
     fit-taken right few h f =
-        iter-keeps (takeOne el (first (m .takes) b)) h (Fit u) (touched (m .takes) (entryCount el))
-        (λ j y l r. let p = right (first (m .takes) b + j) (touched-within (m .takes) b (entryCount el) j few l) in fit-take (first (m .takes) b) j y (p .0) (p .1) r)
+        iter-keeps (takeOne el (firstTouched (m .takes) b)) h (Fit u) (touched (m .takes) (entryCount el))
+        (λ j y l r. let p = right (firstTouched (m .takes) b + j) (touched-within (m .takes) b (entryCount el) j few l) in fit-take (firstTouched (m .takes) b) j y (p .0) (p .1) r)
         f
 
     pub fit-puts : ((j : ℕ) → j < exitCount el → (tokenPlace (exitAt el j) < definedPlace 0) × (at u (tokenPlace (exitAt el j)) ≡ 1))
         → (m .puts ≡ branch → b < exitCount el) → (h : List ℕ) → Fit u h → Fit u (puts el m b h)
     unfolding puts
     fit-puts right few h f =
-        iter-keeps (putOne el (first (m .puts) b)) h (Fit u) (touched (m .puts) (exitCount el))
-        (λ j y l r. let p = right (first (m .puts) b + j) (touched-within (m .puts) b (exitCount el) j few l) in fit-put (first (m .puts) b) j y (p .0) (p .1) r)
+        iter-keeps (putOne el (firstTouched (m .puts) b)) h (Fit u) (touched (m .puts) (exitCount el))
+        (λ j y l r. let p = right (firstTouched (m .puts) b + j) (touched-within (m .puts) b (exitCount el) j few l) in fit-put (firstTouched (m .puts) b) j y (p .0) (p .1) r)
         f
 
     -- COUNTS: a cell that holds nothing leaves the word as it is

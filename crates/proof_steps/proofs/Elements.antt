@@ -10,7 +10,7 @@ use lib.Seq.{getD-drop, drop-drop}
 use borrow.Author.Tests.{eqb-true, ltb-true, leb-true, eq-eqb}
 use Rattle.base_words.specs.All.{all}
 use Rattle.base_words.specs.Words.{at}
-use Rattle.base_words.specs.Counts.{pools, elements, fewest, branches, poolNumbers, edges, tasks, names, instances, values, assignments, named}
+use Rattle.base_words.specs.Counts.{pools, elements, fewest, branches, poolNumbers, edges, tasks, names, instances, values, assignments, fieldsNamed}
 use Rattle.base_words.proofs.AllLaws.{and-left, and-right, all-at}
 use Rattle.base_kinds.specs.declared.Kind.{Kind}
 use Rattle.base_kinds.specs.Kinds.{none, one, many, kindOf, used, endSnd}
@@ -133,14 +133,14 @@ module _ (el : List ℕ) (fits : elementFits el ≡ true) where
       (omega (arith, b .0, d), omega (arith, b .1, d))
 
   -- the field of an assignment
-  pub assigned-field : (j : ℕ) → j < assignmentCount el → at (assignmentAt el j) 0 < named
+  pub assigned-field : (j : ℕ) → j < assignmentCount el → at (assignmentAt el j) 0 < fieldsNamed
   unfolding assignmentsFit assignmentFits
   assigned-field j l =
       let h = parts .assignments in
       let b = things-from el (assignmentPlace 0) assignmentWords assignments (assignmentCount el) assignmentFits h j l in
       let e : assignmentPlace 0 + assignmentWords * j ≡ assignmentPlace j = omega arith in
-      let c : at (drop (assignmentPlace 0 + assignmentWords * j) el) 0 < named = ltb-true _ named (and-left (ltb (at (drop (assignmentPlace 0 + assignmentWords * j) el) 0) named) _ b) in
-      subst (λ k. at (drop k el) 0 < named) e c
+      let c : at (drop (assignmentPlace 0 + assignmentWords * j) el) 0 < fieldsNamed = ltb-true _ fieldsNamed (and-left (ltb (at (drop (assignmentPlace 0 + assignmentWords * j) el) 0) fieldsNamed) _ b) in
+      subst (λ k. at (drop k el) 0 < fieldsNamed) e c
 
   -- a message: its name, its length, the field that an item binds
   module _ (b : ℕ) (l : b < used (row .receives + row .sends) (at el exitsPlace)) where
@@ -187,7 +187,7 @@ module _ (el : List ℕ) (fits : elementFits el ≡ true) where
         let e : messagePlace b + (itemsIn + expressionWords * j) ≡ itemPlace b j = omega arith in
         subst (λ y. itemFits (row .receives) y ≡ true) (drop-drop (itemsIn + expressionWords * j) (messagePlace b) el ∙ ap (λ k. drop k el) e) h
 
-    pub bound-field : (j : ℕ) → j < messageLength el b → at (itemAt el b j) formPlace ≡ binding → at (itemAt el b j) (leftPlace + operandNumber) < named
+    pub bound-field : (j : ℕ) → j < messageLength el b → at (itemAt el b j) formPlace ≡ binding → at (itemAt el b j) (leftPlace + operandNumber) < fieldsNamed
     unfolding itemFits bindFits
     bound-field j r e =
         let i : List ℕ = itemAt el b j in
@@ -195,9 +195,9 @@ module _ (el : List ℕ) (fits : elementFits el ≡ true) where
         let g : bindFits i ≡ true = by-test (eqb (row .receives) none)
         (λ y. absurd (false≢true (chosen-true (eqb (row .receives) none) false (bindFits i) h y)))
         (λ y. passed-true (eqb (row .receives) none) false (bindFits i) h y) in
-        ltb-true (at i (leftPlace + operandNumber)) named
-        (and-right (eqb (at i leftPlace) aField) (ltb (at i (leftPlace + operandNumber)) named)
-        (and-left (eqb (at i leftPlace) aField && ltb (at i (leftPlace + operandNumber)) named) _ g))
+        ltb-true (at i (leftPlace + operandNumber)) fieldsNamed
+        (and-right (eqb (at i leftPlace) aField) (ltb (at i (leftPlace + operandNumber)) fieldsNamed)
+        (and-left (eqb (at i leftPlace) aField && ltb (at i (leftPlace + operandNumber)) fieldsNamed) _ g))
 
 -- A POOL AND ITS ELEMENTS
 module _ (t : List ℕ) (fits : tableFits t ≡ true) where

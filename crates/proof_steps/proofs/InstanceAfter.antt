@@ -7,7 +7,7 @@ use native.Mathlib.Omega.{arith}
 use lib.Dec.{eqb, ltb}
 use borrow.Author.Tests.{eqb-true, ltb-true, eq-eqb, ne-eqb}
 use Rattle.base_words.specs.Words.{at}
-use Rattle.base_words.specs.Counts.{named}
+use Rattle.base_words.specs.Counts.{fieldsNamed}
 use Rattle.base_words.proofs.AllLaws.{and-left, and-right}
 use Rattle.base_kinds.specs.declared.moves.Move.{Move}
 use Rattle.base_kinds.specs.Kinds.{kindOf}
@@ -103,7 +103,7 @@ module _ (t s : List ℕ) (n : Name) (fits : tableFits t ≡ true) (f : Found t 
       ready-place
 
   -- THE FIELDS
-  binds-right : receives x ≡ true → (j : ℕ) → binds el (n .branch) j ≡ true → at (itemAt el (n .branch) j) (leftPlace + operandNumber) < named
+  binds-right : receives x ≡ true → (j : ℕ) → binds el (n .branch) j ≡ true → at (itemAt el (n .branch) j) (leftPlace + operandNumber) < fieldsNamed
   unfolding binds
   binds-right e j h =
       bound-field el right-element (n .branch) (message-there t s n fits f (ap (λ b. b || sends x) e)) j

@@ -12,7 +12,7 @@ use borrow.Author.Tests.{eqb-true, leb-true, eq-eqb, le-leb}
 use Rattle.base_words.specs.All.{all}
 use Rattle.base_words.specs.Pick.{if_then_else_}
 use Rattle.base_words.specs.Words.{at}
-use Rattle.base_words.specs.Counts.{fields, countMost, named}
+use Rattle.base_words.specs.Counts.{fields, countMost, fieldsNamed}
 use Rattle.base_words.proofs.AllLaws.{and-left, and-right, all-at, all-of}
 use Rattle.base_words.proofs.PickLaws.{and-true}
 use Rattle.base_words.proofs.WritesLaws.{length-writes, writes-in, writes-above}
@@ -76,9 +76,9 @@ field-same h d g e v = field-alike (drop (definedPlace 0) h) (drop (definedPlace
 pub record Fit (u h : List ℕ) : Type 0 where
   pub long : length h ≡ copyWords
   pub counts : (k : ℕ) → k < definedPlace 0 → placeFits u h k ≡ true
-  pub filled : (d : ℕ) → d < named → seenFits h d ≡ true
+  pub filled : (d : ℕ) → d < fieldsNamed → seenFits h d ≡ true
 
-own-or-store : (h : List ℕ) → ((d : ℕ) → d < fields → seenFits h d ≡ true) → ((d : ℕ) → d < fields → seenFits h (fields + d) ≡ true) → (d : ℕ) → d < named → seenFits h d ≡ true
+own-or-store : (h : List ℕ) → ((d : ℕ) → d < fields → seenFits h d ≡ true) → ((d : ℕ) → d < fields → seenFits h (fields + d) ≡ true) → (d : ℕ) → d < fieldsNamed → seenFits h d ≡ true
 own-or-store h own stored d r =
     by-below d fields (own d) (λ l. let e : fields + (d - fields) ≡ d = omega arith in subst (λ y. seenFits h y ≡ true) e (stored (d - fields) (omega arith)))
 
@@ -131,7 +131,7 @@ module _ (u h : List ℕ) where
   }
 
   -- a field
-  pub fit-field : (d v : ℕ) → d < named → Fit u h → Fit u (withField h d v)
+  pub fit-field : (d v : ℕ) → d < fieldsNamed → Fit u h → Fit u (withField h d v)
   fit-field d v l f =
       let away : (k : ℕ) → (k ≡ definedPlace d → ⊥) → (k ≡ valuePlace d → ⊥) → at (withField h d v) k ≡ at h k =
       λ k a b. getD-set-other (set h (definedPlace d) 1) (valuePlace d) k v 0 b ∙ getD-set-other h (definedPlace d) k 1 0 a in

@@ -20,7 +20,7 @@ use Rattle.base_state.specs.Places.{tokenPlace, activePlace, readyPlace, copyWo
 use Rattle.base_state.specs.Instances.{tokens, activeCount, readyCount}
 use Rattle.check_limits.specs.Limits.{elementFits, tableFits}
 use Rattle.meaning.specs.declared.Name.{Name}
-use Rattle.meaning.specs.Requirements.{touched, first, hasRoom, hasRooms, canRaise, roomy}
+use Rattle.meaning.specs.Requirements.{touched, firstTouched, edgeHasRoom, hasRooms, canRaise, roomy}
 use Rattle.meaning.specs.Changes.{more, countChanged, activeChanged, readyChanged, putOne, puts, cleared, moved}
 use Rattle.meaning.specs.Refusals.{firstRefusal}
 use Rattle.meaning.specs.Step.{Site, siteOf, elementNamed, moveNamed, afterTaking, instanceAfter, refusals}
@@ -43,7 +43,7 @@ ExitsApart el = (j k : ℕ) → j < exitCount el → k < exitCount el → (j ≡
 -- OF ANY INSTANCE h that has room
 module _ (el : List ℕ) (m : Move) (b : ℕ) (h : List ℕ) (fits : elementFits el ≡ true) (few : m .puts ≡ branch → b < exitCount el) (long : length h ≡ copyWords) (room : roomy el h m b ≡ true) where
   abbrev place : ℕ → ℕ
-  place j = tokenPlace (exitAt el (first (m .puts) b + j))
+  place j = tokenPlace (exitAt el (firstTouched (m .puts) b + j))
 
   abbrev count : ℕ
   count = touched (m .puts) (exitCount el)
@@ -60,14 +60,14 @@ module _ (el : List ℕ) (m : Move) (b : ℕ) (h : List ℕ) (fits : elementFits
   abbrev readyPart : Bool
   readyPart = canRaise (m .ready) (readyCount h (taskIn el))
 
-  exit-in : (j : ℕ) → j < count → (1 ≤ exitAt el (first (m .puts) b + j)) × (exitAt el (first (m .puts) b + j) ≤ edges)
-  exit-in j l = exit-within el fits (first (m .puts) b + j) (touched-within (m .puts) b (exitCount el) j few l)
+  exit-in : (j : ℕ) → j < count → (1 ≤ exitAt el (firstTouched (m .puts) b + j)) × (exitAt el (firstTouched (m .puts) b + j) ≤ edges)
+  exit-in j l = exit-within el fits (firstTouched (m .puts) b + j) (touched-within (m .puts) b (exitCount el) j few l)
 
   has-room : (j : ℕ) → j < count → at h (place j) < countMost
-  unfolding roomy hasRooms hasRoom
+  unfolding roomy hasRooms edgeHasRoom
   has-room j l =
       ltb-true (at h (place j)) countMost
-      (all-at (hasRoom el h (first (m .puts) b)) count (and-left roomsPart activePart (and-left (roomsPart && activePart) readyPart room)) j l)
+      (all-at (edgeHasRoom el h (firstTouched (m .puts) b)) count (and-left roomsPart activePart (and-left (roomsPart && activePart) readyPart room)) j l)
 
   -- the counts are changed apart from the tokens, and apart from one another
   length-counted : length g ≡ copyWords
@@ -112,7 +112,7 @@ module _ (el : List ℕ) (m : Move) (b : ℕ) (h : List ℕ) (fits : elementFits
       (λ i k li lk d e.
       let wi = exit-in i li in
       let wk = exit-in k lk in
-      apart (first (m .puts) b + i) (first (m .puts) b + k) (touched-within (m .puts) b (exitCount el) i few li) (touched-within (m .puts) b (exitCount el) k few lk)
+      apart (firstTouched (m .puts) b + i) (firstTouched (m .puts) b + k) (touched-within (m .puts) b (exitCount el) i few li) (touched-within (m .puts) b (exitCount el) k few lk)
       (λ z. d (omega arith)) (omega (arith, wi .0, wk .0)))
       (λ i li. let w = exit-in i li in omega (arith, w .0, w .1, length-counted))
       (λ i li. let w = exit-in i li in let s : at g (place i) ≡ at h (place i) = same-tokens (place i) (omega (arith, w .0, w .1)) in omega (arith, has-room i li))
@@ -177,13 +177,13 @@ module _ (t s q : List ℕ) (n : Name) (fits : tableFits t ≡ true) (state : st
 
   pub no-saturation : ExitsApart (elementNamed t n)
       → (j : ℕ) → j < touched (moveNamed t n .puts) (exitCount (elementNamed t n))
-      → tokens (instanceAfter x) (exitAt (elementNamed t n) (first (moveNamed t n .puts) (n .branch) + j))
-      ≡ tokens (afterTaking x) (exitAt (elementNamed t n) (first (moveNamed t n .puts) (n .branch) + j)) + 1
+      → tokens (instanceAfter x) (exitAt (elementNamed t n) (firstTouched (moveNamed t n .puts) (n .branch) + j))
+      ≡ tokens (afterTaking x) (exitAt (elementNamed t n) (firstTouched (moveNamed t n .puts) (n .branch) + j)) + 1
   no-saturation apart j l =
       by-test (eqb (moveNamed t n .also) clearing)
       (λ e. let z = none-touched (moveNamed t n .puts) (exitCount (elementNamed t n)) (clears-none e .0) in absurd (omega arith))
       (λ e.
-      ap (λ (y : List ℕ). tokens y (exitAt (elementNamed t n) (first (moveNamed t n .puts) (n .branch) + j))) (not-cleared e)
+      ap (λ (y : List ℕ). tokens y (exitAt (elementNamed t n) (firstTouched (moveNamed t n .puts) (n .branch) + j))) (not-cleared e)
       ∙ put-one (elementNamed t n) (moveNamed t n) (n .branch) (afterTaking x) right (branch-exit t s n fits f) taking-long room-after apart j l)
 
   pub active-raised : moveNamed t n .active ≡ up → activeCount (instanceAfter x) (taskIn (elementNamed t n)) ≡ activeCount (afterTaking x) (taskIn (elementNamed t n)) + 1

@@ -28,7 +28,7 @@ use Rattle.meaning.specs.Tuples.{valueOf}
 use Rattle.meaning.specs.Expressions.{expressionOf}
 use Rattle.meaning.specs.Templates.{binds, bindOne, bound}
 use Rattle.meaning.specs.Assignments.{Assigned, assignedValue, assignOne, assigned}
-use Rattle.meaning.specs.Requirements.{touched, first}
+use Rattle.meaning.specs.Requirements.{touched, firstTouched}
 use Rattle.meaning.specs.Changes.{received, worked, takeOne, taken, activeChanged, readyChanged, putOne, puts, cleared, moved}
 use Rattle.meaning.specs.Refusals.{firstRefusal}
 use Rattle.meaning.specs.Step.{Site, Outcome, siteOf, poolNamed, elementNamed, moveNamed, instanceOf, sharedOf, before, work, afterTaking, instanceAfter, instancesAfter, queuesAfter, traffic, refused, refusals, step}
@@ -91,15 +91,15 @@ module _ (c i : ℕ) (two : i < 2) (v : ℕ) where
     has-taken : (m .takes ≡ branch → b < entryCount el) → (h : List ℕ) → Has h → Has (taken el m b h)
     unfolding taken takeOne
     has-taken few h e =
-        iter-keeps (takeOne el (first (m .takes) b)) h Has (touched (m .takes) (entryCount el))
-        (λ j y l r. let w = entry-within el fits (first (m .takes) b + j) (touched-within (m .takes) b (entryCount el) j few l) in has-set y _ _ (omega (arith, w .0, w .1)) r)
+        iter-keeps (takeOne el (firstTouched (m .takes) b)) h Has (touched (m .takes) (entryCount el))
+        (λ j y l r. let w = entry-within el fits (firstTouched (m .takes) b + j) (touched-within (m .takes) b (entryCount el) j few l) in has-set y _ _ (omega (arith, w .0, w .1)) r)
         e
 
     has-puts : (m .puts ≡ branch → b < exitCount el) → (h : List ℕ) → Has h → Has (puts el m b h)
     unfolding puts putOne
     has-puts few h e =
-        iter-keeps (putOne el (first (m .puts) b)) h Has (touched (m .puts) (exitCount el))
-        (λ j y l r. let w = exit-within el fits (first (m .puts) b + j) (touched-within (m .puts) b (exitCount el) j few l) in has-set y _ _ (omega (arith, w .0, w .1)) r)
+        iter-keeps (putOne el (firstTouched (m .puts) b)) h Has (touched (m .puts) (exitCount el))
+        (λ j y l r. let w = exit-within el fits (firstTouched (m .puts) b + j) (touched-within (m .puts) b (exitCount el) j few l) in has-set y _ _ (omega (arith, w .0, w .1)) r)
         e
 
     has-moved : (m .puts ≡ branch → b < exitCount el) → (h : List ℕ) → Has h → Has (moved el m b h)

@@ -8,7 +8,7 @@ use Rattle.base_kinds.specs.Moves.{up}
 use Rattle.base_table.specs.Table.{taskIn, exitCount, exitAt}
 use Rattle.base_state.specs.Instances.{instancesOf, queuesOf, tokens, activeCount, readyCount}
 use Rattle.meaning.specs.declared.Name.{Name}
-use Rattle.meaning.specs.Requirements.{touched, first}
+use Rattle.meaning.specs.Requirements.{touched, firstTouched}
 use Rattle.meaning.specs.Refusals.{firstRefusal}
 use Rattle.meaning.specs.Step.{Site, siteOf, poolNamed, elementNamed, moveNamed, afterTaking, instanceAfter, refusals}
 use Rattle.state_fits.specs.Fits.{stateFits}
@@ -44,8 +44,8 @@ module _ (t z : List ℕ) (n : Name) (fits : fitting t z ≡ true) (accepted : s
 
   -- TOKENS
   pub never-saturates : (j : ℕ) → j < touched (moveNamed t n .puts) (exitCount (elementNamed t n))
-      → tokens (instanceAfter x) (exitAt (elementNamed t n) (first (moveNamed t n .puts) (n .branch) + j))
-      ≡ tokens (afterTaking x) (exitAt (elementNamed t n) (first (moveNamed t n .puts) (n .branch) + j)) + 1
+      → tokens (instanceAfter x) (exitAt (elementNamed t n) (firstTouched (moveNamed t n .puts) (n .branch) + j))
+      ≡ tokens (afterTaking x) (exitAt (elementNamed t n) (firstTouched (moveNamed t n .puts) (n .branch) + j)) + 1
   never-saturates = no-saturation t s q n (table-fits t z fits) (state-fits t z fits) none-refused named-apart
 
   -- COUNTS

@@ -11,7 +11,7 @@ use lib.ListN.{length, set, drop}
 use lib.Seq.{getD-set-same, getD-set-other, set-comm}
 use borrow.Author.Tests.{eqb-true, ltb-true, lt-ltb, leb-false}
 use Rattle.base_words.specs.Words.{at}
-use Rattle.base_words.specs.Counts.{named, values, assignments, countMost}
+use Rattle.base_words.specs.Counts.{fieldsNamed, values, assignments, countMost}
 use Rattle.base_words.proofs.AllLaws.{and-left, and-right}
 use Rattle.base_words.proofs.PickLaws.{and-true}
 use Rattle.base_kinds.specs.declared.moves.Move.{Move}
@@ -32,7 +32,7 @@ use Rattle.meaning.specs.Expressions.{fieldOf, expressionOf}
 use Rattle.meaning.specs.Conditions.{conditionOf, defaultAt, leftOut, otherFalse, holds}
 use Rattle.meaning.specs.Templates.{binds, itemValue, gathered, evaluated, bindOne, bound}
 use Rattle.meaning.specs.Assignments.{Assigned, assignedValue, assignOne, assigned}
-use Rattle.meaning.specs.Requirements.{touched, first, hasToken, hasTokens, canLower, waits, isAlone, countsPermit, granted, hasRoom, hasRooms, canRaise, roomy}
+use Rattle.meaning.specs.Requirements.{touched, firstTouched, hasToken, hasTokens, canLower, waits, isAlone, countsPermit, granted, edgeHasRoom, hasRooms, canRaise, roomy}
 use Rattle.meaning.specs.Changes.{takeOne, taken, more, countChanged, activeChanged, readyChanged, putOne, puts, cleared, moved}
 use Rattle.proof_steps.proofs.Choices.{by-choice, chosen-true, or-left, or-either}
 use Rattle.proof_steps.proofs.ChangesFit.{touched-within}
@@ -67,8 +67,8 @@ module _ (v : ℕ) where
   -- FIELDS
   fields-same : (h : List ℕ) → localOf (seen v h) .σd ≡ localOf h .σd
   unfolding fieldOf
-  fields-same h = λ i d. same-if (ltb d named) Undefined (fieldOf (seen v h) d) (fieldOf h d) (λ w.
-      let l = ltb-true d named w in
+  fields-same h = λ i d. same-if (ltb d fieldsNamed) Undefined (fieldOf (seen v h) d) (fieldOf h d) (λ w.
+      let l = ltb-true d fieldsNamed w in
       let a : at (seen v h) (definedPlace d) ≡ at h (definedPlace d) = at-same h (definedPlace d) (omega arith) in
       let b : at (seen v h) (valuePlace d) ≡ at h (valuePlace d) = at-same h (valuePlace d) (omega arith) in
       rw (a, b)) i
@@ -79,12 +79,12 @@ module _ (v : ℕ) where
   condition-same : (column : ℕ) (x h : List ℕ) → conditionFits column x ≡ true → conditionOf x (seen v h) ≡ conditionOf x h
   condition-same column x h f = sym (truth-is (seen v h) column x f) ∙ ap (λ σ. truth σ (condAt x)) (fields-same h) ∙ truth-is h column x f
 
-  field-along : (h : List ℕ) (d w : ℕ) → d < named → withField (seen v h) d w ≡ seen v (withField h d w)
+  field-along : (h : List ℕ) (d w : ℕ) → d < fieldsNamed → withField (seen v h) d w ≡ seen v (withField h d w)
   field-along h d w l = ap (λ y. set y (valuePlace d) w) (set-along h (definedPlace d) 1 (omega arith)) ∙ set-along (set h (definedPlace d) 1) (valuePlace d) w (omega arith)
 
   module _ (el : List ℕ) (fits : elementFits el ≡ true) where
     -- ASSIGNMENTS
-    value-along : (h : List ℕ) (d : ℕ) (w : Value) → d < named → assignedValue (seen v h) d w ≡ seenAfter v (assignedValue h d w)
+    value-along : (h : List ℕ) (d : ℕ) (w : Value) → d < fieldsNamed → assignedValue (seen v h) d w ≡ seenAfter v (assignedValue h d w)
     unfolding assignedValue
     value-along h d (Number x) l = λ i. record { defined = true; instance = field-along h d x l i }
     value-along h d Undefined l = refl
@@ -137,16 +137,16 @@ module _ (v : ℕ) where
   -- TOKENS AND COUNTS, of a step by the row m
   module _ (el : List ℕ) (m : Move) (b : ℕ) (site : Site el m b) where
     abbrev entry : ℕ → ℕ
-    entry j = tokenPlace (entryAt el (first (m .takes) b + j))
+    entry j = tokenPlace (entryAt el (firstTouched (m .takes) b + j))
 
     abbrev exit : ℕ → ℕ
-    exit j = tokenPlace (exitAt el (first (m .puts) b + j))
+    exit j = tokenPlace (exitAt el (firstTouched (m .puts) b + j))
 
     entry-before : (j : ℕ) → j < touched (m .takes) (entryCount el) → entry j < versionPlace
-    entry-before j l = omega (arith, entry-within el (site .fits) (first (m .takes) b + j) (touched-within (m .takes) b (entryCount el) j (site .entry-few) l) .1)
+    entry-before j l = omega (arith, entry-within el (site .fits) (firstTouched (m .takes) b + j) (touched-within (m .takes) b (entryCount el) j (site .entry-few) l) .1)
 
     exit-before : (j : ℕ) → j < touched (m .puts) (exitCount el) → exit j < versionPlace
-    exit-before j l = omega (arith, exit-within el (site .fits) (first (m .puts) b + j) (touched-within (m .puts) b (exitCount el) j (site .exit-few) l) .1)
+    exit-before j l = omega (arith, exit-within el (site .fits) (firstTouched (m .puts) b + j) (touched-within (m .puts) b (exitCount el) j (site .exit-few) l) .1)
 
     active-before : activePlace (taskIn el) < versionPlace
     active-before = omega (arith, task-few el (site .fits))
@@ -216,7 +216,7 @@ module _ (v : ℕ) where
 
       -- 18
       rooms-same : hasRooms el (seen v h) m b ≡ hasRooms el h m b
-      unfolding hasRooms hasRoom
+      unfolding hasRooms edgeHasRoom
       rooms-same = all-same _ _ (touched (m .puts) (exitCount el)) (λ j l. ap (λ n. ltb n countMost) (at-same h (exit j) (exit-before j l)))
 
       pub roomy-same : roomy el (seen v h) m b ≡ roomy el h m b
@@ -226,11 +226,11 @@ module _ (v : ℕ) where
       -- WHAT IT DOES
       pub taken-along : taken el m b (seen v h) ≡ seen v (taken el m b h)
       unfolding taken takeOne
-      taken-along = iter-along (seen v) (takeOne el (first (m .takes) b)) (touched (m .takes) (entryCount el)) (λ j l y. word-along (λ n. n - 1) y (entry j) (entry-before j l)) h
+      taken-along = iter-along (seen v) (takeOne el (firstTouched (m .takes) b)) (touched (m .takes) (entryCount el)) (λ j l y. word-along (λ n. n - 1) y (entry j) (entry-before j l)) h
 
     puts-along : (h : List ℕ) → puts el m b (seen v h) ≡ seen v (puts el m b h)
     unfolding puts putOne
-    puts-along h = iter-along (seen v) (putOne el (first (m .puts) b)) (touched (m .puts) (exitCount el)) (λ j l y. word-along more y (exit j) (exit-before j l)) h
+    puts-along h = iter-along (seen v) (putOne el (firstTouched (m .puts) b)) (touched (m .puts) (exitCount el)) (λ j l y. word-along more y (exit j) (exit-before j l)) h
 
     active-along : (h : List ℕ) → activeChanged el m (seen v h) ≡ seen v (activeChanged el m h)
     unfolding activeChanged

@@ -26,7 +26,7 @@ use Rattle.meaning.specs.Refusals.{firstRefusal}
 use Rattle.meaning.specs.Step.{Outcome, siteOf, refusals, instancesAfter, queuesAfter, traffic, refused, step}
 use Rattle.meaning.specs.Post.{post}
 use Rattle.state_fits.specs.Fits.{fieldFits, fieldsFit, instancesFit, sharedFits, queueFits, stateFits}
-use Rattle.state_fits.specs.Fresh.{begun, fresh}
+use Rattle.state_fits.specs.Fresh.{poolBegun, fresh}
 use Rattle.engine.specs.Engine.{Left, valid, fitting, Stepped, leaving, stepped, postedTo}
 use Rattle.engine.specs.Calls.{Act, aStep, aPost, did, allAccepted, after, Valid}
 use Rattle.engine.proofs.CallLaws.{fitting-table, fitting-of, lent-fits, asked-good}
@@ -177,7 +177,7 @@ module _ (t : List ℕ) where
   -- FROM THE FRESH STATES
   fresh-along : (v w : ℕ) → under w (fresh t v) ≡ fresh t w
   unfolding fresh
-  fresh-along v w = set-set (iter (begun t) (replicate stateWords 0) (poolCount t)) versionAt v w
+  fresh-along v w = set-set (iter (poolBegun t) (replicate stateWords 0) (poolCount t)) versionAt v w
 
   pub fresh-under-present : valid t ≡ true → (acts : List Act) → allAccepted t acts (fresh t former) ≡ true → Follows t present acts (fresh t former) (fresh t present)
   fresh-under-present v acts e =

@@ -18,23 +18,23 @@ use Rattle.base_state.specs.Instances.{instancesOf, queuesOf, madeCount, instan
 use Rattle.base_state.specs.Places.{definedPlace, slotPlace}
 use Rattle.meaning.specs.Tuples.{valueOf}
 use Rattle.meaning.specs.Queues.{messageCount, valueAt}
-use Rattle.state_fits.specs.Fits.{madeFits, placesOf, marked, usable, placeFits, fieldsFit, instanceFits, instancesFit, slotFits, queueFits, stateFits}
+use Rattle.state_fits.specs.Fits.{madeFits, placesOf, allMarked, usable, placeFits, fieldsFit, instanceFits, instancesFit, slotFits, queueFits, stateFits}
 use Rattle.state_check.specs.Places.{shownBy}
 use Rattle.state_fits.proofs.PartLaws.{Firsts, Rest, parted, Behind, shared}
 
 -- THE PLACES of a pool: w₀ before the loop, w in it, u after a turn
 module _ (t : List ℕ) (p : ℕ) (w₀ : List ℕ) where
   abbrev pub Marks : ℕ → List ℕ
-  Marks n = iter (λ e w. marked w (placesOf (elementAt t p e))) w₀ n
+  Marks n = iter (λ e w. allMarked w (placesOf (elementAt t p e))) w₀ n
 
   pub marks-none : w₀ ≡ Marks 0
-  marks-none = iter-none (λ e w. marked w (placesOf (elementAt t p e))) w₀
+  marks-none = iter-none (λ e w. allMarked w (placesOf (elementAt t p e))) w₀
 
-  pub marks-more : (n : ℕ) (el w u : List ℕ) → w ≡ Marks n → el ≡ elementAt t p n → u ≡ marked w (placesOf el) → u ≡ Marks (n + 1)
-  marks-more n el w u inv e h = iter-more (λ e w. marked w (placesOf (elementAt t p e))) w₀ n w u inv (h ∙ ap (λ x. marked w (placesOf x)) e)
+  pub marks-more : (n : ℕ) (el w u : List ℕ) → w ≡ Marks n → el ≡ elementAt t p n → u ≡ allMarked w (placesOf el) → u ≡ Marks (n + 1)
+  marks-more n el w u inv e h = iter-more (λ e w. allMarked w (placesOf (elementAt t p e))) w₀ n w u inv (h ∙ ap (λ x. allMarked w (placesOf x)) e)
 
   pub marks-done : (n i : ℕ) (w : List ℕ) → n ≤ i → i ≤ n → w ≡ Marks i → w ≡ Marks n
-  marks-done n i w = iter-done (λ e w. marked w (placesOf (elementAt t p e))) w₀ n i w
+  marks-done n i w = iter-done (λ e w. allMarked w (placesOf (elementAt t p e))) w₀ n i w
 
 pub ruleset marks = (marks-none, marks-more, marks-done)
 

@@ -9,7 +9,7 @@ ghost use Rattle.base_kinds.specs.Kinds.{kindOf};
 ghost use Rattle.base_table.specs.Places.{edgePlace};
 ghost use Rattle.base_table.specs.Table.{elementCount, elementAt, kindIn, entryCount, exitCount, entryAt, exitAt};
 ghost use Rattle.base_state.specs.Places.{tokenPlace};
-ghost use Rattle.state_fits.specs.Fits.{countPlaces, placesOf, marked};
+ghost use Rattle.state_fits.specs.Fits.{countPlaces, placesOf, allMarked};
 use base_kinds::moves::A;
 use base_kinds::receives_of;
 use base_kinds::sends_of;
@@ -30,7 +30,7 @@ use base_words::Word;
 
 // The tokens of the first n edges of the list at a place: ENTRIES or EXITS.
 fn mark_edges(w: &mut [Word], el: &[Word], list: Word, n: Word)
-    ensures { λ _. ⌜ now (w .exit) ≡ marked (now (w .entry)) (tab (λ j. tokenPlace (at (now (el .entry)) (edgePlace list j))) n) ⌝ }
+    ensures { λ _. ⌜ now (w .exit) ≡ allMarked (now (w .entry)) (tab (λ j. tokenPlace (at (now (el .entry)) (edgePlace list j))) n) ⌝ }
 {
     let mut j: Word = 0;
     while j < n {
@@ -40,13 +40,13 @@ fn mark_edges(w: &mut [Word], el: &[Word], list: Word, n: Word)
 }
 
 fn mark_entries(w: &mut [Word], el: &[Word])
-    ensures { λ _. ⌜ now (w .exit) ≡ marked (now (w .entry)) (tab (λ j. tokenPlace (entryAt (now (el .entry)) j)) (entryCount (now (el .entry)))) ⌝ }
+    ensures { λ _. ⌜ now (w .exit) ≡ allMarked (now (w .entry)) (tab (λ j. tokenPlace (entryAt (now (el .entry)) j)) (entryCount (now (el .entry)))) ⌝ }
 {
     mark_edges(w, el, ENTRIES as Word, entry_count(el));
 }
 
 fn mark_exits(w: &mut [Word], el: &[Word])
-    ensures { λ _. ⌜ now (w .exit) ≡ marked (now (w .entry)) (tab (λ j. tokenPlace (exitAt (now (el .entry)) j)) (exitCount (now (el .entry)))) ⌝ }
+    ensures { λ _. ⌜ now (w .exit) ≡ allMarked (now (w .entry)) (tab (λ j. tokenPlace (exitAt (now (el .entry)) j)) (exitCount (now (el .entry)))) ⌝ }
 {
     mark_edges(w, el, EXITS as Word, exit_count(el));
 }
@@ -60,7 +60,7 @@ fn is_silent(el: &[Word]) -> bool
 }
 
 fn mark_counts(w: &mut [Word], el: &[Word])
-    ensures { λ _. ⌜ now (w .exit) ≡ marked (now (w .entry)) (countPlaces (now (el .entry))) ⌝ }
+    ensures { λ _. ⌜ now (w .exit) ≡ allMarked (now (w .entry)) (countPlaces (now (el .entry))) ⌝ }
 {
     if mode_in(el) <= A {
         return;
@@ -73,7 +73,7 @@ fn mark_counts(w: &mut [Word], el: &[Word])
 }
 
 fn mark_element(w: &mut [Word], el: &[Word])
-    ensures { λ _. ⌜ now (w .exit) ≡ marked (now (w .entry)) (placesOf (now (el .entry))) ⌝ }
+    ensures { λ _. ⌜ now (w .exit) ≡ allMarked (now (w .entry)) (placesOf (now (el .entry))) ⌝ }
 {
     mark_entries(w, el);
     mark_exits(w, el);
@@ -82,7 +82,7 @@ fn mark_element(w: &mut [Word], el: &[Word])
 
 // The elements of a pool.
 pub fn mark_pool(w: &mut [Word], t: &[Word], p: Word)
-    ensures { λ _. ⌜ now (w .exit) ≡ iter (λ e v. marked v (placesOf (elementAt (now (t .entry)) p e))) (now (w .entry)) (elementCount (now (t .entry)) p) ⌝ }
+    ensures { λ _. ⌜ now (w .exit) ≡ iter (λ e v. allMarked v (placesOf (elementAt (now (t .entry)) p e))) (now (w .entry)) (elementCount (now (t .entry)) p) ⌝ }
 {
     let n = element_count(t, p);
     let mut e: Word = 0;

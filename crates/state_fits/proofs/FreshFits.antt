@@ -25,7 +25,7 @@ use Rattle.check_limits.specs.Limits.{within, zeros, things, countFits as edgeC
 use Rattle.check_limits.proofs.SameLaws.{held-all}
 use Rattle.step_queues.proofs.SlotLaws.{by-below}
 use Rattle.state_fits.specs.Fits.{startPlace, hasStart, madeFits, usable, placeFits, fieldFits, fieldsFit, instanceFits, instancesFit, slotFits, sharedFits, queueFits, stateFits}
-use Rattle.state_fits.specs.Fresh.{firstEdge, fresh}
+use Rattle.state_fits.specs.Fresh.{startEdge, fresh}
 use Rattle.state_fits.proofs.PartLaws.{Firsts, parted, shared}
 use Rattle.state_fits.proofs.FreshLaws.{Holds, Startable, Pools, firstPlace, pools-long, pools-blank, pools-begun, pools-behind}
 use Rattle.state_fits.proofs.UsableLaws.{start-in, start-kind, first-usable}
@@ -246,13 +246,13 @@ module _ (t : List ℕ) (fit : tableFits t ≡ true) where
       ∙ all-at (λ j. elementFits (drop (elementWords * j) (elementAt t p 0))) (elementCount t p) firsts e r
 
   pub startable : Startable t
-  unfolding firstEdge
+  unfolding startEdge
   startable = record {
     few = few;
     first = λ p l has.
         let w = entry-within (elementAt t p (startPlace t p)) (start-kind t p has) (element-fit p l (startPlace t p) (start-in t p has)) in (
-          leb-true 1 (firstEdge t p) (and-left (leb 1 (firstEdge t p)) (leb (firstEdge t p) edges) w),
-          leb-true (firstEdge t p) edges (and-right (leb 1 (firstEdge t p)) (leb (firstEdge t p) edges) w),
+          leb-true 1 (startEdge t p) (and-left (leb 1 (startEdge t p)) (leb (startEdge t p) edges) w),
+          leb-true (startEdge t p) edges (and-right (leb 1 (startEdge t p)) (leb (startEdge t p) edges) w),
         );
   }
 

@@ -49,13 +49,13 @@ unfoldable pub placesOf : Element → List ℕ
 placesOf el =
     tab (λ j. tokenPlace (entryAt el j)) (entryCount el) ++ (tab (λ j. tokenPlace (exitAt el j)) (exitCount el) ++ countPlaces el)
 
-unfoldable pub marked : Block → List ℕ → List ℕ
-marked w [] = w
-marked w (k ∷ ks) = marked (set w k 1) ks
+unfoldable pub allMarked : Block → List ℕ → List ℕ
+allMarked w [] = w
+allMarked w (k ∷ ks) = allMarked (set w k 1) ks
 
 -- 1 at each place of tokens and counts that an element of the pool uses, 0 at the others
 unfoldable pub usable : Table → ℕ → List ℕ
-usable t p = iter (λ e w. marked w (placesOf (elementAt t p e))) (replicate (definedPlace 0) 0) (elementCount t p)
+usable t p = iter (λ e w. allMarked w (placesOf (elementAt t p e))) (replicate (definedPlace 0) 0) (elementCount t p)
 
 -- FIELDS, f the words from the first one on, of an instance or the stores: each is defined or not, an undefined one's value 0
 unfoldable pub fieldFits : List ℕ → ℕ → Bool

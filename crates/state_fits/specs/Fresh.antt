@@ -11,13 +11,13 @@ use Rattle.base_state.specs.Places.{tokenPlace, madePlace, instancePlace, versi
 use Rattle.state_fits.specs.Fits.{startPlace, hasStart}
 
 -- the first edge of the pool's start
-unfoldable pub firstEdge : Table → ℕ → ℕ
-firstEdge t p = entryAt (elementAt t p (startPlace t p)) 0
+unfoldable pub startEdge : Table → ℕ → ℕ
+startEdge t p = entryAt (elementAt t p (startPlace t p)) 0
 
 -- pool p of a state z that holds 0 for it
-unfoldable pub begun : Table → ℕ → State → State
-begun t p z = if hasStart t p then set (set z (madePlace p) 1) (instancePlace p 0 + tokenPlace (firstEdge t p)) 1 else z
+unfoldable pub poolBegun : Table → ℕ → State → State
+poolBegun t p z = if hasStart t p then set (set z (madePlace p) 1) (instancePlace p 0 + tokenPlace (startEdge t p)) 1 else z
 
 -- the fresh state for version v
 unfoldable pub fresh : Table → ℕ → State
-fresh t v = set (iter (begun t) (replicate stateWords 0) (poolCount t)) versionAt v
+fresh t v = set (iter (poolBegun t) (replicate stateWords 0) (poolCount t)) versionAt v

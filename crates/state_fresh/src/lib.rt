@@ -3,7 +3,7 @@ ghost use mathlib.Core.Path.{_≡_};
 ghost use lib.ListN.{length, replicate};
 ghost use Rattle.base_words.specs.Iter.{iter};
 ghost use Rattle.base_table.specs.Table.{poolCount};
-ghost use Rattle.state_fits.specs.Fresh.{firstEdge, begun, fresh};
+ghost use Rattle.state_fits.specs.Fresh.{startEdge, poolBegun, fresh};
 use base_state::places::FIRST_INSTANCE;
 use base_state::places::POOL_INSTANCES;
 use base_state::places::STATE_WORDS;
@@ -20,13 +20,13 @@ use state_fits::pools::has_start;
 use state_fits::pools::start_place;
 
 fn first_edge(t: &[Word], p: Word) -> Word
-    ensures { λ r. ⌜ r ≡ firstEdge (now (t .entry)) p ⌝ }
+    ensures { λ r. ⌜ r ≡ startEdge (now (t .entry)) p ⌝ }
 {
     edge_at(element_at(t, p, start_place(t, p)), ENTRIES as Word, 0)
 }
 
 fn begin_pool(t: &[Word], p: Word, z: &mut [Word])
-    ensures { λ _. ⌜ now (z .exit) ≡ begun (now (t .entry)) p (now (z .entry)) ⌝ }
+    ensures { λ _. ⌜ now (z .exit) ≡ poolBegun (now (t .entry)) p (now (z .entry)) ⌝ }
 {
     if !has_start(t, p) {
         return;
@@ -39,7 +39,7 @@ fn begin_pool(t: &[Word], p: Word, z: &mut [Word])
 }
 
 fn begin_pools(t: &[Word], z: &mut [Word])
-    ensures { λ _. ⌜ now (z .exit) ≡ iter (begun (now (t .entry))) (now (z .entry)) (poolCount (now (t .entry))) ⌝ }
+    ensures { λ _. ⌜ now (z .exit) ≡ iter (poolBegun (now (t .entry))) (now (z .entry)) (poolCount (now (t .entry))) ⌝ }
 {
     let n = pool_count(t);
     let mut p: Word = 0;

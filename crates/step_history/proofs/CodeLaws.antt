@@ -25,7 +25,7 @@ use Rattle.step_queues.proofs.MessageLaws.{times-append}
 use Rattle.step_history.specs.declared.Accounts.{Accounts}
 use Rattle.step_history.specs.declared.Moved.{Moved}
 use Rattle.step_history.specs.declared.Noted.{Noted}
-use Rattle.step_history.specs.History.{stepGave, postGave, isMessage, isSent, isConsumed, isQuiet, isAccepted, asPosted, asSent, asConsumed, posts, sends, consumes, nothingMoved, movedBy, noted, balances}
+use Rattle.step_history.specs.History.{stepGave, postGave, isMessage, isSent, isConsumed, isQuiet, isAccepted, asPosted, asSent, asConsumed, posts, sends, consumes, nothingMoved, movedBy, entryNoted, balances}
 
 not-sent : (x : Traffic) → OneOf (0 ∷ 1 ∷ []) (tagOf the-type x) → isSent x ≡ false
 unfolding isSent
@@ -134,16 +134,16 @@ and-never false = refl
 
 module _ (m : ℕ) (g : Tuple) where
   pub step-noted : (n : Name) (a : Answer) (b c : Bool) (s d : ℕ) (v : Moved) → b ≡ sends m g (stepGave n a) → s ≡ oneIf b → c ≡ consumes m g (stepGave n a) → d ≡ oneIf c → v ≡ movedBy (stepGave n a)
-      → _≡_ {A = Noted} (record { posted = 0; sent = s; consumed = d; moved = v }) (noted m g (stepGave n a))
-  unfolding noted posts asPosted
+      → _≡_ {A = Noted} (record { posted = 0; sent = s; consumed = d; moved = v }) (entryNoted m g (stepGave n a))
+  unfolding entryNoted posts asPosted
   step-noted n a b c s d v p q r u w =
       let x : s ≡ oneIf (sends m g (stepGave n a)) = q ∙ ap oneIf p in
       let y : d ≡ oneIf (consumes m g (stepGave n a)) = u ∙ ap oneIf r in
       λ i. record { posted = and-never (isAccepted (stepGave n a)) i; sent = x i; consumed = y i; moved = w i }
 
   pub post-noted : (name : ℕ) (t : Tuple) (k : ℕ) (b : Bool) (s : ℕ) (v : Moved) → b ≡ posts m g (postGave name t k) → s ≡ oneIf b → v ≡ movedBy (postGave name t k)
-      → _≡_ {A = Noted} (record { posted = s; sent = 0; consumed = 0; moved = v }) (noted m g (postGave name t k))
-  unfolding noted sends consumes asSent asConsumed
+      → _≡_ {A = Noted} (record { posted = s; sent = 0; consumed = 0; moved = v }) (entryNoted m g (postGave name t k))
+  unfolding entryNoted sends consumes asSent asConsumed
   post-noted name t k b s v p q w =
       let x : s ≡ oneIf (posts m g (postGave name t k)) = q ∙ ap oneIf p in
       let y : 0 ≡ oneIf (isAccepted (postGave name t k) && false) = and-never (isAccepted (postGave name t k)) in

@@ -17,8 +17,8 @@ use Rattle.meaning.specs.Tuples.{sameTuple}
 use Rattle.step_values.proofs.TupleLaws.{same-sym, same-trans}
 use Rattle.step_queues.proofs.MessageLaws.{same-both}
 use Rattle.step_queues.proofs.SlotLaws.{by-order}
-use Rattle.step_history.specs.History.{Entry, stepGave, postGave, isMessage, isConsumed, isSent, isAccepted, asPosted, asSent, asConsumed, posts, sends, consumes, counted}
-use Rattle.step_history.specs.Matching.{brings, holdsAt, placeOf, consumesOwn, sourceIn, sourceOf, Matched}
+use Rattle.step_history.specs.History.{Entry, stepGave, postGave, isMessage, isConsumed, isSent, isAccepted, asPosted, asSent, asConsumed, posts, sends, consumes, howMany}
+use Rattle.step_history.specs.Matching.{brings, holdsAt, placeAmong, consumesOwn, sourceIn, sourceOf, Matched}
 use Rattle.step_history.proofs.CountLaws.{counted-none, counted-next, counted-more, counted-past, Place, place-at}
 
 -- ONE MESSAGE under two names for it
@@ -77,7 +77,7 @@ brings-one-way m g (postGave name x k) = go (isAccepted (postGave name x k)) (is
     go true false = refl
     go false c = refl
 
-pub counted-brings : (m : ℕ) (g : Tuple) (h : List Entry) → counted (brings m g) h ≡ counted (posts m g) h + counted (sends m g) h
+pub counted-brings : (m : ℕ) (g : Tuple) (h : List Entry) → howMany (brings m g) h ≡ howMany (posts m g) h + howMany (sends m g) h
 counted-brings m g [] = omega (arith, counted-none (brings m g), counted-none (posts m g), counted-none (sends m g))
 counted-brings m g (e ∷ h) =
     omega (arith, counted-next (brings m g) e h, counted-next (posts m g) e h, counted-next (sends m g) e h, brings-one-way m g e, counted-brings m g h)
@@ -137,7 +137,7 @@ own-at (suc i) (x ∷ h) e = own-at i h e
 
 -- THE SOURCE
 abbrev Source : ℕ → Tuple → List Entry → ℕ → ℕ
-Source m g h i = placeOf (brings m g) (counted (consumes m g) (take i h)) h
+Source m g h i = placeAmong (brings m g) (howMany (consumes m g) (take i h)) h
 
 source-in : (m : ℕ) (g : Tuple) (h : List Entry) (i : ℕ) (rest : List Entry) → holdsAt (consumes m g) 0 rest ≡ true → sourceIn h i rest ≡ Source m g h i
 unfolding sourceIn holdsAt consumes asConsumed
@@ -146,7 +146,7 @@ source-in m g h i (stepGave n a ∷ rest) e =
     let s : isMessage m g (a .name) (a .tuple) ≡ true = own-message m g (isAccepted (stepGave n a)) (a .traffic) (a .name) (a .tuple) e in
     let b = brings-same m g (a .name) (a .tuple) s in
     let c = consumes-same m g (a .name) (a .tuple) s in
-    λ j. placeOf (b j) (counted (c j) (take i h)) h
+    λ j. placeAmong (b j) (howMany (c j) (take i h)) h
 source-in m g h i (postGave name x k ∷ rest) e = absurd (go (isAccepted (postGave name x k)) e)
   where
     go : (b : Bool) → b && false ≡ true → ⊥
@@ -158,12 +158,12 @@ unfolding sourceOf
 source-is m g h i e = source-in m g h i (drop i h) (sym (holds-first (consumes m g) i h) ∙ e)
 
 -- WHERE NO MESSAGE IS CONSUMED BEFORE IT WAS BROUGHT, at any time
-module _ (h : List Entry) (ahead : (m : ℕ) (g : Tuple) (i : ℕ) → counted (consumes m g) (take i h) ≤ counted (brings m g) (take i h)) where
-  waiting : (m : ℕ) (g : Tuple) (i : ℕ) → holdsAt (consumes m g) i h ≡ true → counted (consumes m g) (take i h) < counted (brings m g) (take i h)
+module _ (h : List Entry) (ahead : (m : ℕ) (g : Tuple) (i : ℕ) → howMany (consumes m g) (take i h) ≤ howMany (brings m g) (take i h)) where
+  waiting : (m : ℕ) (g : Tuple) (i : ℕ) → holdsAt (consumes m g) i h ≡ true → howMany (consumes m g) (take i h) < howMany (brings m g) (take i h)
   waiting m g i e =
       let none : holdsAt (brings m g) i h ≡ false = not-brought i h e in
-      let c : counted (consumes m g) (take (suc i) h) ≡ counted (consumes m g) (take i h) + 1 = counted-more (consumes m g) i h ∙ ap (λ (b : Bool). counted (consumes m g) (take i h) + oneIf b) e in
-      let b : counted (brings m g) (take (suc i) h) ≡ counted (brings m g) (take i h) + 0 = counted-more (brings m g) i h ∙ ap (λ (b : Bool). counted (brings m g) (take i h) + oneIf b) none in
+      let c : howMany (consumes m g) (take (suc i) h) ≡ howMany (consumes m g) (take i h) + 1 = counted-more (consumes m g) i h ∙ ap (λ (b : Bool). howMany (consumes m g) (take i h) + oneIf b) e in
+      let b : howMany (brings m g) (take (suc i) h) ≡ howMany (brings m g) (take i h) + 0 = counted-more (brings m g) i h ∙ ap (λ (b : Bool). howMany (brings m g) (take i h) + oneIf b) none in
       omega (arith, b, c, ahead m g (suc i))
     where
       not-brought : (i : ℕ) (h : List Entry) → holdsAt (consumes m g) i h ≡ true → holdsAt (brings m g) i h ≡ false
@@ -173,18 +173,18 @@ module _ (h : List Entry) (ahead : (m : ℕ) (g : Tuple) (i : ℕ) → counted (
           go false q = refl
           go true q = holds-both (consumes m g) (brings m g) (λ x p r. absurd (false≢true (sym (not-both m g x p) ∙ r))) i h e q
 
-  there : (m : ℕ) (g : Tuple) (i : ℕ) → holdsAt (consumes m g) i h ≡ true → Place (brings m g) (counted (consumes m g) (take i h)) i (Source m g h i) h
-  there m g i e = place-at (brings m g) h (counted (consumes m g) (take i h)) i (waiting m g i e)
+  there : (m : ℕ) (g : Tuple) (i : ℕ) → holdsAt (consumes m g) i h ≡ true → Place (brings m g) (howMany (consumes m g) (take i h)) i (Source m g h i) h
+  there m g i e = place-at (brings m g) h (howMany (consumes m g) (take i h)) i (waiting m g i e)
 
-  found : (m : ℕ) (g : Tuple) (i : ℕ) → holdsAt (consumes m g) i h ≡ true → Place (brings m g) (counted (consumes m g) (take i h)) i (sourceOf h i) h
-  found m g i e = subst (λ (p : ℕ). Place (brings m g) (counted (consumes m g) (take i h)) i p h) (sym (source-is m g h i e)) (there m g i e)
+  found : (m : ℕ) (g : Tuple) (i : ℕ) → holdsAt (consumes m g) i h ≡ true → Place (brings m g) (howMany (consumes m g) (take i h)) i (sourceOf h i) h
+  found m g i e = subst (λ (p : ℕ). Place (brings m g) (howMany (consumes m g) (take i h)) i p h) (sym (source-is m g h i e)) (there m g i e)
 
   -- two that have one source are at one place
   apart : (m : ℕ) (g : Tuple) (i j : ℕ) → holdsAt (consumes m g) i h ≡ true → holdsAt (consumes m g) j h ≡ true → sourceOf h i ≡ sourceOf h j → i ≡ j
   apart m g i j p q e =
-      let a : counted (brings m g) (take (sourceOf h i) h) ≡ counted (consumes m g) (take i h) = found m g i p .before in
-      let b : counted (brings m g) (take (sourceOf h j) h) ≡ counted (consumes m g) (take j h) = found m g j q .before in
-      let c : counted (consumes m g) (take i h) ≡ counted (consumes m g) (take j h) = sym a ∙ ap (λ (x : ℕ). counted (brings m g) (take x h)) e ∙ b in
+      let a : howMany (brings m g) (take (sourceOf h i) h) ≡ howMany (consumes m g) (take i h) = found m g i p .before in
+      let b : howMany (brings m g) (take (sourceOf h j) h) ≡ howMany (consumes m g) (take j h) = found m g j q .before in
+      let c : howMany (consumes m g) (take i h) ≡ howMany (consumes m g) (take j h) = sym a ∙ ap (λ (x : ℕ). howMany (brings m g) (take x h)) e ∙ b in
       by-order i j
       (λ l. absurd (omega (arith, c, counted-past (consumes m g) i j h l p)))
       (λ l. sym l)

@@ -107,18 +107,18 @@ movedBy (stepGave n a) = if eqb (a .number) 0 then (if isQuiet (a .traffic) then
 movedBy (postGave m g k) = if eqb k 0 then record { some = true; name = m; tuple = g } else nothingMoved
 
 -- both, of one entry
-unfoldable pub noted : ℕ → Tuple → Entry → Noted
-noted m g e = record { posted = oneIf (posts m g e); sent = oneIf (sends m g e); consumed = oneIf (consumes m g e); moved = movedBy e }
+unfoldable pub entryNoted : ℕ → Tuple → Entry → Noted
+entryNoted m g e = record { posted = oneIf (posts m g e); sent = oneIf (sends m g e); consumed = oneIf (consumes m g e); moved = movedBy e }
 
 -- THE FOUR NUMBERS
-unfoldable pub counted : (Entry → Bool) → List Entry → ℕ
-counted f h = total (λ e. oneIf (f e)) h
+unfoldable pub howMany : (Entry → Bool) → List Entry → ℕ
+howMany f h = total (λ e. oneIf (f e)) h
 
 unfoldable pub queued : ℕ → Tuple → State → ℕ
 queued m g z = times g (messagesOf (queuesOf z) m)
 
 unfoldable pub accountsOf : ℕ → Tuple → List Entry → State → Accounts
-accountsOf m g h z = record { posted = counted (posts m g) h; sent = counted (sends m g) h; consumed = counted (consumes m g) h; queued = queued m g z }
+accountsOf m g h z = record { posted = howMany (posts m g) h; sent = howMany (sends m g) h; consumed = howMany (consumes m g) h; queued = queued m g z }
 
 -- "posted + sent = queued + consumed" (RULES: steps)
 unfoldable pub balances : Accounts → Bool

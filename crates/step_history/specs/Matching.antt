@@ -6,7 +6,7 @@ use mathlib.Core.List.{List, [], _∷_}
 use lib.ListN.{take, drop}
 use Rattle.base_words.specs.Pick.{if_then_else_}
 use Rattle.meaning.specs.declared.Tuple.{Tuple}
-use Rattle.step_history.specs.History.{Entry, stepGave, postGave, posts, sends, consumes, counted}
+use Rattle.step_history.specs.History.{Entry, stepGave, postGave, posts, sends, consumes, howMany}
 
 -- the call posted the message, or sent it
 unfoldable pub brings : ℕ → Tuple → Entry → Bool
@@ -19,10 +19,10 @@ holdsAt f zero (e ∷ h) = f e
 holdsAt f (suc i) (e ∷ h) = holdsAt f i h
 
 -- the place of the k-th entry, from 0, of which f holds
-unfoldable pub placeOf : (Entry → Bool) → ℕ → List Entry → ℕ
-placeOf f k [] = 0
-placeOf f zero (e ∷ h) = if f e then 0 else placeOf f zero h + 1
-placeOf f (suc k) (e ∷ h) = if f e then placeOf f k h + 1 else placeOf f (suc k) h + 1
+unfoldable pub placeAmong : (Entry → Bool) → ℕ → List Entry → ℕ
+placeAmong f k [] = 0
+placeAmong f zero (e ∷ h) = if f e then 0 else placeAmong f zero h + 1
+placeAmong f (suc k) (e ∷ h) = if f e then placeAmong f k h + 1 else placeAmong f (suc k) h + 1
 
 -- an accepted step that consumes, whatever the message
 unfoldable pub consumesOwn : Entry → Bool
@@ -32,7 +32,7 @@ consumesOwn (postGave m g k) = false
 -- WHERE IT CAME FROM: "Consuming removes the oldest equal message", so that the k-th consumed is the k-th that was brought; i is the place of the step, the rest what stands from there on (RULES: steps)
 unfoldable pub sourceIn : List Entry → ℕ → List Entry → ℕ
 sourceIn h i [] = 0
-sourceIn h i (stepGave n a ∷ rest) = placeOf (brings (a .name) (a .tuple)) (counted (consumes (a .name) (a .tuple)) (take i h)) h
+sourceIn h i (stepGave n a ∷ rest) = placeAmong (brings (a .name) (a .tuple)) (howMany (consumes (a .name) (a .tuple)) (take i h)) h
 sourceIn h i (postGave m g k ∷ rest) = 0
 
 unfoldable pub sourceOf : List Entry → ℕ → ℕ

@@ -4,7 +4,7 @@ ghost use Prim.Native.Nat.{_≤_};
 ghost use Rattle.base_words.specs.Sum.{oneIf};
 ghost use Rattle.meaning.specs.Messages.{times};
 ghost use Rattle.meaning.specs.Queues.{messagesOf};
-ghost use Rattle.step_history.specs.History.{isMessage, stepGave, postGave, posts, sends, consumes, nothingMoved, movedBy, noted, queued, balances};
+ghost use Rattle.step_history.specs.History.{isMessage, stepGave, postGave, posts, sends, consumes, nothingMoved, movedBy, entryNoted, queued, balances};
 use base_state::places::INSTANCES_WORDS;
 use base_words::Word;
 use base_words::numbers::ACCEPTED;
@@ -135,7 +135,7 @@ fn moved_by_post(m: Word, g: Tuple, number: Word) -> Moved
 }
 
 pub fn note_step(m: Word, g: Tuple, n: Name, a: Answer) -> Noted
-    ensures { λ r. ⌜ (r ≡ noted m g (stepGave n a)) × (r .posted ≤ 1) × (r .sent ≤ 1) × (r .consumed ≤ 1) ⌝ }
+    ensures { λ r. ⌜ (r ≡ entryNoted m g (stepGave n a)) × (r .posted ≤ 1) × (r .sent ≤ 1) × (r .consumed ≤ 1) ⌝ }
 {
     let sent = one_if(sends(m, g, n, a));
     let consumed = one_if(consumes(m, g, n, a));
@@ -149,7 +149,7 @@ pub fn note_step(m: Word, g: Tuple, n: Name, a: Answer) -> Noted
 }
 
 pub fn note_post(m: Word, g: Tuple, name: Word, tuple: Tuple, number: Word) -> Noted
-    ensures { λ r. ⌜ (r ≡ noted m g (postGave name tuple number)) × (r .posted ≤ 1) × (r .sent ≤ 1) × (r .consumed ≤ 1) ⌝ }
+    ensures { λ r. ⌜ (r ≡ entryNoted m g (postGave name tuple number)) × (r .posted ≤ 1) × (r .sent ≤ 1) × (r .consumed ≤ 1) ⌝ }
 {
     let posted = one_if(posts(m, g, name, tuple, number));
     let moved = moved_by_post(name, tuple, number);

@@ -20,7 +20,7 @@ use Rattle.meaning.specs.Requirements.{branchCount}
 use Rattle.step_list.specs.declared.Listed.{Listed}
 use Rattle.step_names.specs.declared.Scan.{Scan}
 use Rattle.step_names.specs.Names.{offered, stepName, namedBy, accepted}
-use Rattle.step_list.specs.Listing.{places, valuesAt, moveAt, byPlace, byBranch, byPhase, chosen}
+use Rattle.step_list.specs.Listing.{queuePlaces, valuesAt, moveAt, byPlace, byBranch, byPhase, chosen}
 use Rattle.step_names.specs.Parts.{scan, withValues, byMessage}
 use Rattle.step_names.proofs.ScanLaws.{Passed, passed-more}
 use Rattle.step_list.specs.Scanned.{stirs, still, scanPhase, scanElement, scanInstance, scanMade, scanPool, scanned}
@@ -41,8 +41,8 @@ module _ (t q : List ℕ) (p i e f b : ℕ) where
   values-put v = refl
 
   module _ (test : eqb (moveAt t p e f .receives) on ≡ true) where
-    as-many : places (moveAt t p e f) q (messageName (elementAt t p e) b) ≡ messageCount q (messageName (elementAt t p e) b)
-    unfolding places if_then_else_
+    as-many : queuePlaces (moveAt t p e f) q (messageName (elementAt t p e) b) ≡ messageCount q (messageName (elementAt t p e) b)
+    unfolding queuePlaces if_then_else_
     as-many = rw test
 
     at-place : (k : ℕ) → byPlace t q p i e f b k ≡ byMessage q (stepName t p i e f b empty) (messageName (elementAt t p e) b) k
@@ -57,8 +57,8 @@ module _ (t q : List ℕ) (p i e f b : ℕ) where
         (joined-ext (byPlace t q p i e f b) (byMessage q (stepName t p i e f b empty) (messageName (elementAt t p e) b)) (messageCount q (messageName (elementAt t p e) b)) (λ k l. at-place k))
 
   module _ (test : eqb (moveAt t p e f .receives) on ≡ false) where
-    one-place : places (moveAt t p e f) q (messageName (elementAt t p e) b) ≡ 1
-    unfolding places if_then_else_
+    one-place : queuePlaces (moveAt t p e f) q (messageName (elementAt t p e) b) ≡ 1
+    unfolding queuePlaces if_then_else_
     one-place = rw test
 
     one-name : byPlace t q p i e f b 0 ≡ stepName t p i e f b empty ∷ []

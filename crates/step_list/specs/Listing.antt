@@ -15,12 +15,12 @@ use Rattle.meaning.specs.declared.Name.{Name}
 use Rattle.meaning.specs.Tuples.{empty}
 use Rattle.meaning.specs.Queues.{messageCount}
 use Rattle.meaning.specs.Requirements.{branchCount}
-use Rattle.step_names.specs.Names.{offered, stepName, namedBy, accepted, blank}
+use Rattle.step_names.specs.Names.{offered, stepName, namedBy, accepted, blankName}
 use Rattle.step_list.specs.declared.Listed.{Listed}
 
 -- "The values are the message consumed, else empty": how many queue places a move looks at, and the values at place k (RULES: list)
-unfoldable pub places : Move → Queues → ℕ → ℕ
-places m q name = if eqb (m .receives) on then messageCount q name else 1
+unfoldable pub queuePlaces : Move → Queues → ℕ → ℕ
+queuePlaces m q name = if eqb (m .receives) on then messageCount q name else 1
 
 unfoldable pub valuesAt : Move → Queues → ℕ → ℕ → List Tuple
 valuesAt m q name k = if eqb (m .receives) on then offered q name k else empty ∷ []
@@ -33,7 +33,7 @@ unfoldable pub byPlace : Table → Queues → ℕ → ℕ → ℕ → ℕ → �
 byPlace t q p i e f b k = namedBy (stepName t p i e f b) (valuesAt (moveAt t p e f) q (messageName (elementAt t p e) b) k)
 
 unfoldable pub byBranch : Table → Queues → ℕ → ℕ → ℕ → ℕ → ℕ → List Name
-byBranch t q p i e f b = joined (byPlace t q p i e f b) (places (moveAt t p e f) q (messageName (elementAt t p e) b))
+byBranch t q p i e f b = joined (byPlace t q p i e f b) (queuePlaces (moveAt t p e f) q (messageName (elementAt t p e) b))
 
 unfoldable pub byPhase : Table → Queues → ℕ → ℕ → ℕ → ℕ → List Name
 byPhase t q p i e f = joined (byBranch t q p i e f) (branchCount (elementAt t p e) (moveAt t p e f))
@@ -56,6 +56,6 @@ listed t s q = those (accepted t s q) (stepNames t s q)
 
 -- "The listing gives the k-th accepted step, k from 0"; "6: no accepted step with that ordinal". A refusal has a blank name beside it. (RULES: list)
 unfoldable pub chosen : List Name → ℕ → Listed
-chosen [] k = record { number = 6; name = blank }
+chosen [] k = record { number = 6; name = blankName }
 chosen (n ∷ ns) zero = record { number = 0; name = n }
 chosen (n ∷ ns) (suc k) = chosen ns k

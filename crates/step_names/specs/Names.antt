@@ -34,5 +34,5 @@ unfoldable pub accepted : Table → Instances → Queues → Name → Bool
 accepted t s q n = eqb (firstRefusal (refusals t s q n)) 0
 
 -- beside a refusal
-abbrev pub blank : Name
-blank = record { pool = 0; instance = 0; element = 0; phase = 0; branch = 0; given = empty }
+abbrev pub blankName : Name
+blankName = record { pool = 0; instance = 0; element = 0; phase = 0; branch = 0; given = empty }

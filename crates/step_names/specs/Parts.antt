@@ -16,7 +16,7 @@ use Rattle.meaning.specs.Changes.{expected}
 use Rattle.meaning.specs.Step.{poolNamed, elementNamed, moveNamed, instanceOf, sharedOf, before}
 use Rattle.step_refusals.specs.Chain.{beforeFields}
 use Rattle.step_names.specs.declared.Scan.{Scan}
-use Rattle.step_names.specs.Names.{offered, namedBy, accepted, blank}
+use Rattle.step_names.specs.Names.{offered, namedBy, accepted, blankName}
 
 -- of some names the accepted ones
 abbrev pub acceptedOn : Table → State → List Name → List Name
@@ -45,6 +45,6 @@ workedFor t h n = expected (elementNamed t n) h (moveNamed t n) (n .branch) empt
 
 -- the k-th of a list, or what is left of k behind it
 unfoldable pub scan : List Name → ℕ → Scan
-scan [] k = record { found = false; left = k; name = blank }
+scan [] k = record { found = false; left = k; name = blankName }
 scan (n ∷ ns) zero = record { found = true; left = 0; name = n }
 scan (n ∷ ns) (suc k) = scan ns k

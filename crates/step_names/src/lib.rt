@@ -7,7 +7,7 @@ ghost use Rattle.base_state.specs.Instances.{instancesOf, queuesOf};
 ghost use Rattle.meaning.specs.Tuples.{empty};
 ghost use Rattle.meaning.specs.Queues.{messageCount};
 ghost use Rattle.meaning.specs.Step.{elementNamed, moveNamed};
-ghost use Rattle.step_names.specs.Names.{stepName, blank};
+ghost use Rattle.step_names.specs.Names.{stepName, blankName};
 ghost use Rattle.step_names.specs.Parts.{scan, acceptedOn, withValues, byMessage, instanceFor, belowFor, readyFor, workedFor};
 use base_kinds::moves::Move;
 use base_kinds::moves::move_of;
@@ -74,7 +74,7 @@ fn with_values(n: Name, g: Tuple) -> Name
 }
 
 fn blank_name() -> Name
-    ensures { λ r. ⌜ r ≡ blank ⌝ }
+    ensures { λ r. ⌜ r ≡ blankName ⌝ }
 {
     Name {
         pool: 0,

@@ -19,8 +19,8 @@ use Rattle.meaning.specs.Requirements.{branchCount, instanceNamed, countsPermit
 use Rattle.meaning.specs.Step.{Site, refusalsAt}
 
 -- 11, of the table and of the move
-unfoldable pub placed : Table → ℕ → ℕ → Bool
-placed t p e = ltb p (poolCount t) && ltb e (elementCount t p)
+unfoldable pub isInTable : Table → ℕ → ℕ → Bool
+isInTable t p e = ltb p (poolCount t) && ltb e (elementCount t p)
 
 unfoldable pub offered : Element → Move → ℕ → ℕ → ℕ → Bool
 offered el m b i made = not (eqb (m .kind) 0) && ltb b (branchCount el m) && instanceNamed m i made

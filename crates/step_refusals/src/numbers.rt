@@ -9,7 +9,7 @@ ghost use Rattle.base_table.specs.Table.{messageName};
 ghost use Rattle.meaning.specs.Messages.{has};
 ghost use Rattle.meaning.specs.Queues.{messagesOf};
 ghost use Rattle.meaning.specs.Refusals.{firstRefusal};
-ghost use Rattle.step_refusals.specs.Chain.{placed, offered, beforeFields, ofFields, queuedFor, spaceFor, ofQueues};
+ghost use Rattle.step_refusals.specs.Chain.{isInTable, offered, beforeFields, ofFields, queuedFor, spaceFor, ofQueues};
 use base_kinds::moves::Move;
 use base_kinds::moves::ON;
 use base_table::element_count;
@@ -42,7 +42,7 @@ const ALL_HOLD: Word = ACCEPTED;
 
 // 11, of the table.
 fn is_placed(t: &[Word], p: Word, e: Word) -> bool
-    ensures { λ r. ⌜ r ≡ placed (now (t .entry)) p e ⌝ }
+    ensures { λ r. ⌜ r ≡ isInTable (now (t .entry)) p e ⌝ }
 {
     if p < pool_count(t) {
         return e < element_count(t, p);
@@ -65,7 +65,7 @@ fn is_offered(el: &[Word], m: Move, b: Word, i: Word, made: Word) -> bool
 
 // 11: there is such a pool, element, phase, branch and instance.
 pub fn is_there(t: &[Word], el: &[Word], m: Move, p: Word, made: Word, n: Name) -> bool
-    ensures { λ r. ⌜ r ≡ placed (now (t .entry)) p (n .element) && offered (now (el .entry)) m (n .branch) (n .instance) made ⌝ }
+    ensures { λ r. ⌜ r ≡ isInTable (now (t .entry)) p (n .element) && offered (now (el .entry)) m (n .branch) (n .instance) made ⌝ }
 {
     if is_placed(t, p, n.element) {
         return is_offered(el, m, n.branch, n.instance, made);

@@ -17,7 +17,7 @@ use Rattle.meaning.specs.Refusals.{firstRefusal}
 use Rattle.meaning.specs.Step.{siteOf, elementNamed, moveNamed, instanceOf, sharedOf, before, space, refusalsAt, refusals}
 use Rattle.step_plan.specs.declared.Plan.{Plan}
 use Rattle.step_plan.specs.Plans.{siteAt, Decided}
-use Rattle.step_refusals.specs.Chain.{placed, offered, spaceFor}
+use Rattle.step_refusals.specs.Chain.{isInTable, offered, spaceFor}
 use Rattle.step_refusals.proofs.NumberLaws.{numbered, hold-at}
 use Rattle.step_take.proofs.StateLaws.{there-is}
 
@@ -32,22 +32,22 @@ module _ (t z : List ℕ) (n : Name) (p : ℕ) (el : List ℕ) (m : Move) (made 
     (e₂ : el ≡ elementAt t p (n .element))
     (e₃ : m ≡ moveOf (kindIn el) (modeIn el) (n .phase))
     (e₄ : made ≡ madeCount (instancesOf z) p) where
-  number-nowhere : placed t p (n .element) && offered el m (n .branch) (n .instance) made ≡ false
+  number-nowhere : isInTable t p (n .element) && offered el m (n .branch) (n .instance) made ≡ false
       → 11 ≡ firstRefusal (refusals t (instancesOf z) (queuesOf z) n)
   unfolding refusals firstRefusal if_then_else_
   number-nowhere k = rw (there-is t z n p el m made e₁ e₂ e₃ e₄ ∙ k)
 
-  number-there : (limit r : ℕ) → placed t p (n .element) && offered el m (n .branch) (n .instance) made ≡ true → limit ≡ limitOf t p
+  number-there : (limit r : ℕ) → isInTable t p (n .element) && offered el m (n .branch) (n .instance) made ≡ true → limit ≡ limitOf t p
       → r ≡ firstRefusal (refusalsAt (siteAt el (before m (instanceOf (instancesOf z) p (n .instance)) (sharedOf (instancesOf z))) m (n .branch) (n .given) made limit) (queuesOf z))
       → r ≡ firstRefusal (refusals t (instancesOf z) (queuesOf z) n)
   unfolding refusals firstRefusal if_then_else_ siteOf elementNamed moveNamed
   number-there limit r k e d = rw (there-is t z n p el m made e₁ e₂ e₃ e₄ ∙ k) (rw (e, e₄, e₃, e₂, e₁) at d)
 
-  pub accepted-nowhere : placed t p (n .element) && offered el m (n .branch) (n .instance) made ≡ false
+  pub accepted-nowhere : isInTable t p (n .element) && offered el m (n .branch) (n .instance) made ≡ false
       → false ≡ eqb (firstRefusal (refusals t (instancesOf z) (queuesOf z) n)) 0
   accepted-nowhere k = rw (← number-nowhere k)
 
-  pub accepted-there : (limit : ℕ) (r : Bool) → placed t p (n .element) && offered el m (n .branch) (n .instance) made ≡ true → limit ≡ limitOf t p
+  pub accepted-there : (limit : ℕ) (r : Bool) → isInTable t p (n .element) && offered el m (n .branch) (n .instance) made ≡ true → limit ≡ limitOf t p
       → r ≡ eqb (firstRefusal (refusalsAt (siteAt el (before m (instanceOf (instancesOf z) p (n .instance)) (sharedOf (instancesOf z))) m (n .branch) (n .given) made limit) (queuesOf z))) 0
       → r ≡ eqb (firstRefusal (refusals t (instancesOf z) (queuesOf z) n)) 0
   accepted-there limit r k e d = d ∙ ap (λ x. eqb x 0) (number-there limit _ k e refl)

@@ -31,7 +31,7 @@ use Rattle.meaning.specs.Refusals.{firstRefusal}
 use Rattle.meaning.specs.Requirements.{branchCount, instanceNamed}
 use Rattle.meaning.specs.Step.{siteOf, poolNamed, elementNamed, moveNamed, instanceOf, sharedOf, before, exists, refusals, instancesAfter, madeAfter, traffic, sent}
 use Rattle.step_effects.specs.Effects.{storedIn, madeBy, deliveredBy, answerBy}
-use Rattle.step_refusals.specs.Chain.{placed, offered}
+use Rattle.step_refusals.specs.Chain.{isInTable, offered}
 use Rattle.step_plan.specs.declared.Plan.{Plan}
 use Rattle.step_plan.specs.Plans.{siteAt, Decided}
 use Rattle.step_take.specs.Parts.{Applied, settledAt}
@@ -120,8 +120,8 @@ module _ (t z : List ℕ) (n : Name) (p : ℕ) (el : List ℕ) (m : Move) (made 
     (e₂ : el ≡ elementAt t p (n .element))
     (e₃ : m ≡ moveOf (kindIn el) (modeIn el) (n .phase))
     (e₄ : made ≡ madeCount (instancesOf z) p) where
-  pub there-is : exists t (instancesOf z) n ≡ placed t p (n .element) && offered el m (n .branch) (n .instance) made
-  unfolding exists placed offered elementNamed moveNamed
+  pub there-is : exists t (instancesOf z) n ≡ isInTable t p (n .element) && offered el m (n .branch) (n .instance) made
+  unfolding exists isInTable offered elementNamed moveNamed
   there-is = rw (e₄, e₃, e₂, e₁)
       (fives (ltb (poolNamed t n) (poolCount t)) (ltb (n .element) (elementCount t (poolNamed t n))) (not (eqb (moveNamed t n .kind) 0))
       (ltb (n .branch) (branchCount (elementNamed t n) (moveNamed t n)))
@@ -132,14 +132,14 @@ module _ (t z : List ℕ) (n : Name) (p : ℕ) (el : List ℕ) (m : Move) (made 
       fives true false c d e = refl
       fives false b c d e = refl
 
-  pub refused-there : (r : Answer) → placed t p (n .element) && offered el m (n .branch) (n .instance) made ≡ false
+  pub refused-there : (r : Answer) → isInTable t p (n .element) && offered el m (n .branch) (n .instance) made ≡ false
       → r ≡ record { number = 11; traffic = Nothing; name = 0; tuple = empty }
       → Done (settled t (instancesOf z) (queuesOf z) n) r z
   unfolding settled refusals firstRefusal if_then_else_
   refused-there r k e =
       rw (there-is ∙ k) (record { answer = e; state = sym (take-append-drop instancesWords z) })
 
-  pub found : (limit : ℕ) (r : Answer) (w : List ℕ) → placed t p (n .element) && offered el m (n .branch) (n .instance) made ≡ true
+  pub found : (limit : ℕ) (r : Answer) (w : List ℕ) → isInTable t p (n .element) && offered el m (n .branch) (n .instance) made ≡ true
       → limit ≡ limitOf t p
       → Done (settledAt (siteAt el (before m (instanceOf (instancesOf z) p (n .instance)) (sharedOf (instancesOf z))) m (n .branch) (n .given) made limit) p (n .instance) (instancesOf z) (queuesOf z)) r w
       → Done (settled t (instancesOf z) (queuesOf z) n) r w

@@ -7,7 +7,7 @@ use Rattle.base_words.specs.Iter.{iter}
 use Rattle.base_words.specs.Pick.{if_then_else_}
 use Rattle.base_kinds.specs.Moves.{up, down}
 use Rattle.base_table.specs.Places.{entriesPlace, exitsPlace}
-use Rattle.meaning.specs.Requirements.{hasToken, hasRoom}
+use Rattle.meaning.specs.Requirements.{hasToken, edgeHasRoom}
 use Rattle.meaning.specs.Changes.{countChanged, takeOne, putOne}
 use Rattle.step_tokens.specs.Edges.{allows, changeOne}
 
@@ -15,8 +15,8 @@ pub entries-allow : (el h : List ℕ) (f n : ℕ) → all (allows el h entriesPl
 unfolding allows hasToken if_then_else_
 entries-allow el h f n = refl
 
-pub exits-allow : (el h : List ℕ) (f n : ℕ) → all (allows el h exitsPlace up f) n ≡ all (hasRoom el h f) n
-unfolding allows hasRoom if_then_else_
+pub exits-allow : (el h : List ℕ) (f n : ℕ) → all (allows el h exitsPlace up f) n ≡ all (edgeHasRoom el h f) n
+unfolding allows edgeHasRoom if_then_else_
 exits-allow el h f n = refl
 
 pub entries-change : (el h : List ℕ) (f n : ℕ) → iter (changeOne el entriesPlace down f) h n ≡ iter (takeOne el f) h n

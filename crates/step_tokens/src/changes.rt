@@ -1,7 +1,7 @@
 // What a move does to the tokens and counts of an instance, in place.
 ghost use mathlib.Core.Path.{_≡_};
 ghost use Rattle.base_words.specs.Iter.{iter};
-ghost use Rattle.meaning.specs.Requirements.{first, touched};
+ghost use Rattle.meaning.specs.Requirements.{firstTouched, touched};
 ghost use Rattle.meaning.specs.Changes.{taken, more, countChanged, activeChanged, readyChanged, puts, cleared, moved};
 ghost use Rattle.step_tokens.specs.Edges.{changeOne};
 use super::edge_from;
@@ -61,7 +61,7 @@ fn change_edge(el: &[Word], list: Word, way: Word, f: Word, j: Word, h: &mut [Wo
 
 // On each edge that a cell of the table of moves means, of a list of n.
 fn change_edges(el: &[Word], list: Word, way: Word, cell: Word, b: Word, n: Word, h: &mut [Word])
-    ensures { λ _. ⌜ now (h .exit) ≡ iter (changeOne (now (el .entry)) list way (first cell b)) (now (h .entry)) (touched cell n) ⌝ }
+    ensures { λ _. ⌜ now (h .exit) ≡ iter (changeOne (now (el .entry)) list way (firstTouched cell b)) (now (h .entry)) (touched cell n) ⌝ }
 {
     let f = first_edge(cell, b);
     let count = touched_count(cell, n);

@@ -1,6 +1,6 @@
 // What a move asks of the tokens and counts of an instance, and what it does to them.
 ghost use mathlib.Core.Path.{_≡_};
-ghost use Rattle.meaning.specs.Requirements.{touched, first, branchCount, instanceNamed, belowLimit};
+ghost use Rattle.meaning.specs.Requirements.{touched, firstTouched, branchCount, instanceNamed, belowLimit};
 ghost use Rattle.step_tokens.specs.Edges.{edgeFrom};
 use base_kinds::moves::BRANCH;
 use base_kinds::moves::EVERY;
@@ -30,7 +30,7 @@ pub fn touched_count(cell: Word, n: Word) -> Word
 
 // From which edge on.
 pub fn first_edge(cell: Word, b: Word) -> Word
-    ensures { λ r. ⌜ r ≡ first cell b ⌝ }
+    ensures { λ r. ⌜ r ≡ firstTouched cell b ⌝ }
 {
     if cell == BRANCH {
         return b;

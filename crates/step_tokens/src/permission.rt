@@ -1,7 +1,7 @@
 // Whether tokens and counts permit a move (12), and whether there is room for what it puts and raises (18).
 ghost use mathlib.Core.Path.{_≡_};
 ghost use Rattle.base_words.specs.All.{all};
-ghost use Rattle.meaning.specs.Requirements.{first, touched, hasTokens, canLower, waits, isAlone, countsPermit, hasRooms, canRaise, roomy};
+ghost use Rattle.meaning.specs.Requirements.{firstTouched, touched, hasTokens, canLower, waits, isAlone, countsPermit, hasRooms, canRaise, roomy};
 ghost use Rattle.step_tokens.specs.Edges.{allows};
 use super::edge_from;
 use super::first_edge;
@@ -38,7 +38,7 @@ fn edge_allows(el: &[Word], h: &[Word], list: Word, way: Word, f: Word, j: Word)
 
 // Each edge that a cell of the table of moves means, of a list of n.
 fn edges_allow(el: &[Word], h: &[Word], list: Word, way: Word, cell: Word, b: Word, n: Word) -> bool
-    ensures { λ r. ⌜ r ≡ all (allows (now (el .entry)) (now (h .entry)) list way (first cell b)) (touched cell n) ⌝ }
+    ensures { λ r. ⌜ r ≡ all (allows (now (el .entry)) (now (h .entry)) list way (firstTouched cell b)) (touched cell n) ⌝ }
 {
     let f = first_edge(cell, b);
     let count = touched_count(cell, n);

@@ -9,7 +9,7 @@ use Rattle.base_words.specs.Pick.{if_then_else_}
 use Rattle.text_lexer.specs.declared.Token.{Token}
 use Rattle.text_lexer.specs.Lexer.{tokenAt}
 use Rattle.text_readers.specs.declared.Read.the-variants.{Refused}
-use Rattle.text_readers.specs.Reading.{misplaced, excessive, passed, refused, placeOf}
+use Rattle.text_readers.specs.Reading.{misplaced, excessive, passedTo, refusedAt, placeOf}
 use Rattle.text_readers.proofs.KeepLaws.{stored}
 use Rattle.text_readers.proofs.WordLaws.{place-known}
 use Rattle.text_bounds.specs.Bounds.{oneTooMany, counted}
@@ -23,10 +23,10 @@ module _ (token : Token) (text : List ℕ) (at : ℕ) (e : token ≡ tokenAt tex
   unfolding oneTooMany if_then_else_
   many-no b h = rw (e, h)
 
-  pub too-few : (least count k : ℕ) (x : List ℕ) → k < least → refused misplaced (token .at) x ≡ counted least count k text at x
+  pub too-few : (least count k : ℕ) (x : List ℕ) → k < least → refusedAt misplaced (token .at) x ≡ counted least count k text at x
   unfolding counted if_then_else_
   too-few least count k x h = rw (lt-ltb k least h) (place-known text at token e misplaced x)
 
-pub enough : (least count k : ℕ) (text : List ℕ) (at : ℕ) (x y : List ℕ) → least ≤ k → y ≡ set x count k → passed at y ≡ counted least count k text at x
+pub enough : (least count k : ℕ) (text : List ℕ) (at : ℕ) (x y : List ℕ) → least ≤ k → y ≡ set x count k → passedTo at y ≡ counted least count k text at x
 unfolding counted if_then_else_
 enough least count k text at x y h e = rw (le-ltb k least h) (stored at y (set x count k) e)

@@ -9,7 +9,7 @@ use Rattle.base_words.specs.Blocks.{Block, Bytes}
 use Rattle.base_words.specs.Pick.{if_then_else_}
 use Rattle.text_readers.specs.declared.Read.{Read}
 use Rattle.text_readers.specs.declared.Read.the-variants.{Refused}
-use Rattle.text_readers.specs.Reading.{Parsed, Reader, misplaced, excessive, passed, refused, placeOf, startsNumber, startsField, startsSign}
+use Rattle.text_readers.specs.Reading.{Parsed, Reader, misplaced, excessive, passedTo, refusedAt, placeOf, startsNumber, startsField, startsSign}
 
 -- What the items are: edges, items of a template, of a message, assignments, guarded branches, branches that receive.
 abbrev pub anEdge : ℕ
@@ -45,8 +45,8 @@ unfoldable pub oneTooMany : Bool → ℕ → Read
 oneTooMany item p = Refused (if item then excessive else misplaced) p
 
 unfoldable pub tooMany : Bool → ℕ → Block → Parsed
-tooMany item p x = refused (if item then excessive else misplaced) p x
+tooMany item p x = refusedAt (if item then excessive else misplaced) p x
 
 -- the count stored behind k items; "a list that closes too early is 2 at the closing sign" (RULES: places)
 unfoldable pub counted : ℕ → ℕ → ℕ → Reader
-counted least count k text at x = if ltb k least then refused misplaced (placeOf text at) x else passed at (set x count k)
+counted least count k text at x = if ltb k least then refusedAt misplaced (placeOf text at) x else passedTo at (set x count k)

@@ -26,11 +26,11 @@ use Rattle.text_lexer.specs.declared.Token.{Token}
 use Rattle.text_lexer.specs.declared.Form.the-variants.{Word}
 use Rattle.text_lexer.specs.Lexer.{tokenAt}
 use Rattle.text_lexer.proofs.Form.{the-type}
-use Rattle.text_numerals.specs.Numerals.{sameBytes}
-use Rattle.text_numerals.proofs.NumberLaws.{same-lengths}
+use Rattle.base_bytes.specs.Bytes.{sameBytes}
+use Rattle.base_bytes.proofs.SameLaws.{same-lengths}
 use Rattle.text_readers.specs.declared.Read.{Read}
 use Rattle.text_readers.specs.declared.Read.the-variants.{At, Refused}
-use Rattle.text_readers.specs.Reading.{Parsed, Reader, misplaced, passed, refused, ifAt, onward, _then_, letters, signAt, sign}
+use Rattle.text_readers.specs.Reading.{Parsed, Reader, misplaced, passedTo, refusedAt, ifAt, onward, _then_, letters, signAt, sign}
 use Rattle.text_readers.proofs.ReadingLaws.{then-passed, then-stopped, sign-last}
 use Rattle.text_readers.proofs.WordLaws.{word-read, word-missed}
 use Rattle.text_parts.specs.Parts.{partOf}
@@ -64,12 +64,12 @@ then-then f g h text at x = go (f text at x .end) (f text at x .words)
 
 -- one turn of the parts, from the code at the place i on: W is what they come to
 module _ (s : ℕ) (cs text : List ℕ) (at i : ℕ) (x : List ℕ) (W : Parsed) (inv : partsFrom s (drop i cs) text at x ≡ W) where
-  pub parts-end : length cs ≤ i → passed at x ≡ W
+  pub parts-end : length cs ≤ i → passedTo at x ≡ W
   unfolding partsFrom
   parts-end h = sym (ap (λ l. partsFrom s l text at x) (drop-of-length-le cs h)) ∙ inv
 
   module _ (h : i < length cs) where
-    pub parts-blank : getD cs i 0 ≡ 32 → passed at x ≡ W
+    pub parts-blank : getD cs i 0 ≡ 32 → passedTo at x ≡ W
     unfolding partsFrom if_then_else_
     parts-blank e = (rw (drop-cons cs i 0 h, e)) ∙ inv
 
@@ -97,9 +97,9 @@ element-any text at x y e = rw (blank-any 0 x y e, blank-any (kindNamed (letters
 
 -- an element of kind k
 module _ (text : List ℕ) (k p q : ℕ) (x y : List ℕ) (e : y ≡ blank k x) where
-  pub no-kind : k ≡ 0 → refused misplaced p y ≡ elementOf k p text q x
+  pub no-kind : k ≡ 0 → refusedAt misplaced p y ≡ elementOf k p text q x
   unfolding elementOf
-  no-kind z = pick-yes _ _ _ _ (eq-eqb k 0 z) (ap (refused misplaced p) (e ∙ ap (λ j. blank j x) z))
+  no-kind z = pick-yes _ _ _ _ (eq-eqb k 0 z) (ap (refusedAt misplaced p) (e ∙ ap (λ j. blank j x) z))
 
   pub of-kind : (w : Parsed) → (k ≡ 0 → ⊥) → w ≡ partsOf k text q y → w ≡ elementOf k p text q x
   unfolding elementOf
@@ -121,11 +121,11 @@ module _ (text : List ℕ) (at : ℕ) (t : Token) (e : t ≡ tokenAt text at) wh
     ofWord l p q = elementOf (kindNamed l) p text q x
 
     abbrev ofOther : ℕ → Parsed
-    ofOther p = refused misplaced p (blank 0 x)
+    ofOther p = refusedAt misplaced p (blank 0 x)
 
-    pub element-no : (y : List ℕ) → OneOf (1 ∷ 2 ∷ 3 ∷ 4 ∷ []) (tagOf the-type (t .form)) → y ≡ blank 0 x → refused misplaced (t .at) y ≡ element text at x
+    pub element-no : (y : List ℕ) → OneOf (1 ∷ 2 ∷ 3 ∷ 4 ∷ []) (tagOf the-type (t .form)) → y ≡ blank 0 x → refusedAt misplaced (t .at) y ≡ element text at x
     unfolding element
-    element-no y f h = word-missed text at t e ofWord ofOther (refused misplaced (t .at) y) f (ap (refused misplaced (t .at)) h)
+    element-no y f h = word-missed text at t e ofWord ofOther (refusedAt misplaced (t .at) y) f (ap (refusedAt misplaced (t .at)) h)
 
     pub element-yes : (w : Parsed) (l : List ℕ) (k : ℕ) → t .form ≡ Word → l ≡ part text (t .at) (t .next) → k ≡ kindNamed l → w ≡ elementOf k (t .at) text (t .next) x → w ≡ element text at x
     unfolding element

@@ -11,7 +11,7 @@ use Rattle.base_words.specs.Text.{bytes}
 use Rattle.base_kinds.specs.declared.Kind.{Kind}
 use Rattle.base_kinds.specs.Kinds.{kindOf}
 use Rattle.text_lexer.specs.Lexer.{tokenAt}
-use Rattle.text_numerals.specs.Numerals.{sameBytes}
+use Rattle.base_bytes.specs.Bytes.{sameBytes}
 use Rattle.text_readers.specs.declared.Read.{Read}
 use Rattle.text_readers.specs.declared.Read.the-variants.{At, Refused}
 use Rattle.text_readers.specs.Reading.{Parsed, Reader, ifAt, _then_, placeOf, behind, letters, signAt, sign, operand}

@@ -12,8 +12,8 @@ use Rattle.base_kinds.specs.declared.Kind.{Kind}
 use Rattle.base_kinds.specs.Kinds.{kindOf, keywordOf}
 use Rattle.base_table.specs.Places.{kindPlace}
 use Rattle.text_lexer.specs.Lexer.{tokenAt, ifWord}
-use Rattle.text_numerals.specs.Numerals.{sameBytes}
-use Rattle.text_readers.specs.Reading.{Reader, misplaced, refused, nothing, _then_, placeOf, behind, letters, sign}
+use Rattle.base_bytes.specs.Bytes.{sameBytes}
+use Rattle.text_readers.specs.Reading.{Reader, misplaced, refusedAt, nothing, _then_, placeOf, behind, letters, sign}
 use Rattle.text_parts.specs.Parts.{partOf}
 
 -- how many kinds there are
@@ -41,13 +41,13 @@ partsOf k = partsFrom (code "(") (kindOf k .parts) then sign (code ")")
 
 -- the element of kind k whose keyword stands at p, its parts from q on
 unfoldable pub elementOf : ℕ → ℕ → Reader
-elementOf k p text q x = if eqb k 0 then refused misplaced p (blank 0 x) else partsOf k text q (blank k x)
+elementOf k p text q x = if eqb k 0 then refusedAt misplaced p (blank 0 x) else partsOf k text q (blank k x)
 
 unfoldable pub element : Reader
 element text at x =
     ifWord (tokenAt text at .form)
     (elementOf (kindNamed (letters text at)) (placeOf text at) text (behind text at) x)
-    (refused misplaced (placeOf text at) (blank 0 x))
+    (refusedAt misplaced (placeOf text at) (blank 0 x))
 
 -- what can start one more element: one of the fifteen keywords
 unfoldable pub startsElement : Bytes → ℕ → Bool

@@ -23,7 +23,8 @@ use Rattle.check_tally.proofs.TallyLaws.{tally-at, length-marked, eqb-capped}
 use Rattle.check_tally.proofs.RegionLaws.{count-in, count-out}
 use Rattle.check_summary.specs.Summary.{edgeRegion}
 use Rattle.text_ends.specs.Rewriting.{isEndSnd, timesIn, mentioned, isUnused, endSends, unusedCount, roomFor}
-use Rattle.text_ends.specs.Room.{countIn, endsIn, usedFrom, notedWords, oneMore, endsWith, counted, noted, freeBy, roomBy, roomNoted}
+use Rattle.text_ends.specs.Room.{countIn, endsIn, usedFrom, notedWords, endsWith, countNoted, elementNoted, freeBy, roomBy, roomNoted}
+use Rattle.base_words.specs.Words.{oneMore}
 
 -- THE CODE: e, f, c are what calls say of the notes s
 module _ (s : List ℕ) (e f : ℕ) (p : e ≡ at s endsIn) (q : f ≡ freeBy s) where
@@ -75,7 +76,7 @@ noted-none n h = record { long = rw (length-replicate {A = ℕ}) h; counts = zer
 
 module _ (els : List (List ℕ)) (x s : List ℕ) (h : Noted els s) (few : length els < greatest) where
   abbrev s₁ : List ℕ
-  s₁ = counted (length els + 1) x s
+  s₁ = countNoted (length els + 1) x s
 
   abbrev before : Region
   before = edgeRegion usedFrom x entriesPlace branches
@@ -87,7 +88,7 @@ module _ (els : List (List ℕ)) (x s : List ℕ) (h : Noted els s) (few : lengt
   s₂ = tally s₁ (regionMarks before)
 
   long₁ : length s₁ ≡ length s
-  unfolding counted
+  unfolding countNoted
   long₁ = length-set (set s countIn (length els + 1)) endsIn _ ∙ length-set s countIn _
 
   one-more : (b : Bool) → (if b then oneMore (at s endsIn) else at s endsIn) ≡ endSends els + oneIf b
@@ -109,15 +110,15 @@ module _ (els : List (List ℕ)) (x s : List ℕ) (h : Noted els s) (few : lengt
   unfolding edgeRegion timesIn
   inside list e a b = count-in (edgeRegion usedFrom x list branches) e a b
 
-  same : (k : ℕ) → k < usedFrom → at (noted (length els + 1) x s) k ≡ at s₁ k
-  unfolding noted
+  same : (k : ℕ) → k < usedFrom → at (elementNoted (length els + 1) x s) k ≡ at s₁ k
+  unfolding elementNoted
   same k l = untouched s₂ (regionMarks behind) k (outside exitsPlace k l) ∙ untouched s₁ (regionMarks before) k (outside entriesPlace k l)
 
   kept : (k : ℕ) → endsIn < k → at s₁ k ≡ at s k
-  unfolding counted
+  unfolding countNoted
   kept k l = getD-set-other (set s countIn (length els + 1)) endsIn k _ 0 (λ e. omega arith) ∙ getD-set-other s countIn k _ 0 (λ e. omega arith)
 
-  pub noted-more : Noted (els ++ (x ∷ [])) (noted (length els + 1) x s)
+  pub noted-more : Noted (els ++ (x ∷ [])) (elementNoted (length els + 1) x s)
   noted-more =
       record {
         long = omega (arith, h .long, long₃);
@@ -126,20 +127,20 @@ module _ (els : List (List ℕ)) (x s : List ℕ) (h : Noted els s) (few : lengt
         used = λ e a b. third e a b;
       }
     where
-      long₃ : length (noted (length els + 1) x s) ≡ length s
-      long₃ = unfold noted in long-tally s₂ (regionMarks behind) ∙ long-tally s₁ (regionMarks before) ∙ long₁
+      long₃ : length (elementNoted (length els + 1) x s) ≡ length s
+      long₃ = unfold elementNoted in long-tally s₂ (regionMarks behind) ∙ long-tally s₁ (regionMarks before) ∙ long₁
 
       first : at s₁ countIn ≡ length els + 1
       first =
-          unfold counted in
+          unfold countNoted in
           getD-set-other (set s countIn (length els + 1)) endsIn countIn _ 0 (λ e. omega arith) ∙ getD-set-same s countIn (length els + 1) 0 (omega (arith, h .long))
 
       second : at s₁ endsIn ≡ (if isEndSnd x then oneMore (at s endsIn) else at s endsIn)
-      second = unfold counted endsWith in getD-set-same (set s countIn (length els + 1)) endsIn _ 0 (omega (arith, h .long, length-set s countIn (length els + 1)))
+      second = unfold countNoted endsWith in getD-set-same (set s countIn (length els + 1)) endsIn _ 0 (omega (arith, h .long, length-set s countIn (length els + 1)))
 
-      third : (e : ℕ) → 0 < e → e ≤ edges → at (noted (length els + 1) x s) (usedFrom + e) ≡ capped (total (mentioned e) (els ++ (x ∷ [])))
+      third : (e : ℕ) → 0 < e → e ≤ edges → at (elementNoted (length els + 1) x s) (usedFrom + e) ≡ capped (total (mentioned e) (els ++ (x ∷ [])))
       third e a b =
-          unfold noted mentioned in
+          unfold elementNoted mentioned in
           tally-at s₂ (regionMarks behind) (usedFrom + e) (total (mentioned e) els + timesIn x entriesPlace e) (omega (arith, h .long, long₁, long-tally s₁ (regionMarks before)))
           (tally-at s₁ (regionMarks before) (usedFrom + e) (total (mentioned e) els) (omega (arith, h .long, long₁)) (kept (usedFrom + e) (omega arith) ∙ h .used e a b)
           ∙ ap (λ n. capped (total (mentioned e) els + n)) (inside entriesPlace e a b))

@@ -24,7 +24,7 @@ use Rattle.check_summary.specs.Summary.{summaryWords, edgeRegion, nameRegion, e
 use Rattle.check_model.specs.Checks.{Pool}
 use Rattle.check_verdict.specs.Verdict.{modelWords, namesRegion, brokenRegion, summaryRegions, poolRegions, modelTally}
 use Rattle.text_ends.specs.Rewriting.{hasRoom, roomFor}
-use Rattle.text_ends.specs.Room.{countIn, endsIn, usedFrom, notedWords, roomIn, judgedWords, counted, noted, roomBy, roomNoted}
+use Rattle.text_ends.specs.Room.{countIn, endsIn, usedFrom, notedWords, roomIn, judgedWords, countNoted, elementNoted, roomBy, roomNoted}
 use Rattle.text_ends.proofs.RoomLaws.{Noted, noted-none, noted-more, room-is, untouched, long-tally}
 
 take-short : (n : ℕ) (s : List ℕ) → length (take n s) ≤ n
@@ -83,16 +83,16 @@ beyond (r ∷ rs) n k e h =
     ∙ ap₂ _+_ (count-out r k (λ f t. omega arith)) (beyond rs n k (and-right (ltb (r .from + r .most) n) _ e) h)
 
 -- A SUMMARY WITH ITS NOTES
-take-noted : (n : ℕ) (x s : List ℕ) → take summaryWords (noted n x s) ≡ take summaryWords s
-unfolding noted counted edgeRegion
+take-noted : (n : ℕ) (x s : List ℕ) → take summaryWords (elementNoted n x s) ≡ take summaryWords s
+unfolding elementNoted countNoted edgeRegion
 take-noted n x s =
     let before : List ℕ = regionMarks (edgeRegion usedFrom x entriesPlace branches) in
     let behind : List ℕ = regionMarks (edgeRegion usedFrom x exitsPlace branches) in
     let y : List ℕ = take summaryWords s in
     let short : length y ≤ summaryWords = take-short summaryWords s in
-    take-tally summaryWords (tally (counted n x s) before) behind
+    take-tally summaryWords (tally (countNoted n x s) before) behind
     ∙ ap (λ z. tally z behind)
-    (take-tally summaryWords (counted n x s) before
+    (take-tally summaryWords (countNoted n x s) before
     ∙ ap (λ z. tally z before) (take-set-le summaryWords (set s countIn n) endsIn _ (omega arith) ∙ take-set-le summaryWords s countIn n (omega arith))
     ∙ out-region y (edgeRegion usedFrom x entriesPlace branches) (omega (arith, short)))
     ∙ out-region y (edgeRegion usedFrom x exitsPlace branches) (omega (arith, short))
@@ -123,7 +123,7 @@ module _ (els : List (List ℕ)) (x s : List ℕ) (h : Kept els s) (few : length
         used = λ e a b. untouched s marks (usedFrom + e) (marks-before x (usedFrom + e) (omega arith)) ∙ h .notes .used e a b;
       }
 
-  pub kept-more : Kept (els ++ (x ∷ [])) (noted (length els + 1) x (tally s marks))
+  pub kept-more : Kept (els ++ (x ∷ [])) (elementNoted (length els + 1) x (tally s marks))
   unfolding summary
   kept-more =
       record {

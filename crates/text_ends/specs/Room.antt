@@ -1,16 +1,15 @@
 -- What the first pass notes of a pool, element by element, so that 28 is known before the first word is written: s is the pool's summary with these notes behind it, w the tally of the model with a word behind it.
 use Prim.Native.Nat.{ℕ, _+_}
 use mathlib.Core.Bool.{Bool, _&&_}
-use mathlib.Core.List.{List}
-use lib.Dec.{eqb, leb, ltb}
+use lib.Dec.{eqb, leb}
 use lib.ListN.{set}
 use Rattle.base_words.specs.Blocks.{Element, Tally}
 use Rattle.base_words.specs.Counts.{elements, branches, edges}
 use Rattle.base_words.specs.Pick.{if_then_else_}
 use Rattle.base_words.specs.Sum.{sum, oneIf}
-use Rattle.base_words.specs.Words.{at, greatest}
+use Rattle.base_words.specs.Words.{at, oneMore}
 use Rattle.base_table.specs.Places.{entriesPlace, exitsPlace}
-use Rattle.check_tally.specs.Tally.{Region, tally, regionMarks}
+use Rattle.check_tally.specs.Tally.{tally, regionMarks}
 use Rattle.check_summary.specs.Summary.{summaryWords, edgeRegion}
 use Rattle.check_verdict.specs.Verdict.{modelWords}
 use Rattle.text_ends.specs.Rewriting.{isEndSnd}
@@ -35,20 +34,16 @@ roomIn = modelWords
 abbrev pub judgedWords : ℕ
 judgedWords = roomIn + 1
 
--- one more, as far as a word goes
-unfoldable pub oneMore : ℕ → ℕ
-oneMore n = if ltb n greatest then n + 1 else n
-
 unfoldable pub endsWith : Element → Tally → ℕ
 endsWith el s = if isEndSnd el then oneMore (at s endsIn) else at s endsIn
 
-unfoldable pub counted : ℕ → Element → Tally → Tally
-counted count el s = set (set s countIn count) endsIn (endsWith el s)
+unfoldable pub countNoted : ℕ → Element → Tally → Tally
+countNoted count el s = set (set s countIn count) endsIn (endsWith el s)
 
 -- an element, the count-th
-unfoldable pub noted : ℕ → Element → Tally → Tally
-noted count el s =
-    tally (tally (counted count el s) (regionMarks (edgeRegion usedFrom el entriesPlace branches))) (regionMarks (edgeRegion usedFrom el exitsPlace branches))
+unfoldable pub elementNoted : ℕ → Element → Tally → Tally
+elementNoted count el s =
+    tally (tally (countNoted count el s) (regionMarks (edgeRegion usedFrom el entriesPlace branches))) (regionMarks (edgeRegion usedFrom el exitsPlace branches))
 
 -- a pool behind its elements
 unfoldable pub freeBy : Tally → ℕ

@@ -3,19 +3,19 @@ ghost use mathlib.Core.Path.{_≡_};
 ghost use Prim.Native.Nat.{_+_, _≤_};
 ghost use lib.Dec.{eqb};
 ghost use lib.ListN.{take};
-ghost use Rattle.base_words.specs.Sum.{sum, oneIf};
+ghost use Rattle.base_words.specs.Sum.{oneIf};
 ghost use Rattle.base_words.specs.Words.{at};
 ghost use Rattle.text_ends.specs.Rewriting.{isEndSnd};
-ghost use Rattle.text_ends.specs.Room.{usedFrom, oneMore, endsWith, counted, noted, freeBy, roomBy, roomNoted};
+ghost use Rattle.text_ends.specs.Room.{usedFrom, endsWith, countNoted, elementNoted, freeBy, roomBy, roomNoted};
 use base_kinds::moves::END_SND;
 use base_table::kind_in;
 use base_table::places::ENTRIES;
 use base_table::places::EXITS;
-use base_words::GREATEST;
 use base_words::Word;
 use base_words::counts::BRANCHES;
 use base_words::counts::EDGES;
 use base_words::counts::ELEMENTS;
+use base_words::one_more;
 use base_words::put;
 use base_words::word;
 use check_summary::SUMMARY_WORDS;
@@ -53,12 +53,6 @@ pub fn is_end_snd(el: &[Word]) -> bool
     kind_in(el) == END_SND
 }
 
-pub fn one_more(n: Word) -> Word
-    ensures { λ r. ⌜ r ≡ oneMore n ⌝ }
-{
-    if n < GREATEST { n + 1 } else { n }
-}
-
 fn ends_with(el: &[Word], s: &[Word]) -> Word
     ensures { λ r. ⌜ r ≡ endsWith (now (el .entry)) (now (s .entry)) ⌝ }
 {
@@ -70,7 +64,7 @@ fn ends_with(el: &[Word], s: &[Word]) -> Word
 }
 
 fn count_element(s: &mut [Word], count: Word, el: &[Word])
-    ensures { λ _. ⌜ now (s .exit) ≡ counted count (now (el .entry)) (now (s .entry)) ⌝ }
+    ensures { λ _. ⌜ now (s .exit) ≡ countNoted count (now (el .entry)) (now (s .entry)) ⌝ }
 {
     let ends = ends_with(el, s);
     put(s, COUNT, count);
@@ -79,7 +73,7 @@ fn count_element(s: &mut [Word], count: Word, el: &[Word])
 
 // An element of a pool, the count-th.
 pub fn note_element(s: &mut [Word], count: Word, el: &[Word])
-    ensures { λ _. ⌜ now (s .exit) ≡ noted count (now (el .entry)) (now (s .entry)) ⌝ }
+    ensures { λ _. ⌜ now (s .exit) ≡ elementNoted count (now (el .entry)) (now (s .entry)) ⌝ }
 {
     count_element(s, count, el);
     mark_list(s, USED_FROM, el, ENTRIES as Word, BRANCHES);

@@ -1,6 +1,4 @@
 pub mod ClassLaws
-pub mod PieceLaws
-pub mod PastLaws
 pub mod TokenLaws
 pub mod FormLaws
 pub mod LocalLaws

@@ -11,9 +11,10 @@ use Rattle.base_words.specs.Pick.{if_then_else_}
 use Rattle.base_words.specs.Words.{at}
 use Rattle.text_lexer.specs.declared.Token.{Token}
 use Rattle.text_lexer.specs.declared.Form.the-variants.{Word, End}
-use Rattle.text_lexer.specs.Lexer.{isBlank, isWord, past, placed, tokenOf, tokenHere, tokenAt}
-use Rattle.text_lexer.proofs.PastLaws.{past-more, past-stop, past-end, past-from, past-within}
-use Rattle.text_lexer.proofs.PieceLaws.{by-order}
+use Rattle.text_lexer.specs.Lexer.{isBlank, isWord, placed, tokenOf, tokenHere, tokenAt}
+use Rattle.base_bytes.specs.Bytes.{past}
+use Rattle.base_bytes.proofs.PastLaws.{past-more, past-stop, past-end, past-from, past-within}
+use Rattle.base_bytes.proofs.PieceLaws.{by-order}
 use Rattle.text_lexer.proofs.TokenLaws.{Begun, word, sign, assign, colon, other, begun, of-word, of-sign, of-assign, of-colon, of-other, next-byte, at-some, token-place, token-order, token-some}
 
 -- how many bytes are passed: those are of the class, the one behind them is not

@@ -12,10 +12,11 @@ use Rattle.base_words.specs.Words.{at}
 use Rattle.text_lexer.specs.declared.Form.{Form}
 use Rattle.text_lexer.specs.declared.Form.the-variants.{Word, Sign, Assign, End, Other}
 use Rattle.text_lexer.specs.declared.Token.{Token}
-use Rattle.text_lexer.specs.Lexer.{isBlank, isWord, isSign, past, placed, tokenOf, tokenHere, tokenAt, ifWord, ifSign, signBehind}
+use Rattle.text_lexer.specs.Lexer.{isBlank, isWord, isSign, placed, tokenOf, tokenHere, tokenAt, ifWord, ifSign, signBehind}
+use Rattle.base_bytes.specs.Bytes.{past}
 use Rattle.text_lexer.proofs.ClassLaws.{sign-not-word}
-use Rattle.text_lexer.proofs.PieceLaws.{by-order}
-use Rattle.text_lexer.proofs.PastLaws.{past-more, past-stop, past-end}
+use Rattle.base_bytes.proofs.PieceLaws.{by-order}
+use Rattle.base_bytes.proofs.PastLaws.{past-more, past-stop, past-end}
 use Rattle.text_lexer.proofs.TokenLaws.{colon-not-word, here-some, here-none, here-assign, here-colon, of-sign, at-some, at-none, Begun, word, sign, assign, colon, other, begun}
 
 -- WHERE THE BLANKS END, p, AND WHERE THE LETTERS BEHIND THEM END, q: the token is a word there, or it is none and q is p

@@ -3,7 +3,8 @@ use mathlib.Core.Path.{_≡_, refl}
 use Rattle.base_words.specs.Pick.{if_then_else_}
 use Rattle.base_words.specs.Text.{bytes}
 use Rattle.text_lexer.specs.declared.Form.the-variants.{Word, Sign, Assign, End, Other}
-use Rattle.text_lexer.specs.Lexer.{among, between, isBlank, isDigit, isLetter, isWord, isSign, past, placed, tokenOf, tokenHere, tokenAt}
+use Rattle.text_lexer.specs.Lexer.{isBlank, isWord, isSign, placed, tokenOf, tokenHere, tokenAt}
+use Rattle.base_bytes.specs.Bytes.{among, between, isDigit, isLetter, past}
 
 pub record Tokens : Type 0 where
   pub longest-run : tokenAt (bytes "na_nc1,") 0 ≡ placed Word 0 6

@@ -17,10 +17,11 @@ use Rattle.base_words.specs.Words.{at, part}
 use Rattle.base_words.proofs.AllLaws.{and-left, and-right}
 use Rattle.text_lexer.specs.declared.Token.{Token}
 use Rattle.text_lexer.specs.declared.Form.the-variants.{Word, Sign, Assign, End, Other}
-use Rattle.text_lexer.specs.Lexer.{among, between, isBlank, isDigit, isLetter, isWord, isSign, past, placed, tokenOf, tokenHere, tokenAt}
+use Rattle.text_lexer.specs.Lexer.{isBlank, isWord, isSign, placed, tokenOf, tokenHere, tokenAt}
+use Rattle.base_bytes.specs.Bytes.{among, between, isDigit, isLetter, past}
 use Rattle.text_lexer.proofs.ClassLaws.{sign-not-word, sign-not-blank, word-not-blank}
-use Rattle.text_lexer.proofs.PieceLaws.{by-order}
-use Rattle.text_lexer.proofs.PastLaws.{past-end, past-from, past-within, past-run, past-whole}
+use Rattle.base_bytes.proofs.PieceLaws.{by-order}
+use Rattle.base_bytes.proofs.PastLaws.{past-end, past-from, past-within, past-run, past-whole}
 
 pub colon-not-word : isWord 58 ≡ false
 unfolding isWord isLetter isDigit between

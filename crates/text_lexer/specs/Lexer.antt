@@ -2,10 +2,11 @@
 -- no token counts as one." A token is a function of the bytes that are left and of the place where they start. (RULES: tokens)
 use Prim.Native.Char.{code}
 use Prim.Native.Nat.{ℕ, _+_}
-use mathlib.Core.Bool.{Bool, false, not, _||_, _&&_}
+use mathlib.Core.Bool.{Bool, not, _||_}
 use mathlib.Core.List.{List, [], _∷_}
-use lib.Dec.{leb, eqb}
+use lib.Dec.{eqb}
 use lib.ListN.{drop}
+use Rattle.base_bytes.specs.Bytes.{among, isDigit, isLetter, past}
 use Rattle.base_words.specs.Blocks.{Bytes}
 use Rattle.base_words.specs.Pick.{if_then_else_}
 use Rattle.base_words.specs.Text.{bytes}
@@ -13,14 +14,6 @@ use Rattle.base_words.specs.Words.{at}
 use Rattle.text_lexer.specs.declared.Form.{Form}
 use Rattle.text_lexer.specs.declared.Form.the-variants.{Word, Sign, Assign, End, Other}
 use Rattle.text_lexer.specs.declared.Token.{Token}
-
--- a byte stands in a list of bytes; it lies between two
-unfoldable pub among : List ℕ → ℕ → Bool
-among [] b = false
-among (x ∷ xs) b = eqb b x || among xs b
-
-unfoldable pub between : ℕ → ℕ → ℕ → Bool
-between low high b = leb low b && leb b high
 
 -- the classes of bytes; all others start no token
 abbrev pub blanks : Bytes
@@ -35,19 +28,8 @@ isBlank b = among blanks b
 unfoldable pub isSign : ℕ → Bool
 isSign b = among signs b
 
-unfoldable pub isDigit : ℕ → Bool
-isDigit b = between (code "0") (code "9") b
-
-unfoldable pub isLetter : ℕ → Bool
-isLetter b = between (code "a") (code "z") b || between (code "A") (code "Z") b
-
 unfoldable pub isWord : ℕ → Bool
 isWord b = isLetter b || (isDigit b || eqb b (code "_"))
-
--- the place of the first byte that is not of a class, or of the end; the bytes s start at the place p
-unfoldable pub past : (ℕ → Bool) → List ℕ → ℕ → ℕ
-past class [] p = p
-past class (b ∷ s) p = if class b then past class s (p + 1) else p
 
 abbrev pub placed : Form → ℕ → ℕ → Token
 placed form p q = record { form = form; at = p; next = q }

@@ -1,9 +1,13 @@
 // The tokens of a text, each at or after a given place.
 ghost use mathlib.Core.Path.{_≡_};
 ghost use lib.ListN.{drop};
-ghost use Prim.Native.Nat.{min};
-ghost use Rattle.base_words.specs.Words.{at, part};
-ghost use Rattle.text_lexer.specs.Lexer.{between, isBlank, isDigit, isLetter, isWord, isSign, past, placed, tokenHere, tokenAt, signBehind};
+ghost use Rattle.base_words.specs.Words.{at};
+ghost use Rattle.text_lexer.specs.Lexer.{isBlank, isWord, isSign, placed, tokenHere, tokenAt, signBehind};
+ghost use Rattle.base_bytes.specs.Bytes.{between, past};
+use base_bytes::between;
+use base_bytes::byte;
+use base_bytes::is_digit;
+use base_bytes::is_letter;
 
 // What a token is: a word, a sign by its byte (`:` too), `:=`, the end of the text, or a byte that starts no token.
 pub enum Form {
@@ -31,34 +35,6 @@ fn placed(form: Form, at: usize, next: usize) -> Token
     }
 }
 
-// The byte at a place; outside the text 0.
-pub fn byte(text: &[u8], i: usize) -> u8
-    ensures { λ r. ⌜ r ≡ at (now (text .entry)) i ⌝ }
-{
-    if i < text.len() { text[i] } else { 0 }
-}
-
-fn least(a: usize, b: usize) -> usize
-    ensures { λ r. ⌜ r ≡ min a b ⌝ }
-{
-    if a <= b { a } else { b }
-}
-
-// The bytes from one place to another, as far as they stand in the text.
-pub fn piece(text: &[u8], from: usize, to: usize) -> &[u8]
-    ensures { λ r. ⌜ now r ≡ part (now (text .entry)) from to ⌝ }
-{
-    let end = least(to, text.len());
-    let start = least(from, end);
-    &text[start..end]
-}
-
-fn between(low: u8, high: u8, b: u8) -> bool
-    ensures { λ r. ⌜ r ≡ between low high b ⌝ }
-{
-    low <= b && b <= high
-}
-
 fn is_blank(b: u8) -> bool
     ensures { λ r. ⌜ r ≡ isBlank b ⌝ }
 {
@@ -66,18 +42,6 @@ fn is_blank(b: u8) -> bool
         return true;
     }
     b == b'\t' || b == b'\n'
-}
-
-pub fn is_digit(b: u8) -> bool
-    ensures { λ r. ⌜ r ≡ isDigit b ⌝ }
-{
-    between(b'0', b'9', b)
-}
-
-pub fn is_letter(b: u8) -> bool
-    ensures { λ r. ⌜ r ≡ isLetter b ⌝ }
-{
-    between(b'a', b'z', b) || between(b'A', b'Z', b)
 }
 
 // Most bytes of words are digits, so they are looked for first.

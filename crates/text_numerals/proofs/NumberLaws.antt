@@ -1,23 +1,22 @@
 -- Numbers, digit by digit, and words compared. Assumes nothing.
-use mathlib.Core.Path.{_≡_, _∙_, refl, sym, ap}
-use mathlib.Core.Bool.{Bool, true, false}
+use mathlib.Core.Path.{_≡_, _∙_, sym, ap}
+use mathlib.Core.Bool.{true, false}
 use mathlib.Core.List.{List, [], _∷_}
 use mathlib.Core.Logic.{_⊎_, ⊎-elim}
-use Prim.Native.Nat.{ℕ, suc, _+_, _*_, _-_, _<_, _≤_}
+use Prim.Native.Nat.{ℕ, _+_, _*_, _-_, _<_, _≤_}
 use native.Mathlib.Numerals.{add-one}
 use native.Mathlib.Omega.{arith}
-use lib.Dec.{leb, eqb}
+use lib.Dec.{leb}
 use lib.ListN.{length, drop, drop-of-length-le}
 use lib.Seq.{drop-cons}
-use borrow.Author.Tests.{eq-eqb, ne-eqb, le-leb, lt-leb, leb-true}
+use borrow.Author.Tests.{le-leb, lt-leb, leb-true}
 use Rattle.base_words.specs.Pick.{if_then_else_}
 use Rattle.base_words.specs.Words.{at, greatest}
 use Rattle.base_words.proofs.AllLaws.{and-left, and-right}
-use Rattle.base_words.proofs.PickLaws.{and-false-right}
-use Rattle.text_lexer.specs.Lexer.{between, isDigit}
+use Rattle.base_bytes.specs.Bytes.{between, isDigit}
 use Rattle.text_numerals.specs.declared.Number.{Number}
 use Rattle.text_numerals.specs.declared.Number.the-variants.{Value, TooLarge, NotANumber}
-use Rattle.text_numerals.specs.Numerals.{valueFrom, sameBytes}
+use Rattle.text_numerals.specs.Numerals.{valueFrom}
 
 pub digit-bounds : (d : ℕ) → isDigit d ≡ true → (48 ≤ d) × (d ≤ 57)
 unfolding isDigit between
@@ -56,30 +55,3 @@ value-on w v i h e n l k u =
     ⊎-elim
     (λ c. (omega (arith, c .0, c .1, digit-bounds (at w i) e .1), rw (c .1) (sym (value-more w v i h e) ∙ k)))
     (λ c. (omega (arith, c .1), value-large (drop (i + 1) w) u (v * 10 + (at w i - 48)) (omega (arith, c .0, c .1)) (omega (arith, c .0)) ∙ sym (value-more w v i h e) ∙ k))
-
--- words compared
-pub same-lengths : (a b : List ℕ) → (length a ≡ length b → ⊥) → sameBytes a b ≡ false
-unfolding sameBytes
-same-lengths [] [] n = absurd (n refl)
-same-lengths [] (y ∷ b) n = refl
-same-lengths (x ∷ a) [] n = refl
-same-lengths (x ∷ a) (y ∷ b) n = and-false-right (eqb x y) (sameBytes a b) (same-lengths a b (λ e. n (ap suc e)))
-
-module _ (a b : List ℕ) (i : ℕ) (r : Bool) (k : sameBytes (drop i a) (drop i b) ≡ r) where
-  pub same-more : i < length a → i < length b → at a i ≡ at b i → sameBytes (drop (i + 1) a) (drop (i + 1) b) ≡ r
-  same-more ha hb e = sym step ∙ k
-    where
-      step : sameBytes (drop i a) (drop i b) ≡ sameBytes (drop (i + 1) a) (drop (i + 1) b)
-      step = unfold sameBytes in rw (drop-cons a i 0 ha, drop-cons b i 0 hb, eq-eqb (at a i) (at b i) e, add-one i)
-
-  pub same-fails : i < length a → i < length b → (at a i ≡ at b i → ⊥) → false ≡ r
-  same-fails ha hb n = sym step ∙ k
-    where
-      step : sameBytes (drop i a) (drop i b) ≡ false
-      step = unfold sameBytes in rw (drop-cons a i 0 ha, drop-cons b i 0 hb, ne-eqb (at a i) (at b i) n)
-
-  pub same-done : length a ≤ i → length b ≤ i → true ≡ r
-  same-done ha hb = sym step ∙ k
-    where
-      step : sameBytes (drop i a) (drop i b) ≡ true
-      step = unfold sameBytes in rw (drop-of-length-le a ha, drop-of-length-le b hb)

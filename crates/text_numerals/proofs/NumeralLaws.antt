@@ -15,10 +15,11 @@ use Rattle.base_words.specs.Pick.{if_then_else_}
 use Rattle.base_words.specs.Words.{at, part, greatest}
 use Rattle.base_words.proofs.AllLaws.{and-left, and-right}
 use Rattle.base_words.proofs.PickLaws.{pick-yes, pick-no, and-true}
-use Rattle.text_lexer.specs.Lexer.{past, isDigit, isWord, isLetter, between}
-use Rattle.text_lexer.proofs.ClassLaws.{or-second}
-use Rattle.text_lexer.proofs.PastLaws.{past-more, past-end, past-from}
-use Rattle.text_lexer.proofs.PieceLaws.{by-order}
+use Rattle.text_lexer.specs.Lexer.{isWord}
+use Rattle.base_bytes.specs.Bytes.{past, isDigit, isLetter, between}
+use Rattle.base_bytes.proofs.OrLaws.{or-second}
+use Rattle.base_bytes.proofs.PastLaws.{past-more, past-end, past-from}
+use Rattle.base_bytes.proofs.PieceLaws.{by-order}
 use Rattle.text_numerals.specs.declared.Decimal.{Decimal}
 use Rattle.text_numerals.specs.declared.Number.{Number}
 use Rattle.text_numerals.specs.declared.Number.the-variants.{Value, TooLarge, NotANumber}

@@ -3,10 +3,11 @@ use mathlib.Core.Path.{_≡_, refl}
 use mathlib.Core.Bool.{true, false}
 use Rattle.base_words.specs.Pick.{if_then_else_}
 use Rattle.base_words.specs.Text.{bytes}
-use Rattle.text_lexer.specs.Lexer.{between, isDigit}
+use Rattle.base_bytes.specs.Bytes.{between, isDigit}
 use Rattle.text_numerals.specs.declared.Number.the-variants.{Value, TooLarge, NotANumber}
 use Rattle.text_numerals.specs.declared.Operand.the-variants.{Number as Constant, Field, OutOfRange, NotAnOperand}
-use Rattle.text_numerals.specs.Numerals.{valueFrom, leadingZero, numberOf, sameBytes, isFieldLetter, fieldBehind, fieldFrom, fieldOf, asNumber, asField, operandOf}
+use Rattle.text_numerals.specs.Numerals.{valueFrom, leadingZero, numberOf, isFieldLetter, fieldBehind, fieldFrom, fieldOf, asNumber, asField, operandOf}
+use Rattle.base_bytes.specs.Bytes.{sameBytes}
 
 pub record Numbers : Type 0 where
   pub zero : numberOf (bytes "0") ≡ Value 0

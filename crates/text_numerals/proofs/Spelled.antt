@@ -15,7 +15,8 @@ use Rattle.base_words.specs.Pick.{if_then_else_}
 use Rattle.base_words.specs.Words.{at, greatest}
 use Rattle.base_words.proofs.EachLaws.{each-append}
 use Rattle.base_words.proofs.PickLaws.{and-true, and-false-right}
-use Rattle.text_lexer.specs.Lexer.{between, isDigit, isLetter, isWord}
+use Rattle.text_lexer.specs.Lexer.{isWord}
+use Rattle.base_bytes.specs.Bytes.{between, isDigit, isLetter}
 use Rattle.text_numerals.specs.declared.Number.the-variants.{Value, TooLarge}
 use Rattle.text_numerals.specs.declared.Operand.the-variants.{Number as Constant, Field}
 use Rattle.text_numerals.specs.Numerals.{valueFrom, leadingZero, numberOf, isFieldLetter, fieldBehind, fieldFrom, fieldOf, asNumber, operandOf}

@@ -2,7 +2,7 @@
 -- number or a field": `d0` to `d15`, or a store, `s0` to `s15`. A number of any length above its range is still a number. (RULES: tokens)
 use Prim.Native.Char.{code}
 use Prim.Native.Nat.{ℕ, _+_, _-_, _*_}
-use mathlib.Core.Bool.{Bool, true, false, _&&_, _||_}
+use mathlib.Core.Bool.{Bool, _&&_, _||_}
 use mathlib.Core.List.{List, [], _∷_}
 use lib.Dec.{ltb, leb, eqb}
 use lib.ListN.{length, drop}
@@ -10,7 +10,8 @@ use Rattle.base_words.specs.Blocks.{Bytes}
 use Rattle.base_words.specs.Counts.{fields, stores}
 use Rattle.base_words.specs.Pick.{if_then_else_}
 use Rattle.base_words.specs.Words.{at, part, greatest}
-use Rattle.text_lexer.specs.Lexer.{past, isDigit, isWord}
+use Rattle.text_lexer.specs.Lexer.{isWord}
+use Rattle.base_bytes.specs.Bytes.{past, isDigit}
 use Rattle.text_numerals.specs.declared.Decimal.{Decimal}
 use Rattle.text_numerals.specs.declared.Numeral.{Numeral}
 use Rattle.text_numerals.specs.declared.Term.{Term}
@@ -30,13 +31,6 @@ leadingZero word = ltb 1 (length word) && eqb (at word 0) (code "0")
 -- a word as a number
 unfoldable pub numberOf : Bytes → Number
 numberOf word = if eqb (length word) 0 then NotANumber else if leadingZero word then NotANumber else valueFrom 0 word
-
--- two words are the same, byte by byte
-unfoldable pub sameBytes : List ℕ → List ℕ → Bool
-sameBytes [] [] = true
-sameBytes [] (y ∷ b) = false
-sameBytes (x ∷ a) [] = false
-sameBytes (x ∷ a) (y ∷ b) = eqb x y && sameBytes a b
 
 -- A FIELD: its letter and a number in that letter's range; in a table it has one number, the stores behind an instance's own
 unfoldable pub isFieldLetter : ℕ → Bool

@@ -3,18 +3,18 @@ ghost use mathlib.Core.Path.{_≡_};
 ghost use mathlib.Core.Bool.{true};
 ghost use Prim.Native.Nat.{_+_, _≤_};
 ghost use lib.ListN.{drop};
-ghost use Rattle.base_words.specs.Counts.{named};
-ghost use Rattle.text_lexer.specs.Lexer.{isDigit};
-ghost use Rattle.text_numerals.specs.Numerals.{valueFrom, leadingZero, numberOf, sameBytes, isFieldLetter, fieldBehind, fieldFrom, fieldOf, asNumber, asField};
+ghost use Rattle.base_words.specs.Counts.{fieldsNamed};
+ghost use Rattle.base_bytes.specs.Bytes.{isDigit};
+ghost use Rattle.text_numerals.specs.Numerals.{valueFrom, leadingZero, numberOf, isFieldLetter, fieldBehind, fieldFrom, fieldOf, asNumber, asField};
 ghost use Rattle.text_numerals.specs.Numerals.{grown, digitsFrom, numberBy, numeralAt, operandAt};
+use base_bytes::byte;
+use base_bytes::is_digit;
+use base_bytes::piece;
 use base_words::GREATEST;
 use base_words::Word;
 use base_words::counts::FIELDS;
 use base_words::counts::STORES;
-use text_lexer::byte;
-use text_lexer::is_digit;
 use text_lexer::past_word;
-use text_lexer::piece;
 
 // What a word says as a number: a value within the range, a number above it, or no number.
 pub enum Number {
@@ -72,23 +72,6 @@ pub fn number_of(word: &[u8]) -> Number
     digits(word)
 }
 
-// Whether two words are the same.
-pub fn same(a: &[u8], b: &[u8]) -> bool
-    ensures { λ r. ⌜ r ≡ sameBytes (now (a .entry)) (now (b .entry)) ⌝ }
-{
-    if a.len() != b.len() {
-        return false;
-    }
-    let mut i = 0;
-    while i < a.len() {
-        if a[i] != b[i] {
-            return false;
-        }
-        i += 1;
-    }
-    true
-}
-
 fn as_number(n: Number) -> Operand
     ensures { λ r. ⌜ r ≡ asNumber n ⌝ }
 {
@@ -118,7 +101,7 @@ pub fn is_field_letter(letter: u8) -> bool
 
 // A number below a count, behind those that come before.
 fn field_behind(before: Word, count: Word, n: Number) -> Number
-    requires { ⌜ before + count ≤ named ⌝ }
+    requires { ⌜ before + count ≤ fieldsNamed ⌝ }
     ensures { λ r. ⌜ r ≡ fieldBehind before count n ⌝ }
 {
     match n {

@@ -13,10 +13,10 @@ use Rattle.base_words.specs.Writes.{writes}
 use Rattle.base_words.specs.Counts.{pools, elements}
 use Rattle.base_words.proofs.WritesLaws.{length-writes}
 use Rattle.base_table.specs.Places.{elementWords, poolWords, poolsPlace, poolPlace, limitPlace, elementsPlace, elementPlace, tableWords}
-use Rattle.text_lexer.proofs.PieceLaws.{by-order}
+use Rattle.base_bytes.proofs.PieceLaws.{by-order}
 use Rattle.check_model.specs.Checks.{Pool}
 use Rattle.text_passes.specs.Model.{flat, filled, poolTable, tableOf}
-use Rattle.text_passes.specs.Passes.{stored, keptElement, keptAll, summed, placed, headed, keptHead, keptPool}
+use Rattle.text_passes.specs.Passes.{stored, keptElement, keptAll, summed, elementsPlaced, headed, keptHead, keptPool}
 
 -- at most m things, each of which is P
 pub data AtMost {A : Type 0} (P : A → Type 0) : ℕ → List A → Type 0 where
@@ -179,7 +179,7 @@ module _ (i : ℕ) (p : Pool) (fits : Fits p) (done post : List ℕ) (ed : lengt
       ∙ ap (λ n. (c ∷ done) ++ (0 ∷ 0 ∷ n ∷ (flat els ++ (zeros (elementWords * (elements - length els)) ++ post)))) z
 
   pool-stored : (c : ℕ) → keptPool true i p (c ∷ (done ++ (zeros poolWords ++ post))) ≡ (i + 1) ∷ (done ++ (poolTable p ++ post))
-  unfolding keptPool keptHead placed if_then_else_
+  unfolding keptPool keptHead elementsPlaced if_then_else_
   pool-stored c =
       ap (headed i (p .number) (p .limit)) (elements-in c)
       ∙ head-stored c (length els ∷ tail)

@@ -17,7 +17,7 @@ use Rattle.text_ends.specs.Rewriting.{hasRoom}
 use Rattle.text_ends.specs.Room.{notedWords, roomIn, judgedWords}
 use Rattle.text_ends.proofs.SideLaws.{Kept, kept-none, kept-more, Judged, judged-none, judged-more}
 use Rattle.text_passes.proofs.FillLaws.{AtMost, none, some, Block, Fits}
-use Rattle.text_passes.specs.Passes.{summedUp, keptElement, keptAll, summed, placed, judgedBy, keptHead, keptPool}
+use Rattle.text_passes.specs.Passes.{summedUp, keptElement, keptAll, summed, elementsPlaced, poolJudged, keptHead, keptPool}
 
 -- the elements of a pool, behind those that are done
 marked-all : (i n : ℕ) (done els : List (List ℕ)) (s : List ℕ) → n ≡ length done → n + length els ≤ greatest → Kept done s → Kept (done ++ els) (keptAll (keptElement false i) n els s)
@@ -34,7 +34,7 @@ most-long P (suc m) (x ∷ xs) (some e rest) = omega (arith, most-long P m xs re
 
 -- the pools of a model, behind those that are done
 marked-pool : (n : ℕ) (done : List Pool) (p : Pool) (w : List ℕ) → Fits p → Judged done w → Judged (done ++ (p ∷ [])) (keptPool false n p w)
-unfolding keptPool keptHead summed placed judgedBy if_then_else_
+unfolding keptPool keptHead summed elementsPlaced poolJudged if_then_else_
 marked-pool n done p w fits j =
     judged-more done p w _ j (marked-all n 0 [] (p .elements) (replicate notedWords 0) refl (omega (arith, most-long Block elements (p .elements) fits)) kept-none)
 

@@ -18,7 +18,7 @@ use Rattle.text_lexer.specs.declared.Token.{Token}
 use Rattle.text_lexer.specs.declared.Form.the-variants.{Word}
 use Rattle.text_lexer.specs.Lexer.{tokenAt}
 use Rattle.text_lexer.proofs.Form.{the-type}
-use Rattle.text_numerals.specs.Numerals.{sameBytes}
+use Rattle.base_bytes.specs.Bytes.{sameBytes}
 use Rattle.text_readers.specs.declared.Read.{Read}
 use Rattle.text_readers.specs.declared.Read.the-variants.{At, Refused}
 use Rattle.text_readers.specs.Reading.{Parsed, Reader, misplaced, ifAt, _then_, signAt, sign, number, endAt}
@@ -29,7 +29,7 @@ use Rattle.text_elements.proofs.ElementLaws.{element-any}
 use Rattle.check_model.specs.Checks.{Pool}
 use Rattle.text_ends.specs.Room.{notedWords}
 use Rattle.text_passes.specs.Model.{Got, elementAlone, elementsAt, plain, multiple, poolWord, opening, closing, unread, closed, insidePool, poolOfWord, pool, startsPool, poolsAt, model}
-use Rattle.text_passes.specs.Passes.{keptElement, keptAll, summed, placed, headed, keptHead, keptPool, Passed}
+use Rattle.text_passes.specs.Passes.{keptElement, keptAll, summed, elementsPlaced, headed, keptHead, keptPool, Passed}
 use Rattle.text_passes.proofs.BarLaws.{stopped}
 
 -- an element, whatever stood in its words x
@@ -69,19 +69,19 @@ module _ (k : ℕ) (text : List ℕ) (at : ℕ) (h : List ℕ) where
 
 -- THE ELEMENTS of pool i, in its summary or in the table
 module _ (i : ℕ) (g : Got (List (List ℕ))) (s w : List ℕ) (r : Read) where
-  pub only-placed : (fills : Bool) (v : List ℕ) → fills ≡ true → Passed (keptAll (keptElement fills i) 0) g w r v → Passed (summed fills i) g s r s × Passed (placed fills i) g w r v
-  unfolding summed placed
+  pub only-placed : (fills : Bool) (v : List ℕ) → fills ≡ true → Passed (keptAll (keptElement fills i) 0) g w r v → Passed (summed fills i) g s r s × Passed (elementsPlaced fills i) g w r v
+  unfolding summed elementsPlaced
   only-placed fills v e p =
       (record { ended = p .ended; left = λ q h. pick-yes _ _ _ _ e refl }, record { ended = p .ended; left = λ q h. pick-yes _ _ _ _ e (p .left q h) })
 
-  pub only-summed : (fills : Bool) (u : List ℕ) → fills ≡ false → Passed (keptAll (keptElement fills i) 0) g s r u → Passed (summed fills i) g s r u × Passed (placed fills i) g w r w
-  unfolding summed placed
+  pub only-summed : (fills : Bool) (u : List ℕ) → fills ≡ false → Passed (keptAll (keptElement fills i) 0) g s r u → Passed (summed fills i) g s r u × Passed (elementsPlaced fills i) g w r w
+  unfolding summed elementsPlaced
   only-summed fills u e p =
       (record { ended = p .ended; left = λ q h. pick-no _ _ _ _ e (p .left q h) }, record { ended = p .ended; left = λ q h. pick-no _ _ _ _ e refl })
 
 -- BEHIND THE OPENING, whose words are h
 module _ (fills : Bool) (i k : ℕ) (text : List ℕ) (a : ℕ) (h : List ℕ) (w : List ℕ) (r : Read) (s u : List ℕ)
-    (es : Passed (summed fills i) (elementsAt text a) (replicate notedWords 0) r s) (eu : Passed (placed fills i) (elementsAt text a) w r u) where
+    (es : Passed (summed fills i) (elementsAt text a) (replicate notedWords 0) r s) (eu : Passed (elementsPlaced fills i) (elementsAt text a) w r u) where
   abbrev Whole : Read → List ℕ → Type 0
   Whole e v = Passed (keptPool fills i) (insidePool k text (record { end = At a; words = h })) w e v
 

@@ -12,7 +12,7 @@ use Rattle.base_words.specs.Words.{at}
 use Rattle.base_words.specs.Counts.{pools, elements, poolNumbers, instances}
 use Rattle.base_table.specs.Places.{limitIn, elementWords, poolWords}
 use Rattle.text_lexer.specs.Lexer.{tokenAt, ifWord}
-use Rattle.text_numerals.specs.Numerals.{sameBytes}
+use Rattle.base_bytes.specs.Bytes.{sameBytes}
 use Rattle.text_readers.specs.declared.Read.{Read}
 use Rattle.text_readers.specs.declared.Read.the-variants.{At, Refused}
 use Rattle.text_readers.specs.Reading.{Parsed, Reader, misplaced, ifAt, _then_, placeOf, behind, letters, signAt, endAt, sign, number}

@@ -14,7 +14,7 @@ use Rattle.check_tally.specs.Tally.{tally, marksOf}
 use Rattle.check_summary.specs.Summary.{regions, summaryWords}
 use Rattle.check_model.specs.Checks.{Pool}
 use Rattle.check_verdict.specs.Verdict.{summaryRegions}
-use Rattle.text_ends.specs.Room.{notedWords, noted, roomNoted}
+use Rattle.text_ends.specs.Room.{notedWords, elementNoted, roomNoted}
 use Rattle.text_readers.specs.declared.Read.{Read}
 use Rattle.text_readers.specs.declared.Read.the-variants.{At}
 use Rattle.text_passes.specs.Model.{Got}
@@ -28,7 +28,7 @@ stored i n x t = storedAs i n (n + 1) x t
 
 -- an element, the count-th, in the summary s of its pool and in the notes behind it
 unfoldable pub summedUp : ℕ → Element → Tally → Tally
-summedUp count x s = noted count x (tally s (marksOf (regions x)))
+summedUp count x s = elementNoted count x (tally s (marksOf (regions x)))
 
 unfoldable pub keptElement : Bool → ℕ → ℕ → Element → Block → Block
 keptElement fills i n x w = if fills then stored i n x w else summedUp (n + 1) x w
@@ -42,8 +42,8 @@ keptAll keep n (x ∷ xs) w = keptAll keep (n + 1) xs (keep n x w)
 unfoldable pub summed : Bool → ℕ → List Element → Tally → Tally
 summed fills i els s = if fills then s else keptAll (keptElement fills i) 0 els s
 
-unfoldable pub placed : Bool → ℕ → List Element → Block → Block
-placed fills i els w = if fills then keptAll (keptElement fills i) 0 els w else w
+unfoldable pub elementsPlaced : Bool → ℕ → List Element → Block → Block
+elementsPlaced fills i els w = if fills then keptAll (keptElement fills i) 0 els w else w
 
 -- pool i behind its elements: its number, its limit, and the count of pools, stored; or marked with its summary s
 abbrev pub headedAs : ℕ → ℕ → ℕ → ℕ → Table → Table
@@ -52,14 +52,14 @@ headedAs i count number limit t = set (set (set t (poolPlace i) number) (limitPl
 unfoldable pub headed : ℕ → ℕ → ℕ → Table → Table
 headed i number limit t = headedAs i (i + 1) number limit t
 
-unfoldable pub judgedBy : ℕ → ℕ → Tally → Block → Block
-judgedBy number limit s w = roomNoted s (tally w (marksOf (summaryRegions number limit (take summaryWords s))))
+unfoldable pub poolJudged : ℕ → ℕ → Tally → Block → Block
+poolJudged number limit s w = roomNoted s (tally w (marksOf (summaryRegions number limit (take summaryWords s))))
 
 unfoldable pub keptHead : Bool → ℕ → ℕ → ℕ → Tally → Block → Block
-keptHead fills i number limit s w = if fills then headed i number limit w else judgedBy number limit s w
+keptHead fills i number limit s w = if fills then headed i number limit w else poolJudged number limit s w
 
 unfoldable pub keptPool : Bool → ℕ → Pool → Block → Block
-keptPool fills i p w = keptHead fills i (p .number) (p .limit) (summed fills i (p .elements) (replicate notedWords 0)) (placed fills i (p .elements) w)
+keptPool fills i p w = keptHead fills i (p .number) (p .limit) (summed fills i (p .elements) (replicate notedWords 0)) (elementsPlaced fills i (p .elements) w)
 
 -- WHAT A PASS PROMISES of reading g, where it ended at r and left v in the words w: where it ended; and what was kept, where it was not refused
 pub record Passed {A : Type 0} (keep : A → List ℕ → List ℕ) (g : Got A) (w : List ℕ) (r : Read) (v : List ℕ) : Type 0 where

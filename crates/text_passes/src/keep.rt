@@ -5,7 +5,7 @@ ghost use Rattle.base_words.specs.Words.{at};
 ghost use Rattle.base_words.specs.Writes.{writes};
 ghost use Rattle.base_table.specs.Places.{elementWords, elementPlace};
 ghost use Rattle.base_words.specs.Pick.{if_then_else_};
-ghost use Rattle.text_passes.specs.Passes.{storedAs, summedUp, keptElement, headedAs, judgedBy, keptHead};
+ghost use Rattle.text_passes.specs.Passes.{storedAs, summedUp, keptElement, headedAs, poolJudged, keptHead};
 use base_table::places::ELEMENT_COUNT;
 use base_table::places::ELEMENT_WORDS;
 use base_table::places::FIRST_ELEMENT;
@@ -105,7 +105,7 @@ fn store_head(t: &mut [Word], i: Word, count: Word, number: Word, limit: Word)
 
 // A pool in the tally of its model, by its summary s and the notes behind it.
 fn judge_pool(w: &mut [Word], number: Word, limit: Word, s: &[Word])
-    ensures { λ _. ⌜ now (w .exit) ≡ judgedBy number limit (now (s .entry)) (now (w .entry)) ⌝ }
+    ensures { λ _. ⌜ now (w .exit) ≡ poolJudged number limit (now (s .entry)) (now (w .entry)) ⌝ }
 {
     mark_pool(w, number, limit, head(s, SUMMARY_WORDS));
     note_room(w, s);
@@ -121,7 +121,7 @@ pub fn keep_counted_head(
     limit: Word,
     s: &[Word],
 )
-    ensures { λ _. ⌜ now (w .exit) ≡ (if fills then headedAs i count number limit (now (w .entry)) else judgedBy number limit (now (s .entry)) (now (w .entry))) ⌝ }
+    ensures { λ _. ⌜ now (w .exit) ≡ (if fills then headedAs i count number limit (now (w .entry)) else poolJudged number limit (now (s .entry)) (now (w .entry))) ⌝ }
 {
     if fills {
         store_head(w, i, count, number, limit);

@@ -4,9 +4,11 @@ ghost use mathlib.Core.List.{[], _∷_};
 ghost use Rattle.text_readers.specs.declared.Read.the-variants.{At};
 ghost use Rattle.text_readers.specs.Reading.{_then_, sign, number};
 ghost use Rattle.text_passes.specs.Model.{elementAlone, elementsAt, poolWord, opening, closing, insidePool, poolOfWord, pool, startsPool, poolsAt};
-ghost use Rattle.text_passes.specs.Passes.{keptElement, keptAll, summed, placed, keptPool, Passed};
+ghost use Rattle.text_passes.specs.Passes.{keptElement, keptAll, summed, elementsPlaced, keptPool, Passed};
 use super::keep::keep_element;
 use super::keep::keep_head;
+use base_bytes::piece;
+use base_bytes::same;
 use base_table::places::ELEMENT_WORDS;
 use base_table::places::LIMIT;
 use base_words::Word;
@@ -21,9 +23,7 @@ use text_elements::element;
 use text_elements::starts_element;
 use text_ends::NOTED_WORDS;
 use text_lexer::Form;
-use text_lexer::piece;
 use text_lexer::token_at;
-use text_numerals::same;
 use text_readers::Read;
 use text_readers::number_in;
 use text_readers::sign_at;
@@ -71,7 +71,7 @@ fn elements_at(fills: bool, text: &[u8], start: usize, i: u8, w: &mut [Word]) ->
 // The elements of pool i: marked in its summary s, or stored in the table w.
 fn elements_of(fills: bool, text: &[u8], at: usize, i: u8, s: &mut [Word], w: &mut [Word]) -> Read
     ensures { λ r. ⌜ Passed (summed fills i) (elementsAt (now (text .entry)) at) (now (s .entry)) r (now (s .exit)) ⌝ }
-    ensures { λ r. ⌜ Passed (placed fills i) (elementsAt (now (text .entry)) at) (now (w .entry)) r (now (w .exit)) ⌝ }
+    ensures { λ r. ⌜ Passed (elementsPlaced fills i) (elementsAt (now (text .entry)) at) (now (w .entry)) r (now (w .exit)) ⌝ }
 {
     if fills {
         return elements_at(fills, text, at, i, w);

@@ -6,10 +6,12 @@ use Prim.Native.Char.{code}
 use Prim.Native.Nat.{ℕ}
 use Rattle.base_words.specs.Pick.{if_then_else_}
 use Rattle.base_words.specs.Text.{bytes}
-use Rattle.text_lexer.specs.Lexer.{among, between, isBlank, isSign, isDigit, isLetter, isWord, past, tokenOf, tokenHere, tokenAt, ifWord, ifSign, ifAssign, ifEnd}
-use Rattle.text_numerals.specs.Numerals.{valueFrom, leadingZero, numberOf, sameBytes, isFieldLetter, fieldBehind, fieldFrom, fieldOf, asNumber, asField, operandOf}
+use Rattle.text_lexer.specs.Lexer.{isBlank, isSign, isWord, tokenOf, tokenHere, tokenAt, ifWord, ifSign, ifAssign, ifEnd}
+use Rattle.base_bytes.specs.Bytes.{among, between, isDigit, isLetter, past}
+use Rattle.text_numerals.specs.Numerals.{valueFrom, leadingZero, numberOf, isFieldLetter, fieldBehind, fieldFrom, fieldOf, asNumber, asField, operandOf}
+use Rattle.base_bytes.specs.Bytes.{sameBytes}
 use Rattle.text_readers.specs.declared.Read.the-variants.{At, Refused}
-use Rattle.text_readers.specs.Reading.{passed, refused, ifAt, onward, _then_, signAt, assignAt, endAt, sign, keepNumber, number, field, keepOperand, operand, modeNamed, keepMode, mode, isSpelled, startsNumber, startsField, startsSign}
+use Rattle.text_readers.specs.Reading.{passedTo, refusedAt, ifAt, onward, _then_, signAt, assignAt, endAt, sign, keepNumber, number, field, keepOperand, operand, modeNamed, keepMode, mode, isSpelled, startsNumber, startsField, startsSign}
 
 abbrev none : List ℕ
 none = 0 ∷ 0 ∷ 0 ∷ 0 ∷ []
@@ -28,29 +30,29 @@ unfolding if_then_else_ among between isBlank isSign isDigit isLetter isWord pas
 signs = record { behind-blanks = refl; other = refl; at-the-end = refl; assign = refl; parted = refl; end = refl; more = refl }
 
 pub record Numbers : Type 0 where
-  pub within : number 1 48 3 (bytes " 48,") 0 none ≡ passed 3 (0 ∷ 0 ∷ 0 ∷ 48 ∷ [])
-  pub above : number 1 48 3 (bytes " 49#") 0 none ≡ refused 3 1 none
-  pub below : number 1 48 3 (bytes " 0,") 0 none ≡ refused 3 1 none
-  pub too-large : number 1 48 3 (bytes " 99999999,") 0 none ≡ refused 3 1 none
-  pub leading-zero : number 1 48 3 (bytes " 01,") 0 none ≡ refused 2 1 none
-  pub word : number 1 48 3 (bytes " 1a,") 0 none ≡ refused 2 1 none
-  pub a-sign : number 1 48 3 (bytes " ,1") 0 none ≡ refused 2 1 none
-  pub a-field : field 3 (bytes "?d15>") 1 none ≡ passed 4 (0 ∷ 0 ∷ 0 ∷ 15 ∷ [])
-  pub field-above : field 3 (bytes "?d16>") 1 none ≡ refused 3 1 none
-  pub field-zero : field 3 (bytes "?d01>") 1 none ≡ refused 2 1 none
-  pub a-store : field 3 (bytes "?s15>") 1 none ≡ passed 4 (0 ∷ 0 ∷ 0 ∷ 31 ∷ [])
-  pub store-above : field 3 (bytes "?s16>") 1 none ≡ refused 3 1 none
-  pub store-zero : field 3 (bytes "?s01>") 1 none ≡ refused 2 1 none
-  pub store-capital : field 3 (bytes "?S1>") 1 none ≡ refused 2 1 none
-  pub store-alone : field 3 (bytes "?s>") 1 none ≡ refused 2 1 none
-  pub no-field : field 3 (bytes "?7>") 1 none ≡ refused 2 1 none
-  pub operand-number : operand 2 (bytes "7=") 0 none ≡ passed 1 (0 ∷ 0 ∷ 0 ∷ 7 ∷ [])
-  pub operand-field : operand 2 (bytes "d7=") 0 none ≡ passed 2 (0 ∷ 0 ∷ 1 ∷ 7 ∷ [])
-  pub operand-store : operand 2 (bytes "s3=") 0 none ≡ passed 2 (0 ∷ 0 ∷ 1 ∷ 19 ∷ [])
-  pub operand-store-above : operand 2 (bytes "s16=") 0 none ≡ refused 3 0 none
-  pub operand-last : operand 2 (bytes "4294967295=") 0 none ≡ passed 10 (0 ∷ 0 ∷ 0 ∷ 4294967295 ∷ [])
-  pub operand-above : operand 2 (bytes "4294967296=") 0 none ≡ refused 3 0 none
-  pub no-operand : operand 2 (bytes "true=") 0 none ≡ refused 2 0 none
+  pub within : number 1 48 3 (bytes " 48,") 0 none ≡ passedTo 3 (0 ∷ 0 ∷ 0 ∷ 48 ∷ [])
+  pub above : number 1 48 3 (bytes " 49#") 0 none ≡ refusedAt 3 1 none
+  pub below : number 1 48 3 (bytes " 0,") 0 none ≡ refusedAt 3 1 none
+  pub too-large : number 1 48 3 (bytes " 99999999,") 0 none ≡ refusedAt 3 1 none
+  pub leading-zero : number 1 48 3 (bytes " 01,") 0 none ≡ refusedAt 2 1 none
+  pub word : number 1 48 3 (bytes " 1a,") 0 none ≡ refusedAt 2 1 none
+  pub a-sign : number 1 48 3 (bytes " ,1") 0 none ≡ refusedAt 2 1 none
+  pub a-field : field 3 (bytes "?d15>") 1 none ≡ passedTo 4 (0 ∷ 0 ∷ 0 ∷ 15 ∷ [])
+  pub field-above : field 3 (bytes "?d16>") 1 none ≡ refusedAt 3 1 none
+  pub field-zero : field 3 (bytes "?d01>") 1 none ≡ refusedAt 2 1 none
+  pub a-store : field 3 (bytes "?s15>") 1 none ≡ passedTo 4 (0 ∷ 0 ∷ 0 ∷ 31 ∷ [])
+  pub store-above : field 3 (bytes "?s16>") 1 none ≡ refusedAt 3 1 none
+  pub store-zero : field 3 (bytes "?s01>") 1 none ≡ refusedAt 2 1 none
+  pub store-capital : field 3 (bytes "?S1>") 1 none ≡ refusedAt 2 1 none
+  pub store-alone : field 3 (bytes "?s>") 1 none ≡ refusedAt 2 1 none
+  pub no-field : field 3 (bytes "?7>") 1 none ≡ refusedAt 2 1 none
+  pub operand-number : operand 2 (bytes "7=") 0 none ≡ passedTo 1 (0 ∷ 0 ∷ 0 ∷ 7 ∷ [])
+  pub operand-field : operand 2 (bytes "d7=") 0 none ≡ passedTo 2 (0 ∷ 0 ∷ 1 ∷ 7 ∷ [])
+  pub operand-store : operand 2 (bytes "s3=") 0 none ≡ passedTo 2 (0 ∷ 0 ∷ 1 ∷ 19 ∷ [])
+  pub operand-store-above : operand 2 (bytes "s16=") 0 none ≡ refusedAt 3 0 none
+  pub operand-last : operand 2 (bytes "4294967295=") 0 none ≡ passedTo 10 (0 ∷ 0 ∷ 0 ∷ 4294967295 ∷ [])
+  pub operand-above : operand 2 (bytes "4294967296=") 0 none ≡ refusedAt 3 0 none
+  pub no-operand : operand 2 (bytes "true=") 0 none ≡ refusedAt 2 0 none
 
 pub numbers : Numbers
 unfolding if_then_else_ among between isBlank isSign isDigit isLetter isWord past tokenOf tokenHere tokenAt ifWord valueFrom leadingZero numberOf isFieldLetter fieldBehind fieldFrom fieldOf asNumber asField operandOf keepNumber number field keepOperand operand
@@ -81,10 +83,10 @@ numbers = record {
 }
 
 pub record Modes : Type 0 where
-  pub atomic : mode (bytes "a,") 0 none ≡ passed 1 (0 ∷ 0 ∷ 1 ∷ 0 ∷ [])
-  pub concurrent : mode (bytes "na_c,") 0 none ≡ passed 4 (0 ∷ 0 ∷ 2 ∷ 0 ∷ [])
-  pub not-concurrent : mode (bytes "na_nc,") 0 none ≡ passed 5 (0 ∷ 0 ∷ 3 ∷ 0 ∷ [])
-  pub longer : mode (bytes "na_cn,") 0 none ≡ refused 2 0 none
+  pub atomic : mode (bytes "a,") 0 none ≡ passedTo 1 (0 ∷ 0 ∷ 1 ∷ 0 ∷ [])
+  pub concurrent : mode (bytes "na_c,") 0 none ≡ passedTo 4 (0 ∷ 0 ∷ 2 ∷ 0 ∷ [])
+  pub not-concurrent : mode (bytes "na_nc,") 0 none ≡ passedTo 5 (0 ∷ 0 ∷ 3 ∷ 0 ∷ [])
+  pub longer : mode (bytes "na_cn,") 0 none ≡ refusedAt 2 0 none
 
 pub modes : Modes
 unfolding if_then_else_ among between isBlank isSign isDigit isLetter isWord past tokenOf tokenHere tokenAt ifWord sameBytes modeNamed keepMode mode
@@ -105,10 +107,10 @@ starts = record { number-above = refl; zeros = refl; field-above = refl; store-a
 
 -- the leftmost place decides, and words stored before it stay
 pub record Chains : Type 0 where
-  pub good : (sign (code "(") then number 1 48 3 then sign (code ")")) (bytes "( 7 )") 0 none ≡ passed 5 (0 ∷ 0 ∷ 0 ∷ 7 ∷ [])
-  pub first : (sign (code "(") then number 1 48 3 then sign (code ")")) (bytes "49)") 0 none ≡ refused 2 0 none
-  pub second : (sign (code "(") then number 1 48 3 then sign (code ")")) (bytes "(49(") 0 none ≡ refused 3 1 none
-  pub third : (sign (code "(") then number 1 48 3 then sign (code ")")) (bytes "(48(") 0 none ≡ refused 2 3 (0 ∷ 0 ∷ 0 ∷ 48 ∷ [])
+  pub good : (sign (code "(") then number 1 48 3 then sign (code ")")) (bytes "( 7 )") 0 none ≡ passedTo 5 (0 ∷ 0 ∷ 0 ∷ 7 ∷ [])
+  pub first : (sign (code "(") then number 1 48 3 then sign (code ")")) (bytes "49)") 0 none ≡ refusedAt 2 0 none
+  pub second : (sign (code "(") then number 1 48 3 then sign (code ")")) (bytes "(49(") 0 none ≡ refusedAt 3 1 none
+  pub third : (sign (code "(") then number 1 48 3 then sign (code ")")) (bytes "(48(") 0 none ≡ refusedAt 2 3 (0 ∷ 0 ∷ 0 ∷ 48 ∷ [])
 
 pub chains : Chains
 unfolding if_then_else_ among between isBlank isSign isDigit isLetter isWord past tokenOf tokenHere tokenAt ifWord ifSign valueFrom leadingZero numberOf ifAt onward _then_ signAt keepNumber number

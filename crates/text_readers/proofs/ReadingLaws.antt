@@ -5,7 +5,7 @@ use mathlib.Core.List.{List}
 use Prim.Native.Nat.{ℕ, _+_, _-_}
 use lib.Dec.{eqb, leb}
 use lib.ListN.{length, set, length-set}
-use Rattle.base_words.specs.Counts.{named}
+use Rattle.base_words.specs.Counts.{fieldsNamed}
 use Rattle.base_words.specs.Pick.{if_then_else_}
 use Rattle.base_table.specs.Places.{aField, operandNumber, modePlace}
 use Rattle.text_lexer.specs.declared.Form.{Form}
@@ -18,7 +18,7 @@ use Rattle.text_numerals.specs.declared.Operand.the-variants.{Number as OfNumbe
 use Rattle.text_numerals.specs.Numerals.{numberOf, fieldOf, operandOf}
 use Rattle.text_readers.specs.declared.Read.{Read}
 use Rattle.text_readers.specs.declared.Read.the-variants.{At, Refused}
-use Rattle.text_readers.specs.Reading.{Parsed, Reader, passed, refused, ifAt, onward, _then_, placeOf, behind, letters, signAt, assignAt, sign, assign, keepNumber, number, field, keepOperand, operand, modeNamed, keepMode, mode}
+use Rattle.text_readers.specs.Reading.{Parsed, Reader, passedTo, refusedAt, ifAt, onward, _then_, placeOf, behind, letters, signAt, assignAt, sign, assign, keepNumber, number, field, keepOperand, operand, modeNamed, keepMode, mode}
 
 -- THE DEFINITIONS, by the answer they start from
 module _ {A : Type 0} (r : Read) (go : ℕ → A) (stay : A) where
@@ -31,20 +31,20 @@ module _ {A : Type 0} (r : Read) (go : ℕ → A) (stay : A) where
   ifAt-refused n p e = rw e
 
 module _ (f : Parsed) (go : ℕ → List ℕ → Parsed) where
-  pub onward-at : (q : ℕ) (y : List ℕ) → f ≡ passed q y → onward f go ≡ go q y
+  pub onward-at : (q : ℕ) (y : List ℕ) → f ≡ passedTo q y → onward f go ≡ go q y
   unfolding onward ifAt
   onward-at q y e = rw e
 
-  pub onward-refused : (n p : ℕ) (y : List ℕ) → f ≡ refused n p y → onward f go ≡ refused n p y
+  pub onward-refused : (n p : ℕ) (y : List ℕ) → f ≡ refusedAt n p y → onward f go ≡ refusedAt n p y
   unfolding onward ifAt
   onward-refused n p y e = rw e
 
 module _ (f g : Reader) (text : List ℕ) (at : ℕ) (x : List ℕ) where
-  pub then-at : (q : ℕ) (y : List ℕ) → f text at x ≡ passed q y → (f then g) text at x ≡ g text q y
+  pub then-at : (q : ℕ) (y : List ℕ) → f text at x ≡ passedTo q y → (f then g) text at x ≡ g text q y
   unfolding _then_
   then-at q y e = onward-at (f text at x) (g text) q y e
 
-  pub then-refused : (n p : ℕ) (y : List ℕ) → f text at x ≡ refused n p y → (f then g) text at x ≡ refused n p y
+  pub then-refused : (n p : ℕ) (y : List ℕ) → f text at x ≡ refusedAt n p y → (f then g) text at x ≡ refusedAt n p y
   unfolding _then_
   then-refused n p y e = onward-refused (f text at x) (g text) n p y e
 
@@ -154,7 +154,7 @@ keeps-number least most place text at x =
 pub keeps-field : (place : ℕ) → Keeps (field place)
 unfolding field
 keeps-field place text at x =
-    word-length (tokenAt text at .form) x _ _ (keep-number-length (fieldOf (letters text at)) 0 (named - 1) place (placeOf text at) (behind text at) x) refl
+    word-length (tokenAt text at .form) x _ _ (keep-number-length (fieldOf (letters text at)) 0 (fieldsNamed - 1) place (placeOf text at) (behind text at) x) refl
 
 pub keeps-operand : (place : ℕ) → Keeps (operand place)
 unfolding operand

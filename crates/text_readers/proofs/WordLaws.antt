@@ -10,11 +10,12 @@ use lib.Dec.{eqb, ltb}
 use lib.ListN.{length, take, drop}
 use borrow.Author.Tests.{ltb-true, ltb-false}
 use Rattle.base_words.specs.Pick.{if_then_else_}
-use Rattle.base_words.specs.Counts.{named}
+use Rattle.base_words.specs.Counts.{fieldsNamed}
 use Rattle.base_words.specs.Words.{part}
 use Rattle.text_lexer.specs.declared.Token.{Token}
 use Rattle.text_lexer.specs.declared.Form.the-variants.{Word, Sign, Assign, End}
-use Rattle.text_lexer.specs.Lexer.{isBlank, isWord, past, tokenAt, ifWord, ifSign, ifAssign, ifEnd, signBehind}
+use Rattle.text_lexer.specs.Lexer.{isBlank, isWord, tokenAt, ifWord, ifSign, ifAssign, ifEnd, signBehind}
+use Rattle.base_bytes.specs.Bytes.{past}
 use Rattle.text_lexer.proofs.Form.{the-type}
 use Rattle.text_lexer.proofs.FormLaws.{is-word, is-sign, is-assign, is-end, not-word, not-sign, not-assign, not-end}
 use Rattle.text_lexer.proofs.PlaceLaws.{Worded, some-word, no-word, not-worded, worded, sign-hit, sign-miss}
@@ -27,7 +28,7 @@ use Rattle.text_readers.specs.declared.Read.{Read}
 use Rattle.text_readers.specs.declared.Read.the-variants.{At, Refused}
 use Rattle.text_readers.specs.declared.Asked.{Asked}
 use Rattle.text_readers.specs.declared.Asked.the-variants.{Behind, Another}
-use Rattle.text_readers.specs.Reading.{taken, Parsed, passed, refused, misplaced, placeOf, behind, letters, signAt, assignAt, endAt, keepNumber, number, field, keepOperand, operand, modeNamed, keepMode, mode, isSpelled, startsNumber, startsField, startsSign}
+use Rattle.text_readers.specs.Reading.{taken, Parsed, passedTo, refusedAt, misplaced, placeOf, behind, letters, signAt, assignAt, endAt, keepNumber, number, field, keepOperand, operand, modeNamed, keepMode, mode, isSpelled, startsNumber, startsField, startsSign}
 
 -- what a token gives where a word is asked for
 abbrev wordOf : {A : Type 0} → List ℕ → (List ℕ → ℕ → ℕ → A) → (ℕ → A) → Token → A
@@ -56,7 +57,7 @@ module _ (text : List ℕ) (at : ℕ) (t : Token) (e : t ≡ tokenAt text at) wh
     pub mode-read : (x : List ℕ) (n : ℕ) (w : Parsed) → n ≡ modeNamed l → w ≡ keepMode n (t .at) (t .next) x → w ≡ mode text at x
     unfolding mode
     mode-read x n w g k =
-        word-read (λ z p q. keepMode (modeNamed z) p q x) (λ p. refused misplaced p x) w l f h
+        word-read (λ z p q. keepMode (modeNamed z) p q x) (λ p. refusedAt misplaced p x) w l f h
         (k ∙ ap (λ (z : ℕ). keepMode z (t .at) (t .next) x) g)
 
     pub starts-number : (n : Number) (w : Bool) → n ≡ numberOf l → w ≡ isSpelled n → w ≡ startsNumber text at
@@ -68,9 +69,9 @@ module _ (text : List ℕ) (at : ℕ) (t : Token) (e : t ≡ tokenAt text at) wh
     starts-field n w g k = word-read (λ z p q. isSpelled (fieldOf z)) (λ p. false) w l f h (k ∙ ap isSpelled g)
 
   module _ (f : OneOf (1 ∷ 2 ∷ 3 ∷ 4 ∷ []) (tagOf the-type (t .form))) where
-    pub mode-missed : (x : List ℕ) → refused misplaced (t .at) x ≡ mode text at x
+    pub mode-missed : (x : List ℕ) → refusedAt misplaced (t .at) x ≡ mode text at x
     unfolding mode
-    mode-missed x = word-missed (λ z p q. keepMode (modeNamed z) p q x) (λ p. refused misplaced p x) (refused misplaced (t .at) x) f refl
+    mode-missed x = word-missed (λ z p q. keepMode (modeNamed z) p q x) (λ p. refusedAt misplaced p x) (refusedAt misplaced (t .at) x) f refl
 
     pub starts-no-number : false ≡ startsNumber text at
     unfolding startsNumber
@@ -87,11 +88,11 @@ module _ (text : List ℕ) (at : ℕ) (t : Token) (e : t ≡ tokenAt text at) wh
   pub word-unknown : {A : Type 0} (a b w : A) → OneOf (1 ∷ 2 ∷ 3 ∷ 4 ∷ []) (tagOf the-type (t .form)) → w ≡ b → w ≡ ifWord (tokenAt text at .form) a b
   word-unknown a b w f k = k ∙ sym (not-word (t .form) a b f) ∙ ap (λ (z : Token). ifWord (z .form) a b) e
 
-  pub place-known : (n : ℕ) (x : List ℕ) → refused n (t .at) x ≡ refused n (placeOf text at) x
-  place-known n x = ap (λ (z : Token). refused n (z .at) x) e
+  pub place-known : (n : ℕ) (x : List ℕ) → refusedAt n (t .at) x ≡ refusedAt n (placeOf text at) x
+  place-known n x = ap (λ (z : Token). refusedAt n (z .at) x) e
 
-  pub behind-known : (x : List ℕ) → passed (t .next) x ≡ passed (behind text at) x
-  behind-known x = ap (λ (z : Token). passed (z .next) x) e
+  pub behind-known : (x : List ℕ) → passedTo (t .next) x ≡ passedTo (behind text at) x
+  behind-known x = ap (λ (z : Token). passedTo (z .next) x) e
 
   -- whether a sign starts
   module _ (s : ℕ) where
@@ -160,11 +161,11 @@ module _ (text : List ℕ) (at p q : ℕ) (e : p ≡ past isBlank (drop at text)
             ap (λ (z : List ℕ). keep z p q) nothing ∙ ap (keep [] p) r ∙ none p
             ∙ sym (not-worded f (keep (part text p n) p n) (miss p) o) ∙ ap (wordOf text keep miss) (sym k)
 
-    pub field-read : (place : ℕ) (x : List ℕ) (n : Number) (w : Parsed) → n ≡ fieldOf l → w ≡ keepNumber n 0 (named - 1) place p q x → w ≡ field place text at x
+    pub field-read : (place : ℕ) (x : List ℕ) (n : Number) (w : Parsed) → n ≡ fieldOf l → w ≡ keepNumber n 0 (fieldsNamed - 1) place p q x → w ≡ field place text at x
     unfolding field fieldOf fieldFrom keepNumber if_then_else_
     field-read place x n w d k =
-        k ∙ ap (λ (z : Number). keepNumber z 0 (named - 1) place p q x) d
-        ∙ word-direct (λ z a b. keepNumber (fieldOf z) 0 (named - 1) place a b x) (λ a. refused misplaced a x) (λ z. refl)
+        k ∙ ap (λ (z : Number). keepNumber z 0 (fieldsNamed - 1) place p q x) d
+        ∙ word-direct (λ z a b. keepNumber (fieldOf z) 0 (fieldsNamed - 1) place a b x) (λ a. refusedAt misplaced a x) (λ z. refl)
 
   module _ (s : ℕ) (g : q ≡ signBehind s (drop p text) p) where
     pub sign-read : p < q → At q ≡ signAt s text at
@@ -185,10 +186,10 @@ module _ (text : List ℕ) (at p : ℕ) (e : p ≡ past isBlank (drop at text) a
   unfolding number numberOf keepNumber numeralAt if_then_else_
   number-read n g least most place x w k =
       k ∙ ap (λ (z : Numeral). keepNumber (z .number) least most place p (z .next) x) g
-      ∙ word-here (λ z a b. keepNumber (numberOf z) least most place a b x) (λ a. refused misplaced a x) (λ z. refl)
+      ∙ word-here (λ z a b. keepNumber (numberOf z) least most place a b x) (λ a. refusedAt misplaced a x) (λ z. refl)
 
   pub operand-read : (n : Term) → n ≡ operandAt text p → (place : ℕ) (x : List ℕ) (w : Parsed) → w ≡ keepOperand (n .operand) place p (n .next) x → w ≡ operand place text at x
   unfolding operand operandOf isFieldLetter numberOf asNumber keepOperand operandAt if_then_else_
   operand-read n g place x w k =
       k ∙ ap (λ (z : Term). keepOperand (z .operand) place p (z .next) x) g
-      ∙ word-here (λ z a b. keepOperand (operandOf z) place a b x) (λ a. refused misplaced a x) (λ z. refl)
+      ∙ word-here (λ z a b. keepOperand (operandOf z) place a b x) (λ a. refusedAt misplaced a x) (λ z. refl)

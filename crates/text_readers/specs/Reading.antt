@@ -10,7 +10,7 @@ use Rattle.base_words.specs.Blocks.{Block, Bytes}
 use Rattle.base_words.specs.Pick.{if_then_else_}
 use Rattle.base_words.specs.Text.{bytes}
 use Rattle.base_words.specs.Words.{at as wordAt, part}
-use Rattle.base_words.specs.Counts.{named}
+use Rattle.base_words.specs.Counts.{fieldsNamed}
 use Rattle.base_kinds.specs.Moves.{a, na-c, na-nc}
 use Rattle.base_table.specs.Places.{aField, operandNumber, modePlace}
 use Rattle.text_lexer.specs.declared.Token.{Token}
@@ -19,7 +19,8 @@ use Rattle.text_numerals.specs.declared.Number.{Number}
 use Rattle.text_numerals.specs.declared.Number.the-variants.{Value, TooLarge, NotANumber}
 use Rattle.text_numerals.specs.declared.Operand.{Operand}
 use Rattle.text_numerals.specs.declared.Operand.the-variants.{Number as OfNumber, Field, OutOfRange, NotAnOperand}
-use Rattle.text_numerals.specs.Numerals.{numberOf, fieldOf, operandOf, sameBytes}
+use Rattle.text_numerals.specs.Numerals.{numberOf, fieldOf, operandOf}
+use Rattle.base_bytes.specs.Bytes.{sameBytes}
 use Rattle.text_readers.specs.declared.Read.{Read}
 use Rattle.text_readers.specs.declared.Read.the-variants.{At, Refused}
 use Rattle.text_readers.specs.declared.Asked.{Asked}
@@ -39,11 +40,11 @@ misplaced = 2
 abbrev pub excessive : ℕ
 excessive = 3
 
-abbrev pub passed : ℕ → Block → Parsed
-passed q x = record { end = At q; words = x }
+abbrev pub passedTo : ℕ → Block → Parsed
+passedTo q x = record { end = At q; words = x }
 
-abbrev pub refused : ℕ → ℕ → Block → Parsed
-refused n p x = record { end = Refused n p; words = x }
+abbrev pub refusedAt : ℕ → ℕ → Block → Parsed
+refusedAt n p x = record { end = Refused n p; words = x }
 
 unfoldable pub ifAt : {A : Type 0} → Read → (ℕ → A) → A → A
 ifAt (At q) go stay = go q
@@ -60,7 +61,7 @@ unfoldable pub _then_ : Reader → Reader → Reader
 
 -- nothing read
 abbrev pub nothing : Reader
-nothing text at x = passed at x
+nothing text at x = passedTo at x
 
 -- THE TOKENS. A place is the place of the token's first byte.
 abbrev pub placeOf : Bytes → ℕ → ℕ
@@ -97,34 +98,34 @@ assign text at x = record { end = assignAt text at; words = x }
 
 -- A WORD THAT IS A NUMBER from least to most, or a field `d0` to `d15`, `s0` to `s15`: stored at a place of x. p is where the word stands, q what is behind it.
 unfoldable pub keepNumber : Number → ℕ → ℕ → ℕ → ℕ → ℕ → Block → Parsed
-keepNumber (Value v) least most place p q x = if leb least v && leb v most then passed q (set x place v) else refused excessive p x
-keepNumber TooLarge least most place p q x = refused excessive p x
-keepNumber NotANumber least most place p q x = refused misplaced p x
+keepNumber (Value v) least most place p q x = if leb least v && leb v most then passedTo q (set x place v) else refusedAt excessive p x
+keepNumber TooLarge least most place p q x = refusedAt excessive p x
+keepNumber NotANumber least most place p q x = refusedAt misplaced p x
 
 unfoldable pub number : ℕ → ℕ → ℕ → Reader
 number least most place text at x =
     ifWord (tokenAt text at .form)
     (keepNumber (numberOf (letters text at)) least most place (placeOf text at) (behind text at) x)
-    (refused misplaced (placeOf text at) x)
+    (refusedAt misplaced (placeOf text at) x)
 
 unfoldable pub field : ℕ → Reader
 field place text at x =
     ifWord (tokenAt text at .form)
-    (keepNumber (fieldOf (letters text at)) 0 (named - 1) place (placeOf text at) (behind text at) x)
-    (refused misplaced (placeOf text at) x)
+    (keepNumber (fieldOf (letters text at)) 0 (fieldsNamed - 1) place (placeOf text at) (behind text at) x)
+    (refusedAt misplaced (placeOf text at) x)
 
 -- "An operand is a number or a field": 0 and the number, or 1 and the field's number (RULES: reading)
 unfoldable pub keepOperand : Operand → ℕ → ℕ → ℕ → Block → Parsed
-keepOperand (OfNumber v) place p q x = passed q (set (set x place 0) (place + operandNumber) v)
-keepOperand (Field d) place p q x = passed q (set (set x place aField) (place + operandNumber) d)
-keepOperand OutOfRange place p q x = refused excessive p x
-keepOperand NotAnOperand place p q x = refused misplaced p x
+keepOperand (OfNumber v) place p q x = passedTo q (set (set x place 0) (place + operandNumber) v)
+keepOperand (Field d) place p q x = passedTo q (set (set x place aField) (place + operandNumber) d)
+keepOperand OutOfRange place p q x = refusedAt excessive p x
+keepOperand NotAnOperand place p q x = refusedAt misplaced p x
 
 unfoldable pub operand : ℕ → Reader
 operand place text at x =
     ifWord (tokenAt text at .form)
     (keepOperand (operandOf (letters text at)) place (placeOf text at) (behind text at) x)
-    (refused misplaced (placeOf text at) x)
+    (refusedAt misplaced (placeOf text at) x)
 
 -- "k is `a`, `na_c` or `na_nc`"; 0 for any other word (RULES: reading)
 unfoldable pub modeNamed : Bytes → ℕ
@@ -135,13 +136,13 @@ modeNamed w =
     else 0
 
 unfoldable pub keepMode : ℕ → ℕ → ℕ → Block → Parsed
-keepMode m p q x = if eqb m 0 then refused misplaced p x else passed q (set x modePlace m)
+keepMode m p q x = if eqb m 0 then refusedAt misplaced p x else passedTo q (set x modePlace m)
 
 unfoldable pub mode : Reader
 mode text at x =
     ifWord (tokenAt text at .form)
     (keepMode (modeNamed (letters text at)) (placeOf text at) (behind text at) x)
-    (refused misplaced (placeOf text at) x)
+    (refusedAt misplaced (placeOf text at) x)
 
 -- WHAT CAN START AN ITEM: a number, a field, of any size; a sign
 unfoldable pub isSpelled : Number → Bool

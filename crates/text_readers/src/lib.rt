@@ -1,6 +1,9 @@
 // Readers of one token: the place behind it, or a refusal with the place of its first byte; what the token says is stored in words that are lent.
 ghost use mathlib.Core.Path.{_≡_};
 ghost use Rattle.text_readers.specs.Reading.{taken, signAt, assignAt, endAt, keepNumber, number, field, keepOperand, operand, modeNamed, keepMode, mode, isSpelled, startsNumber, startsField, startsSign};
+use base_bytes::byte;
+use base_bytes::piece;
+use base_bytes::same;
 use base_kinds::moves::A;
 use base_kinds::moves::NA_C;
 use base_kinds::moves::NA_NC;
@@ -13,10 +16,8 @@ use base_words::numbers::EXCESSIVE;
 use base_words::numbers::MISPLACED;
 use base_words::put;
 use text_lexer::Form;
-use text_lexer::byte;
 use text_lexer::past_blanks;
 use text_lexer::past_word;
-use text_lexer::piece;
 use text_lexer::sign_behind;
 use text_lexer::token_at;
 use text_numerals::Number;
@@ -25,7 +26,6 @@ use text_numerals::field_of;
 use text_numerals::number_of;
 use text_numerals::numeral_at;
 use text_numerals::operand_at;
-use text_numerals::same;
 
 // The place behind what was read; or the number of a refusal and its place.
 pub enum Read {

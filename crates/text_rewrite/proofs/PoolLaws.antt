@@ -22,11 +22,11 @@ use Rattle.base_table.specs.Places.{kindPlace, entriesPlace, exitsPlace, firstE
 use Rattle.base_table.specs.Table.{elementCount, elementAt}
 use Rattle.check_tally.proofs.RegionLaws.{all-ext}
 use Rattle.text_ends.specs.Rewriting.{isEndSnd, timesIn, mentioned, isUnused, lowestUnused, withOne, sendingTo, endOf, firstEnd, treated, endSends, allTreated}
-use Rattle.text_ends.specs.Room.{oneMore}
+use Rattle.base_words.specs.Words.{oneMore}
 use Rattle.text_ends.proofs.RewriteLaws.{first-is, seek-ext, total-places, each-places, long-one, first-end, found, one-less, treated-long}
 use Rattle.text_passes.specs.Model.{flat}
 use Rattle.text_passes.proofs.FillLaws.{AtMost, none, some, Block}
-use Rattle.text_rewrite.specs.InTable.{absentIn, lowestIn, firstIn, oneAt, treatedWith, treatedIn, endsIn, poolIn}
+use Rattle.text_rewrite.specs.InTable.{absentIn, unusedIn, firstIn, oneAt, treatedWith, treatedIn, endsIn, poolIn}
 use borrow.Author.Tests.{lt-ltb}
 
 -- ELEMENTS ONE BEHIND THE OTHER
@@ -155,8 +155,8 @@ module _ (p : ℕ) (pre : List ℕ) (a b : ℕ) (post : List ℕ) (ep : length p
         ∙ all-ext _ (λ j. eqb (mentioned (k + 1) (getD els j [])) 0) (length els) (λ j l. ap (λ n. eqb n 0) (mentions-is (k + 1) j l))
         ∙ sym (each-places (λ el. eqb (mentioned (k + 1) el) 0) els [])
 
-    lowest-is : lowestIn (table els) p ≡ lowestUnused els
-    unfolding lowestIn lowestUnused
+    lowest-is : unusedIn (table els) p ≡ lowestUnused els
+    unfolding unusedIn lowestUnused
     lowest-is = ap (λ n. n + 1) (seek-ext _ (isUnused els) edges (λ k l. absent-is k) ∙ sym (first-is (isUnused els) edges))
 
     first-is-it : firstIn (table els) p ≡ firstEnd els

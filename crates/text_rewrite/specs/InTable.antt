@@ -14,14 +14,14 @@ use Rattle.base_kinds.specs.Kinds.{end, interSnd}
 use Rattle.base_table.specs.Places.{kindPlace, entriesPlace, exitsPlace, firstEdge, elementsPlace, elementPlace}
 use Rattle.base_table.specs.Table.{poolCount, elementCount, elementAt}
 use Rattle.text_ends.specs.Rewriting.{isEndSnd, mentioned}
-use Rattle.text_ends.specs.Room.{oneMore}
+use Rattle.base_words.specs.Words.{oneMore}
 
 -- the edge e is not mentioned; the lowest such edge
 unfoldable pub absentIn : Table → ℕ → ℕ → Bool
 absentIn t p e = all (λ j. eqb (mentioned e (elementAt t p j)) 0) (elementCount t p)
 
-unfoldable pub lowestIn : Table → ℕ → ℕ
-lowestIn t p = seek (λ k. absentIn t p (k + 1)) edges + 1
+unfoldable pub unusedIn : Table → ℕ → ℕ
+unusedIn t p = seek (λ k. absentIn t p (k + 1)) edges + 1
 
 -- the first endSnd
 unfoldable pub firstIn : Table → ℕ → ℕ
@@ -35,7 +35,7 @@ unfoldable pub treatedWith : ℕ → ℕ → ℕ → ℕ → Table → Table
 treatedWith p j n f t = set (oneAt (elementPlace p n) end entriesPlace f (oneAt (elementPlace p j) interSnd exitsPlace f t)) (elementsPlace p) (oneMore n)
 
 unfoldable pub treatedIn : ℕ → Table → Table
-treatedIn p t = treatedWith p (firstIn t p) (elementCount t p) (lowestIn t p) t
+treatedIn p t = treatedWith p (firstIn t p) (elementCount t p) (unusedIn t p) t
 
 unfoldable pub endsIn : Table → ℕ → ℕ
 endsIn t p = sum (λ j. oneIf (isEndSnd (elementAt t p j))) (elementCount t p)

@@ -10,7 +10,7 @@ ghost use Rattle.base_words.specs.Words.{at};
 ghost use Rattle.base_table.specs.Places.{edgePlace, elementPlace};
 ghost use Rattle.base_table.specs.Table.{elementCount, elementAt};
 ghost use Rattle.text_ends.specs.Rewriting.{isEndSnd, timesIn, mentioned};
-ghost use Rattle.text_rewrite.specs.InTable.{absentIn, lowestIn, firstIn, oneAt, treatedWith, treatedIn, endsIn, poolIn, rewrittenIn};
+ghost use Rattle.text_rewrite.specs.InTable.{absentIn, unusedIn, firstIn, oneAt, treatedWith, treatedIn, endsIn, poolIn, rewrittenIn};
 use base_kinds::moves::END;
 use base_kinds::moves::INTER_SND;
 use base_table::edge_at;
@@ -29,9 +29,9 @@ use base_table::pool_count;
 use base_words::Word;
 use base_words::counts::BRANCHES;
 use base_words::counts::EDGES;
+use base_words::one_more;
 use base_words::put;
 use text_ends::is_end_snd;
-use text_ends::one_more;
 
 // 1 where edge j of a list is e.
 fn is_edge(el: &[Word], list: Word, j: Word, e: Word) -> usize

@@ -7,8 +7,8 @@ use lib.ListN.{set}
 use Rattle.base_words.specs.Pick.{if_then_else_}
 use Rattle.base_words.specs.Text.{bytes}
 use Rattle.base_words.specs.Words.{part}
-use Rattle.text_numerals.specs.Numerals.{sameBytes}
-use Rattle.text_readers.specs.Reading.{Parsed, Reader, passed, ifAt, onward, _then_, placeOf, behind, letters}
+use Rattle.base_bytes.specs.Bytes.{sameBytes}
+use Rattle.text_readers.specs.Reading.{Parsed, Reader, passedTo, ifAt, onward, _then_, placeOf, behind, letters}
 use Rattle.text_terms.specs.Terms.{store}
 
 pub store-goes : (place v : ℕ) (g : Reader) (text : List ℕ) (at : ℕ) (x y : List ℕ) (w : Parsed) → y ≡ set x place v → w ≡ g text at y → w ≡ (store place v then g) text at x
@@ -32,8 +32,8 @@ module _ (text : List ℕ) (at p q : ℕ) (e : p ≡ placeOf text at) (h : q ≡
   pub default-is : (d r : Bool) → r ≡ (d && sameBytes (part text p q) (bytes "default")) → r ≡ (d && sameBytes (letters text at) (bytes "default"))
   default-is d r k = k ∙ ap₂ (λ a b. d && sameBytes (part text a b) (bytes "default")) e h
 
-  pub form-is : (x : List ℕ) (w : Parsed) → w ≡ passed q x → w ≡ passed (behind text at) x
-  form-is x w k = k ∙ ap (λ z. passed z x) h
+  pub form-is : (x : List ℕ) (w : Parsed) → w ≡ passedTo q x → w ≡ passedTo (behind text at) x
+  form-is x w k = k ∙ ap (λ z. passedTo z x) h
 
 pub same-by : (l m w : List ℕ) (r : Bool) → l ≡ m → r ≡ sameBytes l w → r ≡ sameBytes m w
 same-by l m w r e k = k ∙ ap (λ (z : List ℕ). sameBytes z w) e

@@ -7,8 +7,8 @@ use Rattle.base_words.specs.Blocks.{Bytes}
 use Rattle.base_words.specs.Pick.{if_then_else_}
 use Rattle.base_words.specs.Text.{bytes}
 use Rattle.base_table.specs.Places.{always, default, formPlace, leftPlace, rightPlace, conditionPlace}
-use Rattle.text_numerals.specs.Numerals.{sameBytes}
-use Rattle.text_readers.specs.Reading.{Reader, passed, placeOf, behind, letters, _then_, sign, operand}
+use Rattle.base_bytes.specs.Bytes.{sameBytes}
+use Rattle.text_readers.specs.Reading.{Reader, passedTo, placeOf, behind, letters, _then_, sign, operand}
 use Rattle.text_terms.specs.Terms.{store, comparison, condition}
 
 -- No place of an element lies beyond it, whatever bytes number the branch and the item; and what stands behind it still has a place that fits.

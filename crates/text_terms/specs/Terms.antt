@@ -10,12 +10,12 @@ use Rattle.base_words.specs.Text.{bytes}
 use Rattle.base_words.specs.Counts.{edges}
 use Rattle.base_table.specs.Places.{formPlace, leftPlace, rightPlace, single, plus, minus, binding, always, default, equals, below, aField, operandNumber, exitsPlace, edgePlace, conditionPlace, assignedIn, assignmentPlace}
 use Rattle.text_lexer.specs.Lexer.{tokenAt, ifWord}
-use Rattle.text_numerals.specs.Numerals.{sameBytes}
-use Rattle.text_readers.specs.Reading.{Parsed, Reader, misplaced, passed, refused, ifAt, _then_, placeOf, behind, letters, signAt, sign, assign, number, field, operand}
+use Rattle.base_bytes.specs.Bytes.{sameBytes}
+use Rattle.text_readers.specs.Reading.{Parsed, Reader, misplaced, passedTo, refusedAt, ifAt, _then_, placeOf, behind, letters, signAt, sign, assign, number, field, operand}
 
 -- a word stored, nothing read
 abbrev pub store : ℕ → ℕ → Reader
-store place v text at x = passed at (set x place v)
+store place v text at x = passedTo at (set x place v)
 
 -- "An expression is an operand, or two joined by `+` or `-`." (RULES: reading)
 unfoldable pub joint : ℕ → Reader
@@ -46,7 +46,7 @@ condition defaults place text at x =
     (if sameBytes (letters text at) (bytes "true") then store (place + formPlace) always text (behind text at) x
     else if defaults && sameBytes (letters text at) (bytes "default") then store (place + formPlace) default text (behind text at) x
     else (operand (place + leftPlace) then comparison place) text at x)
-    (refused misplaced (placeOf text at) x)
+    (refusedAt misplaced (placeOf text at) x)
 
 -- "A is `{}` or up to 4 of `d3:=expression`." (RULES: reading)
 unfoldable pub assignment : ℕ → Reader

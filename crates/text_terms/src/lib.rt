@@ -8,8 +8,10 @@ ghost use Rattle.base_words.specs.Words.{part};
 ghost use Rattle.base_table.specs.Places.{formPlace, itemPlace, conditionPlace};
 ghost use Rattle.text_terms.specs.Terms.{joint, expression, bind, templateItem, comparison, condition, assignment, guarded};
 ghost use Rattle.text_terms.specs.Tails.{farthest, joinedBy, compared, conditionWord, guard};
-ghost use Rattle.text_readers.specs.Reading.{passed, placeOf, behind};
-ghost use Rattle.text_numerals.specs.Numerals.{sameBytes};
+ghost use Rattle.text_readers.specs.Reading.{passedTo, placeOf, behind};
+ghost use Rattle.base_bytes.specs.Bytes.{sameBytes};
+use base_bytes::piece;
+use base_bytes::same;
 use base_table::places::A_FIELD;
 use base_table::places::ALWAYS;
 use base_table::places::ASSIGNED;
@@ -38,9 +40,7 @@ use base_words::counts::EDGES;
 use base_words::numbers::MISPLACED;
 use base_words::put;
 use text_lexer::Form;
-use text_lexer::piece;
 use text_lexer::token_at;
-use text_numerals::same;
 use text_readers::Read;
 use text_readers::assign_at;
 use text_readers::field_in;
@@ -175,7 +175,7 @@ fn is_default(text: &[u8], p: usize, q: usize, defaults: bool) -> bool
 
 // A form that a word says; q is behind it.
 fn keep_form(q: usize, x: &mut [Word], place: u32, form: Word) -> Read
-    ensures { λ r. ⌜ record { end = r; words = now (x .exit) } ≡ passed q (set (now (x .entry)) (place + formPlace) form) ⌝ }
+    ensures { λ r. ⌜ record { end = r; words = now (x .exit) } ≡ passedTo q (set (now (x .entry)) (place + formPlace) form) ⌝ }
 {
     put(x, place as usize + FORM, form);
     Read::At(q)

@@ -1,4 +1,5 @@
 // accounts: of a lawful log, for each message the four numbers and whether they balance, a line each: the message, posted, sent, queued, consumed, and yes or no.
+use base_bytes::piece;
 use base_state::places::STATE_WORDS;
 use base_table::places::TABLE_WORDS;
 use base_words::Word;
@@ -11,7 +12,6 @@ use meaning::empty_tuple;
 use step_history::Accounts;
 use step_history::Moved;
 use step_history::balances;
-use text_lexer::piece;
 use tool_print::tell;
 use tool_print::tell_count;
 use write_lines::TRAFFIC_LINE;

@@ -1,10 +1,10 @@
 // drawing: a drawing's text in the notation.
+use base_bytes::piece;
 use base_table::places::TABLE_WORDS;
 use base_words::Word;
 use base_words::counts::TEXT_MOST;
 use draw_read::DRAWING_MOST;
 use libc::STDIN_FILENO;
-use text_lexer::piece;
 use tool_print::tell;
 use tool_print::tell_unread;
 

@@ -1,14 +1,14 @@
 // judge: whether the run that a log tells was lawful; accounts: and what it tells of each message. The input is a line with the length of the model's text, the text and behind it the log.
-use super::LOG_MOST;
 use super::VERSION;
 use super::accounts::tell_accounts;
+use base_bytes::piece;
 use base_table::places::TABLE_WORDS;
 use base_words::DIGITS;
 use base_words::Word;
 use base_words::counts::TEXT_MOST;
 use base_words::numbers::ACCEPTED;
 use libc::STDIN_FILENO;
-use text_lexer::piece;
+use log_text::LOG_MOST;
 use text_numerals::Number;
 use text_numerals::numeral_at;
 use tool_print::asked_version;

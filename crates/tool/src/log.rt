@@ -1,5 +1,6 @@
 // log: a model's run as an XES log.
 use super::VERSION;
+use base_bytes::piece;
 use base_state::places::STATE_WORDS;
 use base_table::places::TABLE_WORDS;
 use base_words::Word;
@@ -13,7 +14,6 @@ use meaning::Answer;
 use meaning::Name;
 use state_figures::RECORD_WORDS;
 use step_run::Steps;
-use text_lexer::piece;
 use tool_print::RECORDS;
 use tool_print::STEPS;
 use tool_print::asked_version;

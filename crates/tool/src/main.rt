@@ -10,9 +10,9 @@
 //   nested     a model's text: nested, or the pool that is not, and the element at which it offends
 //
 // The version is 20 where none is given. A text or a drawing that is refused is told as the program `run` tells it. A command that there is not is said on standard error.
+use base_bytes::piece;
+use base_bytes::same;
 use libc::STDERR_FILENO;
-use text_lexer::piece;
-use text_numerals::same;
 
 mod accounts;
 mod diagnose;
@@ -37,9 +37,6 @@ const COMMAND: usize = 1;
 
 // The one that names the version.
 const VERSION: usize = 2;
-
-// The longest log.
-const LOG_MOST: usize = 65536;
 
 // The bytes of the longest name that is looked at: no command has one as long.
 const NAME: usize = 64;

@@ -1,8 +1,8 @@
 // map: which node of a drawing is which number, and where it stands.
+use base_bytes::piece;
 use draw_chart::put_map;
 use draw_read::DRAWING_MOST;
 use libc::STDIN_FILENO;
-use text_lexer::piece;
 use tool_print::tell;
 
 // One byte more than the longest drawing: what fills it is refused for its length.

@@ -1,6 +1,6 @@
 // repair: a log that ended in the middle.
-use super::LOG_MOST;
 use libc::STDIN_FILENO;
+use log_text::LOG_MOST;
 use tool_print::tell_repaired;
 
 // One byte more than the longest log: what fills it is refused for its length.

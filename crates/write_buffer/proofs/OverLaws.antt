@@ -15,7 +15,7 @@ use Rattle.base_words.specs.Each.{joined}
 use Rattle.base_words.proofs.JoinLaws.{joined-none, joined-more}
 use Rattle.base_words.proofs.BlockLaws.{tail-in}
 use Rattle.base_words.proofs.PickLaws.{pick-yes, pick-no}
-use Rattle.write_buffer.specs.Buffers.{over, lesser, lastPlace, next, behind, overFrom, Put}
+use Rattle.write_buffer.specs.Buffers.{over, lesser, lastPlace, next, endWritten, overFrom, Put}
 
 -- a buffer with no room stays
 pub over-empty : (w : List ℕ) → over w [] ≡ []
@@ -64,13 +64,13 @@ module _ (out : List ℕ) (k f : ℕ) (e : f ≡ lesser k (length out)) where
       ∙ ap (λ l. l ++ over b (drop k out)) take-least
 
 -- a text from a place on: one behind another
-behind-append : (p : ℕ) (a b : List ℕ) → behind (behind p a) b ≡ behind p (a ++ b)
-unfolding behind
+behind-append : (p : ℕ) (a b : List ℕ) → endWritten (endWritten p a) b ≡ endWritten p (a ++ b)
+unfolding endWritten
 behind-append p [] b = refl
 behind-append p (x ∷ a) b = behind-append (next p) a b
 
-from-append : (p : ℕ) (a b out : List ℕ) → overFrom (behind p a) b (overFrom p a out) ≡ overFrom p (a ++ b) out
-unfolding behind overFrom
+from-append : (p : ℕ) (a b out : List ℕ) → overFrom (endWritten p a) b (overFrom p a out) ≡ overFrom p (a ++ b) out
+unfolding endWritten overFrom
 from-append p [] b out = refl
 from-append p (x ∷ a) b out = from-append (next p) a b (set out p x)
 
@@ -85,15 +85,15 @@ put-long {w} {out} {now} {most} {from} h = ap length (h .text) ∙ length-from f
 
 -- nothing is written
 pub put-nothing : (from : ℕ) (out : List ℕ) → Put [] 0 from out from out
-unfolding behind overFrom
+unfolding endWritten overFrom
 put-nothing from out = record { short = omega arith; place = refl; text = refl }
 
 -- one writer behind another
 pub after : {a b out o now : List ℕ} {m n from k r : ℕ} → Put a m from out k o → Put b n k o r now → Put (a ++ b) (m + n) from out r now
 after {a} {b} {out} {o} {now} {m} {n} {from} {k} {r} h i = record {
   short = omega (arith, length-append a b, h .short, i .short);
-  place = i .place ∙ ap (λ p. behind p b) (h .place) ∙ behind-append from a b;
-  text = i .text ∙ ap (λ p. overFrom p b o) (h .place) ∙ ap (overFrom (behind from a) b) (h .text) ∙ from-append from a b out;
+  place = i .place ∙ ap (λ p. endWritten p b) (h .place) ∙ behind-append from a b;
+  text = i .text ∙ ap (λ p. overFrom p b o) (h .place) ∙ ap (overFrom (endWritten from a) b) (h .text) ∙ from-append from a b out;
 }
 
 -- the same text by another name, and no longer than another length
@@ -107,7 +107,7 @@ pub put-short : {w out now : List ℕ} {m most from r : ℕ} → Put w m from ou
 put-short h l = record { short = l; place = h .place; text = h .text }
 
 pub put-exact : {w out now : List ℕ} {most from r : ℕ} (v : List ℕ) → w ≡ v → length v ≤ most → Put w (length w) from out r now → Put v most from out r now
-put-exact {w} {out} {now} {most} {from} v e l h = record { short = l; place = h .place ∙ ap (behind from) e; text = h .text ∙ ap (λ x. overFrom from x out) e }
+put-exact {w} {out} {now} {most} {from} v e l h = record { short = l; place = h .place ∙ ap (endWritten from) e; text = h .text ∙ ap (λ x. overFrom from x out) e }
 
 -- Pieces in a loop: before the first, behind one more, at the end.
 module _ (f : ℕ → List ℕ) where
@@ -160,12 +160,12 @@ next-within : (p : ℕ) → p ≤ lastPlace → next p ≤ lastPlace
 next-within p l = either p lastPlace (λ h. omega (arith, next-below p h)) (λ h. omega (arith, next-last p h))
 
 -- as far as there are places, the text's length is added
-behind-adds : (p : ℕ) (w : List ℕ) → p + length w ≤ lastPlace → behind p w ≡ p + length w
-unfolding behind
+behind-adds : (p : ℕ) (w : List ℕ) → p + length w ≤ lastPlace → endWritten p w ≡ p + length w
+unfolding endWritten
 behind-adds p [] h = omega arith
 behind-adds p (b ∷ w) h =
     let on : next p ≡ p + 1 = next-below p (omega arith) in
-    let rest : behind (next p) w ≡ next p + length w = behind-adds (next p) w (omega arith) in
+    let rest : endWritten (next p) w ≡ next p + length w = behind-adds (next p) w (omega arith) in
     omega arith
 
 -- one byte, then the rest: within the buffer and beyond its end
@@ -200,11 +200,11 @@ from-over p (b ∷ w) out h l =
     either p (length out) (λ i. inside p b w out rest i (omega arith)) (λ i. beyond p b w out rest i)
 
 -- the place behind a text, by its length
-behind-lesser : (p : ℕ) (w : List ℕ) → p ≤ lastPlace → behind p w ≡ lesser (p + length w) lastPlace
-unfolding behind lesser
+behind-lesser : (p : ℕ) (w : List ℕ) → p ≤ lastPlace → endWritten p w ≡ lesser (p + length w) lastPlace
+unfolding endWritten lesser
 behind-lesser p [] h = omega arith
 behind-lesser p (b ∷ w) h =
-    let rest : behind (next p) w ≡ lesser (next p + length w) lastPlace = behind-lesser (next p) w (next-within p h) in
+    let rest : endWritten (next p) w ≡ lesser (next p + length w) lastPlace = behind-lesser (next p) w (next-within p h) in
     either p lastPlace (λ l. omega (arith, next-below p l)) (λ l. omega (arith, next-last p l))
 
 -- from the start on its place is its length, and it is a text over the buffer
@@ -215,7 +215,7 @@ pub lesser-is : (r n most : ℕ) → r ≡ lesser n lastPlace → n ≤ most →
 unfolding lesser
 lesser-is r n most e h l = omega arith
 
-from-start : (w : List ℕ) → behind 0 w ≡ lesser (length w) lastPlace
+from-start : (w : List ℕ) → endWritten 0 w ≡ lesser (length w) lastPlace
 from-start w = behind-lesser 0 w (omega arith) ∙ ap (λ n. lesser n lastPlace) (let e : 0 + length w ≡ length w = omega arith in e)
 
 pub put-over : {w out now : List ℕ} {most r : ℕ} → Put w most 0 out r now → length out ≤ lastPlace → (r ≡ lesser (length w) lastPlace) × (now ≡ over w out)

@@ -25,9 +25,9 @@ unfoldable pub next : ℕ → ℕ
 next p = if ltb p lastPlace then p + 1 else p
 
 -- the place behind a text that starts at p
-unfoldable pub behind : ℕ → List ℕ → ℕ
-behind p [] = p
-behind p (b ∷ w) = behind (next p) w
+unfoldable pub endWritten : ℕ → List ℕ → ℕ
+endWritten p [] = p
+endWritten p (b ∷ w) = endWritten (next p) w
 
 -- a text written from p on, byte after byte; a byte beyond the buffer's end is not written
 unfoldable pub overFrom : ℕ → List ℕ → Bytes → Bytes
@@ -37,5 +37,5 @@ overFrom p (b ∷ w) out = overFrom (next p) w (set out p b)
 -- The promise of a writer of the text w: it stands in the buffer from `from` on, the place behind it is returned, and it has at most `most` bytes.
 pub record Put (w : List ℕ) (most from : ℕ) (out : List ℕ) (r : ℕ) (now : List ℕ) : Type 0 where
   pub short : length w ≤ most
-  pub place : r ≡ behind from w
+  pub place : r ≡ endWritten from w
   pub text : now ≡ overFrom from w out

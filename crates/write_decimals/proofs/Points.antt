@@ -5,7 +5,7 @@ use native.Mathlib.Omega.{arith}
 use Rattle.base_words.specs.Text.{bytes}
 use Rattle.base_words.specs.Words.{greatest, digits}
 use Rattle.base_words.specs.Pick.{if_then_else_}
-use Rattle.write_buffer.specs.Buffers.{next, behind, overFrom, Put}
+use Rattle.write_buffer.specs.Buffers.{next, endWritten, overFrom, Put}
 use Rattle.write_decimals.specs.Decimals.{shown, shownFrom}
 
 pub record Texts : Type 0 where
@@ -23,15 +23,15 @@ texts = record { zero = refl; nine = refl; ten = refl; two-nines = refl; hundred
 
 -- its first digits are there, and the whole length is returned
 pub in-three : Put (shown greatest) digits 0 (bytes "...") 10 (bytes "429")
-unfolding shown shownFrom if_then_else_ next behind overFrom
+unfolding shown shownFrom if_then_else_ next endWritten overFrom
 in-three = record { short = omega arith; place = refl; text = refl }
 
 -- the last two bytes stay
 pub in-twelve : Put (shown greatest) digits 0 (bytes "............") 10 (bytes "4294967295..")
-unfolding shown shownFrom if_then_else_ next behind overFrom
+unfolding shown shownFrom if_then_else_ next endWritten overFrom
 in-twelve = record { short = omega arith; place = refl; text = refl }
 
 -- nothing is written, and the length is returned
 pub in-none : Put (shown 0) digits 0 [] 1 []
-unfolding shown shownFrom if_then_else_ next behind overFrom
+unfolding shown shownFrom if_then_else_ next endWritten overFrom
 in-none = record { short = omega arith; place = refl; text = refl }

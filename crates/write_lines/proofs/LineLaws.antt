@@ -22,15 +22,15 @@ use Rattle.meaning.specs.declared.Answer.{Answer}
 use Rattle.meaning.specs.declared.Tuple.{Tuple}
 use Rattle.meaning.specs.declared.Traffic.{Traffic}
 use Rattle.meaning.specs.declared.Traffic.the-variants.{Nothing, Consumed, Sent}
-use Rattle.write_lines.specs.Lines.{marked, row, valuesLine, tupleLine, messageLine, signed, trafficLine, placeLine, stepLine, nameLine, rowMost, valuesMost, trafficMost, placeMost, stepMost, nameMost}
+use Rattle.write_lines.specs.Lines.{markedOff, row, valuesLine, tupleLine, messageLine, signed, trafficLine, placeLine, stepLine, nameLine, rowMost, valuesMost, trafficMost, placeMost, stepMost, nameMost}
 
 -- a number of a row, by the test
-pub marked-one : (mark : List ℕ) (j x : ℕ) → j ≡ 0 → shown x ≡ marked mark j x
-unfolding marked
+pub marked-one : (mark : List ℕ) (j x : ℕ) → j ≡ 0 → shown x ≡ markedOff mark j x
+unfolding markedOff
 marked-one mark j x e = pick-yes _ _ _ _ (eq-eqb j 0 e) refl
 
-pub marked-more : (mark : List ℕ) (j x : ℕ) → (j ≡ 0 → ⊥) → mark ++ shown x ≡ marked mark j x
-unfolding marked
+pub marked-more : (mark : List ℕ) (j x : ℕ) → (j ≡ 0 → ⊥) → mark ++ shown x ≡ markedOff mark j x
+unfolding markedOff
 marked-more mark j x e = pick-no _ _ _ _ (ne-eqb j 0 e) refl
 
 -- a choice of texts is no longer than both
@@ -40,17 +40,17 @@ choice true x y n h l = h
 choice false x y n h l = l
 
 -- a number of a row, and a row, of marks of one byte
-marked-first : (mark : List ℕ) (x : ℕ) → length (marked mark 0 x) ≤ digits
-unfolding marked if_then_else_
+marked-first : (mark : List ℕ) (x : ℕ) → length (markedOff mark 0 x) ≤ digits
+unfolding markedOff if_then_else_
 marked-first mark x = shown-short x
 
-pub marked-short : (mark j x : ℕ) → length (marked (mark ∷ []) j x) ≤ digits + 1
-unfolding marked
+pub marked-short : (mark j x : ℕ) → length (markedOff (mark ∷ []) j x) ≤ digits + 1
+unfolding markedOff
 marked-short mark j x = choice (eqb j 0) (shown x) (mark ∷ shown x) (digits + 1) (omega (arith, shown-short x)) (omega (arith, shown-short x))
 
-row-next : (mark s : List ℕ) (n : ℕ) → length (row mark s (suc n)) ≡ length (row mark s n) + length (marked mark n (at s n))
+row-next : (mark s : List ℕ) (n : ℕ) → length (row mark s (suc n)) ≡ length (row mark s n) + length (markedOff mark n (at s n))
 unfolding row joined
-row-next mark s n = length-append (row mark s n) (marked mark n (at s n))
+row-next mark s n = length-append (row mark s n) (markedOff mark n (at s n))
 
 row-none : (mark s : List ℕ) → length (row mark s 0) ≡ 0
 unfolding row joined
@@ -64,15 +64,15 @@ row-short mark s (suc (suc n)) = omega (arith, row-next (mark ∷ []) s (suc n),
 -- a row in a loop: x is the word that was read
 pub row-start : (mark : ℕ) (s : List ℕ) (from : ℕ) (out : List ℕ) → Put (row (mark ∷ []) s 0) (rowMost 0) from out from out
 unfolding row
-row-start mark s from out = pieces-none (λ j. marked (mark ∷ []) j (at s j)) from out
+row-start mark s from out = pieces-none (λ j. markedOff (mark ∷ []) j (at s j)) from out
 
-pub row-more : (mark : ℕ) (s : List ℕ) {out o now : List ℕ} {m m′ from k r : ℕ} (j x : ℕ) → x ≡ at s j → Put (row (mark ∷ []) s j) m from out k o → Put (marked (mark ∷ []) j x) m′ k o r now → Put (row (mark ∷ []) s (j + 1)) (rowMost (j + 1)) from out r now
+pub row-more : (mark : ℕ) (s : List ℕ) {out o now : List ℕ} {m m′ from k r : ℕ} (j x : ℕ) → x ≡ at s j → Put (row (mark ∷ []) s j) m from out k o → Put (markedOff (mark ∷ []) j x) m′ k o r now → Put (row (mark ∷ []) s (j + 1)) (rowMost (j + 1)) from out r now
 unfolding row
-row-more mark s j x e h p = put-short (pieces-more (λ i. marked (mark ∷ []) i (at s i)) j h (put-as (marked (mark ∷ []) j (at s j)) (ap (marked (mark ∷ []) j) e) p)) (row-short mark s (j + 1))
+row-more mark s j x e h p = put-short (pieces-more (λ i. markedOff (mark ∷ []) i (at s i)) j h (put-as (markedOff (mark ∷ []) j (at s j)) (ap (markedOff (mark ∷ []) j) e) p)) (row-short mark s (j + 1))
 
 pub row-done : (mark : ℕ) (s : List ℕ) {out now : List ℕ} {m from r : ℕ} (n j : ℕ) → n ≤ j → j ≤ n → Put (row (mark ∷ []) s j) m from out r now → Put (row (mark ∷ []) s n) (rowMost n) from out r now
 unfolding row
-row-done mark s n j h l w = put-short (pieces-done (λ i. marked (mark ∷ []) i (at s i)) n j h l w) (row-short mark s n)
+row-done mark s n j h l w = put-short (pieces-done (λ i. markedOff (mark ∷ []) i (at s i)) n j h l w) (row-short mark s n)
 
 pub values-short : (g : Tuple) → length (valuesLine g) ≤ valuesMost
 unfolding valuesLine lesser

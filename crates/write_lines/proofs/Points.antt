@@ -15,7 +15,7 @@ use Rattle.meaning.specs.declared.Answer.{Answer}
 use Rattle.meaning.specs.declared.Tuple.{Tuple}
 use Rattle.meaning.specs.declared.Traffic.{Traffic}
 use Rattle.meaning.specs.declared.Traffic.the-variants.{Nothing, Consumed, Sent}
-use Rattle.write_lines.specs.Lines.{marked, row, valuesLine, tupleLine, messageLine, signed, trafficLine, placeLine, stepLine, nameLine, stepMost, nameMost}
+use Rattle.write_lines.specs.Lines.{markedOff, row, valuesLine, tupleLine, messageLine, signed, trafficLine, placeLine, stepLine, nameLine, stepMost, nameMost}
 
 -- a step's name, the values given left out, and its answer
 abbrev step : ℕ → ℕ → ℕ → ℕ → Name
@@ -51,23 +51,23 @@ pub session-lines :
     ∷ bytes "2 0 1 3 0 -"
     ∷ bytes "2 0 2 0 0 -"
     ∷ []
-unfolding marked row valuesLine messageLine signed trafficLine placeLine stepLine joined lesser shown shownFrom if_then_else_
+unfolding markedOff row valuesLine messageLine signed trafficLine placeLine stepLine joined lesser shown shownFrom if_then_else_
 session-lines = refl
 
 pub no-values : trafficLine (answer Sent 3 empty) ≡ bytes "!3:"
-unfolding marked row valuesLine messageLine signed trafficLine joined lesser shown shownFrom if_then_else_
+unfolding markedOff row valuesLine messageLine signed trafficLine joined lesser shown shownFrom if_then_else_
 no-values = refl
 
 pub two-values : trafficLine (answer Consumed 3 (record { length = 2; values = 7 ∷ 9 ∷ 11 ∷ 0 ∷ [] })) ≡ bytes "?3:7,9"
-unfolding marked row valuesLine messageLine signed trafficLine joined lesser shown shownFrom if_then_else_
+unfolding markedOff row valuesLine messageLine signed trafficLine joined lesser shown shownFrom if_then_else_
 two-values = refl
 
 pub named : nameLine (record { pool = 9; instance = 15; element = 31; phase = 1; branch = 7; given = record { length = 2; values = 10 ∷ 0 ∷ 0 ∷ 0 ∷ [] } }) ≡ bytes "9 15 31 1 7 10,0"
-unfolding marked row valuesLine tupleLine placeLine nameLine joined lesser shown shownFrom if_then_else_
+unfolding markedOff row valuesLine tupleLine placeLine nameLine joined lesser shown shownFrom if_then_else_
 named = refl
 
 pub named-alone : nameLine (step 1 0 0 0) ≡ bytes "1 0 0 0 0 -"
-unfolding marked row valuesLine tupleLine placeLine nameLine joined lesser shown shownFrom if_then_else_
+unfolding markedOff row valuesLine tupleLine placeLine nameLine joined lesser shown shownFrom if_then_else_
 named-alone = refl
 
 -- the longest lines are as long as the bounds say
@@ -78,9 +78,9 @@ abbrev far : Name
 far = record { pool = greatest; instance = greatest; element = greatest; phase = greatest; branch = greatest; given = full }
 
 pub longest-step : length (stepLine far (answer Sent greatest full)) ≡ stepMost
-unfolding marked row valuesLine messageLine signed trafficLine placeLine stepLine joined lesser shown shownFrom if_then_else_
+unfolding markedOff row valuesLine messageLine signed trafficLine placeLine stepLine joined lesser shown shownFrom if_then_else_
 longest-step = refl
 
 pub longest-name : length (nameLine far) ≡ nameMost
-unfolding marked row valuesLine tupleLine placeLine nameLine joined lesser shown shownFrom if_then_else_
+unfolding markedOff row valuesLine tupleLine placeLine nameLine joined lesser shown shownFrom if_then_else_
 longest-name = refl

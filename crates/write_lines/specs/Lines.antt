@@ -17,12 +17,12 @@ use Rattle.meaning.specs.declared.Traffic.{Traffic}
 use Rattle.meaning.specs.declared.Traffic.the-variants.{Nothing, Consumed, Sent}
 
 -- number x, the j-th of a row: a mark stands before each but the first
-unfoldable pub marked : Bytes → ℕ → ℕ → Bytes
-marked mark j x = if eqb j 0 then shown x else mark ++ shown x
+unfoldable pub markedOff : Bytes → ℕ → ℕ → Bytes
+markedOff mark j x = if eqb j 0 then shown x else mark ++ shown x
 
 -- the first n numbers of s, joined by a mark
 unfoldable pub row : Bytes → List ℕ → ℕ → Bytes
-row mark s n = joined (λ j. marked mark j (at s j)) n
+row mark s n = joined (λ j. markedOff mark j (at s j)) n
 
 -- "values joined by commas": what a tuple has behind its values is not written (RULES: lines)
 unfoldable pub valuesLine : Tuple → Bytes

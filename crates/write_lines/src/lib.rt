@@ -5,7 +5,7 @@ ghost use Prim.Native.Nat.{_+_};
 ghost use Rattle.base_words.specs.Words.{greatest, digits};
 ghost use Rattle.write_buffer.specs.Buffers.{Put, lesser};
 ghost use Rattle.write_decimals.specs.Decimals.{shown};
-ghost use Rattle.write_lines.specs.Lines.{marked, row, valuesLine, tupleLine, messageLine, trafficLine, placeLine, stepLine, nameLine, rowMost, valuesMost, trafficMost, placeMost, stepMost, nameMost, unreadLine, unreadMost};
+ghost use Rattle.write_lines.specs.Lines.{markedOff, row, valuesLine, tupleLine, messageLine, trafficLine, placeLine, stepLine, nameLine, rowMost, valuesMost, trafficMost, placeMost, stepMost, nameMost, unreadLine, unreadMost};
 use base_words::DIGITS;
 use base_words::GREATEST;
 use base_words::Word;
@@ -36,7 +36,7 @@ pub const NAME_LINE: usize = PLACE_LINE + 1 + VALUES_LINE;
 
 // The j-th number of a row: a mark stands before each but the first.
 fn put_marked(out: &mut [u8], from: usize, mark: u8, j: Word, x: Word) -> usize
-    ensures { λ r. ⌜ Put (marked (mark ∷ []) j x) (digits + 1) from (now (out .entry)) r (now (out .exit)) ⌝ }
+    ensures { λ r. ⌜ Put (markedOff (mark ∷ []) j x) (digits + 1) from (now (out .entry)) r (now (out .exit)) ⌝ }
 {
     if j == 0 {
         return put_number(out, from, x);

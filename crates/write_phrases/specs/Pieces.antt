@@ -9,7 +9,7 @@ use Rattle.base_words.specs.Words.{at}
 use Rattle.base_table.specs.Places.{edgePlace, exitsPlace}
 use Rattle.base_table.specs.Table.{exitAt, conditionAt, messageLength, itemAt, assignmentCount, assignmentAt}
 use Rattle.write_decimals.specs.Decimals.{shown}
-use Rattle.write_shown.specs.Shown.{commas, between, shownItem, shownCondition, shownMessage, shownGuarded, shownReceiving, shownAssignment, shownAssignments}
+use Rattle.write_shown.specs.Shown.{commas, enclosedBy, shownItem, shownCondition, shownMessage, shownGuarded, shownReceiving, shownAssignment, shownAssignments}
 
 -- what stands between the signs of a tuple, of the list of edges at a place, of assignments
 abbrev pub items : Element → ℕ → Bytes
@@ -23,14 +23,14 @@ assigned el = commas (λ j. shownAssignment (assignmentAt el j)) (assignmentCoun
 
 -- the list of edges at a place
 abbrev pub edgeList : Element → ℕ → Bytes
-edgeList el list = between (code "{") (code "}") (edges el list)
+edgeList el list = enclosedBy (code "{") (code "}") (edges el list)
 
 -- a branch that receives or has a condition, and all of them
-unfoldable pub branch : Bool → Element → ℕ → Bytes
-branch receives el b = if receives then shownReceiving el b else shownGuarded el b
+unfoldable pub shownBranch : Bool → Element → ℕ → Bytes
+shownBranch receives el b = if receives then shownReceiving el b else shownGuarded el b
 
 abbrev pub branches : Bool → Element → Bytes
-branches receives el = commas (branch receives el) (at el exitsPlace)
+branches receives el = commas (shownBranch receives el) (at el exitsPlace)
 
 -- what stands between the signs of a branch: `f,C` and `m:T,f`
 abbrev pub choice : Element → ℕ → Bytes
@@ -40,5 +40,5 @@ abbrev pub event : Element → ℕ → Bytes
 event el b = shownMessage el b ++ (code "," ∷ shown (exitAt el b))
 
 -- a task's `C,A`
-abbrev pub guarded : Element → Bytes
-guarded el = shownCondition (conditionAt el 0) ++ (code "," ∷ shownAssignments el)
+abbrev pub taskGuard : Element → Bytes
+taskGuard el = shownCondition (conditionAt el 0) ++ (code "," ∷ shownAssignments el)

@@ -3,7 +3,7 @@
 ghost use Prim.Native.Nat.{_+_};
 ghost use Rattle.write_buffer.specs.Buffers.{Put};
 ghost use Rattle.write_shown.specs.Shown.{shownTuple, shownMessage, shownGuarded, shownGuardedList, shownReceiving, shownAssignments, shownTask};
-ghost use Rattle.write_phrases.specs.Pieces.{items, edges, edgeList, branch, branches, assigned, choice, event, guarded};
+ghost use Rattle.write_phrases.specs.Pieces.{items, edges, edgeList, shownBranch, branches, assigned, choice, event, taskGuard};
 ghost use Rattle.write_shown.specs.Lengths.{itemsMost, tupleMost, messageMost, edgesMost, choiceMost, guardedMost, eventMost, receivingMost, branchesMost, assignedMost, workMost, taskMost};
 use base_table::assignment_at;
 use base_table::assignment_count;
@@ -119,7 +119,7 @@ fn put_receiving(out: &mut [u8], from: usize, el: &[Word], b: Word) -> usize
 
 // A branch of a kind whose branches receive, or have conditions.
 fn put_branch(out: &mut [u8], from: usize, el: &[Word], receives: bool, b: Word) -> usize
-    ensures { λ r. ⌜ Put (branch receives (now (el .entry)) b) receivingMost from (now (out .entry)) r (now (out .exit)) ⌝ }
+    ensures { λ r. ⌜ Put (shownBranch receives (now (el .entry)) b) receivingMost from (now (out .entry)) r (now (out .exit)) ⌝ }
 {
     if receives {
         return put_receiving(out, from, el, b);
@@ -173,7 +173,7 @@ fn put_assignments(out: &mut [u8], from: usize, el: &[Word]) -> usize
 
 // Guard and assignments of a task.
 fn put_work(out: &mut [u8], from: usize, el: &[Word]) -> usize
-    ensures { λ r. ⌜ Put (guarded (now (el .entry))) workMost from (now (out .entry)) r (now (out .exit)) ⌝ }
+    ensures { λ r. ⌜ Put (taskGuard (now (el .entry))) workMost from (now (out .entry)) r (now (out .exit)) ⌝ }
 {
     let guard = put_condition(out, from, condition_at(el, 0));
     let comma = put_byte(out, guard, b',');

@@ -30,8 +30,8 @@ abbrev pub commas : (ℕ → List ℕ) → ℕ → Bytes
 commas f n = separated (code ",") f n
 
 -- a text between two signs
-abbrev pub between : ℕ → ℕ → Bytes → Bytes
-between opener closer w = opener ∷ (w ++ (closer ∷ []))
+abbrev pub enclosedBy : ℕ → ℕ → Bytes → Bytes
+enclosedBy opener closer w = opener ∷ (w ++ (closer ∷ []))
 
 -- a field of an instance or a store; an operand, an expression, an item of a template, a condition
 unfoldable pub shownField : ℕ → Bytes
@@ -61,26 +61,26 @@ shownCondition x =
 
 -- a message `m:<..>` of branch b; n edges `{e,f,..}` of a list
 unfoldable pub shownTuple : Element → ℕ → Bytes
-shownTuple el b = between (code "<") (code ">") (commas (λ j. shownItem (itemAt el b j)) (messageLength el b))
+shownTuple el b = enclosedBy (code "<") (code ">") (commas (λ j. shownItem (itemAt el b j)) (messageLength el b))
 
 unfoldable pub shownMessage : Element → ℕ → Bytes
 shownMessage el b = shown (messageName el b) ++ (code ":" ∷ shownTuple el b)
 
 unfoldable pub shownEntries : Element → Bytes
-shownEntries el = between (code "{") (code "}") (commas (λ j. shown (entryAt el j)) (at el entriesPlace))
+shownEntries el = enclosedBy (code "{") (code "}") (commas (λ j. shown (entryAt el j)) (at el entriesPlace))
 
 unfoldable pub shownExits : Element → Bytes
-shownExits el = between (code "{") (code "}") (commas (λ j. shown (exitAt el j)) (at el exitsPlace))
+shownExits el = enclosedBy (code "{") (code "}") (commas (λ j. shown (exitAt el j)) (at el exitsPlace))
 
 -- branches `(f,C)` and `(m:T,f)`
 unfoldable pub shownGuarded : Element → ℕ → Bytes
-shownGuarded el b = between (code "(") (code ")") (shown (exitAt el b) ++ (code "," ∷ shownCondition (conditionAt el b)))
+shownGuarded el b = enclosedBy (code "(") (code ")") (shown (exitAt el b) ++ (code "," ∷ shownCondition (conditionAt el b)))
 
 unfoldable pub shownGuardedList : Element → Bytes
-shownGuardedList el = between (code "{") (code "}") (commas (shownGuarded el) (at el exitsPlace))
+shownGuardedList el = enclosedBy (code "{") (code "}") (commas (shownGuarded el) (at el exitsPlace))
 
 unfoldable pub shownReceiving : Element → ℕ → Bytes
-shownReceiving el b = between (code "(") (code ")") (shownMessage el b ++ (code "," ∷ shown (exitAt el b)))
+shownReceiving el b = enclosedBy (code "(") (code ")") (shownMessage el b ++ (code "," ∷ shown (exitAt el b)))
 
 unfoldable pub shownReceivingList : Element → Bytes
 shownReceivingList el = commas (shownReceiving el) (at el exitsPlace)
@@ -93,7 +93,7 @@ unfoldable pub shownAssignment : Block → Bytes
 shownAssignment x = shownField (at x 0) ++ (code ":" ∷ code "=" ∷ shownExpression (drop assignedIn x))
 
 unfoldable pub shownAssignments : Element → Bytes
-shownAssignments el = between (code "{") (code "}") (commas (λ j. shownAssignment (assignmentAt el j)) (assignmentCount el))
+shownAssignments el = enclosedBy (code "{") (code "}") (commas (λ j. shownAssignment (assignmentAt el j)) (assignmentCount el))
 
 unfoldable pub shownTask : Element → Bytes
 shownTask el = shown (taskIn el) ++ (code "," ∷ (shownMode (modeIn el) ++ (code "," ∷ (shownCondition (conditionAt el 0) ++ (code "," ∷ shownAssignments el)))))
@@ -128,7 +128,7 @@ shownLimit n = if eqb n 0 then [] else code "," ∷ shown n
 unfoldable pub shownPool : Table → ℕ → Bytes
 shownPool t p =
     (if eqb (at t (limitPlace p)) 0 then bytes "pool" else bytes "miPool")
-    ++ between (code "(") (code ")") (shown (at t (poolPlace p)) ++ (code "," ∷ (shownElements t p ++ shownLimit (at t (limitPlace p)))))
+    ++ enclosedBy (code "(") (code ")") (shown (at t (poolPlace p)) ++ (code "," ∷ (shownElements t p ++ shownLimit (at t (limitPlace p)))))
 
 unfoldable pub shownPools : Table → Bytes
 shownPools t = joined (λ p. if ltb p (poolCount t) then lead (code "|") p ++ shownPool t p else []) pools

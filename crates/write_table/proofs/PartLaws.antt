@@ -22,7 +22,7 @@ use Rattle.write_buffer.specs.Buffers.{Put}
 use Rattle.write_buffer.proofs.OverLaws.{after, put-as, put-within, put-nothing}
 use Rattle.write_shown.specs.Lengths.{keywordMost}
 use Rattle.write_shown.specs.Shown.{shownEntries, shownExits, shownReceivingList, shownParts}
-use Rattle.write_phrases.specs.Pieces.{edgeList, branch, branches}
+use Rattle.write_phrases.specs.Pieces.{edgeList, shownBranch, branches}
 use Rattle.write_table.specs.Pieces.{signed, parts}
 
 -- every row
@@ -63,7 +63,7 @@ unfolding shownExits
 exits-is el = refl
 
 pub receiving-is : (el : List ℕ) → branches true el ≡ shownReceivingList el
-unfolding shownReceivingList branch if_then_else_
+unfolding shownReceivingList shownBranch if_then_else_
 receiving-is el = refl
 
 -- What is known in a loop that writes a text piece by piece: of the whole text, so much was written, and a rest is to come.

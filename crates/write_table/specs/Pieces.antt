@@ -12,7 +12,7 @@ use Rattle.base_kinds.specs.Kinds.{kindOf}
 use Rattle.base_table.specs.Places.{poolPlace, limitPlace}
 use Rattle.base_table.specs.Table.{kindIn, poolCount}
 use Rattle.write_decimals.specs.Decimals.{shown}
-use Rattle.write_shown.specs.Shown.{lead, between, shownPart, shownParts, shownElements, shownLimit, shownPool}
+use Rattle.write_shown.specs.Shown.{lead, enclosedBy, shownPart, shownParts, shownElements, shownLimit, shownPool}
 
 -- a part behind its sign; the parts of an element, with the sign that opens them
 abbrev pub signed : ℕ → ℕ → Element → Bytes
@@ -28,8 +28,8 @@ contents t p = shownElements t p ++ shownLimit (at t (limitPlace p))
 abbrev pub numbered : Table → ℕ → Bytes
 numbered t p = shown (at t (poolPlace p)) ++ (code "," ∷ contents t p)
 
-abbrev pub enclosed : Table → ℕ → Bytes
-enclosed t p = between (code "(") (code ")") (numbered t p)
+abbrev pub poolEnclosed : Table → ℕ → Bytes
+poolEnclosed t p = enclosedBy (code "(") (code ")") (numbered t p)
 
 unfoldable pub poolWord : ℕ → Bytes
 poolWord n = if eqb n 0 then bytes "pool" else bytes "miPool"

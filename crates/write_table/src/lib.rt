@@ -9,7 +9,7 @@ ghost use Rattle.base_table.specs.Places.{limitPlace};
 ghost use Rattle.write_buffer.specs.Buffers.{over, lesser, lastPlace, Put};
 ghost use Rattle.write_shown.specs.Shown.{shownPart, shownElement, shownElements, shownLimit, shownPool, shownPools, shownTable};
 ghost use Rattle.write_shown.specs.Lengths.{partMost, partsMost, keywordMost, elementMost, elementsMost, limitMost, contentsMost, numberedMost, enclosedMost, poolWordMost, poolMost, poolsMost};
-ghost use Rattle.write_table.specs.Pieces.{signed, parts, contents, numbered, enclosed, poolWord, nextPool};
+ghost use Rattle.write_table.specs.Pieces.{signed, parts, contents, numbered, poolEnclosed, poolWord, nextPool};
 use base_kinds::PARTS;
 use base_kinds::keyword_of;
 use base_kinds::letters_of;
@@ -168,7 +168,7 @@ fn put_numbered(out: &mut [u8], from: usize, t: &[Word], p: Word) -> usize
 
 // A pool from its opening sign to its closing one.
 fn put_enclosed(out: &mut [u8], from: usize, t: &[Word], p: Word) -> usize
-    ensures { λ r. ⌜ Put (enclosed (now (t .entry)) p) enclosedMost from (now (out .entry)) r (now (out .exit)) ⌝ }
+    ensures { λ r. ⌜ Put (poolEnclosed (now (t .entry)) p) enclosedMost from (now (out .entry)) r (now (out .exit)) ⌝ }
 {
     let opener = put_byte(out, from, b'(');
     let end = put_numbered(out, opener, t, p);

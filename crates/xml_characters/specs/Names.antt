@@ -4,7 +4,7 @@ use Prim.Native.Char.{code}
 use Prim.Native.Nat.{ℕ}
 use mathlib.Core.Bool.{Bool, not, _||_, _&&_}
 use lib.Dec.{ltb, leb, eqb}
-use Rattle.text_lexer.specs.Lexer.{isLetter, isDigit}
+use Rattle.base_bytes.specs.Bytes.{isLetter, isDigit}
 
 unfoldable pub isBlank : ℕ → Bool
 isBlank b = eqb b (code " ") || (eqb b (code "\t") || (eqb b (code "\r") || eqb b (code "\n")))

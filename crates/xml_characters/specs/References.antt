@@ -10,12 +10,12 @@ use Rattle.base_words.specs.Blocks.{Bytes}
 use Rattle.base_words.specs.Pick.{if_then_else_}
 use Rattle.base_words.specs.Text.{bytes}
 use Rattle.base_words.specs.Words.{at, part}
-use Rattle.text_numerals.specs.Numerals.{sameBytes}
+use Rattle.base_bytes.specs.Bytes.{sameBytes}
 use Rattle.xml_characters.specs.Names.{isBlank}
 
 -- the greatest character
-abbrev pub greatest : ℕ
-greatest = 1114111
+abbrev pub greatestCharacter : ℕ
+greatestCharacter = 1114111
 
 -- what a digit is worth, in either letter case; 16 for a byte that is none
 unfoldable pub digit : ℕ → ℕ
@@ -34,7 +34,7 @@ base hex = if hex then 16 else 10
 
 -- one digit more; above the greatest character the number grows no further
 unfoldable pub more : Bool → ℕ → ℕ → ℕ
-more hex v d = if ltb greatest v then v else if hex then v * 16 + d else v * 10 + d
+more hex v d = if ltb greatestCharacter v then v else if hex then v * 16 + d else v * 10 + d
 
 unfoldable pub numberFrom : Bool → ℕ → List ℕ → ℕ
 numberFrom hex v [] = v
@@ -63,4 +63,4 @@ isCharacter n =
     else if ltb n 57344 then false
     else if ltb n 65534 then true
     else if ltb n 65536 then false
-    else leb n greatest
+    else leb n greatestCharacter

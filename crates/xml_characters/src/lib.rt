@@ -1,8 +1,8 @@
 // The classes of bytes of an XML text; its references and the characters that they say.
 ghost use mathlib.Core.Path.{_≡_};
 ghost use Rattle.xml_characters.specs.Names.{isBlank, isControl, beginsName, isName};
-use text_lexer::is_digit;
-use text_lexer::is_letter;
+use base_bytes::is_digit;
+use base_bytes::is_letter;
 
 pub mod references;
 

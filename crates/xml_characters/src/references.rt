@@ -2,9 +2,9 @@
 ghost use mathlib.Core.Path.{_≡_};
 ghost use Rattle.xml_characters.specs.References.{digit, base, more, numberFrom, numbered, characterOf, isCharacter};
 use super::is_blank;
-use text_lexer::byte;
-use text_lexer::piece;
-use text_numerals::same;
+use base_bytes::byte;
+use base_bytes::piece;
+use base_bytes::same;
 
 const GREATEST: u32 = 1114111;
 

@@ -12,7 +12,7 @@ use denote.Enum.Declared.{tagOf}
 use borrow.Author.Tests.{le-leb}
 use Rattle.base_words.specs.Pick.{if_then_else_}
 use Rattle.base_words.specs.Words.{at}
-use Rattle.text_lexer.proofs.PastLaws.{past-from}
+use Rattle.base_bytes.proofs.PastLaws.{past-from}
 use Rattle.xml_scanner.specs.declared.Sort.{Sort}
 use Rattle.xml_scanner.specs.declared.Sort.the-variants.{StartTag, EmptyTag, EndTag, Text, Reference, Comment, Data, Instruction, End, Fault as AFault}
 use Rattle.xml_markup.specs.declared.Class.the-variants.{Blanks}

@@ -2,8 +2,8 @@
 use mathlib.Core.Path.{_≡_, refl}
 use mathlib.Core.List.{map}
 use Rattle.base_words.specs.Pick.{if_then_else_}
-use Rattle.text_lexer.specs.Lexer.{between, isLetter, isDigit, past}
-use Rattle.text_numerals.specs.Numerals.{sameBytes}
+use Rattle.base_bytes.specs.Bytes.{between, isLetter, isDigit, past}
+use Rattle.base_bytes.specs.Bytes.{sameBytes}
 use Rattle.xml_characters.specs.Names.{isBlank, isControl, beginsName, isName}
 use Rattle.xml_characters.specs.References.{digit, base, more, numberFrom, numbered, characterOf, isCharacter}
 use Rattle.xml_scanner.specs.Openings.{behindLess, behindBracket, inOpening}

@@ -2,8 +2,8 @@
 ghost use mathlib.Core.Path.{_≡_};
 ghost use Prim.Native.Nat.{_-_};
 ghost use Rattle.xml_document.specs.Decoding.{narrow, behindLine, plainAt, referredAt, decodedAt};
-use text_lexer::byte;
-use text_lexer::piece;
+use base_bytes::byte;
+use base_bytes::piece;
 use xml_characters::references::character_of;
 use xml_markup::scanning::markup;
 use xml_markup::spans::after;

@@ -1,7 +1,7 @@
 // A document around its root: blanks, comments and instructions, and nothing else; and its character data byte by byte.
 ghost use mathlib.Core.Path.{_≡_};
 ghost use Rattle.xml_document.specs.Document.{otherOf, opensData, tagAt, outsideAt, outside};
-use text_lexer::byte;
+use base_bytes::byte;
 use xml_markup::Class;
 use xml_markup::Markup;
 use xml_markup::Opener;

@@ -14,9 +14,9 @@ use borrow.Author.Tests.{eqb-true, lt-leb}
 use Rattle.base_words.specs.Pick.{if_then_else_}
 use Rattle.base_words.specs.Words.{at, part}
 use Rattle.base_words.proofs.AllLaws.{and-left, and-right}
-use Rattle.text_lexer.specs.Lexer.{past}
-use Rattle.text_lexer.proofs.PieceLaws.{by-order}
-use Rattle.text_numerals.specs.Numerals.{sameBytes}
+use Rattle.base_bytes.specs.Bytes.{past}
+use Rattle.base_bytes.proofs.PieceLaws.{by-order}
+use Rattle.base_bytes.specs.Bytes.{sameBytes}
 use Rattle.xml_characters.specs.Names.{isControl}
 use Rattle.xml_markup.specs.declared.Cursor.{Cursor}
 use Rattle.xml_markup.specs.declared.Scan.{Scan}
@@ -29,7 +29,7 @@ use Rattle.xml_markup.specs.declared.Found.{Found}
 use Rattle.xml_markup.specs.declared.Found.the-variants.{Behind, Nowhere}
 use Rattle.xml_markup.specs.Tokens.{whole, moved, ifOn, ifAttribute, isNamed, foundFrom, begun, found, isFound, twice, isFaulty}
 use Rattle.xml_markup.specs.Markup.{advance, scanFrom}
-use Rattle.xml_markup.specs.Ahead.{numbered, keyOf, keyAt, Rising, Kept, More, With, New, Reached, isFaultyElse, tried, Ahead, Sure}
+use Rattle.xml_markup.specs.Ahead.{nameNumber, keyOf, keyAt, Rising, Kept, More, With, New, ReadTo, isFaultyElse, tried, Ahead, Sure}
 use Rattle.xml_markup.proofs.Whole.{the-type as whole-type}
 use Rattle.xml_markup.proofs.TokenLaws.{is-attribute, found-here, found-on, found-end}
 use Rattle.xml_markup.proofs.ScanLaws.{scan-on}
@@ -115,8 +115,8 @@ module _ (t : List ℕ) (start : ℕ) where
       (λ l. rw (cut (part t 0 i) mark (omega (arith, long t i k)) (part t mark i) start e) refl)
       (λ l. rw (take-all (mark - 0) (part t 0 i) (omega (arith, long t i k)), e) refl))
 
-  module _ (c : Cursor) (i : ℕ) (h : i < length t) (r : Reached t start c i) (next : Cursor) (g : moved c (at t i) i (i + 1) ≡ On next) where
-    pub reached-byte : Reached t start next (i + 1)
+  module _ (c : Cursor) (i : ℕ) (h : i < length t) (r : ReadTo t start c i) (next : Cursor) (g : moved c (at t i) i (i + 1) ≡ On next) where
+    pub reached-byte : ReadTo t start next (i + 1)
     reached-byte name m l k new = r name m (omega arith) k old ∙ at-next t m k name c i (omega arith) other next g
       where
         old : New t start i name
@@ -187,7 +187,7 @@ other-named t name c i out = go (whole (c .state) (at t i))
 
 -- a name is kept, where it is one whose number is kept
 pub kept-as : (κ : ℕ → ℕ) (v : List ℕ) (n : ℕ) (w x name : List ℕ) → w ≡ x → x ≡ name → Kept κ v n (keyOf name) → Kept κ v n (keyOf w)
-kept-as κ v n w x name b e y = rw (ap (λ (z : List ℕ). numbered z 0) (b ∙ e)) y
+kept-as κ v n w x name b e y = rw (ap (λ (z : List ℕ). nameNumber z 0) (b ∙ e)) y
 
 -- what is taken of a name
 abbrev count : Taken → ℕ
@@ -240,7 +240,7 @@ module _ (t : List ℕ) (f : ℕ → Bool) (P : ℕ → Type 0) (on : (i : ℕ) 
   run-to i j e p = rw e (run-past (drop i t) i refl p)
 
 module _ (t : List ℕ) (start : ℕ) where
-  pub reached-begun : Reached t start (begun start) start
+  pub reached-begun : ReadTo t start (begun start) start
   unfolding found
   reached-begun name m l k new = refl
 
@@ -267,13 +267,13 @@ module _ (t : List ℕ) (start : ℕ) where
             same = λ all. a .same (λ name k. all name (more .kept (keyOf name) k)) ∙ scan-on t start d i h (advance t start d i) refl next (advance-tried t start d i (λ w. once t start i (d .mark) (omega arith) (a .new (part t (d .mark) i) (all (part t (d .mark) i) (with w .is)) (with w .was))) ∙ e);
           }
 
-    pub ahead-none : (v : List ℕ) → Reached t start c p → Ahead t start c p v 0 c p
+    pub ahead-none : (v : List ℕ) → ReadTo t start c p → Ahead t start c p v 0 c p
     ahead-none v r = record { rising = λ a b h l. absurd (omega arith); fits = omega arith; on = omega arith; reached = r; new = λ name new out. new; same = λ all. refl }
 
     pub ahead-sure : (v : List ℕ) (n : ℕ) (d : Cursor) (i : ℕ) → Ahead t start c p v n d i → ((name : List ℕ) → Kept (keyAt t) v n (keyOf name) → New t start p name) → Sure t start c p d i
     ahead-sure v n d i a new = record { on = a .on; reached = a .reached; same = a .same new }
 
-    pub sure-here : Reached t start c p → Sure t start c p c p
+    pub sure-here : ReadTo t start c p → Sure t start c p c p
     sure-here r = record { on = omega arith; reached = r; same = refl }
 
     pub sure-on : (d : Cursor) (i : ℕ) (f : Cursor) (j : ℕ) → Sure t start c p d i → Sure t start d i f j → Sure t start c p f j

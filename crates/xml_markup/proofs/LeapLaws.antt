@@ -8,8 +8,8 @@ use lib.ListN.{length, drop}
 use borrow.Author.Tests.{lt-leb, ne-eqb}
 use Rattle.base_words.specs.Pick.{if_then_else_}
 use Rattle.base_words.specs.Words.{at}
-use Rattle.text_lexer.specs.Lexer.{between, isLetter, past}
-use Rattle.text_lexer.proofs.PieceLaws.{by-order}
+use Rattle.base_bytes.specs.Bytes.{between, isLetter, past}
+use Rattle.base_bytes.proofs.PieceLaws.{by-order}
 use Rattle.xml_characters.specs.Names.{isBlank, isControl, beginsName}
 use Rattle.xml_scanner.specs.declared.InOpening.the-variants.{Less}
 use Rattle.xml_scanner.specs.declared.InTag.{InTag}
@@ -27,7 +27,7 @@ use Rattle.xml_markup.specs.declared.Whole.the-variants.{Nothing, Attrib
 use Rattle.xml_markup.specs.Tokens.{wholeInTag, whole, moveTo, moved, ifAttribute, isNamed, foundFrom, isFaulty}
 use Rattle.xml_markup.specs.Markup.{advance, scanFrom}
 use Rattle.xml_markup.specs.Staying.{stays}
-use Rattle.xml_markup.specs.Ahead.{Reached, isFaultyElse, tried, Ahead}
+use Rattle.xml_markup.specs.Ahead.{ReadTo, isFaultyElse, tried, Ahead}
 use Rattle.xml_markup.specs.Leaps.{Leads, here, byte}
 use Rattle.xml_markup.proofs.TokenLaws.{found-on}
 use Rattle.xml_markup.proofs.ScanLaws.{scan-on}
@@ -138,8 +138,8 @@ module _ (t : List ℕ) where
         (λ f next k h w o g p. p ∙ scan-on t start f k h (advance t start f k) refl next (advance-on f k w start h o next g))
         l refl
 
-    pub reached-leap : {c d : Cursor} {i j : ℕ} → Leads t c i d j → Reached t start c i → Reached t start d j
-    reached-leap l = leads-to (Reached t start) (λ f next k h w o g r. reached-byte t start f k h r next g) l
+    pub reached-leap : {c d : Cursor} {i j : ℕ} → Leads t c i d j → ReadTo t start c i → ReadTo t start d j
+    reached-leap l = leads-to (ReadTo t start) (λ f next k h w o g r. reached-byte t start f k h r next g) l
 
     pub ahead-leap : (c : Cursor) (p : ℕ) (v : List ℕ) (n : ℕ) {d f : Cursor} {i j : ℕ} → Leads t d i f j → Ahead t start c p v n d i → Ahead t start c p v n f j
     ahead-leap c p v n l =

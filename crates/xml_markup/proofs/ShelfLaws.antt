@@ -12,40 +12,40 @@ use lib.ListN.{length, drop, set, length-set, length-drop, drop-of-length-le}
 use lib.Seq.{drop-cons, getD-set-same, getD-set-other}
 use borrow.Author.Tests.{ltb-true, ltb-false, lt-ltb, le-ltb, not-false}
 use Rattle.base_words.specs.Words.{at, part}
-use Rattle.text_lexer.proofs.PieceLaws.{by-order}
-use Rattle.xml_markup.specs.Ahead.{digit, numbered, keyOf, keptName, keyAt, Rising, Kept, Between, Inserted, More, With}
+use Rattle.base_bytes.proofs.PieceLaws.{by-order}
+use Rattle.xml_markup.specs.Ahead.{nameDigit, nameNumber, keyOf, keptName, keyAt, Rising, Kept, Between, Inserted, More, With}
 
 -- a number only grows, and what is smaller stays smaller where no fewer bytes follow the other one
-grows : (w : List ℕ) (k : ℕ) → k ≤ numbered w k
-unfolding numbered
+grows : (w : List ℕ) (k : ℕ) → k ≤ nameNumber w k
+unfolding nameNumber
 grows [] k = omega arith
-grows (b ∷ w) k = omega (arith, grows w (k * 257 + digit b))
+grows (b ∷ w) k = omega (arith, grows w (k * 257 + nameDigit b))
 
-stays-less : (a b : List ℕ) (k l : ℕ) → length a ≤ length b → k < l → numbered a k < numbered b l
-unfolding numbered digit
+stays-less : (a b : List ℕ) (k l : ℕ) → length a ≤ length b → k < l → nameNumber a k < nameNumber b l
+unfolding nameNumber nameDigit
 stays-less [] b k l h q = omega (arith, grows b l)
 stays-less (x ∷ a) [] k l h q = absurd (omega arith)
-stays-less (x ∷ a) (y ∷ b) k l h q = stays-less a b (k * 257 + digit x) (l * 257 + digit y) (omega arith) (omega (arith, mod-lt x (let z : 0 < 256 = omega arith in z)))
+stays-less (x ∷ a) (y ∷ b) k l h q = stays-less a b (k * 257 + nameDigit x) (l * 257 + nameDigit y) (omega arith) (omega (arith, mod-lt x (let z : 0 < 256 = omega arith in z)))
 
-pub shorter-less : (a b : List ℕ) (k : ℕ) → length a < length b → numbered a k < numbered b k
-unfolding numbered digit
+pub shorter-less : (a b : List ℕ) (k : ℕ) → length a < length b → nameNumber a k < nameNumber b k
+unfolding nameNumber nameDigit
 shorter-less a [] k h = absurd (omega arith)
-shorter-less a (y ∷ b) k h = stays-less a b k (k * 257 + digit y) (omega arith) (omega arith)
+shorter-less a (y ∷ b) k h = stays-less a b k (k * 257 + nameDigit y) (omega arith) (omega arith)
 
 -- two names are alike up to i
 abbrev pub Alike : List ℕ → List ℕ → ℕ → Type 0
-Alike a b i = (k : ℕ) × (keyOf a ≡ numbered (drop i a) k) × (keyOf b ≡ numbered (drop i b) k)
+Alike a b i = (k : ℕ) × (keyOf a ≡ nameNumber (drop i a) k) × (keyOf b ≡ nameNumber (drop i b) k)
 
-number-on : (w : List ℕ) (i k : ℕ) → i < length w → numbered (drop i w) k ≡ numbered (drop (i + 1) w) (k * 257 + digit (at w i))
-unfolding numbered
+number-on : (w : List ℕ) (i k : ℕ) → i < length w → nameNumber (drop i w) k ≡ nameNumber (drop (i + 1) w) (k * 257 + nameDigit (at w i))
+unfolding nameNumber
 number-on w i k h = rw (drop-cons w i 0 h, add-one i)
 
-number-end : (w : List ℕ) (i k : ℕ) → length w ≤ i → numbered (drop i w) k ≡ k
-unfolding numbered
+number-end : (w : List ℕ) (i k : ℕ) → length w ≤ i → nameNumber (drop i w) k ≡ k
+unfolding nameNumber
 number-end w i k h = rw (drop-of-length-le w h)
 
 pub alike-on : (a b : List ℕ) (i : ℕ) → i < length a → i < length b → at a i ≡ at b i → Alike a b i → Alike a b (i + 1)
-alike-on a b i h l e (k, p, q) = (k * 257 + digit (at a i), p ∙ number-on a i k h, q ∙ number-on b i k l ∙ rw e refl)
+alike-on a b i h l e (k, p, q) = (k * 257 + nameDigit (at a i), p ∙ number-on a i k h, q ∙ number-on b i k l ∙ rw e refl)
 
 -- a test of the names' numbers, by what comes before the other
 by-less : (x y p q : ℕ) → (x ≡ y → ⊥) → (x < y → p < q) → (y < x → q < p) → ltb x y ≡ ltb p q
@@ -58,7 +58,7 @@ pub by-lengths : (a b : List ℕ) → (length a ≡ length b → ⊥) → ltb (l
 by-lengths a b n = by-less _ _ _ _ n (λ h. shorter-less a b 0 h) (λ h. shorter-less b a 0 h)
 
 differ : (a b : List ℕ) (i : ℕ) → i < length a → length a ≡ length b → at b i < 256 → at a i < at b i → Alike a b i → keyOf a < keyOf b
-unfolding digit
+unfolding nameDigit
 differ a b i h e s l (k, p, q) =
     rw (p ∙ number-on a i k h, q ∙ number-on b i k (omega (arith, e)))
     (stays-less (drop (i + 1) a) (drop (i + 1) b) _ _ (omega (arith, length-drop (i + 1) a, length-drop (i + 1) b, e)) (omega arith))
@@ -81,7 +81,7 @@ module _ (t name w : List ℕ) (x : ℕ) (e : w ≡ keptName t x) where
 
   pub word-other : (r : Bool) → r ≡ ltb (keyOf name) (keyOf w) → not r ≡ false → keyAt t x ≡ keyOf name → ⊥
   unfolding keyAt
-  word-other r f g q = omega (arith, ltb-true (keyOf name) (keyOf w) (sym f ∙ not-false r g), ap (λ (z : List ℕ). numbered z 0) e, q)
+  word-other r f g q = omega (arith, ltb-true (keyOf name) (keyOf w) (sym f ∙ not-false r g), ap (λ (z : List ℕ). nameNumber z 0) e, q)
 
 -- the word of two places says the name between them
 key-at : (t : List ℕ) (from to : ℕ) → to < 4294967296 → keyAt t (from * 4294967296 + to) ≡ keyOf (part t from to)
@@ -181,5 +181,5 @@ module _ (κ : ℕ → ℕ) (v : List ℕ) (n k r : ℕ) (p : Between κ v n k r
 -- a name is put where it should stand, as the word that says it
 pub is-put : (t v : List ℕ) (n r from to : ℕ) (name u : List ℕ) → name ≡ part t from to → to < 4294967296 → Between (keyAt t) v n (keyOf name) r r → (r < n → keyAt t (at v r) ≡ keyOf name → ⊥) → Inserted v n r (from * 4294967296 + to) u → n < length v → Rising (keyAt t) v n → More (keyAt t) v n u (n + 1) × With (keyAt t) (keyOf (part t from to)) v n u (n + 1)
 is-put t v n r from to name u e h p other s room up =
-    let says : keyAt t (from * 4294967296 + to) ≡ keyOf name = key-at t from to h ∙ ap (λ (z : List ℕ). numbered z 0) (sym e) in
+    let says : keyAt t (from * 4294967296 + to) ≡ keyOf name = key-at t from to h ∙ ap (λ (z : List ℕ). nameNumber z 0) (sym e) in
     rw (sym e) (is-more (keyAt t) v n (keyOf name) r p other up (from * 4294967296 + to) says u s room, is-with (keyAt t) v n (keyOf name) r p other up (from * 4294967296 + to) says u s room)

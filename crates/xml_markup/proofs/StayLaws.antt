@@ -11,8 +11,8 @@ use lib.Seq.{drop-cons}
 use borrow.Author.Tests.{lt-leb, le-ltb, eq-eqb, ne-eqb, lt-ltb}
 use Rattle.base_words.specs.Pick.{if_then_else_}
 use Rattle.base_words.specs.Words.{at}
-use Rattle.text_lexer.specs.Lexer.{between, isLetter, isDigit, past}
-use Rattle.text_lexer.proofs.PieceLaws.{by-order}
+use Rattle.base_bytes.specs.Bytes.{between, isLetter, isDigit, past}
+use Rattle.base_bytes.proofs.PieceLaws.{by-order}
 use Rattle.xml_characters.specs.Names.{isBlank, isControl, beginsName, isName}
 use Rattle.xml_scanner.specs.declared.InComment.{InComment}
 use Rattle.xml_scanner.specs.declared.InComment.the-variants.{Inside, Dash, Dashes}

@@ -11,7 +11,7 @@ use lib.Seq.{drop-cons, getD-drop}
 use borrow.Author.Tests.{ne-eqb}
 use Rattle.base_words.specs.Pick.{if_then_else_}
 use Rattle.base_words.specs.Words.{at, part}
-use Rattle.text_numerals.specs.Numerals.{sameBytes}
+use Rattle.base_bytes.specs.Bytes.{sameBytes}
 use Rattle.xml_scanner.specs.declared.Sort.the-variants.{Text}
 use Rattle.xml_markup.specs.declared.Scan.the-variants.{Past, Fault}
 use Rattle.xml_characters.specs.Names.{isControl}

@@ -10,7 +10,7 @@ use types.Run.{OneOf, miss}
 use denote.Enum.Declared.{tagOf}
 use Rattle.base_words.specs.Pick.{if_then_else_}
 use Rattle.base_words.specs.Words.{at, part}
-use Rattle.text_numerals.specs.Numerals.{sameBytes}
+use Rattle.base_bytes.specs.Bytes.{sameBytes}
 use Rattle.xml_markup.proofs.Scan.{the-type as scan-type}
 use Rattle.xml_markup.proofs.Whole.{the-type as whole-type}
 use Rattle.xml_markup.specs.declared.Cursor.{Cursor}

@@ -21,15 +21,15 @@ use Rattle.xml_markup.specs.Tokens.{whole, moved, foundFrom, found, rese
 use Rattle.xml_markup.specs.Markup.{scanFrom}
 
 -- a name's number: its bytes are the digits, from 1 on, so that different names have different numbers and a longer one has a greater one
-unfoldable pub digit : ℕ → ℕ
-digit b = b % 256 + 1
+unfoldable pub nameDigit : ℕ → ℕ
+nameDigit b = b % 256 + 1
 
-unfoldable pub numbered : List ℕ → ℕ → ℕ
-numbered [] k = k
-numbered (b ∷ w) k = numbered w (k * 257 + digit b)
+unfoldable pub nameNumber : List ℕ → ℕ → ℕ
+nameNumber [] k = k
+nameNumber (b ∷ w) k = nameNumber w (k * 257 + nameDigit b)
 
 abbrev pub keyOf : Bytes → ℕ
-keyOf name = numbered name 0
+keyOf name = nameNumber name 0
 
 -- a word that is kept: where a name of the text begins and ends; its number
 abbrev pub keptName : Bytes → ℕ → Bytes
@@ -74,8 +74,8 @@ abbrev pub New : Bytes → ℕ → ℕ → Bytes → Type 0
 New t start i name = found (part t 0 i) name start ≡ Nowhere
 
 -- a search that comes to the place i without finding the name stands at the cursor c there
-abbrev pub Reached : Bytes → ℕ → Cursor → ℕ → Type 0
-Reached t start c i = (name : List ℕ) (m : ℕ) → i ≤ m → m ≤ length t → New t start i name → found (part t 0 m) name start ≡ foundFrom (part t 0 m) name c (drop i (part t 0 m)) i
+abbrev pub ReadTo : Bytes → ℕ → Cursor → ℕ → Type 0
+ReadTo t start c i = (name : List ℕ) (m : ℕ) → i ≤ m → m ≤ length t → New t start i name → found (part t 0 m) name start ≡ foundFrom (part t 0 m) name c (drop i (part t 0 m)) i
 
 -- one byte, where an attribute's name is not judged
 unfoldable pub isFaultyElse : Whole → Bytes → ℕ → ℕ → Bool
@@ -96,11 +96,11 @@ pub record Ahead (t : List ℕ) (start : ℕ) (c : Cursor) (p : ℕ) (v : List �
   pub rising : Rising (keyAt t) v n
   pub fits : n ≤ length v
   pub on : p ≤ i
-  pub reached : Reached t start d i
+  pub reached : ReadTo t start d i
   pub new : (name : List ℕ) → New t start p name → (Kept (keyAt t) v n (keyOf name) → ⊥) → New t start i name
   pub same : ((name : List ℕ) → Kept (keyAt t) v n (keyOf name) → New t start p name) → scanFrom t start c (drop p t) p ≡ scanFrom t start d (drop i t) i
 
 pub record Sure (t : List ℕ) (start : ℕ) (c : Cursor) (p : ℕ) (d : Cursor) (i : ℕ) : Type 0 where
   pub on : p ≤ i
-  pub reached : Reached t start d i
+  pub reached : ReadTo t start d i
   pub same : scanFrom t start c (drop p t) p ≡ scanFrom t start d (drop i t) i

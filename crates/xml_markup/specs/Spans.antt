@@ -9,8 +9,8 @@ use lib.ListN.{length, drop}
 use Rattle.base_words.specs.Blocks.{Bytes}
 use Rattle.base_words.specs.Pick.{if_then_else_}
 use Rattle.base_words.specs.Words.{at, part}
-use Rattle.text_lexer.specs.Lexer.{past}
-use Rattle.text_numerals.specs.Numerals.{sameBytes}
+use Rattle.base_bytes.specs.Bytes.{past}
+use Rattle.base_bytes.specs.Bytes.{sameBytes}
 use Rattle.xml_markup.specs.declared.Class.{Class}
 use Rattle.xml_markup.specs.declared.Class.the-variants.{Blanks, Name, Value}
 use Rattle.xml_markup.specs.declared.Span.{Span}

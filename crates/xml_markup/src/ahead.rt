@@ -10,7 +10,7 @@ ghost use Rattle.xml_markup.specs.declared.Whole.the-variants.{Attribute
 ghost use Rattle.xml_markup.specs.declared.Found.the-variants.{Nowhere};
 ghost use Rattle.xml_markup.specs.Tokens.{whole, isNamed, found};
 ghost use Rattle.xml_markup.specs.Markup.{scanFrom};
-ghost use Rattle.xml_markup.specs.Ahead.{keyOf, keyAt, Rising, Kept, More, With, Reached, Ahead, Sure, isFaultyElse, tried};
+ghost use Rattle.xml_markup.specs.Ahead.{keyOf, keyAt, Rising, Kept, More, With, ReadTo, Ahead, Sure, isFaultyElse, tried};
 use super::Cursor;
 use super::Reach;
 use super::Scan;
@@ -26,8 +26,8 @@ use super::tokens::moved;
 use super::tokens::reserved;
 use super::tokens::speaks;
 use super::tokens::whole;
-use text_lexer::byte;
-use text_lexer::piece;
+use base_bytes::byte;
+use base_bytes::piece;
 use xml_characters::is_control;
 
 // The most names that are looked at together, and how many at first: few tags have more.
@@ -128,7 +128,7 @@ fn first_met(all: &[u8], text: &[u8], start: usize, v: &[usize], n: usize) -> us
 
 // Reads a tag ahead as long as its names are different, which are kept; it is read rightly where no name before is one of them.
 fn read_ahead(text: &[u8], start: usize, c: Cursor, p: usize, most: usize, v: &mut [usize]) -> Reach
-    requires { ⌜ Reached (now text) start c p ⌝ }
+    requires { ⌜ ReadTo (now text) start c p ⌝ }
     ensures { λ r. ⌜ Ahead (now (text .entry)) start c p (now (v .exit)) (r .most) (r .cursor) (r .place) ⌝ }
 {
     let mut here = c;
@@ -166,7 +166,7 @@ fn read_ahead(text: &[u8], start: usize, c: Cursor, p: usize, most: usize, v: &m
 
 // Reads ahead up to `most` names of a tag, kept in the words lent; nothing where one is not new, and next time those before it, without the one at p, which is judged by itself then.
 fn read_with(text: &[u8], start: usize, c: Cursor, p: usize, most: usize, v: &mut [usize]) -> Reach
-    requires { ⌜ Reached (now text) start c p ⌝ }
+    requires { ⌜ ReadTo (now text) start c p ⌝ }
     ensures { λ r. ⌜ Sure (now (text .entry)) start c p (r .cursor) (r .place) ⌝ }
 {
     let r = read_ahead(text, start, c, p, most, v);
@@ -194,7 +194,7 @@ fn read_with(text: &[u8], start: usize, c: Cursor, p: usize, most: usize, v: &mu
 }
 
 fn read_few(text: &[u8], start: usize, c: Cursor, p: usize, most: usize) -> Reach
-    requires { ⌜ Reached (now text) start c p ⌝ }
+    requires { ⌜ ReadTo (now text) start c p ⌝ }
     ensures { λ r. ⌜ Sure (now (text .entry)) start c p (r .cursor) (r .place) ⌝ }
 {
     let mut v = [0; FEW];
@@ -202,7 +202,7 @@ fn read_few(text: &[u8], start: usize, c: Cursor, p: usize, most: usize) -> Reac
 }
 
 fn read_many(text: &[u8], start: usize, c: Cursor, p: usize, most: usize) -> Reach
-    requires { ⌜ Reached (now text) start c p ⌝ }
+    requires { ⌜ ReadTo (now text) start c p ⌝ }
     ensures { λ r. ⌜ Sure (now (text .entry)) start c p (r .cursor) (r .place) ⌝ }
 {
     let mut v = [0; NAMES];
@@ -211,7 +211,7 @@ fn read_many(text: &[u8], start: usize, c: Cursor, p: usize, most: usize) -> Rea
 
 // Reads ahead up to `most` names of a tag from a place on where one is being read; few of them need few words.
 fn read_some(text: &[u8], start: usize, c: Cursor, p: usize, most: usize) -> Reach
-    requires { ⌜ Reached (now text) start c p ⌝ }
+    requires { ⌜ ReadTo (now text) start c p ⌝ }
     ensures { λ r. ⌜ Sure (now (text .entry)) start c p (r .cursor) (r .place) ⌝ }
 {
     let s = c.state;
@@ -231,7 +231,7 @@ fn read_some(text: &[u8], start: usize, c: Cursor, p: usize, most: usize) -> Rea
 
 // Reads a tag ahead as far as its names are new.
 pub fn read_new(text: &[u8], start: usize, c: Cursor, p: usize, most: usize) -> Reach
-    requires { ⌜ Reached (now text) start c p ⌝ }
+    requires { ⌜ ReadTo (now text) start c p ⌝ }
     ensures { λ r. ⌜ Sure (now (text .entry)) start c p (r .cursor) (r .place) ⌝ }
 {
     let mut last = p;

@@ -16,9 +16,9 @@ use super::leaping::leap;
 use super::leaping::leap_begin;
 use super::tokens::twice;
 use super::tokens::whole;
-use text_lexer::byte;
-use text_lexer::piece;
-use text_numerals::same;
+use base_bytes::byte;
+use base_bytes::piece;
+use base_bytes::same;
 use xml_characters::is_control;
 use xml_scanner::Sort;
 

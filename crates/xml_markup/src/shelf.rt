@@ -7,7 +7,7 @@ ghost use lib.ListN.{length};
 ghost use Rattle.base_words.specs.Words.{at, part};
 ghost use Rattle.xml_markup.specs.Ahead.{keptName, keyOf, keyAt, Rising, Kept, Between, Inserted, More, With};
 use super::Bounds;
-use text_lexer::piece;
+use base_bytes::piece;
 
 // A word holds two places below this one; as a place it is none.
 pub const PLACES: usize = 4294967296;

@@ -1,7 +1,7 @@
 // Bytes that leave a markup where it is, passed together.
 ghost use mathlib.Core.Path.{_≡_};
 ghost use lib.ListN.{drop};
-ghost use Rattle.text_lexer.specs.Lexer.{past};
+ghost use Rattle.base_bytes.specs.Bytes.{past};
 ghost use Rattle.xml_markup.specs.Staying.{isPlain, staysInComment, staysInData, staysInInstruction, staysInTag, staysInEnd, stays};
 use super::Class;
 use super::spans::run;

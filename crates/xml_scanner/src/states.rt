@@ -13,7 +13,7 @@ use super::InTag;
 use super::Move;
 use super::Sort;
 use super::State;
-use text_lexer::byte;
+use base_bytes::byte;
 use xml_characters::begins_name;
 use xml_characters::is_blank;
 use xml_characters::is_name;

@@ -16,16 +16,16 @@ use Rattle.xml_markup.specs.declared.Opener.the-variants.{Start, End as EndOpen
 use Rattle.xml_markup.specs.Markup.{markup}
 use Rattle.xml_markup.specs.Spans.{opener, sameName}
 use Rattle.xml_markup.proofs.MarkupLaws.{Ahead, markup-ahead, markup-within}
-use Rattle.xml_skip.specs.declared.Skipped.{Skipped}
-use Rattle.xml_skip.specs.declared.Skipped.the-variants.{Past, Fault}
+use Rattle.xml_skip.specs.declared.Reached.{Reached}
+use Rattle.xml_skip.specs.declared.Reached.the-variants.{Past, Fault}
 use Rattle.xml_skip.specs.declared.Part.{Part}
 use Rattle.xml_skip.specs.declared.Part.the-variants.{Element, Close, On, Fault as PartFault}
 use Rattle.xml_skip.specs.declared.Tag.{Tag}
 use Rattle.xml_skip.specs.declared.Tag.the-variants.{Open, Empty, Fault as TagFault}
-use Rattle.xml_skip.specs.Skipping.{partBy, partOf, partFor, partAt, tagBy, tagOf, behind, byTag, elementBy, byPart, contentBy, contentIn, contentAt, elementAt, depth, skipped}
+use Rattle.xml_skip.specs.Skipping.{partBy, partOf, partFor, partAt, tagBy, tagOf, goOn, byTag, elementBy, byPart, contentBy, contentIn, contentAt, elementAt, depth, skipped}
 
 -- WHAT IS PASSED IS FURTHER ON
-abbrev pub Further : ℕ → Skipped → Type 0
+abbrev pub Further : ℕ → Reached → Type 0
 Further p (Past q) = p < q
 Further p (Fault q) = Unit {0}
 
@@ -40,11 +40,11 @@ Behind p (Open q) = p < q
 Behind p (Empty q) = p < q
 Behind p (TagFault q) = Unit {0}
 
-further-from : (p q : ℕ) (r : Skipped) → p < q → Further q r → Further p r
+further-from : (p q : ℕ) (r : Reached) → p < q → Further q r → Further p r
 further-from p q (Past x) h o = omega arith
 further-from p q (Fault x) h o = tt
 
-further-if : (p : ℕ) (b : Bool) (x y : Skipped) → Further p x → Further p y → Further p (if b then x else y)
+further-if : (p : ℕ) (b : Bool) (x y : Reached) → Further p x → Further p y → Further p (if b then x else y)
 unfolding if_then_else_
 further-if p true x y h k = h
 further-if p false x y h k = k
@@ -119,7 +119,7 @@ unfolding tagOf
 tag-within t p = within-by (markup t p .sort) (markup t p .next) p (length t) (markup-within t p)
 
 -- one step goes on, where what follows goes on
-module _ (C : ℕ → ℕ → ℕ → Skipped) (on : (o q e : ℕ) → Further q (C o q e)) (t : List ℕ) (p d : ℕ) where
+module _ (C : ℕ → ℕ → ℕ → Reached) (on : (o q e : ℕ) → Further q (C o q e)) (t : List ℕ) (p d : ℕ) where
   by-tag : (g : Tag) → Behind p g → Further p (byTag g (λ q. C p q (d - 1)))
   unfolding byTag
   by-tag (Open q) h = further-from p q (C p q (d - 1)) h (on p q (d - 1))
@@ -130,8 +130,8 @@ module _ (C : ℕ → ℕ → ℕ → Skipped) (on : (o q e : ℕ) → Further q
   unfolding elementBy
   element-on = further-if p (eqb d 0) _ _ tt (by-tag (tagOf (markup t p) p) (tag-behind t p))
 
-  behind-on : (outer : ℕ) (r : Skipped) → Further p r → Further p (behind r (λ q. C outer q d))
-  unfolding behind
+  behind-on : (outer : ℕ) (r : Reached) → Further p r → Further p (goOn r (λ q. C outer q d))
+  unfolding goOn
   behind-on outer (Past q) o = further-from p q (C outer q d) o (on outer q d)
   behind-on outer (Fault q) o = tt
 
@@ -152,7 +152,7 @@ in-on zero t outer p d = tt
 in-on (suc n) t outer p d = content-on (contentIn n t) (in-on n t) t p d outer
 
 -- ENOUGH STEPS. One step gives the same, where what follows gives the same.
-module _ (C D : ℕ → ℕ → ℕ → Skipped) (on : (o q e : ℕ) → Further q (D o q e)) (t : List ℕ) (p d : ℕ) (same : (o q e : ℕ) → p < q → C o q e ≡ D o q e) where
+module _ (C D : ℕ → ℕ → ℕ → Reached) (on : (o q e : ℕ) → Further q (D o q e)) (t : List ℕ) (p d : ℕ) (same : (o q e : ℕ) → p < q → C o q e ≡ D o q e) where
   tag-same : (g : Tag) → Behind p g → byTag g (λ q. C p q (d - 1)) ≡ byTag g (λ q. D p q (d - 1))
   unfolding byTag
   tag-same (Open q) h = same p q (d - 1) h
@@ -163,8 +163,8 @@ module _ (C D : ℕ → ℕ → ℕ → Skipped) (on : (o q e : ℕ) → Further
   unfolding elementBy
   element-same = rw (tag-same (tagOf (markup t p) p) (tag-behind t p))
 
-  behind-same : (outer : ℕ) (r : Skipped) → Further p r → behind r (λ q. C outer q d) ≡ behind r (λ q. D outer q d)
-  unfolding behind
+  behind-same : (outer : ℕ) (r : Reached) → Further p r → goOn r (λ q. C outer q d) ≡ goOn r (λ q. D outer q d)
+  unfolding goOn
   behind-same outer (Past q) o = same outer q d o
   behind-same outer (Fault q) o = refl
 
@@ -192,7 +192,7 @@ pub content-is : (t : List ℕ) (outer p d : ℕ) → contentAt t outer p d ≡ 
 unfolding contentAt contentIn
 content-is t outer p d = stable (length t) (suc (length t)) t outer p d (omega arith) (omega arith)
 
-pub element-past : (t : List ℕ) (p d : ℕ) (r : Skipped) → r ≡ elementAt t p d → (q : ℕ) → r ≡ Past q → p < q
+pub element-past : (t : List ℕ) (p d : ℕ) (r : Reached) → r ≡ elementAt t p d → (q : ℕ) → r ≡ Past q → p < q
 unfolding elementAt contentAt
 element-past t p d r er q e = rw (← er, e) at (element-on (contentAt t) (in-on (length t) t) t p d)
 
@@ -225,12 +225,12 @@ module _ (t : List ℕ) (outer p d : ℕ) (in-text : p < length t) (g : Part) (e
   unfolding byPart
   content-onward q e = content-part ∙ rw e
 
-  pub content-past : g ≡ Element → (r : Skipped) → r ≡ elementAt t p d → (q : ℕ) → r ≡ Past q → contentAt t outer p d ≡ contentAt t outer q d
-  unfolding byPart behind
+  pub content-past : g ≡ Element → (r : Reached) → r ≡ elementAt t p d → (q : ℕ) → r ≡ Past q → contentAt t outer p d ≡ contentAt t outer q d
+  unfolding byPart goOn
   content-past k r er q e = content-part ∙ rw (k, ← er, e)
 
-  pub content-refused : g ≡ Element → (r : Skipped) → r ≡ elementAt t p d → (q : ℕ) → r ≡ Fault q → contentAt t outer p d ≡ r
-  unfolding byPart behind
+  pub content-refused : g ≡ Element → (r : Reached) → r ≡ elementAt t p d → (q : ℕ) → r ≡ Fault q → contentAt t outer p d ≡ r
+  unfolding byPart goOn
   content-refused k r er q e = content-part ∙ rw (k, ← er, e)
 
 -- an element at p

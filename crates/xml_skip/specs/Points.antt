@@ -3,15 +3,15 @@ use Prim.Native.Nat.{ℕ, zero, suc}
 use Prim.Native.String.{String}
 use mathlib.Core.List.{List, [], _∷_, _++_}
 use Rattle.base_words.specs.Text.{bytes}
-use Rattle.xml_skip.specs.declared.Skipped.{Skipped}
-use Rattle.xml_skip.specs.declared.Skipped.the-variants.{Past, Fault}
+use Rattle.xml_skip.specs.declared.Reached.{Reached}
+use Rattle.xml_skip.specs.declared.Reached.the-variants.{Past, Fault}
 
 pub record Point : Type 0 where
   pub says : String
   pub text : List ℕ
-  pub is : Skipped
+  pub is : Reached
 
-abbrev point : String → List ℕ → Skipped → Point
+abbrev point : String → List ℕ → Reached → Point
 point s t r = record { says = s; text = t; is = r }
 
 -- a text n times

@@ -13,8 +13,8 @@ use Rattle.xml_markup.specs.declared.Opener.{Opener}
 use Rattle.xml_markup.specs.declared.Opener.the-variants.{Start, End as EndOpener, Other}
 use Rattle.xml_markup.specs.Markup.{markup}
 use Rattle.xml_markup.specs.Spans.{opener, sameName}
-use Rattle.xml_skip.specs.declared.Skipped.{Skipped}
-use Rattle.xml_skip.specs.declared.Skipped.the-variants.{Past, Fault}
+use Rattle.xml_skip.specs.declared.Reached.{Reached}
+use Rattle.xml_skip.specs.declared.Reached.the-variants.{Past, Fault}
 use Rattle.xml_skip.specs.declared.Part.{Part}
 use Rattle.xml_skip.specs.declared.Part.the-variants.{Element, Close, On, Fault as PartFault}
 use Rattle.xml_skip.specs.declared.Tag.{Tag}
@@ -66,42 +66,42 @@ unfoldable pub tagOf : Markup → ℕ → Tag
 tagOf m p = tagBy (m .sort) (m .next) p
 
 -- goes on from the place that was reached; a fault stays
-unfoldable pub behind : Skipped → (ℕ → Skipped) → Skipped
-behind (Past q) on = on q
-behind (Fault q) on = Fault q
+unfoldable pub goOn : Reached → (ℕ → Reached) → Reached
+goOn (Past q) on = on q
+goOn (Fault q) on = Fault q
 
-unfoldable pub byTag : Tag → (ℕ → Skipped) → Skipped
+unfoldable pub byTag : Tag → (ℕ → Reached) → Reached
 byTag (Open q) content = content q
 byTag (Empty q) content = Past q
 byTag (TagFault q) content = Fault q
 
 -- an element at p, where `content` skips the content of the element at a place, from a place on, at a depth
-unfoldable pub elementBy : (ℕ → ℕ → ℕ → Skipped) → Bytes → ℕ → ℕ → Skipped
+unfoldable pub elementBy : (ℕ → ℕ → ℕ → Reached) → Bytes → ℕ → ℕ → Reached
 elementBy content t p d = if eqb d 0 then Fault p else byTag (tagOf (markup t p) p) (λ q. content p q (d - 1))
 
-unfoldable pub byPart : Part → Skipped → (ℕ → Skipped) → Skipped
-byPart Element element content = behind element content
+unfoldable pub byPart : Part → Reached → (ℕ → Reached) → Reached
+byPart Element element content = goOn element content
 byPart (Close q) element content = Past q
 byPart (On q) element content = content q
 byPart (PartFault q) element content = Fault q
 
 -- content from p on, of the element at `outer`
-unfoldable pub contentBy : (ℕ → ℕ → ℕ → Skipped) → Bytes → ℕ → ℕ → ℕ → Skipped
+unfoldable pub contentBy : (ℕ → ℕ → ℕ → Reached) → Bytes → ℕ → ℕ → ℕ → Reached
 contentBy content t outer p d =
     if leb (length t) p then Fault (length t)
     else byPart (partAt t outer p) (elementBy content t p d) (λ q. content outer q d)
 
 -- the same, in n steps at most
-unfoldable pub contentIn : ℕ → Bytes → ℕ → ℕ → ℕ → Skipped
+unfoldable pub contentIn : ℕ → Bytes → ℕ → ℕ → ℕ → Reached
 contentIn zero t outer p d = Fault (length t)
 contentIn (suc n) t outer p d = contentBy (contentIn n t) t outer p d
 
 -- each step passes a byte, so the text's length is enough steps
-unfoldable pub contentAt : Bytes → ℕ → ℕ → ℕ → Skipped
+unfoldable pub contentAt : Bytes → ℕ → ℕ → ℕ → Reached
 contentAt t outer p d = contentIn (length t) t outer p d
 
-unfoldable pub elementAt : Bytes → ℕ → ℕ → Skipped
+unfoldable pub elementAt : Bytes → ℕ → ℕ → Reached
 elementAt t p d = elementBy (contentAt t) t p d
 
-unfoldable pub skipped : Bytes → ℕ → Skipped
+unfoldable pub skipped : Bytes → ℕ → Reached
 skipped t p = elementAt t p depth

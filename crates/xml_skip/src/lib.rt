@@ -10,7 +10,7 @@ use xml_markup::spans::same_name;
 use xml_scanner::Sort;
 
 // The place behind an element, or the place of the fault.
-pub enum Skipped {
+pub enum Reached {
     Past(usize),
     Fault(usize),
 }
@@ -90,22 +90,22 @@ pub fn tag_of(m: Markup, p: usize) -> Tag
 }
 
 // Goes from an element's `<` to the place behind the element. `depth` is how many elements deep it may be, itself counted.
-pub fn skip_element(text: &[u8], p: usize, depth: usize) -> Skipped
+pub fn skip_element(text: &[u8], p: usize, depth: usize) -> Reached
     ensures { λ r. ⌜ r ≡ elementAt (now (text .entry)) p depth ⌝ }
 {
     if depth == 0 {
-        return Skipped::Fault(p);
+        return Reached::Fault(p);
     }
     let t = tag_of(markup(text, p), p);
     match t {
         Tag::Open(q) => skip_content(text, p, q, depth - 1),
-        Tag::Empty(q) => Skipped::Past(q),
-        Tag::Fault(q) => Skipped::Fault(q),
+        Tag::Empty(q) => Reached::Past(q),
+        Tag::Fault(q) => Reached::Fault(q),
     }
 }
 
 // Goes from a place in the content of the element whose tag is at `outer` to the place behind that element's end tag.
-pub fn skip_content(text: &[u8], outer: usize, p: usize, depth: usize) -> Skipped
+pub fn skip_content(text: &[u8], outer: usize, p: usize, depth: usize) -> Reached
     ensures { λ r. ⌜ r ≡ contentAt (now (text .entry)) outer p depth ⌝ }
 {
     let mut at = p;
@@ -114,40 +114,40 @@ pub fn skip_content(text: &[u8], outer: usize, p: usize, depth: usize) -> Skippe
         match part {
             Part::Element => {
                 let e = skip_element(text, at, depth);
-                let Skipped::Past(q) = e else {
+                let Reached::Past(q) = e else {
                     return e;
                 };
                 at = q;
             }
             Part::Close(q) => {
-                return Skipped::Past(q);
+                return Reached::Past(q);
             }
             Part::On(q) => {
                 at = q;
             }
             Part::Fault(q) => {
-                return Skipped::Fault(q);
+                return Reached::Fault(q);
             }
         }
     }
-    Skipped::Fault(text.len())
+    Reached::Fault(text.len())
 }
 
 // Goes from an element's `<` to the place behind the element, which is up to 16 deep.
-pub fn skip(text: &[u8], p: usize) -> Skipped
+pub fn skip(text: &[u8], p: usize) -> Reached
     ensures { λ r. ⌜ r ≡ skipped (now (text .entry)) p ⌝ }
 {
     skip_element(text, p, DEPTH)
 }
 
 // The same from the tag at that place, which is read already.
-pub fn skip_from(tag: Tag, text: &[u8], p: usize) -> Skipped
+pub fn skip_from(tag: Tag, text: &[u8], p: usize) -> Reached
     requires { ⌜ tag ≡ tagOf (markup (now text) p) p ⌝ }
     ensures { λ r. ⌜ r ≡ skipped (now (text .entry)) p ⌝ }
 {
     match tag {
         Tag::Open(q) => skip_content(text, p, q, DEPTH - 1),
-        Tag::Empty(q) => Skipped::Past(q),
-        Tag::Fault(q) => Skipped::Fault(q),
+        Tag::Empty(q) => Reached::Past(q),
+        Tag::Fault(q) => Reached::Fault(q),
     }
 }

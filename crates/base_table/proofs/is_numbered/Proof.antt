@@ -1,4 +1,4 @@
-use Rattle.base_table.specs.Table.{numbered}
+use Rattle.base_table.specs.Table.{hasNumber}
 use Rattle.base_words.proofs.PickLaws.{eqb-same}
 use borrow.Author.Needs.{needs}
 use Rattle.base_table.proofs.is_numbered.Statement.{statement}
@@ -7,7 +7,7 @@ use Rattle.base_table.proofs.is_numbered.Tie as tie
 ruleset L = (needs)
 
 pub is-numbered-spec : {M : Type 1} → statement M
-unfolding numbered
+unfolding hasNumber
 is-numbered-spec =
     tie.close
     (tie.spec

@@ -1,4 +1,4 @@
-use Rattle.cuttingvale.specs.Boundary.{ranBy}
+use Rattle.cuttingvale.specs.Boundary.{ranLent}
 use Rattle.base_words.proofs.PickLaws.{pick-yes, pick-no, flag-yes, flag-no}
 use mathlib.Core.Path.{refl}
 use borrow.Author.Needs.{needs}
@@ -6,11 +6,11 @@ use Rattle.cuttingvale.proofs.cv_run.Statement.{statement}
 use Rattle.cuttingvale.proofs.cv_run.Tie as tie
 
 returns : tie.Need-returns
-unfolding ranBy
+unfolding ranLent
 returns c = pick-no _ _ _ _ (flag-no _ _ (c .before .are-whole .ensures) (c .if1 .taken)) refl
 
 returns-2 : tie.Need-returns-2
-unfolding ranBy
+unfolding ranLent
 returns-2 c = pick-yes _ _ _ _ (flag-yes _ _ (c .before .before .before .before .before .are-whole .ensures) (c .before .before .before .before .if1 .left)) (c .before .run .ensures)
 
 pub cv-run-spec : {M : Type 1} → statement M

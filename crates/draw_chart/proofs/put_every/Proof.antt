@@ -1,7 +1,7 @@
 use Prim.Native.Nat.{_-_}
 use Prim.Native.Nat.{_≤_}
 use Rattle.base_words.specs.Each.{joined}
-use Rattle.draw_faults.specs.Amiss.{hasParticipants}
+use Rattle.draw_numbers.specs.Who.{hasParticipants}
 use Rattle.draw_chart.proofs.PutLaws.{all-done}
 use Rattle.draw_chart.proofs.PutLaws.{all-more}
 use Rattle.draw_chart.proofs.PutLaws.{all-none}

@@ -1,6 +1,7 @@
 use Prim.Native.Nat.{ℕ, _-_, _<_, _≤_}
-use Rattle.draw_faults.proofs.AmissLaws.{not-is}
-use Rattle.draw_faults.specs.Amiss.{hasParticipants, isRepeated, isRight}
+use Rattle.draw_numbers.proofs.FoundLaws.{not-is}
+use Rattle.draw_faults.specs.Amiss.{isRepeated, isRight}
+use Rattle.draw_numbers.specs.Who.{hasParticipants}
 use Rattle.draw_faults.specs.Once.{Plain}
 use Rattle.base_words.proofs.AllLaws.{all-done, all-fails′, all-more, all-none}
 use Rattle.base_words.specs.All.{all}

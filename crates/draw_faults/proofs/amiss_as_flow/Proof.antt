@@ -1,6 +1,6 @@
-use Rattle.draw_faults.proofs.AmissLaws.{or-here, or-on}
+use Rattle.draw_numbers.proofs.FoundLaws.{or-here, or-on}
 use Rattle.draw_faults.specs.Amiss.{amissAsFlow, isSecondCondition}
-use Rattle.text_lexer.proofs.ClassLaws.{or-told}
+use Rattle.base_bytes.proofs.OrLaws.{or-told}
 use borrow.Author.Needs.{needs}
 use Rattle.draw_faults.proofs.amiss_as_flow.Statement.{statement}
 use Rattle.draw_faults.proofs.amiss_as_flow.Tie as tie

@@ -1,7 +1,7 @@
-use Rattle.draw_faults.proofs.AmissLaws.{or-here, or-on}
+use Rattle.draw_numbers.proofs.FoundLaws.{or-here, or-on}
 use Rattle.draw_faults.proofs.OnceLaws.{or-last}
 use Rattle.draw_faults.specs.Amiss.{isAmiss, isStrange}
-use Rattle.text_lexer.proofs.ClassLaws.{or-told}
+use Rattle.base_bytes.proofs.OrLaws.{or-told}
 use borrow.Author.Needs.{needs}
 use Rattle.draw_faults.proofs.is_amiss.Statement.{statement}
 use Rattle.draw_faults.proofs.is_amiss.Tie as tie

@@ -1,5 +1,5 @@
 use Prim.Native.Nat.{_-_, _≤_}
-use Rattle.draw_kinds.specs.Roles.{roles, settled}
+use Rattle.draw_kinds.specs.Roles.{roles, kindSettled}
 use Rattle.base_words.proofs.IterLaws.{iter-done, iter-more, iter-none}
 use Rattle.base_words.specs.Iter.{iter}
 use lib.ListN.{length}
@@ -9,7 +9,7 @@ use Rattle.draw_kinds.proofs.roles.Statement.{statement}
 use Rattle.draw_kinds.proofs.roles.Tie as tie
 
 abbrev Inv-loop : tie.InvT-loop
-Inv-loop w₁ n k₀ w k = (k ≤ n) × (length w ≡ length w₁) × (w ≡ iter (settled n) w₁ k)
+Inv-loop w₁ n k₀ w k = (k ≤ n) × (length w ≡ length w₁) × (w ≡ iter (kindSettled n) w₁ k)
 
 abbrev μ-loop : tie.MeasureT-loop
 μ-loop w₁ n k₀ w k = n - k

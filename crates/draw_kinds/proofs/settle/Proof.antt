@@ -1,4 +1,4 @@
-use Rattle.draw_kinds.specs.Roles.{settled}
+use Rattle.draw_kinds.specs.Roles.{kindSettled}
 use Rattle.base_words.proofs.PickLaws.{flag-is, pick-no, pick-yes}
 use mathlib.Core.Path.{refl}
 use borrow.Author.Needs.{needs}
@@ -6,7 +6,7 @@ use Rattle.draw_kinds.proofs.settle.Statement.{statement}
 use Rattle.draw_kinds.proofs.settle.Tie as tie
 
 pub settle-spec : {M : Type 1} → statement M
-unfolding settled
+unfolding kindSettled
 settle-spec =
     tie.close
     (tie.spec

@@ -1,5 +1,5 @@
 use Prim.Native.Nat.{_-_, _≤_}
-use Rattle.draw_kinds.specs.Roles.{roles, settled, isUnsettled}
+use Rattle.draw_kinds.specs.Roles.{roles, kindSettled, isUnsettled}
 use Rattle.draw_kinds.proofs.KindLaws.{kinds-on, kinds-stop, kinds-end}
 use Rattle.base_words.proofs.IterLaws.{iter-more, iter-none}
 use Rattle.base_words.proofs.SeekLaws.{seek-none}
@@ -12,7 +12,7 @@ use Rattle.draw_kinds.proofs.settle_kinds.Statement.{statement}
 use Rattle.draw_kinds.proofs.settle_kinds.Tie as tie
 
 abbrev Inv-loop : tie.InvT-loop
-Inv-loop w₁ n k₀ w k = (k ≤ n) × (length w ≡ length w₁) × (w ≡ iter (settled n) w₁ k) × (seek (isUnsettled (roles n w₁)) k ≡ k)
+Inv-loop w₁ n k₀ w k = (k ≤ n) × (length w ≡ length w₁) × (w ≡ iter (kindSettled n) w₁ k) × (seek (isUnsettled (roles n w₁)) k ≡ k)
 
 abbrev μ-loop : tie.MeasureT-loop
 μ-loop w₁ n k₀ w k = n - k

@@ -1,5 +1,5 @@
 use Prim.Native.Nat.{_-_, _≤_}
-use Rattle.draw_faults.specs.Amiss.{hasParticipants}
+use Rattle.draw_numbers.specs.Who.{hasParticipants}
 use Rattle.draw_limits.specs.Excess.{firstBeyond, isBeyond}
 use Rattle.draw_links.specs.Links.{owned}
 use Rattle.base_words.proofs.PickLaws.{flag-is}

@@ -1,6 +1,6 @@
-use Rattle.draw_faults.proofs.AmissLaws.{or-on}
+use Rattle.draw_numbers.proofs.FoundLaws.{or-on}
 use Rattle.draw_limits.specs.Excess.{isFlowBeyond}
-use Rattle.text_lexer.proofs.ClassLaws.{or-told}
+use Rattle.base_bytes.proofs.OrLaws.{or-told}
 use Rattle.draw_links.proofs.TestLaws.{and-told}
 use Rattle.base_words.proofs.PickLaws.{and-yes, flag-is}
 use borrow.Author.Needs.{needs}

@@ -1,5 +1,5 @@
 use Rattle.draw_limits.specs.Excess.{isNinth}
-use Rattle.text_lexer.proofs.ClassLaws.{or-no, or-told}
+use Rattle.base_bytes.proofs.OrLaws.{or-no, or-told}
 use Rattle.base_words.proofs.AllLaws.{lt-leb-by′}
 use Rattle.base_words.specs.Words.{at}
 use borrow.Author.Tests.{le-leb}

@@ -1,6 +1,6 @@
-use Rattle.draw_faults.proofs.AmissLaws.{or-on}
+use Rattle.draw_numbers.proofs.FoundLaws.{or-on}
 use Rattle.draw_limits.specs.Excess.{isUsed}
-use Rattle.text_lexer.proofs.ClassLaws.{or-told}
+use Rattle.base_bytes.proofs.OrLaws.{or-told}
 use Rattle.base_words.specs.Words.{at}
 use borrow.Author.Needs.{needs}
 use Rattle.draw_limits.proofs.is_used.Statement.{statement}

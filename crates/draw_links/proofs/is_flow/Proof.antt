@@ -1,4 +1,4 @@
-use Rattle.text_lexer.proofs.ClassLaws.{or-no, or-told}
+use Rattle.base_bytes.proofs.OrLaws.{or-no, or-told}
 use Rattle.base_words.proofs.AllLaws.{ne-eqb-by}
 use Rattle.base_words.proofs.PickLaws.{eqb-same}
 use borrow.Author.Tests.{eq-eqb}

@@ -1,11 +1,11 @@
-use Rattle.draw_links.specs.Links.{joined}
+use Rattle.draw_links.specs.Links.{flowJoined}
 use mathlib.Core.Path.{refl}
 use borrow.Author.Needs.{needs}
 use Rattle.draw_links.proofs.join.Statement.{statement}
 use Rattle.draw_links.proofs.join.Tie as tie
 
 pub join-spec : {M : Type 1} → statement M
-unfolding joined
+unfolding flowJoined
 join-spec =
     tie.close
     (tie.spec

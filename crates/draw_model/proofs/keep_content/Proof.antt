@@ -1,5 +1,5 @@
 use Prim.Native.Nat.{_-_, _≤_}
-use Rattle.draw_faults.specs.Amiss.{hasParticipants}
+use Rattle.draw_numbers.specs.Who.{hasParticipants}
 use Rattle.base_words.specs.Each.{joined}
 use Rattle.draw_model.proofs.KeptLaws.{counted-more, counted-start, kept-done, kept-more, kept-start, one-at-most}
 use Rattle.draw_model.specs.Content.{content, poolIf}

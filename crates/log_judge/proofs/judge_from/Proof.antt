@@ -4,7 +4,7 @@ use native.Mathlib.Omega.{arith}
 use lib.ListN.{length}
 use Rattle.log_text.specs.Logs.{linesIn, linesFrom}
 use Rattle.step_poll.specs.Poll.{settledStep, settledPost}
-use Rattle.log_judge.specs.Judge.{taken, judgedBy, leftBy}
+use Rattle.log_judge.specs.Judge.{lineTaken, judgedBy, leftByLines}
 use Rattle.log_judge.proofs.JudgeLaws.{none-left, none-behind, not-lawful, judged-stop, left-stop, judged-pass, left-pass, judged-refused, judged-untrue, judged-more, left-more}
 use borrow.Author.Needs.{needs}
 use Rattle.log_judge.proofs.judge_from.Statement.{statement}
@@ -13,8 +13,8 @@ use Rattle.log_judge.proofs.judge_from.Tie as tie
 abbrev Inv-loop : tie.InvT-loop
 Inv-loop t z₀ text c₀ ordinal₀ left₀ z c ordinal left =
     (ordinal + left ≤ length text)
-    × (judgedBy (taken (settledStep t) settledPost) (linesIn left text c) ordinal z ≡ judgedBy (taken (settledStep t) settledPost) (linesFrom text c₀) 0 z₀)
-    × (leftBy (taken (settledStep t) settledPost) (linesIn left text c) z ≡ leftBy (taken (settledStep t) settledPost) (linesFrom text c₀) z₀)
+    × (judgedBy (lineTaken (settledStep t) settledPost) (linesIn left text c) ordinal z ≡ judgedBy (lineTaken (settledStep t) settledPost) (linesFrom text c₀) 0 z₀)
+    × (leftByLines (lineTaken (settledStep t) settledPost) (linesIn left text c) z ≡ leftByLines (lineTaken (settledStep t) settledPost) (linesFrom text c₀) z₀)
 
 abbrev μ-loop : tie.MeasureT-loop
 μ-loop t z₀ text c₀ ordinal₀ left₀ z c ordinal left = left

@@ -1,5 +1,5 @@
 use Prim.Native.Nat.{_-_, _≤_}
-use Rattle.state_fits.specs.Fresh.{begun}
+use Rattle.state_fits.specs.Fresh.{poolBegun}
 use Rattle.base_words.proofs.IterLaws.{iter-done, iter-loop}
 use Rattle.base_words.specs.Iter.{iter}
 use borrow.Author.Needs.{needs}
@@ -11,7 +11,7 @@ use Rattle.state_fresh.proofs.begin_pools.Tie as tie
 ruleset L = (needs, iter-loop)
 
 abbrev Inv-loop : tie.InvT-loop
-Inv-loop t z₀ n p₀ z p = (p ≤ n) × (length z ≡ length z₀) × (z ≡ iter (begun t) z₀ p)
+Inv-loop t z₀ n p₀ z p = (p ≤ n) × (length z ≡ length z₀) × (z ≡ iter (poolBegun t) z₀ p)
 
 abbrev μ-loop : tie.MeasureT-loop
 μ-loop t z₀ n p₀ z p = n - p

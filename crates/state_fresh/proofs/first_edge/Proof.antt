@@ -1,4 +1,4 @@
-use Rattle.state_fits.specs.Fresh.{firstEdge}
+use Rattle.state_fits.specs.Fresh.{startEdge}
 use borrow.Author.Needs.{needs}
 use Rattle.state_fresh.proofs.first_edge.Statement.{statement}
 use Rattle.state_fresh.proofs.first_edge.Tie as tie
@@ -6,7 +6,7 @@ use Rattle.state_fresh.proofs.first_edge.Tie as tie
 ruleset L = (needs)
 
 pub first-edge-spec : {M : Type 1} → statement M
-unfolding firstEdge
+unfolding startEdge
 first-edge-spec =
     tie.close
     (tie.spec

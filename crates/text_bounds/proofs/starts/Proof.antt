@@ -1,7 +1,7 @@
 use Rattle.text_bounds.specs.Bounds.{starts}
 use Rattle.base_words.proofs.PickLaws.{pick-yes, pick-no, flag-is}
 use borrow.Author.Tests.{eq-eqb, ne-eqb}
-use Rattle.text_lexer.proofs.ClassLaws.{or-told, or-no}
+use Rattle.base_bytes.proofs.OrLaws.{or-told, or-no}
 use borrow.Author.Needs.{needs}
 use Rattle.text_bounds.proofs.starts.Statement.{statement}
 use Rattle.text_bounds.proofs.starts.Tie as tie

@@ -1,4 +1,4 @@
-use Rattle.text_lexer.proofs.ClassLaws.{or-told, or-no}
+use Rattle.base_bytes.proofs.OrLaws.{or-told, or-no}
 use Rattle.base_words.proofs.PickLaws.{flag-is}
 use borrow.Author.Needs.{needs}
 use Rattle.text_bounds.proofs.starts_operand.Statement.{statement}

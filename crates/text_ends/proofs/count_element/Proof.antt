@@ -1,4 +1,4 @@
-use Rattle.text_ends.specs.Room.{counted}
+use Rattle.text_ends.specs.Room.{countNoted}
 use borrow.Author.Needs.{needs}
 use Rattle.text_ends.proofs.count_element.Statement.{statement}
 use Rattle.text_ends.proofs.count_element.Tie as tie
@@ -6,7 +6,7 @@ use Rattle.text_ends.proofs.count_element.Tie as tie
 ruleset L = (needs)
 
 pub count-element-spec : {M : Type 1} → statement M
-unfolding counted
+unfolding countNoted
 count-element-spec =
     tie.close
     (tie.spec

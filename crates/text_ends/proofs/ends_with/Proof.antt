@@ -1,6 +1,6 @@
 use mathlib.Core.Path.{sym, _∙_, ap}
 use Rattle.base_words.proofs.PickLaws.{pick-yes, pick-no}
-use Rattle.text_ends.specs.Room.{oneMore}
+use Rattle.base_words.specs.Words.{oneMore}
 use Rattle.base_words.proofs.PickLaws.{chains}
 use Rattle.text_ends.specs.Room.{endsWith}
 use borrow.Author.Needs.{needs}

@@ -1,4 +1,4 @@
-use Rattle.text_ends.specs.Room.{noted}
+use Rattle.text_ends.specs.Room.{elementNoted}
 use borrow.Author.Needs.{needs}
 use Rattle.text_ends.proofs.note_element.Statement.{statement}
 use Rattle.text_ends.proofs.note_element.Tie as tie
@@ -6,7 +6,7 @@ use Rattle.text_ends.proofs.note_element.Tie as tie
 ruleset L = (needs)
 
 pub note-element-spec : {M : Type 1} → statement M
-unfolding noted
+unfolding elementNoted
 note-element-spec =
     tie.close
     (tie.spec

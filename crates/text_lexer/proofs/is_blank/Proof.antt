@@ -1,6 +1,7 @@
 use Rattle.base_words.proofs.AllLaws.{tests}
-use Rattle.text_lexer.specs.Lexer.{among, isBlank}
-use Rattle.text_lexer.proofs.ClassLaws.{ors}
+use Rattle.text_lexer.specs.Lexer.{isBlank}
+use Rattle.base_bytes.specs.Bytes.{among}
+use Rattle.base_bytes.proofs.OrLaws.{ors}
 use borrow.Author.Needs.{needs}
 use Rattle.text_lexer.proofs.is_blank.Statement.{statement}
 use Rattle.text_lexer.proofs.is_blank.Tie as tie

@@ -1,6 +1,7 @@
 use mathlib.Core.Path.{_∙_}
 use Rattle.base_words.proofs.PickLaws.{flag-is}
-use Rattle.text_lexer.proofs.ClassLaws.{ors, sign-runs}
+use Rattle.text_lexer.proofs.ClassLaws.{sign-runs}
+use Rattle.base_bytes.proofs.OrLaws.{ors}
 use borrow.Author.Needs.{needs}
 use Rattle.text_lexer.proofs.is_sign.Statement.{statement}
 use Rattle.text_lexer.proofs.is_sign.Tie as tie

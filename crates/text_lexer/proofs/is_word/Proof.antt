@@ -1,7 +1,7 @@
 use Rattle.base_words.proofs.AllLaws.{tests}
 use Rattle.base_words.proofs.PickLaws.{flag-is}
 use Rattle.text_lexer.specs.Lexer.{isWord}
-use Rattle.text_lexer.proofs.ClassLaws.{or-second, or-third, or-told}
+use Rattle.base_bytes.proofs.OrLaws.{or-second, or-third, or-told}
 use borrow.Author.Needs.{needs}
 use Rattle.text_lexer.proofs.is_word.Statement.{statement}
 use Rattle.text_lexer.proofs.is_word.Tie as tie

@@ -2,8 +2,9 @@ use mathlib.Core.Path.{_≡_}
 use Prim.Native.Nat.{_-_}
 use lib.ListN.{length, drop}
 use Rattle.base_words.proofs.PickLaws.{flags}
-use Rattle.text_lexer.specs.Lexer.{past, isBlank}
-use Rattle.text_lexer.proofs.PastLaws.{past-loop}
+use Rattle.text_lexer.specs.Lexer.{isBlank}
+use Rattle.base_bytes.specs.Bytes.{past}
+use Rattle.base_bytes.proofs.PastLaws.{past-loop}
 use borrow.Author.Needs.{needs}
 use Rattle.text_lexer.proofs.past_blanks.Statement.{statement}
 use Rattle.text_lexer.proofs.past_blanks.Tie as tie

@@ -1,5 +1,5 @@
 use Rattle.base_words.proofs.AllLaws.{tests}
-use Rattle.text_lexer.proofs.ClassLaws.{ors}
+use Rattle.base_bytes.proofs.OrLaws.{ors}
 use Rattle.text_numerals.specs.Numerals.{isFieldLetter}
 use borrow.Author.Needs.{needs}
 use Rattle.text_numerals.proofs.is_field_letter.Statement.{statement}

@@ -1,4 +1,4 @@
-use Rattle.text_rewrite.specs.InTable.{treatedIn, lowestIn}
+use Rattle.text_rewrite.specs.InTable.{treatedIn, unusedIn}
 use borrow.Author.Needs.{needs}
 use Rattle.text_rewrite.proofs.treat.Statement.{statement}
 use Rattle.text_rewrite.proofs.treat.Tie as tie
@@ -6,7 +6,7 @@ use Rattle.text_rewrite.proofs.treat.Tie as tie
 ruleset L = (needs)
 
 pub treat-spec : {M : Type 1} → statement M
-unfolding treatedIn lowestIn
+unfolding treatedIn unusedIn
 treat-spec =
     tie.close
     (tie.spec

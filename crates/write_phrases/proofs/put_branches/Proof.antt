@@ -1,7 +1,7 @@
 use Prim.Native.Nat.{_-_, _≤_, _*_, _+_}
 use Rattle.write_buffer.proofs.OverLaws.{put-as, put-long}
 use Rattle.write_buffer.specs.Buffers.{Put}
-use Rattle.write_phrases.specs.Pieces.{branch}
+use Rattle.write_phrases.specs.Pieces.{shownBranch}
 use Rattle.write_shown.proofs.PieceLaws.{list-none, list-more, list-done}
 use Rattle.write_shown.specs.Lengths.{receivingMost}
 use Rattle.write_shown.specs.Shown.{commas, separated}
@@ -12,7 +12,7 @@ use Rattle.write_phrases.proofs.put_branches.Statement.{statement}
 use Rattle.write_phrases.proofs.put_branches.Tie as tie
 
 abbrev Inv-loop : tie.InvT-loop
-Inv-loop out₀ from el receives n end₀ j₀ out end j = (j ≤ n) × Put (commas (branch receives el) j) (j * (1 + receivingMost)) from out₀ end out
+Inv-loop out₀ from el receives n end₀ j₀ out end j = (j ≤ n) × Put (commas (shownBranch receives el) j) (j * (1 + receivingMost)) from out₀ end out
 
 abbrev μ-loop : tie.MeasureT-loop
 μ-loop out₀ from el receives n end₀ j₀ out end j = n - j

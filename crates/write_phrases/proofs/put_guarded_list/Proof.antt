@@ -1,5 +1,5 @@
 use Rattle.write_buffer.proofs.OverLaws.{after}
-use Rattle.write_phrases.specs.Pieces.{branch}
+use Rattle.write_phrases.specs.Pieces.{shownBranch}
 use Rattle.write_shown.specs.Shown.{shownGuardedList}
 use Rattle.base_words.specs.Pick.{if_then_else_}
 use borrow.Author.Needs.{needs}
@@ -7,7 +7,7 @@ use Rattle.write_phrases.proofs.put_guarded_list.Statement.{statement}
 use Rattle.write_phrases.proofs.put_guarded_list.Tie as tie
 
 returns : tie.Need-returns
-unfolding shownGuardedList branch if_then_else_
+unfolding shownGuardedList shownBranch if_then_else_
 returns c = after (c .before .before .before .before .before .before .before .before .before .before .put-byte .ensures) (after (c .before .before .before .before .before .before .put-branches .ensures) (c .before .before .put-byte2 .ensures))
 
 pub put-guarded-list-spec : {M : Type 1} → statement M

@@ -7,7 +7,7 @@ use lib.ListN.{length}
 use Rattle.base_words.specs.Each.{tab}
 use Rattle.base_table.specs.Table.{elementCount, elementAt, exitCount, exitAt}
 use Rattle.check_tally.specs.Tally.{tally}
-use Rattle.check_nesting.specs.Deciding.{stops, lastIn, walk}
+use Rattle.check_nesting.specs.Deciding.{stops, lastIn, sequenceWalk}
 use Rattle.check_nested.proofs.WalkLaws.{stop-none, stop-halted, stop-ahead, stop-passed, stop-block, stop-open, no-join, join-is, last-none, last-more, last-done, marked-none, marked-more, marked-done}
 use Prim.Native.Nat.{ℕ, _<_, _+_, _-_, _*_, _≤_}
 use borrow.Fn.Kinds.{In}
@@ -80,7 +80,7 @@ walk-branches-below t =
     walk-branches.Pre
 
 abbrev walk-branches-Inv-loop : walk-branches-lts.InvT-loop
-walk-branches-Inv-loop t p n k s₀ m a₀ j₀ s a j = (m ≡ exitCount (elementAt t p k)) × (j ≤ m) × (length s ≡ length s₀) × (a ≡ lastIn (stops (walk (elementAt t p) (elementCount t p) n) (tab (exitAt (elementAt t p k)) j))) × (s ≡ tally s₀ (stops (walk (elementAt t p) (elementCount t p) n) (tab (exitAt (elementAt t p k)) j)))
+walk-branches-Inv-loop t p n k s₀ m a₀ j₀ s a j = (m ≡ exitCount (elementAt t p k)) × (j ≤ m) × (length s ≡ length s₀) × (a ≡ lastIn (stops (sequenceWalk (elementAt t p) (elementCount t p) n) (tab (exitAt (elementAt t p k)) j))) × (s ≡ tally s₀ (stops (sequenceWalk (elementAt t p) (elementCount t p) n) (tab (exitAt (elementAt t p k)) j)))
 
 abbrev walk-branches-μ-loop : walk-branches-lts.MeasureT-loop
 walk-branches-μ-loop t p n k s₀ m a₀ j₀ s a j = m - j
@@ -101,12 +101,12 @@ pub +join-of+stop-ahead+stop-of+walk-branches-spec : {M : Type 1} → statement 
     join-of.Post
     (λ c κs. search needs)
     (λ c κs. search needs)
-    (λ c. no-join (elementAt (c .before .before .before .before .args .t .now) (c .before .before .before .before .args .p)) (elementCount (c .before .before .before .before .args .t .now) (c .before .before .before .before .args .p)) (walk (elementAt (c .before .before .before .before .args .t .now) (c .before .before .before .before .args .p)) (elementCount (c .before .before .before .before .args .t .now) (c .before .before .before .before .args .p)) (c .before .before .before .before .args .n)) _ _ _ (c .before .before .splits-at .ensures) (c .before .if1 .taken) (c .element-count .ensures))
+    (λ c. no-join (elementAt (c .before .before .before .before .args .t .now) (c .before .before .before .before .args .p)) (elementCount (c .before .before .before .before .args .t .now) (c .before .before .before .before .args .p)) (sequenceWalk (elementAt (c .before .before .before .before .args .t .now) (c .before .before .before .before .args .p)) (elementCount (c .before .before .before .before .args .t .now) (c .before .before .before .before .args .p)) (c .before .before .before .before .args .n)) _ _ _ (c .before .before .splits-at .ensures) (c .before .if1 .taken) (c .element-count .ensures))
     (λ c. search needs)
     (λ c κs. search needs)
     (λ c. search needs)
     (λ c κs. search needs)
-    (λ c. join-is (elementAt (c .before .before .before .before .before .before .before .before .args .t .now) (c .before .before .before .before .before .before .before .before .args .p)) (elementCount (c .before .before .before .before .before .before .before .before .args .t .now) (c .before .before .before .before .before .before .before .before .args .p)) (walk (elementAt (c .before .before .before .before .before .before .before .before .args .t .now) (c .before .before .before .before .before .before .before .before .args .p)) (elementCount (c .before .before .before .before .before .before .before .before .args .t .now) (c .before .before .before .before .before .before .before .before .args .p)) (c .before .before .before .before .before .before .before .before .args .n)) _ _ _ _ (c .before .before .before .walk-branches .ensures .0) (c .before .before .before .walk-branches .ensures .1) (c .closing .ensures)))
+    (λ c. join-is (elementAt (c .before .before .before .before .before .before .before .before .args .t .now) (c .before .before .before .before .before .before .before .before .args .p)) (elementCount (c .before .before .before .before .before .before .before .before .args .t .now) (c .before .before .before .before .before .before .before .before .args .p)) (sequenceWalk (elementAt (c .before .before .before .before .before .before .before .before .args .t .now) (c .before .before .before .before .before .before .before .before .args .p)) (elementCount (c .before .before .before .before .before .before .before .before .args .t .now) (c .before .before .before .before .before .before .before .before .args .p)) (c .before .before .before .before .before .before .before .before .args .n)) _ _ _ _ (c .before .before .before .walk-branches .ensures .0) (c .before .before .before .walk-branches .ensures .1) (c .closing .ensures)))
     (λ t. stop-ahead-lts.spec (
       passes-at-reads.Asked,
       passes-at-reads.Learnt,
@@ -124,13 +124,13 @@ pub +join-of+stop-ahead+stop-of+walk-branches-spec : {M : Type 1} → statement 
     (λ c κs. search needs)
     (λ c κs. search needs)
     (λ c κs. search needs)
-    (λ c. stop-passed (elementAt (c .before .before .before .before .before .args .t .now) (c .before .before .before .before .before .args .p)) (elementCount (c .before .before .before .before .before .args .t .now) (c .before .before .before .before .before .args .p)) (walk (elementAt (c .before .before .before .before .before .args .t .now) (c .before .before .before .before .before .args .p)) (elementCount (c .before .before .before .before .before .args .t .now) (c .before .before .before .before .before .args .p)) (c .before .before .before .before .before .args .n)) _ _ _ (c .before .before .before .passes-at .ensures) (c .before .before .if1 .taken) _ _ (c .before .exit-at .ensures) (c .stop-of .ensures))
+    (λ c. stop-passed (elementAt (c .before .before .before .before .before .args .t .now) (c .before .before .before .before .before .args .p)) (elementCount (c .before .before .before .before .before .args .t .now) (c .before .before .before .before .before .args .p)) (sequenceWalk (elementAt (c .before .before .before .before .before .args .t .now) (c .before .before .before .before .before .args .p)) (elementCount (c .before .before .before .before .before .args .t .now) (c .before .before .before .before .before .args .p)) (c .before .before .before .before .before .args .n)) _ _ _ (c .before .before .before .passes-at .ensures) (c .before .before .if1 .taken) _ _ (c .before .exit-at .ensures) (c .stop-of .ensures))
     (λ c κs. search needs)
     (λ c κs. search needs)
     (λ c κs. search needs)
     (λ c κs. search needs)
-    (λ c. stop-block (elementAt (c .before .before .before .before .before .before .before .before .args .t .now) (c .before .before .before .before .before .before .before .before .args .p)) (elementCount (c .before .before .before .before .before .before .before .before .args .t .now) (c .before .before .before .before .before .before .before .before .args .p)) (walk (elementAt (c .before .before .before .before .before .before .before .before .args .t .now) (c .before .before .before .before .before .before .before .before .args .p)) (elementCount (c .before .before .before .before .before .before .before .before .args .t .now) (c .before .before .before .before .before .before .before .before .args .p)) (c .before .before .before .before .before .before .before .before .args .n)) _ _ _ (c .before .before .before .before .before .before .passes-at .ensures) _ _ (c .before .before .before .before .join-of .ensures) (c .before .before .before .element-count .ensures) (c .before .before .before .before .before .if1 .left) (c .before .before .if2 .taken) _ _ (c .before .exit-at2 .ensures) (c .stop-of2 .ensures))
-    (λ c. stop-open (elementAt (c .before .before .before .before .before .before .args .t .now) (c .before .before .before .before .before .before .args .p)) (elementCount (c .before .before .before .before .before .before .args .t .now) (c .before .before .before .before .before .before .args .p)) (walk (elementAt (c .before .before .before .before .before .before .args .t .now) (c .before .before .before .before .before .before .args .p)) (elementCount (c .before .before .before .before .before .before .args .t .now) (c .before .before .before .before .before .before .args .p)) (c .before .before .before .before .before .before .args .n)) _ _ _ (c .before .before .before .before .passes-at .ensures) _ _ (c .before .before .join-of .ensures) (c .before .element-count .ensures) (c .before .before .before .if1 .left) (c .if2 .left)))
+    (λ c. stop-block (elementAt (c .before .before .before .before .before .before .before .before .args .t .now) (c .before .before .before .before .before .before .before .before .args .p)) (elementCount (c .before .before .before .before .before .before .before .before .args .t .now) (c .before .before .before .before .before .before .before .before .args .p)) (sequenceWalk (elementAt (c .before .before .before .before .before .before .before .before .args .t .now) (c .before .before .before .before .before .before .before .before .args .p)) (elementCount (c .before .before .before .before .before .before .before .before .args .t .now) (c .before .before .before .before .before .before .before .before .args .p)) (c .before .before .before .before .before .before .before .before .args .n)) _ _ _ (c .before .before .before .before .before .before .passes-at .ensures) _ _ (c .before .before .before .before .join-of .ensures) (c .before .before .before .element-count .ensures) (c .before .before .before .before .before .if1 .left) (c .before .before .if2 .taken) _ _ (c .before .exit-at2 .ensures) (c .stop-of2 .ensures))
+    (λ c. stop-open (elementAt (c .before .before .before .before .before .before .args .t .now) (c .before .before .before .before .before .before .args .p)) (elementCount (c .before .before .before .before .before .before .args .t .now) (c .before .before .before .before .before .before .args .p)) (sequenceWalk (elementAt (c .before .before .before .before .before .before .args .t .now) (c .before .before .before .before .before .before .args .p)) (elementCount (c .before .before .before .before .before .before .args .t .now) (c .before .before .before .before .before .before .args .p)) (c .before .before .before .before .before .before .args .n)) _ _ _ (c .before .before .before .before .passes-at .ensures) _ _ (c .before .before .join-of .ensures) (c .before .element-count .ensures) (c .before .before .before .if1 .left) (c .if2 .left)))
     (λ t. stop-of-lts.spec (
       taker-reads.Asked,
       taker-reads.Learnt,
@@ -163,12 +163,12 @@ pub +join-of+stop-ahead+stop-of+walk-branches-spec : {M : Type 1} → statement 
     walk-branches-Inv-loop
     walk-branches-μ-loop
     (λ c κs. search needs)
-    (λ c. (c .exits-at .ensures, search needs, refl, last-none (walk (elementAt (c .before .before .before .args .t .now) (c .before .before .before .args .p)) (elementCount (c .before .before .before .args .t .now) (c .before .before .before .args .p)) (c .before .before .before .args .n)) (exitAt (elementAt (c .before .before .before .args .t .now) (c .before .before .before .args .p) (c .before .before .before .args .k))), marked-none (walk (elementAt (c .before .before .before .args .t .now) (c .before .before .before .args .p)) (elementCount (c .before .before .before .args .t .now) (c .before .before .before .args .p)) (c .before .before .before .args .n)) (exitAt (elementAt (c .before .before .before .args .t .now) (c .before .before .before .args .p) (c .before .before .before .args .k))) _))
+    (λ c. (c .exits-at .ensures, search needs, refl, last-none (sequenceWalk (elementAt (c .before .before .before .args .t .now) (c .before .before .before .args .p)) (elementCount (c .before .before .before .args .t .now) (c .before .before .before .args .p)) (c .before .before .before .args .n)) (exitAt (elementAt (c .before .before .before .args .t .now) (c .before .before .before .args .p) (c .before .before .before .args .k))), marked-none (sequenceWalk (elementAt (c .before .before .before .args .t .now) (c .before .before .before .args .p)) (elementCount (c .before .before .before .args .t .now) (c .before .before .before .args .p)) (c .before .before .before .args .n)) (exitAt (elementAt (c .before .before .before .args .t .now) (c .before .before .before .args .p) (c .before .before .before .args .k))) _))
     (λ c κs. search needs)
     (λ c κs. search needs)
     (λ c κs. search needs)
     (λ c. search needs)
     (λ c. search needs)
-    (λ c. (c .before .before .before .before .before .before .before .loop .inv .0, search needs, search needs, last-more (walk (elementAt (c .before .before .before .before .before .before .before .before .before .before .before .args .t .now) (c .before .before .before .before .before .before .before .before .before .before .before .args .p)) (elementCount (c .before .before .before .before .before .before .before .before .before .before .before .args .t .now) (c .before .before .before .before .before .before .before .before .before .before .before .args .p)) (c .before .before .before .before .before .before .before .before .before .before .before .args .n)) (exitAt (elementAt (c .before .before .before .before .before .before .before .before .before .before .before .args .t .now) (c .before .before .before .before .before .before .before .before .before .before .before .args .p) (c .before .before .before .before .before .before .before .before .before .before .before .args .k))) _ _ (rw (c .before .before .before .before .before .exit-at .ensures) at (c .before .before .before .before .stop-of .ensures)), marked-more (walk (elementAt (c .before .before .before .before .before .before .before .before .before .before .before .args .t .now) (c .before .before .before .before .before .before .before .before .before .before .before .args .p)) (elementCount (c .before .before .before .before .before .before .before .before .before .before .before .args .t .now) (c .before .before .before .before .before .before .before .before .before .before .before .args .p)) (c .before .before .before .before .before .before .before .before .before .before .before .args .n)) (exitAt (elementAt (c .before .before .before .before .before .before .before .before .before .before .before .args .t .now) (c .before .before .before .before .before .before .before .before .before .before .before .args .p) (c .before .before .before .before .before .before .before .before .before .before .before .args .k))) _ _ _ _ _ (c .before .before .before .before .before .before .before .loop .inv .4) (rw (c .before .before .before .before .before .exit-at .ensures) at (c .before .before .before .before .stop-of .ensures)) (c .before .before .mark-one .ensures)))
+    (λ c. (c .before .before .before .before .before .before .before .loop .inv .0, search needs, search needs, last-more (sequenceWalk (elementAt (c .before .before .before .before .before .before .before .before .before .before .before .args .t .now) (c .before .before .before .before .before .before .before .before .before .before .before .args .p)) (elementCount (c .before .before .before .before .before .before .before .before .before .before .before .args .t .now) (c .before .before .before .before .before .before .before .before .before .before .before .args .p)) (c .before .before .before .before .before .before .before .before .before .before .before .args .n)) (exitAt (elementAt (c .before .before .before .before .before .before .before .before .before .before .before .args .t .now) (c .before .before .before .before .before .before .before .before .before .before .before .args .p) (c .before .before .before .before .before .before .before .before .before .before .before .args .k))) _ _ (rw (c .before .before .before .before .before .exit-at .ensures) at (c .before .before .before .before .stop-of .ensures)), marked-more (sequenceWalk (elementAt (c .before .before .before .before .before .before .before .before .before .before .before .args .t .now) (c .before .before .before .before .before .before .before .before .before .before .before .args .p)) (elementCount (c .before .before .before .before .before .before .before .before .before .before .before .args .t .now) (c .before .before .before .before .before .before .before .before .before .before .before .args .p)) (c .before .before .before .before .before .before .before .before .before .before .before .args .n)) (exitAt (elementAt (c .before .before .before .before .before .before .before .before .before .before .before .args .t .now) (c .before .before .before .before .before .before .before .before .before .before .before .args .p) (c .before .before .before .before .before .before .before .before .before .before .before .args .k))) _ _ _ _ _ (c .before .before .before .before .before .before .before .loop .inv .4) (rw (c .before .before .before .before .before .exit-at .ensures) at (c .before .before .before .before .stop-of .ensures)) (c .before .before .mark-one .ensures)))
     (λ c. search needs)
-    (λ c. (last-done (walk (elementAt (c .before .before .before .before .before .args .t .now) (c .before .before .before .before .before .args .p)) (elementCount (c .before .before .before .before .before .args .t .now) (c .before .before .before .before .before .args .p)) (c .before .before .before .before .before .args .n)) (exitAt (elementAt (c .before .before .before .before .before .args .t .now) (c .before .before .before .before .before .args .p) (c .before .before .before .before .before .args .k))) _ _ _ (c .before .loop .inv .0) (c .loop-test .left) (c .before .loop .inv .1) _ (c .before .loop .inv .3), marked-done (walk (elementAt (c .before .before .before .before .before .args .t .now) (c .before .before .before .before .before .args .p)) (elementCount (c .before .before .before .before .before .args .t .now) (c .before .before .before .before .before .args .p)) (c .before .before .before .before .before .args .n)) (exitAt (elementAt (c .before .before .before .before .before .args .t .now) (c .before .before .before .before .before .args .p) (c .before .before .before .before .before .args .k))) _ _ _ (c .before .loop .inv .0) (c .loop-test .left) (c .before .loop .inv .1) _ _ (c .before .loop .inv .4)))
+    (λ c. (last-done (sequenceWalk (elementAt (c .before .before .before .before .before .args .t .now) (c .before .before .before .before .before .args .p)) (elementCount (c .before .before .before .before .before .args .t .now) (c .before .before .before .before .before .args .p)) (c .before .before .before .before .before .args .n)) (exitAt (elementAt (c .before .before .before .before .before .args .t .now) (c .before .before .before .before .before .args .p) (c .before .before .before .before .before .args .k))) _ _ _ (c .before .loop .inv .0) (c .loop-test .left) (c .before .loop .inv .1) _ (c .before .loop .inv .3), marked-done (sequenceWalk (elementAt (c .before .before .before .before .before .args .t .now) (c .before .before .before .before .before .args .p)) (elementCount (c .before .before .before .before .before .args .t .now) (c .before .before .before .before .before .args .p)) (c .before .before .before .before .before .args .n)) (exitAt (elementAt (c .before .before .before .before .before .args .t .now) (c .before .before .before .before .before .args .p) (c .before .before .before .before .before .args .k))) _ _ _ (c .before .loop .inv .0) (c .loop-test .left) (c .before .loop .inv .1) _ _ (c .before .loop .inv .4)))

@@ -7,7 +7,7 @@ use lib.ListN.{length}
 use Rattle.base_words.specs.Each.{tab}
 use Rattle.base_table.specs.Table.{elementCount, elementAt, exitCount, exitAt}
 use Rattle.check_tally.specs.Tally.{tally}
-use Rattle.check_nesting.specs.Deciding.{passed, walk}
+use Rattle.check_nesting.specs.Deciding.{elementsPassed, sequenceWalk}
 use Rattle.check_nested.proofs.WalkLaws.{way-nothing, way-halted, way-ahead, way-passed, way-block, way-open, way-through, way-none, way-more, way-done}
 use Prim.Native.Nat.{ℕ, _<_, _+_, _-_, _*_, _≤_}
 use borrow.Fn.Kinds.{In}
@@ -86,7 +86,7 @@ mark-way-below t =
     and 2 mark-way-kinds.ps (falls 2 mark-way-kinds.ps _<_ μ-mark-way t) mark-way.Pre
 
 abbrev mark-branches-Inv-loop : mark-branches-lts.InvT-loop
-mark-branches-Inv-loop t p n k m₀ most j₀ m j = (most ≡ exitCount (elementAt t p k)) × (j ≤ most) × (length m ≡ length m₀) × (m ≡ tally m₀ (passed (walk (elementAt t p) (elementCount t p) n) (tab (exitAt (elementAt t p k)) j)))
+mark-branches-Inv-loop t p n k m₀ most j₀ m j = (most ≡ exitCount (elementAt t p k)) × (j ≤ most) × (length m ≡ length m₀) × (m ≡ tally m₀ (elementsPassed (sequenceWalk (elementAt t p) (elementCount t p) n) (tab (exitAt (elementAt t p k)) j)))
 
 abbrev mark-branches-μ-loop : mark-branches-lts.MeasureT-loop
 mark-branches-μ-loop t p n k m₀ most j₀ m j = most - j
@@ -116,13 +116,13 @@ pub +mark-ahead+mark-block+mark-branches+mark-way-spec : {M : Type 1} → statem
     (λ c κs. search needs)
     (λ c κs. search needs)
     (λ c. search needs)
-    (λ c. way-passed (elementAt (c .before .before .before .before .before .before .before .before .before .before .before .before .before .args .t .now) (c .before .before .before .before .before .before .before .before .before .before .before .before .before .args .p)) (elementCount (c .before .before .before .before .before .before .before .before .before .before .before .before .before .args .t .now) (c .before .before .before .before .before .before .before .before .before .before .before .before .before .args .p)) (walk (elementAt (c .before .before .before .before .before .before .before .before .before .before .before .before .before .args .t .now) (c .before .before .before .before .before .before .before .before .before .before .before .before .before .args .p)) (elementCount (c .before .before .before .before .before .before .before .before .before .before .before .before .before .args .t .now) (c .before .before .before .before .before .before .before .before .before .before .before .before .before .args .p)) (c .before .before .before .before .before .before .before .before .before .before .before .before .before .args .n)) _ _ _ (c .before .before .before .before .before .before .before .before .before .before .passes-at .ensures) (c .before .before .before .before .before .before .before .before .before .if1 .taken) _ _ _ _ (c .before .before .before .before .exit-at .ensures) (c .before .before .before .before .before .before .before .mark-one .ensures) (c .before .before .mark-way .ensures))
+    (λ c. way-passed (elementAt (c .before .before .before .before .before .before .before .before .before .before .before .before .before .args .t .now) (c .before .before .before .before .before .before .before .before .before .before .before .before .before .args .p)) (elementCount (c .before .before .before .before .before .before .before .before .before .before .before .before .before .args .t .now) (c .before .before .before .before .before .before .before .before .before .before .before .before .before .args .p)) (sequenceWalk (elementAt (c .before .before .before .before .before .before .before .before .before .before .before .before .before .args .t .now) (c .before .before .before .before .before .before .before .before .before .before .before .before .before .args .p)) (elementCount (c .before .before .before .before .before .before .before .before .before .before .before .before .before .args .t .now) (c .before .before .before .before .before .before .before .before .before .before .before .before .before .args .p)) (c .before .before .before .before .before .before .before .before .before .before .before .before .before .args .n)) _ _ _ (c .before .before .before .before .before .before .before .before .before .before .passes-at .ensures) (c .before .before .before .before .before .before .before .before .before .if1 .taken) _ _ _ _ (c .before .before .before .before .exit-at .ensures) (c .before .before .before .before .before .before .before .mark-one .ensures) (c .before .before .mark-way .ensures))
     (λ c κs. search needs)
     (λ c κs. search needs)
     (λ c κs. search needs)
     (λ c. search needs)
-    (λ c. way-block (elementAt (c .before .before .before .before .before .before .before .before .before .before .before .args .t .now) (c .before .before .before .before .before .before .before .before .before .before .before .args .p)) (elementCount (c .before .before .before .before .before .before .before .before .before .before .before .args .t .now) (c .before .before .before .before .before .before .before .before .before .before .before .args .p)) (walk (elementAt (c .before .before .before .before .before .before .before .before .before .before .before .args .t .now) (c .before .before .before .before .before .before .before .before .before .before .before .args .p)) (elementCount (c .before .before .before .before .before .before .before .before .before .before .before .args .t .now) (c .before .before .before .before .before .before .before .before .before .before .before .args .p)) (c .before .before .before .before .before .before .before .before .before .before .before .args .n)) _ _ _ (c .before .before .before .before .before .before .before .before .passes-at .ensures) _ _ (c .before .before .before .before .before .before .join-of .ensures) (c .before .before .before .before .before .element-count .ensures) (c .before .before .before .before .before .before .before .if1 .left) (c .before .before .before .before .if2 .taken) _ _ (c .before .before .mark-block .ensures))
-    (λ c. way-open (elementAt (c .before .before .before .before .before .before .before .args .t .now) (c .before .before .before .before .before .before .before .args .p)) (elementCount (c .before .before .before .before .before .before .before .args .t .now) (c .before .before .before .before .before .before .before .args .p)) (walk (elementAt (c .before .before .before .before .before .before .before .args .t .now) (c .before .before .before .before .before .before .before .args .p)) (elementCount (c .before .before .before .before .before .before .before .args .t .now) (c .before .before .before .before .before .before .before .args .p)) (c .before .before .before .before .before .before .before .args .n)) _ _ _ (c .before .before .before .before .passes-at .ensures) _ _ (c .before .before .join-of .ensures) (c .before .element-count .ensures) (c .before .before .before .if1 .left) (c .if2 .left) _))
+    (λ c. way-block (elementAt (c .before .before .before .before .before .before .before .before .before .before .before .args .t .now) (c .before .before .before .before .before .before .before .before .before .before .before .args .p)) (elementCount (c .before .before .before .before .before .before .before .before .before .before .before .args .t .now) (c .before .before .before .before .before .before .before .before .before .before .before .args .p)) (sequenceWalk (elementAt (c .before .before .before .before .before .before .before .before .before .before .before .args .t .now) (c .before .before .before .before .before .before .before .before .before .before .before .args .p)) (elementCount (c .before .before .before .before .before .before .before .before .before .before .before .args .t .now) (c .before .before .before .before .before .before .before .before .before .before .before .args .p)) (c .before .before .before .before .before .before .before .before .before .before .before .args .n)) _ _ _ (c .before .before .before .before .before .before .before .before .passes-at .ensures) _ _ (c .before .before .before .before .before .before .join-of .ensures) (c .before .before .before .before .before .element-count .ensures) (c .before .before .before .before .before .before .before .if1 .left) (c .before .before .before .before .if2 .taken) _ _ (c .before .before .mark-block .ensures))
+    (λ c. way-open (elementAt (c .before .before .before .before .before .before .before .args .t .now) (c .before .before .before .before .before .before .before .args .p)) (elementCount (c .before .before .before .before .before .before .before .args .t .now) (c .before .before .before .before .before .before .before .args .p)) (sequenceWalk (elementAt (c .before .before .before .before .before .before .before .args .t .now) (c .before .before .before .before .before .before .before .args .p)) (elementCount (c .before .before .before .before .before .before .before .args .t .now) (c .before .before .before .before .before .before .before .args .p)) (c .before .before .before .before .before .before .before .args .n)) _ _ _ (c .before .before .before .before .passes-at .ensures) _ _ (c .before .before .join-of .ensures) (c .before .element-count .ensures) (c .before .before .before .if1 .left) (c .if2 .left) _))
     (λ t. mark-block-lts.spec (
       mark-one-reads.Asked,
       mark-one-reads.Learnt,
@@ -141,7 +141,7 @@ pub +mark-ahead+mark-block+mark-branches+mark-way-spec : {M : Type 1} → statem
     (λ c κs. search needs)
     (λ c κs. search needs)
     (λ c. search needs)
-    (λ c. way-through (walk (elementAt (c .before .before .before .before .before .before .before .before .before .before .before .before .before .before .before .before .before .before .before .args .t .now) (c .before .before .before .before .before .before .before .before .before .before .before .before .before .before .before .before .before .before .before .args .p)) (elementCount (c .before .before .before .before .before .before .before .before .before .before .before .before .before .before .before .before .before .before .before .args .t .now) (c .before .before .before .before .before .before .before .before .before .before .before .before .before .before .before .before .before .before .before .args .p)) (c .before .before .before .before .before .before .before .before .before .before .before .before .before .before .before .before .before .before .before .args .n)) _ _ _ _ _ _ _ _ _ _ (c .before .before .before .before .exit-at .ensures) (c .before .before .before .before .before .before .before .before .before .before .before .before .before .before .before .mark-one .ensures) (c .before .before .before .before .before .before .before .before .before .before .before .mark-one2 .ensures) (c .before .before .before .before .before .before .before .mark-branches .ensures) (c .before .before .mark-way .ensures)))
+    (λ c. way-through (sequenceWalk (elementAt (c .before .before .before .before .before .before .before .before .before .before .before .before .before .before .before .before .before .before .before .args .t .now) (c .before .before .before .before .before .before .before .before .before .before .before .before .before .before .before .before .before .before .before .args .p)) (elementCount (c .before .before .before .before .before .before .before .before .before .before .before .before .before .before .before .before .before .before .before .args .t .now) (c .before .before .before .before .before .before .before .before .before .before .before .before .before .before .before .before .before .before .before .args .p)) (c .before .before .before .before .before .before .before .before .before .before .before .before .before .before .before .before .before .before .before .args .n)) _ _ _ _ _ _ _ _ _ _ (c .before .before .before .before .exit-at .ensures) (c .before .before .before .before .before .before .before .before .before .before .before .before .before .before .before .mark-one .ensures) (c .before .before .before .before .before .before .before .before .before .before .before .mark-one2 .ensures) (c .before .before .before .before .before .before .before .mark-branches .ensures) (c .before .before .mark-way .ensures)))
     (λ t. mark-branches-lts.spec (
       exits-at-reads.Asked,
       exits-at-reads.Learnt,
@@ -155,14 +155,14 @@ pub +mark-ahead+mark-block+mark-branches+mark-way-spec : {M : Type 1} → statem
     mark-branches-Inv-loop
     mark-branches-μ-loop
     (λ c κs. search needs)
-    (λ c. (c .exits-at .ensures, search needs, refl, way-none (walk (elementAt (c .before .before .before .args .t .now) (c .before .before .before .args .p)) (elementCount (c .before .before .before .args .t .now) (c .before .before .before .args .p)) (c .before .before .before .args .n)) (exitAt (elementAt (c .before .before .before .args .t .now) (c .before .before .before .args .p) (c .before .before .before .args .k))) _))
+    (λ c. (c .exits-at .ensures, search needs, refl, way-none (sequenceWalk (elementAt (c .before .before .before .args .t .now) (c .before .before .before .args .p)) (elementCount (c .before .before .before .args .t .now) (c .before .before .before .args .p)) (c .before .before .before .args .n)) (exitAt (elementAt (c .before .before .before .args .t .now) (c .before .before .before .args .p) (c .before .before .before .args .k))) _))
     (λ c κs. search needs)
     (λ c κs. search needs)
     (λ c. search needs)
     (λ c. search needs)
-    (λ c. (c .before .before .before .before .before .before .loop .inv .0, search needs, search needs, way-more (walk (elementAt (c .before .before .before .before .before .before .before .before .before .before .args .t .now) (c .before .before .before .before .before .before .before .before .before .before .args .p)) (elementCount (c .before .before .before .before .before .before .before .before .before .before .args .t .now) (c .before .before .before .before .before .before .before .before .before .before .args .p)) (c .before .before .before .before .before .before .before .before .before .before .args .n)) (exitAt (elementAt (c .before .before .before .before .before .before .before .before .before .before .args .t .now) (c .before .before .before .before .before .before .before .before .before .before .args .p) (c .before .before .before .before .before .before .before .before .before .before .args .k))) _ _ _ _ (c .before .before .before .before .before .before .loop .inv .3) (rw (c .before .before .before .before .exit-at .ensures) at (c .before .before .mark-way .ensures))))
+    (λ c. (c .before .before .before .before .before .before .loop .inv .0, search needs, search needs, way-more (sequenceWalk (elementAt (c .before .before .before .before .before .before .before .before .before .before .args .t .now) (c .before .before .before .before .before .before .before .before .before .before .args .p)) (elementCount (c .before .before .before .before .before .before .before .before .before .before .args .t .now) (c .before .before .before .before .before .before .before .before .before .before .args .p)) (c .before .before .before .before .before .before .before .before .before .before .args .n)) (exitAt (elementAt (c .before .before .before .before .before .before .before .before .before .before .args .t .now) (c .before .before .before .before .before .before .before .before .before .before .args .p) (c .before .before .before .before .before .before .before .before .before .before .args .k))) _ _ _ _ (c .before .before .before .before .before .before .loop .inv .3) (rw (c .before .before .before .before .exit-at .ensures) at (c .before .before .mark-way .ensures))))
     (λ c. search needs)
-    (λ c. way-done (walk (elementAt (c .before .before .before .before .before .args .t .now) (c .before .before .before .before .before .args .p)) (elementCount (c .before .before .before .before .before .args .t .now) (c .before .before .before .before .before .args .p)) (c .before .before .before .before .before .args .n)) (exitAt (elementAt (c .before .before .before .before .before .args .t .now) (c .before .before .before .before .before .args .p) (c .before .before .before .before .before .args .k))) _ _ _ (c .before .loop .inv .0) (c .loop-test .left) (c .before .loop .inv .1) _ _ (c .before .loop .inv .3)))
+    (λ c. way-done (sequenceWalk (elementAt (c .before .before .before .before .before .args .t .now) (c .before .before .before .before .before .args .p)) (elementCount (c .before .before .before .before .before .args .t .now) (c .before .before .before .before .before .args .p)) (c .before .before .before .before .before .args .n)) (exitAt (elementAt (c .before .before .before .before .before .args .t .now) (c .before .before .before .before .before .args .p) (c .before .before .before .before .before .args .k))) _ _ _ (c .before .loop .inv .0) (c .loop-test .left) (c .before .loop .inv .1) _ _ (c .before .loop .inv .3)))
     λ t. mark-way-lts.spec (
       taker-reads.Asked,
       taker-reads.Learnt,

@@ -1,5 +1,5 @@
 use Prim.Native.Nat.{_-_, _≤_}
-use Rattle.draw_limits.specs.Numbers.{countBefore}
+use Rattle.draw_numbers.specs.Numbers.{countBefore}
 use Rattle.draw_map.specs.Map.{isMessageEnd}
 use Rattle.base_words.proofs.SumLaws.{sum-done, sum-more, sum-none}
 use Rattle.base_words.specs.Sum.{oneIf, sum}

@@ -2,7 +2,7 @@ use mathlib.Core.Path.{_≡_, _∙_, refl, sym, ap}
 use mathlib.Core.Bool.{not}
 use Prim.Native.Nat.{_-_}
 use lib.ListN.{length, drop}
-use Rattle.text_numerals.specs.Numerals.{sameBytes}
+use Rattle.base_bytes.specs.Bytes.{sameBytes}
 use Rattle.draw_conditions.specs.Saying.{said}
 use Rattle.draw_conditions.specs.Words.{letters}
 use Rattle.draw_conditions.proofs.SpelledLaws.{no-letter, a-letter, same-short, same-end, same-on, same-other}

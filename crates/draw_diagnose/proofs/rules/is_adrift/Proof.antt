@@ -5,7 +5,7 @@ use Rattle.base_words.proofs.PickLaws.{flag-is}
 use Rattle.base_words.proofs.PickLaws.{or-no}
 use Rattle.draw_diagnose.specs.Rules.{isAdrift}
 use Rattle.draw_links.proofs.TestLaws.{and-told}
-use Rattle.text_lexer.proofs.ClassLaws.{or-told}
+use Rattle.base_bytes.proofs.OrLaws.{or-told}
 use borrow.Author.Tests.{eq-eqb}
 use borrow.Author.Needs.{needs}
 use Rattle.draw_diagnose.proofs.rules.is_adrift.Statement.{statement}

@@ -7,7 +7,7 @@ use Rattle.base_words.specs.Sum.{oneIf}
 use Rattle.base_words.specs.Sum.{sum}
 use Rattle.draw_diagnose.specs.Seats.{countKind}
 use Rattle.draw_diagnose.specs.Seats.{isKindIn}
-use Rattle.draw_limits.specs.Numbers.{countBefore}
+use Rattle.draw_numbers.specs.Numbers.{countBefore}
 use mathlib.Core.Path.{_≡_}
 use borrow.Author.Needs.{needs}
 use Rattle.draw_diagnose.proofs.seats.count_kind.Statement.{statement}

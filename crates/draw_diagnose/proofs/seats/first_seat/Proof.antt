@@ -9,7 +9,7 @@ use Rattle.base_words.specs.Seek.{seek}
 use Rattle.base_words.specs.Words.{at}
 use Rattle.draw_diagnose.specs.Seats.{firstSeat}
 use Rattle.draw_diagnose.specs.Seats.{isSeat}
-use Rattle.draw_faults.specs.Amiss.{hasParticipants}
+use Rattle.draw_numbers.specs.Who.{hasParticipants}
 use mathlib.Core.Path.{_≡_}
 use borrow.Author.Needs.{needs}
 use Rattle.draw_diagnose.proofs.seats.first_seat.Statement.{statement}

@@ -1,5 +1,5 @@
 use Rattle.draw_faults.specs.Amiss.{isLoose}
-use Rattle.text_lexer.proofs.ClassLaws.{or-no, or-told}
+use Rattle.base_bytes.proofs.OrLaws.{or-no, or-told}
 use Rattle.base_words.proofs.AllLaws.{ne-eqb-by}
 use Rattle.base_words.proofs.PickLaws.{and-no, and-yes, eqb-same, flag-no, flag-yes}
 use borrow.Author.Tests.{eq-eqb}

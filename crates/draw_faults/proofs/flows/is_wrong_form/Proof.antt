@@ -1,5 +1,5 @@
 use Rattle.draw_faults.specs.Amiss.{isWrongForm}
-use Rattle.text_lexer.proofs.ClassLaws.{or-no, or-this}
+use Rattle.base_bytes.proofs.OrLaws.{or-no, or-this}
 use Rattle.base_words.proofs.PickLaws.{and-no, and-yes}
 use borrow.Author.Tests.{eq-eqb, ne-eqb}
 use mathlib.Core.Bool.{not}

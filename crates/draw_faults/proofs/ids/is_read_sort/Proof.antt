@@ -1,6 +1,6 @@
-use Rattle.draw_faults.proofs.AmissLaws.{or-here, or-on}
+use Rattle.draw_numbers.proofs.FoundLaws.{or-here, or-on}
 use Rattle.draw_faults.specs.Amiss.{isReadSort}
-use Rattle.text_lexer.proofs.ClassLaws.{or-no, or-this, or-yes}
+use Rattle.base_bytes.proofs.OrLaws.{or-no, or-this, or-yes}
 use borrow.Author.Tests.{eq-eqb, ne-eqb}
 use mathlib.Core.Path.{refl}
 use borrow.Author.Needs.{needs}

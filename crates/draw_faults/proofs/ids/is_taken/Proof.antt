@@ -1,5 +1,5 @@
 use Prim.Native.Nat.{_-_, _≤_}
-use Rattle.draw_faults.proofs.AmissLaws.{is-nowhere, is-there}
+use Rattle.draw_numbers.proofs.FoundLaws.{is-nowhere, is-there}
 use Rattle.draw_faults.specs.Amiss.{isRead, isTaken}
 use Rattle.draw_links.specs.Links.{hasId}
 use Rattle.base_words.proofs.PickLaws.{flag-is}

@@ -1,4 +1,4 @@
-use Rattle.text_lexer.proofs.ClassLaws.{or-no, or-told}
+use Rattle.base_bytes.proofs.OrLaws.{or-no, or-told}
 use Rattle.base_words.proofs.PickLaws.{eqb-same, flag-is}
 use Rattle.draw_links.specs.Notes.{isFree}
 use borrow.Author.Needs.{needs}

@@ -1,4 +1,4 @@
-use Rattle.draw_model.specs.Drawn.{entryBy}
+use Rattle.draw_model.specs.Drawn.{enteringBy}
 use Rattle.base_words.proofs.AllLaws.{eq-eqb-by, ne-eqb-by}
 use Rattle.base_words.proofs.PickLaws.{pick-no, pick-yes}
 use Rattle.base_words.specs.Words.{at}
@@ -8,7 +8,7 @@ use Rattle.draw_model.proofs.element.put_entry.Statement.{statement}
 use Rattle.draw_model.proofs.element.put_entry.Tie as tie
 
 pub put-entry-spec : {M : Type 1} → statement M
-unfolding entryBy
+unfolding enteringBy
 put-entry-spec =
     tie.close
     (tie.spec

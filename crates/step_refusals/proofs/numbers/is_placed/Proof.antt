@@ -1,6 +1,6 @@
 use Rattle.step_refusals.proofs.NumberLaws.{le-with, lt-with}
 use Rattle.base_words.proofs.PickLaws.{and-no, and-yes}
-use Rattle.step_refusals.specs.Chain.{placed}
+use Rattle.step_refusals.specs.Chain.{isInTable}
 use borrow.Author.Needs.{needs}
 use Rattle.step_refusals.proofs.numbers.is_placed.Statement.{statement}
 use Rattle.step_refusals.proofs.numbers.is_placed.Tie as tie
@@ -8,7 +8,7 @@ use Rattle.step_refusals.proofs.numbers.is_placed.Tie as tie
 ruleset L = (needs)
 
 pub is-placed-spec : {M : Type 1} → statement M
-unfolding placed
+unfolding isInTable
 is-placed-spec =
     tie.close
     (tie.spec

@@ -1,4 +1,4 @@
-use Rattle.text_passes.specs.Passes.{judgedBy}
+use Rattle.text_passes.specs.Passes.{poolJudged}
 use borrow.Author.Needs.{needs}
 use Rattle.text_passes.proofs.keep.judge_pool.Statement.{statement}
 use Rattle.text_passes.proofs.keep.judge_pool.Tie as tie
@@ -6,7 +6,7 @@ use Rattle.text_passes.proofs.keep.judge_pool.Tie as tie
 ruleset L = (needs)
 
 pub judge-pool-spec : {M : Type 1} → statement M
-unfolding judgedBy
+unfolding poolJudged
 judge-pool-spec =
     tie.close
     (tie.spec

@@ -1,7 +1,7 @@
 use mathlib.Core.Path.{refl}
 use Rattle.base_words.specs.Pick.{if_then_else_}
 use Rattle.base_words.proofs.PickLaws.{flag-yes}
-use Rattle.text_lexer.specs.Lexer.{between, isLetter, isDigit}
+use Rattle.base_bytes.specs.Bytes.{between, isLetter, isDigit}
 use Rattle.xml_characters.specs.Names.{isBlank, beginsName, isName}
 use Rattle.xml_scanner.specs.Tags.{behind, inTag}
 use Rattle.xml_markup.specs.Tokens.{wholeInTag}

@@ -3,7 +3,7 @@ use Prim.Native.Nat.{_-_}
 use native.Mathlib.Omega.{arith}
 use lib.ListN.{length, drop}
 use Rattle.xml_markup.specs.Markup.{scanFrom, scan}
-use Rattle.xml_markup.specs.Ahead.{Reached}
+use Rattle.xml_markup.specs.Ahead.{ReadTo}
 use Rattle.xml_markup.proofs.ScanLaws.{scan-on, scan-stops, scan-end}
 use Rattle.xml_markup.proofs.AheadLaws.{advance-moved, reached-begun, reached-byte}
 use Rattle.xml_markup.proofs.LeapLaws.{on-leap, scan-leap, reached-leap}
@@ -12,7 +12,7 @@ use Rattle.xml_markup.proofs.scanning.scan.Statement.{statement}
 use Rattle.xml_markup.proofs.scanning.scan.Tie as tie
 
 abbrev Inv-loop : tie.InvT-loop
-Inv-loop text p c₀ i₀ most₀ c i most = (scanFrom text p c (drop i text) i ≡ scan text p) × Reached text p c i
+Inv-loop text p c₀ i₀ most₀ c i most = (scanFrom text p c (drop i text) i ≡ scan text p) × ReadTo text p c i
 
 abbrev μ-loop : tie.MeasureT-loop
 μ-loop text p c₀ i₀ most₀ c i most = length text - i

@@ -1,5 +1,5 @@
 use Rattle.base_words.proofs.AllLaws.{tests}
-use Rattle.text_lexer.proofs.ClassLaws.{ors}
+use Rattle.base_bytes.proofs.OrLaws.{ors}
 use Rattle.xml_markup.specs.Spans.{hasSecond}
 use borrow.Author.Needs.{needs}
 use Rattle.xml_markup.proofs.spans.has_second.Statement.{statement}

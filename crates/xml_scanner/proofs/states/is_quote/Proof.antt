@@ -1,4 +1,4 @@
-use Rattle.text_lexer.proofs.ClassLaws.{ors}
+use Rattle.base_bytes.proofs.OrLaws.{ors}
 use Rattle.base_words.proofs.AllLaws.{tests}
 use Rattle.xml_scanner.specs.Tags.{isQuote}
 use borrow.Author.Needs.{needs}

@@ -1,0 +1,4 @@
+pub mod OrLaws
+pub mod PieceLaws
+pub mod PastLaws
+pub mod SameLaws

@@ -1,8 +1,0 @@
-// Theorems: what stands before a refusal goes on to a text; there is no code but this.
-ghost use mathlib.Core.Path.{_≡_};
-
-pub fn theorems_only() -> usize
-    ensures { λ r. ⌜ r ≡ 1 ⌝ }
-{
-    1
-}

@@ -1,5 +1,0 @@
-pub mod Models
-pub mod Sends
-pub mod Counts
-pub mod Turns
-pub mod Rewritten

@@ -1,8 +1,0 @@
-// Theorems: a model as it is rewritten is within the limits and passes the checks; there is no code but this.
-ghost use mathlib.Core.Path.{_≡_};
-
-pub fn theorems_only() -> usize
-    ensures { λ r. ⌜ r ≡ 1 ⌝ }
-{
-    1
-}

@@ -1,8 +1,0 @@
-use Rattle.text_lexer.specs.Lexer.{isDigit}
-use borrow.Author.Needs.{needs}
-use Rattle.text_lexer.proofs.is_digit.Statement.{statement}
-use Rattle.text_lexer.proofs.is_digit.Tie as tie
-
-pub is-digit-spec : {M : Type 1} → statement M
-unfolding isDigit
-is-digit-spec = tie.close (tie.spec (λ c κs. search needs) (λ c. c .between .ensures))
