@@ -21,9 +21,9 @@ use xml_markup::shelf::keep;
 use xml_markup::shelf::kept_at;
 
 // How many things are looked at together.
-const TOGETHER: Note = 512;
+const TOGETHER: Note = 64;
 
-const SHELF: usize = 512;
+const SHELF: usize = 64;
 
 // Puts the id of thing k among the first m.
 fn shelve(text: &[u8], w: &[Note], k: Note, v: &mut [usize], m: usize) -> Taken

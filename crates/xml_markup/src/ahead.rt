@@ -31,7 +31,7 @@ use base_bytes::piece;
 use xml_characters::is_control;
 
 // The most names that are looked at together, and how many at first: few tags have more.
-const NAMES: usize = 352;
+const NAMES: usize = 384;
 
 pub const FEW: usize = 24;
 
@@ -235,14 +235,21 @@ pub fn read_new(text: &[u8], start: usize, c: Cursor, p: usize, most: usize) -> 
     ensures { λ r. ⌜ Sure (now (text .entry)) start c p (r .cursor) (r .place) ⌝ }
 {
     let mut last = p;
-    let mut r = read_some(text, start, c, p, most);
-    while last < r.place {
-        if text.len() <= last {
+    let mut here = c;
+    let mut many = most;
+    while last < text.len() {
+        let r = read_some(text, start, here, last, many);
+        if r.place <= last {
             return r;
         }
         last = r.place;
+        many = r.most;
         let d = r.cursor;
-        r = read_some(text, start, d, r.place, r.most);
+        here = d;
     }
-    r
+    Reach {
+        cursor: here,
+        place: last,
+        most: many,
+    }
 }
