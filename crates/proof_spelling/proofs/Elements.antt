@@ -1,5 +1,6 @@
 -- AN ELEMENT AS IT IS SPELLED is the text of the element that is drawn, kind by kind. t is the text, w the things of a drawing, n their count, k a node whose element is within the limits. Assumes nothing.
 use Prim.Native.Char.{code}
+use Prim.Native.String.{String}
 use Prim.Native.Nat.{ℕ, zero, suc, _+_, _≤_, _<_}
 use mathlib.Core.Path.{_≡_, refl, sym, _∙_, ap, ap₂, subst}
 use mathlib.Core.Bool.{Bool, true, false, _&&_}
@@ -29,7 +30,7 @@ use Rattle.proof_lengths.proofs.FewParts.{entries-fit, exits-fit}
 use Rattle.proof_roundtrip.proofs.KindLaws.{kind-bounds}
 use Rattle.proof_roundtrip.proofs.FitLaws.{fits-kind}
 use Rattle.proof_map.proofs.KindLaws.{kind-drawn}
-use Rattle.proof_spelling.specs.Spelling.{Collaboration, Node, nodeAt, collaborationIn, parted, called, elementBy, element}
+use Rattle.proof_spelling.specs.Spelling.{Collaboration, Node, nodeAt, collaborationIn, parted, called, elementBy, element, entries, exits}
 use Rattle.proof_spelling.proofs.Texts.{one-fits, one-entry, many-entries}
 use Rattle.proof_spelling.proofs.Branches.{one-exit, many-exits, receives-text, sends-text, task-text, start-entry, choices-text, catches-text}
 
@@ -55,6 +56,21 @@ three-same {p} {q} {r} {p₁} {q₁} {r₁} a b c = ap (λ (z : List ℕ). z ∷
 
 four-same : {p q r s p₁ q₁ r₁ s₁ : List ℕ} → p ≡ p₁ → q ≡ q₁ → r ≡ r₁ → s ≡ s₁ → _≡_ {A = List (List ℕ)} (p ∷ q ∷ r ∷ s ∷ []) (p₁ ∷ q₁ ∷ r₁ ∷ s₁ ∷ [])
 four-same {p} {q} {r} {s} {p₁} {q₁} {r₁} {s₁} a b c e = ap₂ (λ (y z : List ℕ). y ∷ z ∷ r ∷ s ∷ []) a b ∙ ap₂ (λ (y z : List ℕ). p₁ ∷ q₁ ∷ y ∷ z ∷ []) c e
+
+-- an element with its parts, each the same as it is spelled
+one-called : (word : String) {a p : List ℕ} → a ≡ p → bytes word ++ ((code "(" ∷ (a ++ [])) ++ (code ")" ∷ [])) ≡ called word (p ∷ [])
+one-called word {a} e = ap (λ (z : List ℕ). bytes word ++ z) (one-part a) ∙ ap (λ (y : List ℕ). called word (y ∷ [])) e
+
+two-called : (word : String) {a b p q : List ℕ} → a ≡ p → b ≡ q → bytes word ++ ((code "(" ∷ (a ++ (code "," ∷ (b ++ [])))) ++ (code ")" ∷ [])) ≡ called word (p ∷ q ∷ [])
+two-called word {a} {b} e f = ap (λ (z : List ℕ). bytes word ++ z) (two-parts a b) ∙ ap₂ (λ (y z : List ℕ). called word (y ∷ z ∷ [])) e f
+
+three-called : (word : String) {a b c p q r : List ℕ} → a ≡ p → b ≡ q → c ≡ r
+    → bytes word ++ ((code "(" ∷ (a ++ (code "," ∷ (b ++ (code "," ∷ (c ++ [])))))) ++ (code ")" ∷ [])) ≡ called word (p ∷ q ∷ r ∷ [])
+three-called word {a} {b} {c} e f g = ap (λ (z : List ℕ). bytes word ++ z) (three-parts a b c) ∙ ap (called word) (three-same e f g)
+
+four-called : (word : String) {a b c d p q r s : List ℕ} → a ≡ p → b ≡ q → c ≡ r → d ≡ s
+    → bytes word ++ ((code "(" ∷ (a ++ (code "," ∷ (b ++ (code "," ∷ (c ++ (code "," ∷ (d ++ [])))))))) ++ (code ")" ∷ [])) ≡ called word (p ∷ q ∷ r ∷ s ∷ [])
+four-called word {a} {b} {c} {d} e f g h = ap (λ (z : List ℕ). bytes word ++ z) (four-parts a b c d) ∙ ap (called word) (four-same e f g h)
 
 module _ (t w : List ℕ) (n k : ℕ) (few : n ≤ room) (l : k < n) (node : isNode (sort w k) ≡ true) (fits : elementFits (elementDrawn t w n k) ≡ true)
     (goes-on : (j : ℕ) → j < n → ofSort sequenceFlow w j ≡ true → isOfKind kinds.eventBased w (source w j) ≡ true → firstWith sequenceFlow sourceIn (target w j) w n < n) where
@@ -109,148 +125,135 @@ module _ (t w : List ℕ) (n k : ℕ) (few : n ≤ room) (l : k < n) (node : isN
   branch-goes-on : kind w k ≡ kinds.eventBased → (j : ℕ) → j < n → ofSort sequenceFlow w j ≡ true → source w j ≡ k → firstWith sequenceFlow sourceIn (target w j) w n < n
   branch-goes-on e j u s q = goes-on j u s (subst (λ (i : ℕ). isOfKind kinds.eventBased w i ≡ true) (sym q) (unfold isOfKind in and-true (isNode (sort w k)) (eqb (kind w k) kinds.eventBased) node (ap (λ (v : ℕ). eqb v kinds.eventBased) e)))
 
+  -- one entry, one exit, the work of a task, by the kind
+  entered : (c : ℕ) → kind w k ≡ c → eqb c kinds.start ≡ false → kindOf c .entries ≡ one → shown (entryAt x 0) ≡ entries D N
+  entered c e s r = one-entry t w n k few fits (apart c kinds.start e s) (entry-one c e r)
+
+  left : (c : ℕ) → kind w k ≡ c → eqb c kinds.eventBased ≡ false → eqb c kinds.xorSplit ≡ false → kindOf c .exits ≡ one → shown (exitAt x 0) ≡ exits D N
+  left c e g s r = one-exit t w n k few fits (apart c kinds.eventBased e g) (apart c kinds.xorSplit e s) (exit-one c e r)
+
   as-start : kind w k ≡ kinds.start → shownElement x ≡ elementBy kinds.start D N
   unfolding kindOf shownParts shownPart if_then_else_ elementBy
   as-start e =
       text-by kinds.start e
-      ∙ ap (λ (z : List ℕ). bytes "start" ++ z) (two-parts (shown (entryAt x 0)) (shown (exitAt x 0)))
-      ∙ ap₂ (λ (p q : List ℕ). called "start" (p ∷ q ∷ []))
+      ∙ two-called "start"
       (start-entry t w n k few fits (apart kinds.start kinds.eventBased e refl) (apart kinds.start kinds.xorSplit e refl) (is-start e) (task-as kinds.start e (unfold kindOf in refl)) (omega (arith, l)) (entry-one kinds.start e (unfold kindOf in refl)))
-      (one-exit t w n k few fits (apart kinds.start kinds.eventBased e refl) (apart kinds.start kinds.xorSplit e refl) (exit-one kinds.start e (unfold kindOf in refl)))
+      (left kinds.start e refl refl (unfold kindOf in refl))
 
   as-startRcv : kind w k ≡ kinds.startRcv → shownElement x ≡ elementBy kinds.startRcv D N
   unfolding kindOf shownParts shownPart if_then_else_ elementBy
   as-startRcv e =
       text-by kinds.startRcv e
-      ∙ ap (λ (z : List ℕ). bytes "startRcv" ++ z) (two-parts (shownMessage x 0) (shown (exitAt x 0)))
-      ∙ ap₂ (λ (p q : List ℕ). called "startRcv" (p ∷ q ∷ []))
+      ∙ two-called "startRcv"
       (receives-text t w n k few fits (apart kinds.startRcv kinds.eventBased e refl) (apart kinds.startRcv kinds.xorSplit e refl) (receiver kinds.startRcv e (unfold receives in refl)))
-      (one-exit t w n k few fits (apart kinds.startRcv kinds.eventBased e refl) (apart kinds.startRcv kinds.xorSplit e refl) (exit-one kinds.startRcv e (unfold kindOf in refl)))
+      (left kinds.startRcv e refl refl (unfold kindOf in refl))
 
   as-end : kind w k ≡ kinds.end → shownElement x ≡ elementBy kinds.end D N
   unfolding kindOf shownParts shownPart if_then_else_ elementBy
   as-end e =
       text-by kinds.end e
-      ∙ ap (λ (z : List ℕ). bytes "end" ++ z) (one-part (shown (entryAt x 0)))
-      ∙ ap (λ (p : List ℕ). called "end" (p ∷ [])) (one-entry t w n k few fits (apart kinds.end kinds.start e refl) (entry-one kinds.end e (unfold kindOf in refl)))
+      ∙ one-called "end" (entered kinds.end e refl (unfold kindOf in refl))
 
   as-terminate : kind w k ≡ kinds.terminate → shownElement x ≡ elementBy kinds.terminate D N
   unfolding kindOf shownParts shownPart if_then_else_ elementBy
   as-terminate e =
       text-by kinds.terminate e
-      ∙ ap (λ (z : List ℕ). bytes "terminate" ++ z) (one-part (shown (entryAt x 0)))
-      ∙ ap (λ (p : List ℕ). called "terminate" (p ∷ [])) (one-entry t w n k few fits (apart kinds.terminate kinds.start e refl) (entry-one kinds.terminate e (unfold kindOf in refl)))
+      ∙ one-called "terminate" (entered kinds.terminate e refl (unfold kindOf in refl))
 
   as-endSnd : kind w k ≡ kinds.endSnd → shownElement x ≡ elementBy kinds.endSnd D N
   unfolding kindOf shownParts shownPart if_then_else_ elementBy
   as-endSnd e =
       text-by kinds.endSnd e
-      ∙ ap (λ (z : List ℕ). bytes "endSnd" ++ z) (two-parts (shown (entryAt x 0)) (shownMessage x 0))
-      ∙ ap₂ (λ (p q : List ℕ). called "endSnd" (p ∷ q ∷ []))
-      (one-entry t w n k few fits (apart kinds.endSnd kinds.start e refl) (entry-one kinds.endSnd e (unfold kindOf in refl)))
+      ∙ two-called "endSnd"
+      (entered kinds.endSnd e refl (unfold kindOf in refl))
       (sends-text t w n k few fits (apart kinds.endSnd kinds.eventBased e refl) (apart kinds.endSnd kinds.xorSplit e refl) (no-receiver kinds.endSnd e (unfold receives in refl)) (sender kinds.endSnd e (unfold sends in refl)))
 
   as-interRcv : kind w k ≡ kinds.interRcv → shownElement x ≡ elementBy kinds.interRcv D N
   unfolding kindOf shownParts shownPart if_then_else_ elementBy
   as-interRcv e =
       text-by kinds.interRcv e
-      ∙ ap (λ (z : List ℕ). bytes "interRcv" ++ z) (three-parts (shown (entryAt x 0)) (shownMessage x 0) (shown (exitAt x 0)))
-      ∙ ap (called "interRcv")
-      (three-same
-      (one-entry t w n k few fits (apart kinds.interRcv kinds.start e refl) (entry-one kinds.interRcv e (unfold kindOf in refl)))
+      ∙ three-called "interRcv"
+      (entered kinds.interRcv e refl (unfold kindOf in refl))
       (receives-text t w n k few fits (apart kinds.interRcv kinds.eventBased e refl) (apart kinds.interRcv kinds.xorSplit e refl) (receiver kinds.interRcv e (unfold receives in refl)))
-      (one-exit t w n k few fits (apart kinds.interRcv kinds.eventBased e refl) (apart kinds.interRcv kinds.xorSplit e refl) (exit-one kinds.interRcv e (unfold kindOf in refl))))
+      (left kinds.interRcv e refl refl (unfold kindOf in refl))
 
   as-interSnd : kind w k ≡ kinds.interSnd → shownElement x ≡ elementBy kinds.interSnd D N
   unfolding kindOf shownParts shownPart if_then_else_ elementBy
   as-interSnd e =
       text-by kinds.interSnd e
-      ∙ ap (λ (z : List ℕ). bytes "interSnd" ++ z) (three-parts (shown (entryAt x 0)) (shownMessage x 0) (shown (exitAt x 0)))
-      ∙ ap (called "interSnd")
-      (three-same
-      (one-entry t w n k few fits (apart kinds.interSnd kinds.start e refl) (entry-one kinds.interSnd e (unfold kindOf in refl)))
+      ∙ three-called "interSnd"
+      (entered kinds.interSnd e refl (unfold kindOf in refl))
       (sends-text t w n k few fits (apart kinds.interSnd kinds.eventBased e refl) (apart kinds.interSnd kinds.xorSplit e refl) (no-receiver kinds.interSnd e (unfold receives in refl)) (sender kinds.interSnd e (unfold sends in refl)))
-      (one-exit t w n k few fits (apart kinds.interSnd kinds.eventBased e refl) (apart kinds.interSnd kinds.xorSplit e refl) (exit-one kinds.interSnd e (unfold kindOf in refl))))
+      (left kinds.interSnd e refl refl (unfold kindOf in refl))
 
   as-eventBased : kind w k ≡ kinds.eventBased → shownElement x ≡ elementBy kinds.eventBased D N
   unfolding kindOf shownParts shownPart if_then_else_ elementBy
   as-eventBased e =
       text-by kinds.eventBased e
-      ∙ ap (λ (z : List ℕ). bytes "eventBased" ++ z) (two-parts (shown (entryAt x 0)) (shownReceivingList x))
-      ∙ ap₂ (λ (p q : List ℕ). called "eventBased" (p ∷ q ∷ []))
-      (one-entry t w n k few fits (apart kinds.eventBased kinds.start e refl) (entry-one kinds.eventBased e (unfold kindOf in refl)))
+      ∙ two-called "eventBased"
+      (entered kinds.eventBased e refl (unfold kindOf in refl))
       (catches-text t w n k few fits (ap (λ (v : ℕ). eqb v kinds.eventBased) e) (branch-goes-on e))
 
   as-andSplit : kind w k ≡ kinds.andSplit → shownElement x ≡ elementBy kinds.andSplit D N
   unfolding kindOf shownParts shownPart if_then_else_ elementBy
   as-andSplit e =
       text-by kinds.andSplit e
-      ∙ ap (λ (z : List ℕ). bytes "andSplit" ++ z) (two-parts (shown (entryAt x 0)) (shownExits x))
-      ∙ ap₂ (λ (p q : List ℕ). called "andSplit" (p ∷ q ∷ []))
-      (one-entry t w n k few fits (apart kinds.andSplit kinds.start e refl) (entry-one kinds.andSplit e (unfold kindOf in refl)))
+      ∙ two-called "andSplit"
+      (entered kinds.andSplit e refl (unfold kindOf in refl))
       (many-exits t w n k few fits (apart kinds.andSplit kinds.eventBased e refl) (apart kinds.andSplit kinds.xorSplit e refl))
 
   as-andJoin : kind w k ≡ kinds.andJoin → shownElement x ≡ elementBy kinds.andJoin D N
   unfolding kindOf shownParts shownPart if_then_else_ elementBy
   as-andJoin e =
       text-by kinds.andJoin e
-      ∙ ap (λ (z : List ℕ). bytes "andJoin" ++ z) (two-parts (shownEntries x) (shown (exitAt x 0)))
-      ∙ ap₂ (λ (p q : List ℕ). called "andJoin" (p ∷ q ∷ []))
+      ∙ two-called "andJoin"
       (many-entries t w n k few fits (apart kinds.andJoin kinds.start e refl))
-      (one-exit t w n k few fits (apart kinds.andJoin kinds.eventBased e refl) (apart kinds.andJoin kinds.xorSplit e refl) (exit-one kinds.andJoin e (unfold kindOf in refl)))
+      (left kinds.andJoin e refl refl (unfold kindOf in refl))
 
   as-xorJoin : kind w k ≡ kinds.xorJoin → shownElement x ≡ elementBy kinds.xorJoin D N
   unfolding kindOf shownParts shownPart if_then_else_ elementBy
   as-xorJoin e =
       text-by kinds.xorJoin e
-      ∙ ap (λ (z : List ℕ). bytes "xorJoin" ++ z) (two-parts (shownEntries x) (shown (exitAt x 0)))
-      ∙ ap₂ (λ (p q : List ℕ). called "xorJoin" (p ∷ q ∷ []))
+      ∙ two-called "xorJoin"
       (many-entries t w n k few fits (apart kinds.xorJoin kinds.start e refl))
-      (one-exit t w n k few fits (apart kinds.xorJoin kinds.eventBased e refl) (apart kinds.xorJoin kinds.xorSplit e refl) (exit-one kinds.xorJoin e (unfold kindOf in refl)))
+      (left kinds.xorJoin e refl refl (unfold kindOf in refl))
 
   as-xorSplit : kind w k ≡ kinds.xorSplit → shownElement x ≡ elementBy kinds.xorSplit D N
   unfolding kindOf shownParts shownPart if_then_else_ elementBy
   as-xorSplit e =
       text-by kinds.xorSplit e
-      ∙ ap (λ (z : List ℕ). bytes "xorSplit" ++ z) (two-parts (shown (entryAt x 0)) (shownGuardedList x))
-      ∙ ap₂ (λ (p q : List ℕ). called "xorSplit" (p ∷ q ∷ []))
-      (one-entry t w n k few fits (apart kinds.xorSplit kinds.start e refl) (entry-one kinds.xorSplit e (unfold kindOf in refl)))
+      ∙ two-called "xorSplit"
+      (entered kinds.xorSplit e refl (unfold kindOf in refl))
       (choices-text t w n k few fits (apart kinds.xorSplit kinds.eventBased e refl) (ap (λ (v : ℕ). eqb v kinds.xorSplit) e))
 
   as-task : kind w k ≡ kinds.task → shownElement x ≡ elementBy kinds.task D N
   unfolding kindOf shownParts shownPart if_then_else_ elementBy
   as-task e =
       text-by kinds.task e
-      ∙ ap (λ (z : List ℕ). bytes "task" ++ z) (three-parts (shown (entryAt x 0)) (shownTask x) (shown (exitAt x 0)))
-      ∙ ap (called "task")
-      (three-same
-      (one-entry t w n k few fits (apart kinds.task kinds.start e refl) (entry-one kinds.task e (unfold kindOf in refl)))
+      ∙ three-called "task"
+      (entered kinds.task e refl (unfold kindOf in refl))
       (task-text t w n k few fits (apart kinds.task kinds.eventBased e refl) (apart kinds.task kinds.xorSplit e refl) (task-as kinds.task e (unfold kindOf in refl)) (omega (arith, l)))
-      (one-exit t w n k few fits (apart kinds.task kinds.eventBased e refl) (apart kinds.task kinds.xorSplit e refl) (exit-one kinds.task e (unfold kindOf in refl))))
+      (left kinds.task e refl refl (unfold kindOf in refl))
 
   as-taskRcv : kind w k ≡ kinds.taskRcv → shownElement x ≡ elementBy kinds.taskRcv D N
   unfolding kindOf shownParts shownPart if_then_else_ elementBy
   as-taskRcv e =
       text-by kinds.taskRcv e
-      ∙ ap (λ (z : List ℕ). bytes "taskRcv" ++ z) (four-parts (shown (entryAt x 0)) (shownTask x) (shownMessage x 0) (shown (exitAt x 0)))
-      ∙ ap (called "taskRcv")
-      (four-same
-      (one-entry t w n k few fits (apart kinds.taskRcv kinds.start e refl) (entry-one kinds.taskRcv e (unfold kindOf in refl)))
+      ∙ four-called "taskRcv"
+      (entered kinds.taskRcv e refl (unfold kindOf in refl))
       (task-text t w n k few fits (apart kinds.taskRcv kinds.eventBased e refl) (apart kinds.taskRcv kinds.xorSplit e refl) (task-as kinds.taskRcv e (unfold kindOf in refl)) (omega (arith, l)))
       (receives-text t w n k few fits (apart kinds.taskRcv kinds.eventBased e refl) (apart kinds.taskRcv kinds.xorSplit e refl) (receiver kinds.taskRcv e (unfold receives in refl)))
-      (one-exit t w n k few fits (apart kinds.taskRcv kinds.eventBased e refl) (apart kinds.taskRcv kinds.xorSplit e refl) (exit-one kinds.taskRcv e (unfold kindOf in refl))))
+      (left kinds.taskRcv e refl refl (unfold kindOf in refl))
 
   as-taskSnd : kind w k ≡ kinds.taskSnd → shownElement x ≡ elementBy kinds.taskSnd D N
   unfolding kindOf shownParts shownPart if_then_else_ elementBy
   as-taskSnd e =
       text-by kinds.taskSnd e
-      ∙ ap (λ (z : List ℕ). bytes "taskSnd" ++ z) (four-parts (shown (entryAt x 0)) (shownTask x) (shownMessage x 0) (shown (exitAt x 0)))
-      ∙ ap (called "taskSnd")
-      (four-same
-      (one-entry t w n k few fits (apart kinds.taskSnd kinds.start e refl) (entry-one kinds.taskSnd e (unfold kindOf in refl)))
+      ∙ four-called "taskSnd"
+      (entered kinds.taskSnd e refl (unfold kindOf in refl))
       (task-text t w n k few fits (apart kinds.taskSnd kinds.eventBased e refl) (apart kinds.taskSnd kinds.xorSplit e refl) (task-as kinds.taskSnd e (unfold kindOf in refl)) (omega (arith, l)))
       (sends-text t w n k few fits (apart kinds.taskSnd kinds.eventBased e refl) (apart kinds.taskSnd kinds.xorSplit e refl) (no-receiver kinds.taskSnd e (unfold receives in refl)) (sender kinds.taskSnd e (unfold sends in refl)))
-      (one-exit t w n k few fits (apart kinds.taskSnd kinds.eventBased e refl) (apart kinds.taskSnd kinds.xorSplit e refl) (exit-one kinds.taskSnd e (unfold kindOf in refl))))
+      (left kinds.taskSnd e refl refl (unfold kindOf in refl))
 
   by-kind : (c : ℕ) → kind w k ≡ c → 0 < c → c < 16 → shownElement x ≡ elementBy c D N
   by-kind zero e a b = absurd (omega (arith, a))
