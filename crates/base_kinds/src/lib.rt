@@ -18,7 +18,7 @@ pub const LETTERS: usize = 10;
 
 pub const PARTS: usize = 4;
 
-#[derive(Drop)]
+#[derive(Clone, Copy)]
 pub struct Kind {
     pub keyword: [u8; LETTERS],
     pub letters: Word,

@@ -62,7 +62,7 @@ pub const MAKES: Word = 1;
 
 pub const CLEARS: Word = 2;
 
-#[derive(Drop)]
+#[derive(Clone, Copy)]
 pub struct Move {
     pub kind: Word,
     pub mode: Word,

@@ -59,7 +59,7 @@ fn word_of(line: &[u8], k: usize) -> &[u8] {
 }
 
 // A value, and whether the word was one.
-#[derive(Drop)]
+#[derive(Clone, Copy)]
 pub struct Argument {
     pub good: bool,
     pub value: Word,
@@ -109,7 +109,7 @@ pub(super) fn value_of(line: &[u8], k: usize) -> Word {
 }
 
 // Values, and whether all of them were numbers.
-#[derive(Drop)]
+#[derive(Clone, Copy)]
 pub struct Given {
     pub good: bool,
     pub tuple: Tuple,

@@ -26,7 +26,7 @@ pub(super) fn is_batch(line: &[u8]) -> bool {
 }
 
 // Whether all items were commands, and how many they are; above 64 they are no longer counted.
-#[derive(Drop)]
+#[derive(Clone, Copy)]
 pub struct Filled {
     pub good: bool,
     pub count: usize,

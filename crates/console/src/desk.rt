@@ -12,7 +12,7 @@ use tool_print::{lent, set_records, tell};
 pub(super) const KEPT: usize = 5;
 
 // What there is to work on: whether there is a table, and how many records are lent.
-#[derive(Drop)]
+#[derive(Clone, Copy)]
 pub struct Held {
     pub loaded: bool,
     pub records: usize,

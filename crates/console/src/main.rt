@@ -34,7 +34,7 @@ const PROMPT: usize = 1;
 const PROMPT_MOST: usize = 16;
 
 // How much of a line there is so far, and whether more came than fits; whether there is a model, how many records are lent, and whether the input is at its end.
-#[derive(Drop)]
+#[derive(Clone, Copy)]
 struct Session {
     length: usize,
     excess: bool,

@@ -37,7 +37,7 @@ pub const SENT: Word = 2;
 
 // The answer of a step, with that number in the place of the enum.
 #[repr(C)]
-#[derive(Drop)]
+#[derive(Clone, Copy)]
 pub struct Taken {
     pub number: Word,
     pub traffic: Word,

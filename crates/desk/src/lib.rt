@@ -17,25 +17,25 @@ use state_records::{Four, Record, four_of, lent_count, put_back, take_apart, wor
 use step_poll::{POLL_WORDS, Polled};
 use step_run::Steps;
 
-#[derive(Drop)]
+#[derive(Clone, Copy)]
 pub struct StepLeft {
     pub answer: Answer,
     pub four: Four,
 }
 
-#[derive(Drop)]
+#[derive(Clone, Copy)]
 pub struct RunLeft {
     pub ran: Ran,
     pub four: Four,
 }
 
-#[derive(Drop)]
+#[derive(Clone, Copy)]
 pub struct PollLeft {
     pub polled: Polled,
     pub four: Four,
 }
 
-#[derive(Drop)]
+#[derive(Clone, Copy)]
 pub struct CountLeft {
     pub number: Word,
     pub four: Four,

@@ -16,14 +16,14 @@ pub mod saying;
 pub mod spelled;
 
 // An operand as a table has it: 0 and a number, or 1 and a field.
-#[derive(Drop)]
+#[derive(Clone, Copy)]
 pub struct Term {
     pub flag: Word,
     pub number: Word,
 }
 
 // A condition's form and operands, and the place of the leftmost operand that is out of range; 0 where none is. An operand out of range is the number 0.
-#[derive(Drop)]
+#[derive(Clone, Copy)]
 pub struct Condition {
     pub form: Word,
     pub left: Term,

@@ -11,7 +11,7 @@ use xml_markup::spans::is_called;
 use xml_scanner::Sort;
 
 // A place: in a CDATA section or not; so many elements deep in what is skipped.
-#[derive(Drop)]
+#[derive(Clone, Copy)]
 pub struct Spot {
     pub section: bool,
     pub deep: u8,
@@ -22,7 +22,7 @@ pub struct Spot {
 const DEPTH: u8 = 16;
 
 // One step: a byte that is said, with its place and the spot behind it; something that is passed; or the end.
-#[derive(Drop)]
+#[derive(Clone, Copy)]
 pub enum Step {
     Byte(u8, usize, Spot),
     On(Spot),
@@ -30,7 +30,7 @@ pub enum Step {
 }
 
 // The next byte that is said, with its place and the spot behind it.
-#[derive(Drop)]
+#[derive(Clone, Copy)]
 pub enum View {
     Byte(u8, usize, Spot),
     End,

@@ -15,14 +15,14 @@ use text_numerals::{Number, field_from, is_field_letter};
 use xml_characters::{begins_name, is_blank};
 
 // Bytes that are passed together: blanks, a word's.
-#[derive(Drop)]
+#[derive(Clone, Copy)]
 pub enum Class {
     Blanks,
     Word,
 }
 
 // An operand, and its place where it is out of range; or none.
-#[derive(Drop)]
+#[derive(Clone, Copy)]
 pub struct Side {
     pub stands: bool,
     pub term: Term,

@@ -22,7 +22,7 @@ pub mod rules;
 pub mod seats;
 
 // A rule, and the place of what breaks it.
-#[derive(Drop)]
+#[derive(Clone, Copy)]
 pub struct Broken {
     pub rule: Word,
     pub place: Word,
@@ -30,7 +30,7 @@ pub struct Broken {
 
 // The number of a drawing, the rule or check that is broken, and a place.
 #[repr(C)]
-#[derive(Drop)]
+#[derive(Clone, Copy)]
 pub struct Diagnosis {
     pub number: Word,
     pub rule: usize,

@@ -19,7 +19,7 @@ pub mod counting;
 mod kinds;
 
 // What is drawn round a node: flows in, flows out, message and terminate definitions.
-#[derive(Drop)]
+#[derive(Clone, Copy)]
 pub struct Shape {
     pub ins: Word,
     pub outs: Word,

@@ -13,14 +13,14 @@ pub mod passing;
 use passing::{is_passed, pass};
 
 // The place reached, or that of the fault, and how many things were met.
-#[derive(Drop)]
+#[derive(Clone, Copy)]
 pub struct Walked {
     pub end: Reached,
     pub count: Note,
 }
 
 // The thing whose content is walked: its sort, its ordinal and the place of its tag.
-#[derive(Drop)]
+#[derive(Clone, Copy)]
 pub struct Outer {
     pub sort: Note,
     pub thing: Note,

@@ -43,7 +43,7 @@ use desk::{figure_in, follow_in, number_in, recount_in};
 
 // The answer of a check: a number, and beside 4 the lowest check broken, beside 29 the number of the pool.
 #[repr(C)]
-#[derive(Drop)]
+#[derive(Clone, Copy)]
 pub struct Verdict {
     pub number: Word,
     pub beside: Word,
@@ -195,7 +195,7 @@ pub fn list(t: &[Word; TABLE_WORDS], z: &[Word; STATE_WORDS], k: usize) -> Liste
 
 // The answer of a run: a number, the steps taken, 1 or 0 for whether one is still accepted.
 #[repr(C)]
-#[derive(Drop)]
+#[derive(Clone, Copy)]
 pub struct Ran {
     pub number: Word,
     pub steps: Steps,
@@ -253,7 +253,7 @@ pub fn diagnose(text: &[u8]) -> Diagnosis
 
 // The answer of a writing: a number, and beside 0 the length of the text.
 #[repr(C)]
-#[derive(Drop)]
+#[derive(Clone, Copy)]
 pub struct Written {
     pub number: Word,
     pub length: usize,

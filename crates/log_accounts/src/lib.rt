@@ -18,7 +18,7 @@ use step_history::{Accounts, Moved, Noted, note_post, note_step, nothing_moved, 
 use step_take::{post_on, step_on};
 
 // Three of the numbers so far, how many events more are asked for, and what the last one moved.
-#[derive(Drop)]
+#[derive(Clone, Copy)]
 pub struct Telling {
     pub posted: usize,
     pub sent: usize,
@@ -28,7 +28,7 @@ pub struct Telling {
 }
 
 // The four numbers of a message in the first events of a log, how many events fewer there are than were asked for, and what the last one moved.
-#[derive(Drop)]
+#[derive(Clone, Copy)]
 pub struct Told {
     pub accounts: Accounts,
     pub room: usize,

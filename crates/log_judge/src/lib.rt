@@ -20,7 +20,7 @@ use xml_skip::Reached;
 
 // A number; beside 23 the place, beside 24 the event's ordinal from 0 and the step's or post's own number, 0 where only its line is untrue.
 #[repr(C)]
-#[derive(Drop)]
+#[derive(Clone, Copy)]
 pub struct Judged {
     pub number: Word,
     pub beside: usize,
@@ -28,7 +28,7 @@ pub struct Judged {
 }
 
 // What a line came to: the number that refuses it, or 0, and whether what it says was sent or consumed is true.
-#[derive(Drop)]
+#[derive(Clone, Copy)]
 pub struct Taken {
     pub number: Word,
     pub right: bool,

@@ -18,7 +18,7 @@ const NUMBER_MOST: Word = 65535;
 const POST: usize = 5;
 
 // A number with its mark behind it: whether it is one, its value, and the place behind the mark.
-#[derive(Drop)]
+#[derive(Clone, Copy)]
 pub struct Numbered {
     pub right: bool,
     pub value: Word,
@@ -26,14 +26,14 @@ pub struct Numbered {
 }
 
 // Whether what stands there is right, and the values.
-#[derive(Drop)]
+#[derive(Clone, Copy)]
 pub struct Given {
     pub right: bool,
     pub tuple: Tuple,
 }
 
 // A message's name and values.
-#[derive(Drop)]
+#[derive(Clone, Copy)]
 pub struct Message {
     pub right: bool,
     pub name: Word,
@@ -41,7 +41,7 @@ pub struct Message {
 }
 
 // The five numbers of a step.
-#[derive(Drop)]
+#[derive(Clone, Copy)]
 pub struct Placed {
     pub pool: Numbered,
     pub instance: Numbered,
@@ -51,7 +51,7 @@ pub struct Placed {
 }
 
 // Whether it is a line, whether of a post, and the step's name; a post has its message's name in place of the pool.
-#[derive(Drop)]
+#[derive(Clone, Copy)]
 pub struct Entry {
     pub right: bool,
     pub posts: bool,

@@ -15,7 +15,7 @@ use write_lines::put_values;
 
 // The answer of a writing: a number, and beside 0 the length of the piece.
 #[repr(C)]
-#[derive(Drop)]
+#[derive(Clone, Copy)]
 pub struct Piece {
     pub number: Word,
     pub length: usize,

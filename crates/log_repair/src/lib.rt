@@ -16,7 +16,7 @@ use xml_skip::{Reached, Tag, tag_of};
 
 // A number; beside 0 the length written, the events kept and the bytes dropped.
 #[repr(C)]
-#[derive(Drop)]
+#[derive(Clone, Copy)]
 pub struct Repaired {
     pub number: Word,
     pub length: usize,

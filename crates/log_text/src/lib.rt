@@ -19,7 +19,7 @@ pub mod within;
 pub const LOG_MOST: usize = 65536;
 
 // What stands directly in the log, the trace or an event: an element at its `<`, the end tag, something that is passed, or a fault.
-#[derive(Drop)]
+#[derive(Clone, Copy)]
 pub enum Inside {
     Element(usize),
     Close(usize),
@@ -28,7 +28,7 @@ pub enum Inside {
 }
 
 // What a reader is in.
-#[derive(Drop)]
+#[derive(Clone, Copy)]
 pub enum Level {
     Log,
     Trace,
@@ -36,7 +36,7 @@ pub enum Level {
 }
 
 // Where a reader is: the place reached; those of the open tags; the place behind the trace's start tag; the whole events and their end; the event's line.
-#[derive(Drop)]
+#[derive(Clone, Copy)]
 pub struct Cursor {
     pub level: Level,
     pub at: usize,
@@ -51,7 +51,7 @@ pub struct Cursor {
 }
 
 // One step of a reader: on, behind the log, or the place of the fault.
-#[derive(Drop)]
+#[derive(Clone, Copy)]
 pub enum Move {
     On(Cursor),
     Done(Cursor),
@@ -59,7 +59,7 @@ pub enum Move {
 }
 
 // The end of the text, or the place of the fault; and where the reader was then.
-#[derive(Drop)]
+#[derive(Clone, Copy)]
 pub struct Scanned {
     pub end: Reached,
     pub last: Cursor,

@@ -17,7 +17,7 @@ const END: u64 = 253402300800000;
 pub const STAMP: usize = 34 + 29 + 3;
 
 // A day of the calendar.
-#[derive(Drop)]
+#[derive(Clone, Copy)]
 pub struct Day {
     pub year: u64,
     pub month: u64,

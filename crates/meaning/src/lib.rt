@@ -6,13 +6,13 @@ use base_words::Word;
 use base_words::counts::VALUES;
 
 // "A field is 0 to 4,294,967,295 or undefined."
-#[derive(Drop)]
+#[derive(Clone, Copy)]
 pub enum Value {
     Undefined,
     Number(Word),
 }
 
-#[derive(Drop)]
+#[derive(Clone, Copy)]
 pub enum Truth {
     True,
     False,
@@ -21,14 +21,14 @@ pub enum Truth {
 
 // "A message is a tuple of 0 to 4 defined values": a length, and the values within it.
 #[repr(C)]
-#[derive(Drop)]
+#[derive(Clone, Copy)]
 pub struct Tuple {
     pub length: Word,
     pub values: [Word; VALUES as usize],
 }
 
 // What a message or a template comes to: whether all of it is defined, and the tuple.
-#[derive(Drop)]
+#[derive(Clone, Copy)]
 pub struct Evaluated {
     pub defined: bool,
     pub tuple: Tuple,
@@ -36,7 +36,7 @@ pub struct Evaluated {
 
 // "A step names pool number, instance, element place, phase, branch and message values." The values are the message consumed, else empty.
 #[repr(C)]
-#[derive(Drop)]
+#[derive(Clone, Copy)]
 pub struct Name {
     pub pool: Word,
     pub instance: Word,
@@ -46,7 +46,7 @@ pub struct Name {
     pub given: Tuple,
 }
 
-#[derive(Drop)]
+#[derive(Clone, Copy)]
 pub enum Traffic {
     Nothing,
     Consumed,
@@ -54,7 +54,7 @@ pub enum Traffic {
 }
 
 // The number given back; of an accepted step also the message consumed or sent, its name and its values.
-#[derive(Drop)]
+#[derive(Clone, Copy)]
 pub struct Answer {
     pub number: Word,
     pub traffic: Traffic,

@@ -11,7 +11,7 @@ pub const LENT: usize = 5;
 
 // Instances made, unfinished and finished.
 #[repr(C)]
-#[derive(Drop)]
+#[derive(Clone, Copy)]
 pub struct Record {
     pub made: Word,
     pub unfinished: Word,
@@ -19,7 +19,7 @@ pub struct Record {
 }
 
 // As many records as there can be pools, and how many were lent.
-#[derive(Drop)]
+#[derive(Clone, Copy)]
 pub struct Four {
     pub first: Record,
     pub second: Record,

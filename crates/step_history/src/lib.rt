@@ -12,7 +12,7 @@ use meaning::{Answer, Name, Traffic, Tuple, empty_tuple};
 use step_queues::{message_at, queued_in};
 use step_values::tuples::same_tuple;
 
-#[derive(Drop)]
+#[derive(Clone, Copy)]
 pub struct Accounts {
     pub posted: usize,
     pub sent: usize,
@@ -21,7 +21,7 @@ pub struct Accounts {
 }
 
 // The message that an entry moved: posted, sent or consumed.
-#[derive(Drop)]
+#[derive(Clone, Copy)]
 pub struct Moved {
     pub some: bool,
     pub name: Word,
@@ -29,7 +29,7 @@ pub struct Moved {
 }
 
 // What one entry counts for, 1 or 0 each, and what it moved.
-#[derive(Drop)]
+#[derive(Clone, Copy)]
 pub struct Noted {
     pub posted: usize,
     pub sent: usize,

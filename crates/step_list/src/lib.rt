@@ -19,7 +19,7 @@ use levels::scan_pools;
 
 // The number given back, and beside 0 the name of the step.
 #[repr(C)]
-#[derive(Drop)]
+#[derive(Clone, Copy)]
 pub struct Listed {
     pub number: Word,
     pub name: Name,

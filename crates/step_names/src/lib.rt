@@ -24,7 +24,7 @@ use step_take::is_accepted;
 use step_tokens::is_below_limit;
 
 // The k-th of some names, or what is left of k behind them.
-#[derive(Drop)]
+#[derive(Clone, Copy)]
 pub struct Scan {
     pub found: bool,
     pub left: usize,

@@ -15,7 +15,7 @@ use step_tokens::is_below_limit;
 use step_values::tuples::same_tuple;
 
 // The number that refuses the step; where it is 0, the tuple expected and the tuple sent, else empty ones.
-#[derive(Drop)]
+#[derive(Clone, Copy)]
 pub struct Plan {
     pub number: Word,
     pub expected: Tuple,

@@ -35,7 +35,7 @@ pub const POLL_WORDS: usize = ITEM_WORDS * ITEMS;
 
 // The number of the first refusal, 0 if there was none, and how many items were accepted.
 #[repr(C)]
-#[derive(Drop)]
+#[derive(Clone, Copy)]
 pub struct Polled {
     pub number: Word,
     pub accepted: usize,

@@ -15,7 +15,7 @@ use step_take::step_on;
 pub type Steps = u16;
 
 // The number of steps taken, and 1 or 0 for whether one is still accepted.
-#[derive(Drop)]
+#[derive(Clone, Copy)]
 pub struct Ran {
     pub steps: Steps,
     pub left: Word,

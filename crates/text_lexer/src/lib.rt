@@ -7,7 +7,7 @@ ghost use Rattle.base_bytes.specs.Bytes.{between, past};
 use base_bytes::{between, byte, is_digit, is_letter};
 
 // What a token is: a word, a sign by its byte (`:` too), `:=`, the end of the text, or a byte that starts no token.
-#[derive(Drop)]
+#[derive(Clone, Copy)]
 pub enum Form {
     Word,
     Sign(u8),
@@ -17,7 +17,7 @@ pub enum Form {
 }
 
 // A token's form, the place of its first byte and the place behind it.
-#[derive(Drop)]
+#[derive(Clone, Copy)]
 pub struct Token {
     pub form: Form,
     pub at: usize,

@@ -11,7 +11,7 @@ use base_words::{GREATEST, Word};
 use text_lexer::past_word;
 
 // What a word says as a number: a value within the range, a number above it, or no number.
-#[derive(Drop)]
+#[derive(Clone, Copy)]
 pub enum Number {
     Value(Word),
     TooLarge,
@@ -19,7 +19,7 @@ pub enum Number {
 }
 
 // What a word says as an operand: a number or a field, one of them out of its range, or neither.
-#[derive(Drop)]
+#[derive(Clone, Copy)]
 pub enum Operand {
     Number(Word),
     Field(Word),
@@ -133,7 +133,7 @@ pub fn field_of(word: &[u8]) -> Number
 }
 
 // Digits of a text: what they come to, and the place behind them.
-#[derive(Drop)]
+#[derive(Clone, Copy)]
 pub struct Decimal {
     pub value: u64,
     pub end: usize,
@@ -184,7 +184,7 @@ fn number_by(word: &[u8], v: u64) -> Number
 }
 
 // The word at a place of a text as a number, and the place behind it.
-#[derive(Drop)]
+#[derive(Clone, Copy)]
 pub struct Numeral {
     pub number: Number,
     pub next: usize,
@@ -211,7 +211,7 @@ pub fn numeral_at(text: &[u8], from: usize) -> Numeral
 }
 
 // The word at a place of a text as an operand, and the place behind it.
-#[derive(Drop)]
+#[derive(Clone, Copy)]
 pub struct Term {
     pub operand: Operand,
     pub next: usize,

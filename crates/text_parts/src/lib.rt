@@ -19,7 +19,7 @@ use text_terms::condition_of;
 const BRANCHES_MOST: u8 = BRANCHES as u8;
 
 // A list in a text: what its items are, the signs around it, how many it may have, where their count is stored, and the branch they belong to.
-#[derive(Drop)]
+#[derive(Clone, Copy)]
 pub struct Series {
     pub item: u8,
     pub opener: u8,

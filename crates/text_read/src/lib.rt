@@ -19,7 +19,7 @@ use text_rewrite::rewrite;
 
 // A number given back; beside 2 and 3 the place, beside 4 the lowest check broken.
 #[repr(C)]
-#[derive(Drop)]
+#[derive(Clone, Copy)]
 pub struct Reading {
     pub number: Word,
     pub beside: usize,

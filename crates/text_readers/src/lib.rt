@@ -12,14 +12,14 @@ use text_lexer::{Form, past_blanks, past_word, sign_behind, token_at};
 use text_numerals::{Number, Operand, field_of, number_of, numeral_at, operand_at};
 
 // The place behind what was read; or the number of a refusal and its place.
-#[derive(Drop)]
+#[derive(Clone, Copy)]
 pub enum Read {
     At(usize),
     Refused(Word, usize),
 }
 
 // A token that is asked for at p: the place behind it, or another token stands there.
-#[derive(Drop)]
+#[derive(Clone, Copy)]
 pub enum Asked {
     Behind(usize),
     Another,

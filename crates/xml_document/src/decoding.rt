@@ -8,7 +8,7 @@ use xml_markup::scanning::markup;
 use xml_markup::spans::after;
 
 // A byte, and the place where the next one comes from.
-#[derive(Drop)]
+#[derive(Clone, Copy)]
 pub struct Decoded {
     pub byte: u8,
     pub next: usize,

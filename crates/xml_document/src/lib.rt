@@ -12,7 +12,7 @@ pub mod around;
 pub mod decoding;
 
 // What stands outside the root: an element at its `<`, something that is passed, nothing more, or a fault.
-#[derive(Drop)]
+#[derive(Clone, Copy)]
 pub enum Outside {
     Element(usize),
     On(usize),

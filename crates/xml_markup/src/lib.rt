@@ -10,7 +10,7 @@ pub mod staying;
 pub mod tokens;
 
 // What token a byte shows to be whole, of those that are judged then.
-#[derive(Drop)]
+#[derive(Clone, Copy)]
 pub enum Whole {
     Nothing,
     Attribute,
@@ -19,21 +19,21 @@ pub enum Whole {
 }
 
 // How far a markup is read: where the next byte stands, and the place of its token's first byte.
-#[derive(Drop)]
+#[derive(Clone, Copy)]
 pub struct Cursor {
     pub state: State,
     pub mark: usize,
 }
 
 // Where a markup's next byte stands, and its place.
-#[derive(Drop)]
+#[derive(Clone, Copy)]
 pub struct Stand {
     pub cursor: Cursor,
     pub place: usize,
 }
 
 // A markup read so far; or its sort and the place behind it; or the place of the fault.
-#[derive(Drop)]
+#[derive(Clone, Copy)]
 pub enum Scan {
     On(Cursor),
     Past(Sort, usize),
@@ -41,28 +41,28 @@ pub enum Scan {
 }
 
 // The place behind an attribute's name, where the tag has it.
-#[derive(Drop)]
+#[derive(Clone, Copy)]
 pub enum Found {
     Behind(usize),
     Nowhere,
 }
 
 // What stands at a place, and the place behind it; the place of the fault, where it is one.
-#[derive(Drop)]
+#[derive(Clone, Copy)]
 pub struct Markup {
     pub sort: Sort,
     pub next: usize,
 }
 
 // From one place to another.
-#[derive(Drop)]
+#[derive(Clone, Copy)]
 pub struct Span {
     pub from: usize,
     pub to: usize,
 }
 
 // A whole token `<`name or `</`name, or something else.
-#[derive(Drop)]
+#[derive(Clone, Copy)]
 pub enum Opener {
     Start,
     End,
@@ -70,14 +70,14 @@ pub enum Opener {
 }
 
 // The span of an attribute's value, where the tag has the attribute.
-#[derive(Drop)]
+#[derive(Clone, Copy)]
 pub enum Attribute {
     Is(usize, usize),
     Absent,
 }
 
 // Bytes that are passed together: blanks, a name's, all but this quote.
-#[derive(Drop)]
+#[derive(Clone, Copy)]
 pub enum Class {
     Blanks,
     Name,
@@ -85,14 +85,14 @@ pub enum Class {
 }
 
 // How many names are kept; or no more are.
-#[derive(Drop)]
+#[derive(Clone, Copy)]
 pub enum Taken {
     To(usize),
     Not,
 }
 
 // How far a tag is read ahead, and how many names are kept or may be.
-#[derive(Drop)]
+#[derive(Clone, Copy)]
 pub struct Reach {
     pub cursor: Cursor,
     pub place: usize,
@@ -100,7 +100,7 @@ pub struct Reach {
 }
 
 // Between these places a name is looked for.
-#[derive(Drop)]
+#[derive(Clone, Copy)]
 pub struct Bounds {
     pub low: usize,
     pub high: usize,

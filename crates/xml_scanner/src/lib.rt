@@ -2,7 +2,7 @@
 pub mod states;
 
 // What stands at a place: a tag, character data, a reference, a comment, a CDATA section, an instruction, the end of the text, or a fault.
-#[derive(Drop)]
+#[derive(Clone, Copy)]
 pub enum Sort {
     StartTag,
     EmptyTag,
@@ -17,7 +17,7 @@ pub enum Sort {
 }
 
 // Behind `<`, `<!`, `<!-`, or so many bytes of `[CDATA[`.
-#[derive(Drop)]
+#[derive(Clone, Copy)]
 pub enum InOpening {
     Less,
     Bang,
@@ -26,7 +26,7 @@ pub enum InOpening {
 }
 
 // Inside a comment, behind `-` or behind `--`.
-#[derive(Drop)]
+#[derive(Clone, Copy)]
 pub enum InComment {
     Inside,
     Dash,
@@ -34,7 +34,7 @@ pub enum InComment {
 }
 
 // Inside a CDATA section, behind `]` or behind `]]`.
-#[derive(Drop)]
+#[derive(Clone, Copy)]
 pub enum InData {
     Inside,
     Bracket,
@@ -42,7 +42,7 @@ pub enum InData {
 }
 
 // Behind `<?`, in the target, behind a `?` that follows it; inside the instruction, behind a `?` there.
-#[derive(Drop)]
+#[derive(Clone, Copy)]
 pub enum InInstruction {
     Opened,
     Target,
@@ -52,7 +52,7 @@ pub enum InInstruction {
 }
 
 // In the tag's name, behind a blank, in an attribute's name, behind it, behind `=`; in a value of this quote, in a reference there, behind the value; behind `/`.
-#[derive(Drop)]
+#[derive(Clone, Copy)]
 pub enum InTag {
     Name,
     Blank,
@@ -66,7 +66,7 @@ pub enum InTag {
 }
 
 // Behind `</`, in the end tag's name, behind it.
-#[derive(Drop)]
+#[derive(Clone, Copy)]
 pub enum InEnd {
     Opened,
     Name,
@@ -74,7 +74,7 @@ pub enum InEnd {
 }
 
 // Where in a markup the next byte stands.
-#[derive(Drop)]
+#[derive(Clone, Copy)]
 pub enum State {
     Begin,
     Opening(InOpening),
@@ -87,7 +87,7 @@ pub enum State {
 }
 
 // What a byte does: it goes on with its token or begins the next one, ends the markup, or is at fault itself or with the token that it should go on with.
-#[derive(Drop)]
+#[derive(Clone, Copy)]
 pub enum Move {
     On(State),
     Next(State),

@@ -9,14 +9,14 @@ use xml_markup::{Markup, Opener};
 use xml_scanner::Sort;
 
 // The place behind an element, or the place of the fault.
-#[derive(Drop)]
+#[derive(Clone, Copy)]
 pub enum Reached {
     Past(usize),
     Fault(usize),
 }
 
 // What stands at a place of an element's content: an element; its own end tag; something else that is passed; a fault.
-#[derive(Drop)]
+#[derive(Clone, Copy)]
 pub enum Part {
     Element,
     Close(usize),
@@ -25,7 +25,7 @@ pub enum Part {
 }
 
 // A tag that opens content, an empty one, or a fault.
-#[derive(Drop)]
+#[derive(Clone, Copy)]
 pub enum Tag {
     Open(usize),
     Empty(usize),

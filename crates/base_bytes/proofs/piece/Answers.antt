@@ -1,0 +1,6 @@
+use Rattle.base_bytes.proofs.PieceLaws.{piece_least}
+use borrow.Author.Rules.{rules}
+use Rattle.base_bytes.proofs.piece.Goals as goal
+
+pub returns : goal.returns
+returns c = piece_least _ _ _ _ _ c.least-end.ensures c.least-start.ensures

@@ -1,0 +1,11 @@
+use mathlib.Core.Path.{refl}
+use borrow.Author.Rules.{rules}
+use Rattle.base_words.specs.All.{all}
+use Rattle.base_kinds.specs.declared.Kind.{Kind}
+use Rattle.base_kinds.specs.Kinds.{kind_of}
+use Rattle.base_kinds.proofs.TableLaws.{digits}
+use Rattle.base_kinds.proofs.sends_of.Goals as goal
+
+pub returns : goal.returns
+unfolding all kind_of
+returns c = digits (λ (r : Kind). r.sends) _ refl refl c.args.k c.cell.result c.cell.ensures

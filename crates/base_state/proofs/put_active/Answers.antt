@@ -1,0 +1,5 @@
+use borrow.Author.Rules.{rules}
+use Rattle.base_state.proofs.put_active.Goals as goal
+
+pub returns : goal.returns
+returns c = rw (c.wide.ensures, c.less_one.ensures) at c.put.ensures

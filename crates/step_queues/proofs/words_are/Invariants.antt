@@ -1,0 +1,16 @@
+use mathlib.Core.Path.{◌≡◌}
+use mathlib.Core.Bool.{true}
+use Prim.Native.Nat.{ℕ, ◌+◌, ◌≤◌, ◌-◌}
+use lib.Dec.{eqb}
+use Rattle.base_words.specs.All.{all}
+use Rattle.base_words.specs.Words.{at}
+use Rattle.base_words.proofs.AllLaws.{all_loop, all_more, all_fails', all_done}
+use Rattle.step_queues.proofs.EqualLaws.{read_equal, read_other}
+use borrow.Author.Rules.{rules}
+use Rattle.step_queues.proofs.words_are.Given as goal
+
+abbrev pub invariant-loop-j : goal.invariant-loop-j
+invariant-loop-j l = (l.j ≤ l.n) × (all (λ k. eqb (at l.q (l.i + k)) (at l.v k)) l.j ≡ true)
+
+abbrev pub decreases-loop-j : goal.decreases-loop-j
+decreases-loop-j l = l.n - l.j

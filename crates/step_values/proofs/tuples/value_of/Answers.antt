@@ -1,0 +1,14 @@
+use mathlib.Core.Path.{refl}
+use borrow.Author.Tests.{lt-ltb, le-ltb}
+use Rattle.base_words.proofs.PickLaws.{pick_yes, pick_no}
+use Rattle.meaning.specs.Tuples.{value_of}
+use borrow.Author.Rules.{rules}
+use Rattle.step_values.proofs.tuples.value_of.Goals as goal
+
+pub returns-then-j-g : goal.returns-then-j-g
+unfolding value_of
+returns-then-j-g c = pick_yes _ _ _ _ (lt-ltb _ _ c.if-j-g.true) (rw c.wide.ensures at c.word.ensures)
+
+pub returns : goal.returns
+unfolding value_of
+returns c = pick_no _ _ _ _ (le-ltb _ _ c.if-j-g.false) refl
