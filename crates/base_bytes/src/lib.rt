@@ -1,4 +1,6 @@
 // Bytes of a text: at a place, from one place to another, their classes, and runs of them compared.
+#![tactic(auto)]
+
 ghost use Rattle.std.specs.Prelude.{◌≡◌, min};
 ghost use Rattle.base_words.specs.Words.{at, part};
 ghost use Rattle.base_bytes.specs.Bytes.{between, is_digit, is_letter, same_bytes};

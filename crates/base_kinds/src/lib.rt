@@ -1,4 +1,6 @@
 // The table of kinds. A kind is 1 to 15; any other number has the row of none.
+#![tactic(auto)]
+
 ghost use Rattle.std.specs.Prelude.{◌≡◌, ◌*◌, ◌/◌, ◌%◌, ◌^◌, ◌<◌, ◌≤◌, length};
 ghost use Rattle.base_kinds.specs.Kinds.{kinds, kind_of, RowOf, used};
 

@@ -1,4 +1,6 @@
 // The instances of a state, and the words of one instance: tokens, task counts, fields.
+#![tactic(auto)]
+
 ghost use Rattle.std.specs.Prelude.{◌≡◌};
 ghost use Rattle.base_words.specs.Words.{at};
 ghost use Rattle.base_state.specs.Places.{defined_place, value_place};

@@ -1,4 +1,6 @@
 // A table, and what it says: of its pools, and of an element's parts.
+#![tactic(auto)]
+
 ghost use Rattle.std.specs.Prelude.{◌≡◌, drop};
 ghost use Rattle.base_words.specs.Words.{at};
 ghost use Rattle.base_words.specs.Seek.{seek};

@@ -1,4 +1,6 @@
 // Words, and total access to them: outside a block a read is 0 and a write is none.
+#![tactic(auto)]
+
 ghost use Rattle.std.specs.Prelude.{◌≡◌, ◌-◌, length, set, drop, replicate};
 ghost use Rattle.base_words.specs.Words.{at, one_more};
 

@@ -1,4 +1,6 @@
 // The model checks of one pool, by its summary.
+#![tactic(auto)]
+
 ghost use Rattle.std.specs.Prelude.{◌≡◌, not, ◌&&◌};
 ghost use Rattle.check_answers.specs.Answers.{one_start_by, start_receives_by, edge_by, edges_meet_by, tasks_differ_by, receives_by, sends_by, not_sent_there_by, one_default_by, binds_differ_by, kept_by};
 

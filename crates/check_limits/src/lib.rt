@@ -1,2 +1,4 @@
 // Words that are within limits, or 0.
+#![tactic(auto)]
+
 pub mod zeros;

@@ -1,4 +1,6 @@
 // The lowest model check that a table breaks.
+#![tactic(auto)]
+
 ghost use Rattle.std.specs.Prelude.{◌≡◌};
 ghost use Rattle.base_words.specs.Each.{tab};
 ghost use Rattle.base_words.specs.Words.{at};

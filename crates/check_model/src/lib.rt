@@ -1,4 +1,6 @@
 // The model checks: their numbers, and check 4 of one edge.
+#![tactic(auto)]
+
 ghost use Rattle.std.specs.Prelude.{◌≡◌};
 ghost use Rattle.check_model.specs.Checks.{edge_right};
 

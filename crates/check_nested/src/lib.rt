@@ -1,4 +1,6 @@
 // Whether the pools of a table are nested.
+#![tactic(auto)]
+
 ghost use Rattle.std.specs.Prelude.{◌≡◌, not, ◌∷◌, eqb};
 ghost use Rattle.base_words.specs.All.{all};
 ghost use Rattle.base_words.specs.Seek.{seek};

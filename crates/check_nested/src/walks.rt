@@ -36,7 +36,7 @@ fn splits_at(t: &[Word], p: Word, k: Word) -> bool
 }
 
 // Marks where the branches of the split k stop, and says where the last of them does.
-#[cycle(join_of_stop_ahead_stop_of_walk_branches)]
+#[cycle(stop)]
 fn walk_branches(t: &[Word], p: Word, n: Word, k: Word, s: &mut [Word]) -> Word
     ensures { (result ≡ last_in (stops (sequence_walk (element_at t.now p) (element_count t.now p) n) (exits_of (element_at t.now p k)))) × (s.new ≡ tally s.old (stops (sequence_walk (element_at t.now p) (element_count t.now p) n) (exits_of (element_at t.now p k)))) }
 {
@@ -52,7 +52,7 @@ fn walk_branches(t: &[Word], p: Word, n: Word, k: Word, s: &mut [Word]) -> Word
 }
 
 // The join that closes the split k; the count of elements where none does. What opens no block has none, and its exits are not walked: a walk through a join would go round a loop again and again.
-#[cycle(join_of_stop_ahead_stop_of_walk_branches)]
+#[cycle(stop)]
 fn join_of(t: &[Word], p: Word, n: Word, k: Word) -> Word
     ensures { result ≡ join_of (element_at t.now p) (element_count t.now p) (sequence_walk (element_at t.now p) (element_count t.now p) n) k }
 {
@@ -65,7 +65,7 @@ fn join_of(t: &[Word], p: Word, n: Word, k: Word) -> Word
 }
 
 // On from the edge a by the element k that takes from it.
-#[cycle(join_of_stop_ahead_stop_of_walk_branches)]
+#[cycle(stop)]
 fn stop_ahead(t: &[Word], p: Word, n: Word, a: Word, k: Word) -> Word
     ensures { result ≡ (ahead (element_at t.now p) (element_count t.now p) (sequence_walk (element_at t.now p) (element_count t.now p) n) a k).stop }
 {
@@ -80,7 +80,7 @@ fn stop_ahead(t: &[Word], p: Word, n: Word, a: Word, k: Word) -> Word
 }
 
 // Where a walk from the edge a stops that goes by at most n elements, one behind or within the other.
-#[cycle(join_of_stop_ahead_stop_of_walk_branches)]
+#[cycle(stop)]
 pub fn stop_of(t: &[Word], p: Word, n: Word, a: Word) -> Word
     ensures { result ≡ (sequence_walk (element_at t.now p) (element_count t.now p) n a).stop }
 {
@@ -94,7 +94,7 @@ pub fn stop_of(t: &[Word], p: Word, n: Word, a: Word) -> Word
     stop_ahead(t, p, n - 1, a, k)
 }
 
-#[cycle(mark_ahead_mark_block_mark_branches_mark_way)]
+#[cycle(mark)]
 fn mark_branches(t: &[Word], p: Word, n: Word, k: Word, m: &mut [Word])
     ensures { m.new ≡ tally m.old (elements_passed (sequence_walk (element_at t.now p) (element_count t.now p) n) (exits_of (element_at t.now p k))) }
 {
@@ -106,7 +106,7 @@ fn mark_branches(t: &[Word], p: Word, n: Word, k: Word, m: &mut [Word])
     }
 }
 
-#[cycle(mark_ahead_mark_block_mark_branches_mark_way)]
+#[cycle(mark)]
 fn mark_block(t: &[Word], p: Word, n: Word, k: Word, j: Word, m: &mut [Word])
     ensures { m.new ≡ tally m.old (k ∷ j ∷ (elements_passed (sequence_walk (element_at t.now p) (element_count t.now p) n) (exits_of (element_at t.now p k)) ++ (sequence_walk (element_at t.now p) (element_count t.now p) n (exit_at (element_at t.now p j) 0)).on)) }
 {
@@ -116,7 +116,7 @@ fn mark_block(t: &[Word], p: Word, n: Word, k: Word, j: Word, m: &mut [Word])
     mark_way(t, p, n, exit_at(t, p, j, 0), m);
 }
 
-#[cycle(mark_ahead_mark_block_mark_branches_mark_way)]
+#[cycle(mark)]
 fn mark_ahead(t: &[Word], p: Word, n: Word, a: Word, k: Word, m: &mut [Word])
     ensures { m.new ≡ tally m.old (ahead (element_at t.now p) (element_count t.now p) (sequence_walk (element_at t.now p) (element_count t.now p) n) a k).on }
 {
@@ -132,7 +132,7 @@ fn mark_ahead(t: &[Word], p: Word, n: Word, a: Word, k: Word, m: &mut [Word])
 }
 
 // Marks the elements on the way of a walk.
-#[cycle(mark_ahead_mark_block_mark_branches_mark_way)]
+#[cycle(mark)]
 pub fn mark_way(t: &[Word], p: Word, n: Word, a: Word, m: &mut [Word])
     ensures { m.new ≡ tally m.old (sequence_walk (element_at t.now p) (element_count t.now p) n a).on }
 {

@@ -1,4 +1,6 @@
 // What the model checks count in one element; checks 7 and 8 are about one element alone.
+#![tactic(auto)]
+
 ghost use Rattle.std.specs.Prelude.{◌≡◌, ◌≤◌};
 ghost use Rattle.check_occurrences.specs.Occurrences.{condition_count, received_count, sent_count, condition_form, is_default, default_once, binds_field, binds_anew, template_once, bound_once};
 ghost use Rattle.base_words.specs.All.{all};

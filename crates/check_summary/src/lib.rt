@@ -1,4 +1,6 @@
 // The summary of a pool's elements.
+#![tactic(auto)]
+
 ghost use Rattle.std.specs.Prelude.{◌≡◌, ◌+◌, not};
 ghost use Rattle.base_words.specs.Sum.{one_if};
 ghost use Rattle.base_words.specs.Words.{at};

@@ -1,4 +1,6 @@
 // Whether a table is within the limits, with 0 in every place that is not in use.
+#![tactic(auto)]
+
 ghost use Rattle.std.specs.Prelude.{◌≡◌, ◌+◌, ◌-◌, ◌*◌, ◌≤◌, ◌<◌, drop, length};
 ghost use Rattle.base_words.specs.All.{all};
 ghost use Rattle.base_words.specs.Counts.{pools, elements};

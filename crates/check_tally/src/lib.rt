@@ -1,4 +1,6 @@
 // A tally of marks: each word is 0, 1 or 2 (many).
+#![tactic(auto)]
+
 ghost use Rattle.std.specs.Prelude.{◌≡◌};
 ghost use Rattle.check_tally.specs.Tally.{more, marked, place, once_in};
 

@@ -1,4 +1,6 @@
 // The lowest model check broken, by the summaries of the pools of a model, one after the other.
+#![tactic(auto)]
+
 ghost use Rattle.std.specs.Prelude.{◌≡◌};
 ghost use Rattle.base_words.specs.Counts.{names};
 ghost use Rattle.check_tally.specs.Tally.{marked, place, tally, region_marks, marks_of};

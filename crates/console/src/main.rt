@@ -3,6 +3,8 @@
 //
 // The commands and their answers stand in docs/CONSOLE.md, which `bin/console --help` prints. A line that is empty or starts with `#` answers nothing.
 // A command other than read, draw, clear, table, repair and diagnose before one of the first four made a table: no model. Any other line: bad line.
+#![tactic(auto)]
+
 use base_bytes::piece;
 use base_state::places::STATE_WORDS;
 use base_table::places::TABLE_WORDS;

@@ -1,4 +1,6 @@
 // The public calls as C has them: include/cuttingvale.h. Each block comes with its length in words, and a wrong one is refused before the block is looked at.
+#![tactic(auto)]
+
 ghost use Rattle.std.specs.Prelude.{◌≡◌};
 ghost use Rattle.meaning.specs.Tuples.{empty};
 ghost use Rattle.step_poll.specs.Poll.{Polling};

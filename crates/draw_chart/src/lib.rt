@@ -1,4 +1,6 @@
 // Which node is which number: the map of a drawing, written line by line into a lent buffer, as far as it goes.
+#![tactic(auto)]
+
 ghost use Rattle.std.specs.Prelude.{◌≡◌, length};
 ghost use Rattle.write_buffer.specs.Buffers.{over, lesser, last_place};
 ghost use Rattle.draw_walk.specs.Walk.{Walk};

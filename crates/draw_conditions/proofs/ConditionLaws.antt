@@ -3,7 +3,6 @@ use mathlib.Core.Path.{◌≡◌, ◌∙◌, refl, sym}
 use mathlib.Core.Bool.{false}
 use mathlib.Core.List.{List, [], ◌∷◌}
 use Prim.Native.Nat.{ℕ}
-use types.Run.{OneOf, miss}
 use denote.Enum.Declared.{tag_of}
 use Rattle.base_words.specs.Pick.{if◌then◌else◌}
 use Rattle.xml_scanner.specs.contracts.Sort.{the_type}
@@ -39,7 +38,7 @@ none Fault t q o = refl
 
 module _ (t : List ℕ) (p : ℕ) (o : Scan) (eo : o ≡ outline t p) (r : Condition) where
   -- no markup's end
-  pub at_fault : OneOf (0 ∷ 2 ∷ []) (tag_of scan-type o) → r ≡ bare absent → r ≡ condition_at t p
+  pub at_fault : ((v : Sort) (w : ℕ) → o ≡ Past v w → ⊥) → r ≡ bare absent → r ≡ condition_at t p
   unfolding if◌then◌else◌ said_at behind is_over condition_of condition_at
   at_fault f h = h ∙ sym (rw (← eo, past_not o (λ s q. said_by s t q) [] f))
 

@@ -9,7 +9,6 @@ use lib.Dec.{leb}
 use lib.ListN.{length, drop, drop_of_length-le}
 use lib.Seq.{drop-cons}
 use borrow.Author.Tests.{lt-leb}
-use types.Run.{OneOf, miss}
 use denote.Enum.Declared.{tag_of}
 use Rattle.base_words.specs.Pick.{if◌then◌else◌}
 use Rattle.base_words.specs.Words.{at, part}
@@ -38,7 +37,7 @@ module _ (t : List ℕ) (c : Cursor) (i : ℕ) (h : i < length t) (b : ℕ) (eb 
   unfolding outline_from if_on
   outline_on next m = rw (drop-cons t i 0 h, ← eb, ← er, m, add-one i)
 
-  pub outline_stops : OneOf (1 ∷ 2 ∷ []) (tag_of scan-type r) → outline_from t c (drop i t) i ≡ r
+  pub outline_stops : ((v : Cursor) → r ≡ On v → ⊥) → outline_from t c (drop i t) i ≡ r
   unfolding outline_from
   outline_stops m = rw (drop-cons t i 0 h, ← eb, ← er) (not_on _ _ _ m)
 
@@ -134,8 +133,8 @@ pub past_is : {A : Type 0} (r : Scan) (f : Sort → ℕ → A) (a : A) (sort : S
 unfolding if_past
 past_is r f a sort q e = rw e
 
-pub past_not : {A : Type 0} (r : Scan) (f : Sort → ℕ → A) (a : A) → OneOf (0 ∷ 2 ∷ []) (tag_of scan-type r) → if_past r f a ≡ a
+pub past_not : {A : Type 0} (r : Scan) (f : Sort → ℕ → A) (a : A) → ((v : Sort) (w : ℕ) → r ≡ Past v w → ⊥) → if_past r f a ≡ a
 unfolding if_past
 past_not (On c) f a e = refl
-past_not (Past sort q) f a e = absurd (miss (0 ∷ 2 ∷ []) 1 tt e)
+past_not (Past sort q) f a e = absurd (e sort q refl)
 past_not (Fault q) f a e = refl

@@ -20,7 +20,6 @@ use Rattle.xml_markup.specs.declared.Scan.TheVariants.{On as OnScan, Past, Fault
 use Rattle.xml_markup.specs.Markup.{begins_at}
 use Rattle.xml_markup.specs.Spans.{after, is_called}
 use Rattle.xml_markup.specs.contracts.Scan.{the_type as scan-type}
-use types.Run.{OneOf}
 use denote.Enum.Declared.{tag_of}
 use Rattle.xml_skip.specs.Skipping.{depth}
 use Rattle.draw_conditions.specs.Outline.{outline, if_past}
@@ -208,7 +207,7 @@ module _ (t : List ℕ) (i : ℕ) where
   skipped_second r s e h k = rw (← e, h) k
 
   module _ (o : Scan) (eo : o ≡ outline t i) where
-    pub markup_none : OneOf (0 ∷ 2 ∷ []) (tag_of scan-type o) → End ≡ markup_step t i
+    pub markup_none : ((v : Sort) (w : ℕ) → o ≡ Past v w → ⊥) → End ≡ markup_step t i
     unfolding markup_step
     markup_none f = rw (← eo) (sym (past_not o (λ s q. step_by s t i q) End f))
 
@@ -216,7 +215,7 @@ module _ (t : List ℕ) (i : ℕ) where
     unfolding markup_step
     markup_past s q e r h = rw (← eo) (h ∙ sym (past_is o (λ s q. step_by s t i q) End s q e))
 
-    pub skip_none : (d : ℕ) → OneOf (0 ∷ 2 ∷ []) (tag_of scan-type o) → End ≡ skip_markup t d i
+    pub skip_none : (d : ℕ) → ((v : Sort) (w : ℕ) → o ≡ Past v w → ⊥) → End ≡ skip_markup t d i
     unfolding skip_markup
     skip_none d f = rw (← eo) (sym (past_not o (λ s q. skip_by s d q) End f))
 

@@ -1,4 +1,6 @@
 // The condition that an element of a drawing says.
+#![tactic(auto)]
+
 ghost use Rattle.std.specs.Prelude.{◌≡◌};
 ghost use Rattle.draw_conditions.specs.Saying.{said};
 ghost use Rattle.draw_conditions.specs.Conditions.{bare, alone, leftmost, both, form_of, second, joined, compared, condition_of, condition_at};

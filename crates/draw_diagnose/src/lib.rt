@@ -1,4 +1,6 @@
 // A drawing diagnosed: its number, the rule or check that is broken, and the place of the first thing that breaks it.
+#![tactic(auto)]
+
 ghost use Rattle.std.specs.Prelude.{◌≡◌};
 ghost use Rattle.draw_walk.specs.Walk.{Walk};
 ghost use Rattle.draw_read.specs.Drawings.{settled_by, things_of, walked_text, answered};

@@ -1,4 +1,6 @@
 // 21: what is amiss in a drawing.
+#![tactic(auto)]
+
 ghost use Rattle.std.specs.Prelude.{ℕ, ◌<◌, true, false, ◌≡◌};
 ghost use Rattle.base_words.specs.All.{all};
 ghost use Rattle.draw_faults.specs.Amiss.{has, amiss_as_flow, amiss_as_node, amiss_as_pool, is_amiss, is_right, is_repeated, is_drawing};

@@ -1,4 +1,6 @@
 // Which of the kinds of document 01 a node of a drawing is: what stands round it, counted.
+#![tactic(auto)]
+
 ghost use Rattle.std.specs.Prelude.{◌≡◌, ◌-◌, ◌≤◌, eqb};
 ghost use Rattle.draw_kinds.specs.Roles.{shape_of, Before, flows, defines, when, start_drawn, end_drawn, intermediate, activity, splits, joins, gateway, kind_by, caught_as, kind_drawn, kind_settled, roles, is_unsettled, are_settled, settled_up_to};
 ghost use Rattle.draw_things.specs.Things.{sort, sequence_flow, message_event_definition, terminate_event_definition, intermediate_catch_event};

@@ -1,4 +1,6 @@
 // 3: what is beyond the limits in a drawing, and its place.
+#![tactic(auto)]
+
 ghost use Rattle.std.specs.Prelude.{◌≡◌, not, eqb};
 ghost use Rattle.draw_things.specs.Things.{place, within, source};
 ghost use Rattle.draw_conditions.specs.Conditions.{condition_at};

@@ -1,4 +1,6 @@
 // What the references of a drawing name, and the ends of its flows.
+#![tactic(auto)]
+
 ghost use Rattle.std.specs.Prelude.{true, ◌&&◌, ◌||◌, ◌≡◌, eqb};
 ghost use Rattle.base_words.specs.All.{all};
 ghost use Rattle.base_words.specs.Seek.{seek};

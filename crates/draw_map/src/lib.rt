@@ -1,4 +1,6 @@
 // Which node of a drawing is which number, as a definition; `draw_chart` writes it. There is no code but this.
+#![tactic(auto)]
+
 ghost use Rattle.std.specs.Prelude.{◌≡◌};
 
 pub fn version() -> usize

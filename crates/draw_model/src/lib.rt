@@ -1,4 +1,6 @@
 // The model that a drawing means, kept by a pass as that of a text is: marked in tallies, or stored in a table.
+#![tactic(auto)]
+
 ghost use Rattle.std.specs.Prelude.{◌≡◌, ◌+◌, ◌<◌, length};
 ghost use Rattle.base_words.specs.Words.{greatest};
 ghost use Rattle.text_passes.specs.Passes.{kept_element, kept_all, summed, elements_placed, kept_pool};

@@ -2,7 +2,6 @@
 use mathlib.Core.Path.{◌≡◌, sym}
 use mathlib.Core.List.{[], ◌∷◌}
 use Prim.Native.Nat.{ℕ}
-use types.Run.{OneOf}
 use denote.Enum.Declared.{tag_of}
 use Rattle.text_numerals.specs.contracts.Number.{the_type as number-type}
 use Rattle.text_numerals.specs.declared.Number.{Number}
@@ -13,5 +12,5 @@ use Rattle.text_numerals.proofs.AnswerLaws.{is_value, not_value}
 pub value_is : (r n : Number) (v : ℕ) → r ≡ n → r ≡ Value v → v ≡ if_value n (λ x. x) 0
 value_is r n v e h = rw (← e) (sym (is_value r (λ x. x) 0 v h))
 
-pub no_value : (r n : Number) → r ≡ n → OneOf (1 ∷ 2 ∷ []) (tag_of number-type r) → 0 ≡ if_value n (λ x. x) 0
+pub no_value : (r n : Number) → r ≡ n → ((v : ℕ) → r ≡ Value v → ⊥) → 0 ≡ if_value n (λ x. x) 0
 no_value r n e h = rw (← e) (sym (not_value r (λ x. x) 0 h))

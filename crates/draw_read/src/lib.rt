@@ -1,4 +1,6 @@
 // A drawing read into a lent table: judged first, so that a refusal changes nothing; then its model fills the table.
+#![tactic(auto)]
+
 ghost use Rattle.std.specs.Prelude.{◌≡◌, true, false, map, ℕ, ltb};
 ghost use Rattle.base_words.specs.Each.{each};
 ghost use Rattle.text_read.specs.Notation.{table_of, rewritten, has_room};

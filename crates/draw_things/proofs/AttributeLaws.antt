@@ -6,7 +6,6 @@ use Prim.Native.Nat.{ℕ, ◌+◌, ◌<◌, ◌≤◌}
 use native.Mathlib.Numerals.{add-one}
 use lib.ListN.{length, drop, take, drop_of_length-le}
 use lib.Seq.{drop-cons}
-use types.Run.{OneOf}
 use denote.Enum.Declared.{tag_of}
 use Rattle.base_words.specs.Pick.{if◌then◌else◌}
 use Rattle.base_words.specs.Words.{at, part}
@@ -35,7 +34,7 @@ value_absent t a e v ev = rw e ev
 
 -- an attribute by what the calls gave
 module _ (t : List ℕ) (c : Cursor) (i b : ℕ) (w : Whole) (eb : b ≡ at t i) (ew : w ≡ whole c.state b) where
-  pub differs_not : OneOf (0 ∷ 2 ∷ 3 ∷ []) (tag_of whole-type w) → false ≡ differs_at t c i
+  pub differs_not : (w ≡ Attribute → ⊥) → false ≡ differs_at t c i
   unfolding differs_at
   differs_not o = rw (← eb, ← ew) (sym (not_attribute _ _ _ o))
 
@@ -54,7 +53,7 @@ module _ (t : List ℕ) (c : Cursor) (i : ℕ) (h : i < length t) where
     unfolding differs_from if_on if◌then◌else◌
     another_on next m = rw (drop-cons t i 0 h, e, ← eb, ← er, m, add-one i)
 
-    pub another_stops : OneOf (1 ∷ 2 ∷ []) (tag_of scan-type r) → differs_from t c (drop i t) i ≡ false
+    pub another_stops : ((v : Cursor) → r ≡ On v → ⊥) → differs_from t c (drop i t) i ≡ false
     unfolding differs_from if◌then◌else◌
     another_stops m = rw (drop-cons t i 0 h, e, ← eb, ← er) (not_on _ _ _ m)
 

@@ -21,7 +21,7 @@ pub record Row : Type 0 where
 
 infix 70 ◌draws◌in_a◌
 abbrev ◌draws◌in_a◌ : String → ℕ → ℕ → Row
-name draws s in-a parent = record { name = bytes name; sort = s; parent = parent }
+name draws s in_a parent = record { name = bytes name; sort = s; parent = parent }
 
 -- the four events are one parent
 abbrev event : ℕ
@@ -31,25 +31,25 @@ event = start_event
 -- (messageEventDefinition, terminateEventDefinition), `sequenceFlow` (conditionExpression), other nodes and `messageFlow` (nothing)" (R12) (RULES: drawn)
 abbrev read_into : List Row
 read_into =
-    "collaboration" draws collaboration in-a definitions ∷
-    "process" draws process in-a definitions ∷
-    "participant" draws participant in-a collaboration ∷
-    "messageFlow" draws message_flow in-a collaboration ∷
-    "participantMultiplicity" draws participant_multiplicity in-a participant ∷
-    "startEvent" draws start_event in-a process ∷
-    "endEvent" draws end_event in-a process ∷
-    "intermediateCatchEvent" draws intermediate_catch_event in-a process ∷
-    "intermediateThrowEvent" draws intermediate_throw_event in-a process ∷
-    "task" draws task in-a process ∷
-    "sendTask" draws send_task in-a process ∷
-    "receiveTask" draws receive_task in-a process ∷
-    "parallelGateway" draws parallel_gateway in-a process ∷
-    "exclusiveGateway" draws exclusive_gateway in-a process ∷
-    "eventBasedGateway" draws event_based_gateway in-a process ∷
-    "sequenceFlow" draws sequence_flow in-a process ∷
-    "messageEventDefinition" draws message_event_definition in-a event ∷
-    "terminateEventDefinition" draws terminate_event_definition in-a event ∷
-    "conditionExpression" draws condition_expression in-a sequence_flow ∷ []
+    "collaboration" draws collaboration in_a definitions ∷
+    "process" draws process in_a definitions ∷
+    "participant" draws participant in_a collaboration ∷
+    "messageFlow" draws message_flow in_a collaboration ∷
+    "participantMultiplicity" draws participant_multiplicity in_a participant ∷
+    "startEvent" draws start_event in_a process ∷
+    "endEvent" draws end_event in_a process ∷
+    "intermediateCatchEvent" draws intermediate_catch_event in_a process ∷
+    "intermediateThrowEvent" draws intermediate_throw_event in_a process ∷
+    "task" draws task in_a process ∷
+    "sendTask" draws send_task in_a process ∷
+    "receiveTask" draws receive_task in_a process ∷
+    "parallelGateway" draws parallel_gateway in_a process ∷
+    "exclusiveGateway" draws exclusive_gateway in_a process ∷
+    "eventBasedGateway" draws event_based_gateway in_a process ∷
+    "sequenceFlow" draws sequence_flow in_a process ∷
+    "messageEventDefinition" draws message_event_definition in_a event ∷
+    "terminateEventDefinition" draws terminate_event_definition in_a event ∷
+    "conditionExpression" draws condition_expression in_a sequence_flow ∷ []
 
 -- "Skipped whole wherever they stand, since they say nothing about the run" (R13) (RULES: drawn)
 abbrev skipped_whole : List String

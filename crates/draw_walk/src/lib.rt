@@ -1,4 +1,6 @@
 // One walk through a drawing, from left to right: the first fault of its text, and what is drawn up to there.
+#![tactic(auto)]
+
 ghost use Rattle.std.specs.Prelude.{◌≡◌};
 ghost use Rattle.draw_walk.specs.Walk.{walk_told, tag_from, noted, counted, entered, content_at, thing_at, walk};
 

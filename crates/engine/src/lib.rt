@@ -1,4 +1,6 @@
 // The public calls. Each checks what it is lent, then calls the layer below.
+#![tactic(auto)]
+
 ghost use Rattle.std.specs.Prelude.{◌≡◌, true, leb, length};
 ghost use Rattle.base_state.specs.Places.{state_words};
 ghost use Rattle.base_state.specs.Instances.{instances_of};

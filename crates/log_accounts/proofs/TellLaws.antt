@@ -4,7 +4,6 @@ use mathlib.Core.Path.{◌≡◌, refl, sym, ap, subst, ◌∙◌}
 use mathlib.Core.Bool.{Bool, true, false, not}
 use mathlib.Core.List.{List, [], ◌∷◌}
 use native.Mathlib.Omega.{arith}
-use types.Run.{OneOf}
 use denote.Enum.Declared.{tag_of}
 use lib.ListN.{length}
 use lib.Seq.{take-nil}
@@ -154,7 +153,7 @@ module _ (step : List ℕ → Name → Stepped) (post : List ℕ → ℕ → Tup
     tell_full e = comes_none (lines_in left t c) b z r y inv (ap (λ (k : ℕ). acts_of (lines_in left t c) k) e)
 
     module _ (some : 0 < left) (v : Move) (next : v ≡ advance t c) where
-      pub tell_stop : OneOf (1 ∷ 2 ∷ []) (tag_of the_type v) → Ends
+      pub tell_stop : ((v : Cursor) → v ≡ On v → ⊥) → Ends
       tell_stop o = none (lines_stop t c left some v next o)
 
       module _ (d : Cursor) (on : v ≡ On d) (closed : Bool) (closes : closed ≡ closes_event c.level d.level) where
@@ -175,7 +174,7 @@ module _ (step : List ℕ → Name → Stepped) (post : List ℕ → ℕ → Tup
     pub tell_start : (c : Cursor) → v ≡ On c → (r : Telling) (y : List ℕ) → r ≡ onward m g (nothing_told most) (told_by step post (acts_of (lines_from t c) most) z) → y ≡ left_by step post (acts_of (lines_from t c) most) z → Whole r y
     tell_start c on r y e s = subst (λ (ws : List (List ℕ)). (r ≡ onward m g (nothing_told most) (told_by step post (acts_of ws most) z)) × (y ≡ left_by step post (acts_of ws most) z)) (lines_begin t v first c on) (e, s)
 
-    pub tell_none : OneOf (1 ∷ 2 ∷ []) (tag_of the_type v) → (r : Telling) → r ≡ nothing_told most → Whole r z
+    pub tell_none : ((v : Cursor) → v ≡ On v → ⊥) → (r : Telling) → r ≡ nothing_told most → Whole r z
     unfolding told_by left_by
     tell_none o r e =
         let none : acts_of (lines_of t) most ≡ [] = ap (λ (ws : List (List ℕ)). acts_of ws most) (sym (lines_unbegun t v first o)) ∙ take-nil most in

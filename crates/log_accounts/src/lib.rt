@@ -1,4 +1,6 @@
 // What a log tells of a message: its events one after another, each a step or a post as the judge takes it, and how many posted it, sent it, consumed it.
+#![tactic(auto)]
+
 ghost use Rattle.std.specs.Prelude.{◌+◌, ◌<◌, ◌≤◌, ◌≡◌};
 ghost use Rattle.write_buffer.specs.Buffers.{last_place};
 ghost use Rattle.step_poll.specs.Poll.{settled_step, settled_post};

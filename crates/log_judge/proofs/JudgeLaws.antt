@@ -4,7 +4,6 @@ use mathlib.Core.Path.{◌≡◌, refl, sym, ap, ap₂, ◌∙◌}
 use mathlib.Core.Bool.{Bool, true, false, not}
 use mathlib.Core.List.{List, [], ◌∷◌}
 use native.Mathlib.Omega.{arith}
-use types.Run.{OneOf, miss}
 use denote.Enum.Declared.{tag_of}
 use borrow.Author.Tests.{ne_eqb}
 use lib.ListN.{length, take}
@@ -96,14 +95,14 @@ module _ (give : List ℕ → List ℕ → Taking) (t z : List ℕ) (m : Move) (
   pub judged_start : (c : Cursor) → m ≡ On c → judged_by give (lines_from t c) 0 z ≡ judged_by give (lines_of t) 0 z
   judged_start c h = ap (λ (ws : List (List ℕ)). judged_by give ws 0 z) (lines_begin t m first c h)
 
-  pub judged_none : OneOf (1 ∷ 2 ∷ []) (tag_of the_type m) → lawful ≡ judged_by give (lines_of t) 0 z
+  pub judged_none : ((v : Cursor) → m ≡ On v → ⊥) → lawful ≡ judged_by give (lines_of t) 0 z
   unfolding judged_by
   judged_none o = ap (λ (ws : List (List ℕ)). judged_by give ws 0 z) (lines_unbegun t m first o)
 
   pub left_start : (c : Cursor) → m ≡ On c → left_by_lines give (lines_from t c) z ≡ left_by_lines give (lines_of t) z
   left_start c h = ap (λ (ws : List (List ℕ)). left_by_lines give ws z) (lines_begin t m first c h)
 
-  pub left_none : OneOf (1 ∷ 2 ∷ []) (tag_of the_type m) → z ≡ left_by_lines give (lines_of t) z
+  pub left_none : ((v : Cursor) → m ≡ On v → ⊥) → z ≡ left_by_lines give (lines_of t) z
   unfolding left_by_lines
   left_none o = ap (λ (ws : List (List ℕ)). left_by_lines give ws z) (lines_unbegun t m first o)
 
@@ -118,19 +117,19 @@ module _ (give : List ℕ → List ℕ → Taking) (t z : List ℕ) (s : Scanned
   judged_fault h = rw (← read, h)
 
 -- what closes an event
-pub not_event : (l m : Level) → OneOf (0 ∷ 1 ∷ []) (tag_of level-type l) → false ≡ closes_event l m
+pub not_event : (l m : Level) → (l ≡ Event → ⊥) → false ≡ closes_event l m
 unfolding closes_event
 not_event Log m o = refl
 not_event Trace m o = refl
-not_event Event m o = absurd (miss (0 ∷ 1 ∷ []) 2 tt o)
+not_event Event m o = absurd (o refl)
 
-behind_event : (m : Level) → OneOf (0 ∷ 2 ∷ []) (tag_of level-type m) → false ≡ closes_event Event m
+behind_event : (m : Level) → (m ≡ Trace → ⊥) → false ≡ closes_event Event m
 unfolding closes_event
 behind_event Log o = refl
-behind_event Trace o = absurd (miss (0 ∷ 2 ∷ []) 1 tt o)
+behind_event Trace o = absurd (o refl)
 behind_event Event o = refl
 
-pub not_trace : (l m : Level) → l ≡ Event → OneOf (0 ∷ 2 ∷ []) (tag_of level-type m) → false ≡ closes_event l m
+pub not_trace : (l m : Level) → l ≡ Event → (m ≡ Trace → ⊥) → false ≡ closes_event l m
 not_trace l m e o = rw e (behind_event m o)
 
 pub event_closes : (l m : Level) → l ≡ Event → m ≡ Trace → true ≡ closes_event l m
@@ -143,11 +142,11 @@ module _ (give : List ℕ → List ℕ → Taking) (t : List ℕ) (j : Judged) (
   as_left : (ws : List (List ℕ)) → lines_in left t c ≡ ws → judged_by give ws k z ≡ j
   as_left ws e = ap (λ (xs : List (List ℕ)). judged_by give xs k z) (sym e) ∙ inv
 
-  pub judged_stop : OneOf (1 ∷ 2 ∷ []) (tag_of the_type m) → lawful ≡ j
+  pub judged_stop : ((v : Cursor) → m ≡ On v → ⊥) → lawful ≡ j
   unfolding judged_by
   judged_stop o = as_left [] (lines_stop t c left some m next o)
 
-  pub left_stop : (y : List ℕ) → left_by_lines give (lines_in left t c) z ≡ y → OneOf (1 ∷ 2 ∷ []) (tag_of the_type m) → z ≡ y
+  pub left_stop : (y : List ℕ) → left_by_lines give (lines_in left t c) z ≡ y → ((v : Cursor) → m ≡ On v → ⊥) → z ≡ y
   unfolding left_by_lines
   left_stop y left-inv o = ap (λ (ws : List (List ℕ)). left_by_lines give ws z) (sym (lines_stop t c left some m next o)) ∙ left-inv
 

@@ -4,7 +4,6 @@ use mathlib.Core.Path.{◌≡◌, refl, ap, ◌∙◌}
 use mathlib.Core.Bool.{Bool, true, false, not}
 use mathlib.Core.List.{List, [], ◌∷◌}
 use native.Mathlib.Omega.{arith}
-use types.Run.{OneOf, miss}
 use denote.Enum.Declared.{tag_of}
 use Rattle.base_words.specs.Pick.{if◌then◌else◌}
 use Rattle.base_words.specs.Words.{part}
@@ -16,9 +15,9 @@ use Rattle.log_text.specs.contracts.Move.{the_type}
 use Rattle.log_text.specs.Logs.{start, advance, by_move, closes_event, line_of, lines_in, lines_from, lines_of}
 
 -- a move that is none to go on from
-not_on : {A : Type 0} (m : Move) (f : Cursor → A) (x : A) → OneOf (1 ∷ 2 ∷ []) (tag_of the_type m) → by_move m f (λ d. x) (λ q. x) ≡ x
+not_on : {A : Type 0} (m : Move) (f : Cursor → A) (x : A) → ((v : Cursor) → m ≡ On v → ⊥) → by_move m f (λ d. x) (λ q. x) ≡ x
 unfolding by_move
-not_on (On d) f x o = absurd (miss (1 ∷ 2 ∷ []) 0 tt o)
+not_on (On d) f x o = absurd (o d refl)
 not_on (AtEnd d) f x o = refl
 not_on (Fault q) f x o = refl
 
@@ -32,7 +31,7 @@ module _ (t : List ℕ) (m : Move) (first : m ≡ start t) where
   unfolding lines_of by_move
   lines_begin c h = rw (← first, h)
 
-  pub lines_unbegun : OneOf (1 ∷ 2 ∷ []) (tag_of the_type m) → [] ≡ lines_of t
+  pub lines_unbegun : ((v : Cursor) → m ≡ On v → ⊥) → [] ≡ lines_of t
   unfolding lines_of
   lines_unbegun o = rw (← first, not_on m (lines_from t) [] o)
 
@@ -44,7 +43,7 @@ module _ (t : List ℕ) (c : Cursor) (left : ℕ) (some : 0 < left) (m : Move) (
       let e : left ≡ suc (left - 1) = omega (arith, some) in
       ap (λ (n : ℕ). lines_in n t c) e ∙ rw (← next)
 
-  pub lines_stop : OneOf (1 ∷ 2 ∷ []) (tag_of the_type m) → lines_in left t c ≡ []
+  pub lines_stop : ((v : Cursor) → m ≡ On v → ⊥) → lines_in left t c ≡ []
   lines_stop o = lines_by ∙ not_on m _ [] o
 
   module _ (d : Cursor) (on : m ≡ On d) (closed : Bool) (closes : closed ≡ closes_event c.level d.level) where

@@ -1,4 +1,6 @@
 // Whether the run that a log tells was lawful: its events one after another, each a step or a post, and whether its line is true.
+#![tactic(auto)]
+
 ghost use Rattle.std.specs.Prelude.{◌≡◌};
 ghost use Rattle.base_bytes.specs.Bytes.{same_bytes};
 ghost use Rattle.write_lines.specs.Lines.{step_line};

@@ -8,7 +8,6 @@ use native.Mathlib.Nat.{not-suc-le-zero}
 use native.Mathlib.Omega.{arith}
 use lib.Dec.{leb, ltb}
 use lib.ListN.{length, set}
-use types.Run.{OneOf}
 use denote.Enum.Declared.{tag_of}
 use borrow.Author.Tests.{le-leb, lt-leb, eq-eqb, ne_eqb}
 use Rattle.base_words.specs.Pick.{if◌then◌else◌}
@@ -62,7 +61,7 @@ module _ (w : List ℕ) (q : ℕ) (g : Tuple) where
 
   -- what stands at q up to a comma or the end
   module _ (x : Number) (ex : x ≡ number_up_to (code ",") w q) where
-    pub values_wrong : (n : ℕ) → OneOf (1 ∷ 2 ∷ []) (tag_of number-type x) → values_in n w q g ≡ given false empty
+    pub values_wrong : (n : ℕ) → ((v : ℕ) → x ≡ Value v → ⊥) → values_in n w q g ≡ given false empty
     unfolding values_in
     values_wrong zero o = refl
     values_wrong (suc n) o = rw (← ex) (not_value x _ _ o)

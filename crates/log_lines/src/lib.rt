@@ -1,4 +1,6 @@
 // An entry of a log: the step or the post that a line names.
+#![tactic(auto)]
+
 ghost use Rattle.std.specs.Prelude.{◌&&◌, ◌≡◌};
 ghost use Rattle.meaning.specs.Tuples.{empty};
 ghost use Rattle.log_lines.specs.Entries.{given, no_entry, number_up_to, is_small, value_in, number_before, added, values_from, message_from, traffic_from, five_placed, all_right, name_of, step_entry, post_name, post_entry, entry_of};

@@ -1,4 +1,6 @@
 // A log written as it happens: what stands before the events, the event of a step, the event of a post, what stands behind them; each into a lent buffer, whole or not at all.
+#![tactic(auto)]
+
 ghost use Rattle.std.specs.Prelude.{◌≡◌};
 ghost use Rattle.write_buffer.specs.Buffers.{Put};
 ghost use Rattle.write_lines.specs.Lines.{step_line};

@@ -1,4 +1,6 @@
 // A log that ended in the middle: the text up to its last whole event, and the end tags of what is open.
+#![tactic(auto)]
+
 ghost use Rattle.std.specs.Prelude.{◌≡◌, ◌-◌, length};
 ghost use Rattle.write_buffer.specs.Buffers.{over, lesser, last_place, Put};
 ghost use Rattle.log_repair.specs.Repair.{end_tag, trace_end, closing_tags, closed, is_lost, Repair, refused, repair_given, repaired_by, repaired_to};

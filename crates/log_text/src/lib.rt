@@ -1,4 +1,6 @@
 // A log, read from left to right: the first fault of its text, and how far its whole events go.
+#![tactic(auto)]
+
 ghost use Rattle.std.specs.Prelude.{◌≡◌};
 ghost use Rattle.log_text.specs.Logs.{left_by, by_inside, advance, scan_from, begin_by, begin, start, scan};
 

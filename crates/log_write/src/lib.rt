@@ -1,4 +1,6 @@
 // A run as an XES log. Each writer writes from a place on, as far as the lent buffer goes, and returns the place behind its text.
+#![tactic(auto)]
+
 ghost use Rattle.write_buffer.specs.Buffers.{Put};
 ghost use Rattle.write_lines.specs.Lines.{step_line};
 ghost use Rattle.log_write.specs.Xes.{header, event_closing, event_text, footer, header_most, closing_most, event_most, footer_most};

@@ -1,4 +1,6 @@
 // What the meaning in specs/ speaks of: values, tuples, the name of a step, its answer.
+#![tactic(auto)]
+
 ghost use Rattle.std.specs.Prelude.{◌≡◌};
 ghost use Rattle.meaning.specs.Tuples.{empty};
 

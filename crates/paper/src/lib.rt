@@ -1,4 +1,6 @@
 // The rules of the paper, as relations over its own syntax and states; there is no code but this.
+#![tactic(auto)]
+
 ghost use Rattle.std.specs.Prelude.{◌≡◌};
 
 pub fn definitions_only() -> usize

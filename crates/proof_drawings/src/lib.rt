@@ -1,4 +1,6 @@
 // Theorems: a drawing that is accepted gives the table that its text in the notation gives; there is no code but this.
+#![tactic(auto)]
+
 ghost use Rattle.std.specs.Prelude.{◌≡◌};
 
 pub fn theorems_only() -> usize

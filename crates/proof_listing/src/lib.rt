@@ -1,4 +1,6 @@
 // Theorems about the listing and the run; there is no code but this.
+#![tactic(auto)]
+
 ghost use Rattle.std.specs.Prelude.{◌≡◌};
 
 pub fn theorems_only() -> usize

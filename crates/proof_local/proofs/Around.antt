@@ -10,7 +10,6 @@ use lib.ListN.{length, take}
 use borrow.Author.Tests.{le-leb}
 use Rattle.base_words.specs.Pick.{if◌then◌else◌}
 use Rattle.base_bytes.proofs.PieceLaws.{by_order}
-use types.Run.{OneOf, hit}
 use denote.Enum.Declared.{tag_of as kind_of}
 use Rattle.xml_document.specs.contracts.Outside.{the_type}
 use Rattle.xml_markup.specs.declared.Class.TheVariants.{Blanks}
@@ -98,7 +97,7 @@ pub data CutAround (t : List ℕ) (n : ℕ) (x y : Outside) : Type 0 where
 
 module _ (t : List ℕ) (n : ℕ) (inside : n ≤ length t) where
   module _ (p : ℕ) (IH : (q : ℕ) → p < q → q ≤ n → CutAround t n (outside t q) (outside (take n t) q)) (s : ℕ) (h : s < n) (es : s ≡ run Blanks t p) (eu : s ≡ run Blanks (take n t) p) where
-    stopped : (u : List ℕ) → s ≡ run Blanks u p → (x g : Outside) → x ≡ g → x ≡ outside_at u s → (k : OneOf (0 ∷ 2 ∷ 3 ∷ []) (kind_of the_type g)) → outside u p ≡ g
+    stopped : (u : List ℕ) → s ≡ run Blanks u p → (x g : Outside) → x ≡ g → x ≡ outside_at u s → (k : ((v : ℕ) → g ≡ On v → ⊥)) → outside u p ≡ g
     stopped u e x g a ex k = outside_stops u p s e g (sym a ∙ ex) k
 
     step : (x y : Outside) → x ≡ outside_at t s → y ≡ outside_at (take n t) s → CutOutside t n s x y → CutAround t n (outside t p) (outside (take n t) p)

@@ -1,4 +1,6 @@
 // Theorems about logs from the days of endSnd; there is no code but this.
+#![tactic(auto)]
+
 ghost use Rattle.std.specs.Prelude.{◌≡◌};
 
 pub fn theorems_only() -> usize

@@ -1,4 +1,6 @@
 // Theorems: the place of a refusal is that of a token, and right; there is no code but this.
+#![tactic(auto)]
+
 ghost use Rattle.std.specs.Prelude.{◌≡◌};
 
 pub fn theorems_only() -> usize

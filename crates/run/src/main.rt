@@ -1,4 +1,6 @@
 // Reads a model's text from standard input, runs it from its fresh state and writes a line for each step. The version is its first argument, 20 where it has none.
+#![tactic(auto)]
+
 use base_state::places::STATE_WORDS;
 use base_table::places::TABLE_WORDS;
 use base_words::Word;

@@ -1,4 +1,6 @@
 // Whether a state fits its table.
+#![tactic(auto)]
+
 ghost use Rattle.std.specs.Prelude.{◌≡◌, length, take};
 ghost use Rattle.base_state.specs.Places.{state_words};
 ghost use Rattle.base_words.specs.All.{all};

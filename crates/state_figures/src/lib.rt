@@ -1,4 +1,6 @@
 // Figures for the route desk: instances made, unfinished and finished, one record for each pool.
+#![tactic(auto)]
+
 ghost use Rattle.std.specs.Prelude.{◌≡◌, ◌≤◌, true, length};
 ghost use Rattle.base_words.specs.Sum.{one_if};
 ghost use Rattle.base_table.specs.Table.{pool_count, pool_of};

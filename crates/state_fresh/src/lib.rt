@@ -1,4 +1,6 @@
 // The fresh state of a table.
+#![tactic(auto)]
+
 ghost use Rattle.std.specs.Prelude.{◌≡◌, length, replicate};
 ghost use Rattle.base_words.specs.Iter.{iter};
 ghost use Rattle.base_table.specs.Table.{pool_count};

@@ -1,5 +1,7 @@
-// The desk's records as it lends them: structs of three words, in a slice. The prover walks no code with such a slice by itself, so each function that takes one is proved by hand and does little: it reads or stores
-// a record, or takes the list apart for a covered function and puts back what that made of it.
+// The desk's records as it lends them: structs of three words, in a slice. Each function that takes one does little: it reads or stores a record, or takes the list apart for a call on words and puts back what that
+// made of it.
+#![tactic(auto)]
+
 ghost use Rattle.std.specs.Prelude.{◌≡◌, get_or, set};
 ghost use Rattle.state_records.specs.Records.{triple_of, no_record, four_of, put_back, words_of, lent_count, struct_of, four_from};
 

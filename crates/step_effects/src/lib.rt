@@ -1,4 +1,6 @@
 // What a step answers, and what it does to the queues.
+#![tactic(auto)]
+
 ghost use Rattle.std.specs.Prelude.{◌≡◌};
 ghost use Rattle.meaning.specs.declared.Traffic.TheVariants.{Nothing};
 ghost use Rattle.meaning.specs.Tuples.{empty};

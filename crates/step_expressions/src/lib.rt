@@ -1,4 +1,6 @@
 // Expressions over the fields of an instance.
+#![tactic(auto)]
+
 ghost use Rattle.std.specs.Prelude.{◌≡◌, ◌<◌};
 ghost use Rattle.meaning.specs.Expressions.{field_of, operand_of, expression_of};
 

@@ -1,4 +1,6 @@
 // What a move asks of the fields of an instance and does to them: guard, template, binds, assignments, message.
+#![tactic(auto)]
+
 ghost use Rattle.std.specs.Prelude.{◌≡◌, true};
 ghost use Rattle.meaning.specs.Tuples.{empty};
 ghost use Rattle.meaning.specs.Assignments.{Assigned};

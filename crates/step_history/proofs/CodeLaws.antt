@@ -4,7 +4,6 @@ use mathlib.Core.Path.{◌≡◌, refl, sym, ◌∙◌, ap}
 use mathlib.Core.Bool.{Bool, true, false, ◌&&◌}
 use mathlib.Core.List.{List, [], ◌∷◌}
 use native.Mathlib.Omega.{arith}
-use types.Run.{OneOf, miss}
 use denote.Enum.Declared.{tag_of}
 use borrow.Author.Tests.{ne_eqb, eq-eqb, eqb-true, eqb-false}
 use lib.Dec.{eqb}
@@ -27,16 +26,16 @@ use Rattle.step_history.specs.declared.Moved.{Moved}
 use Rattle.step_history.specs.declared.Noted.{Noted}
 use Rattle.step_history.specs.History.{step_gave, post_gave, is_message, is_sent, is_consumed, is_quiet, is_accepted, as_posted, as_sent, as_consumed, posts, sends, consumes, nothing_moved, moved_by, entry_noted, balances}
 
-not_sent : (x : Traffic) → OneOf (0 ∷ 1 ∷ []) (tag_of the_type x) → is_sent x ≡ false
+not_sent : (x : Traffic) → (x ≡ Sent → ⊥) → is_sent x ≡ false
 unfolding is_sent
 not_sent Nothing o = refl
 not_sent Consumed o = refl
-not_sent Sent o = absurd (miss (0 ∷ 1 ∷ []) 2 tt o)
+not_sent Sent o = absurd (o refl)
 
-not_consumed : (x : Traffic) → OneOf (0 ∷ 2 ∷ []) (tag_of the_type x) → is_consumed x ≡ false
+not_consumed : (x : Traffic) → (x ≡ Consumed → ⊥) → is_consumed x ≡ false
 unfolding is_consumed
 not_consumed Nothing o = refl
-not_consumed Consumed o = absurd (miss (0 ∷ 2 ∷ []) 1 tt o)
+not_consumed Consumed o = absurd (o refl)
 not_consumed Sent o = refl
 
 module _ (m : ℕ) (g : Tuple) (n : Name) (a : Answer) where
@@ -48,11 +47,11 @@ module _ (m : ℕ) (g : Tuple) (n : Name) (a : Answer) where
   unfolding consumes is_accepted
   consumes_refused d = and_no (eqb a.number 0) (as_consumed m g (step_gave n a)) (ne_eqb a.number 0 d)
 
-  pub sends_other : OneOf (0 ∷ 1 ∷ []) (tag_of the_type a.traffic) → false ≡ sends m g (step_gave n a)
+  pub sends_other : (a.traffic ≡ Sent → ⊥) → false ≡ sends m g (step_gave n a)
   unfolding sends as_sent
   sends_other o = sym (and_false_right (is_accepted (step_gave n a)) _ (ap (λ (b : Bool). b && is_message m g a.name a.tuple) (not_sent a.traffic o)))
 
-  pub consumes_other : OneOf (0 ∷ 2 ∷ []) (tag_of the_type a.traffic) → false ≡ consumes m g (step_gave n a)
+  pub consumes_other : (a.traffic ≡ Consumed → ⊥) → false ≡ consumes m g (step_gave n a)
   unfolding consumes as_consumed
   consumes_other o = sym (and_false_right (is_accepted (step_gave n a)) _ (ap (λ (b : Bool). b && is_message m g a.name a.tuple) (not_consumed a.traffic o)))
 
@@ -107,13 +106,13 @@ module _ (n : Name) (a : Answer) where
   moved_quiet e q =
       pick_yes (eqb a.number 0) nothing_moved _ nothing_moved (eq-eqb a.number 0 e) (pick_yes (is_quiet a.traffic) nothing_moved nothing_moved _ (ap is_quiet q) refl)
 
-  not_quiet : (x : Traffic) → OneOf (1 ∷ 2 ∷ []) (tag_of the_type x) → is_quiet x ≡ false
+  not_quiet : (x : Traffic) → (x ≡ Nothing → ⊥) → is_quiet x ≡ false
   unfolding is_quiet
-  not_quiet Nothing o = absurd (miss (1 ∷ 2 ∷ []) 0 tt o)
+  not_quiet Nothing o = absurd (o refl)
   not_quiet Consumed o = refl
   not_quiet Sent o = refl
 
-  pub moved_some : a.number ≡ 0 → OneOf (1 ∷ 2 ∷ []) (tag_of the_type a.traffic) → record { some = true; name = a.name; tuple = a.tuple } ≡ moved_by (step_gave n a)
+  pub moved_some : a.number ≡ 0 → (a.traffic ≡ Nothing → ⊥) → record { some = true; name = a.name; tuple = a.tuple } ≡ moved_by (step_gave n a)
   unfolding moved_by
   moved_some e o =
       pick_yes (eqb a.number 0) _ _ nothing_moved (eq-eqb a.number 0 e) (pick_no (is_quiet a.traffic) _ nothing_moved _ (not_quiet a.traffic o) refl)

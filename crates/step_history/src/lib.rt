@@ -1,4 +1,6 @@
 // What is counted in a history of calls: of a name and a tuple, how many messages were posted, sent, consumed, and how many are queued.
+#![tactic(auto)]
+
 ghost use Rattle.std.specs.Prelude.{◌≡◌, ◌≤◌};
 ghost use Rattle.base_words.specs.Sum.{one_if};
 ghost use Rattle.meaning.specs.Messages.{times};

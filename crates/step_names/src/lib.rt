@@ -1,4 +1,6 @@
 // The names of steps, and of some names the accepted one with a given ordinal.
+#![tactic(auto)]
+
 ghost use Rattle.std.specs.Prelude.{◌≡◌, [], ◌∷◌, ◌<◌};
 ghost use Rattle.base_words.specs.Each.{joined};
 ghost use Rattle.base_state.specs.Instances.{instances_of, queues_of};

@@ -1,4 +1,6 @@
 // What a step comes to, worked out on the copy of its instance.
+#![tactic(auto)]
+
 ghost use Rattle.std.specs.Prelude.{◌≡◌};
 ghost use Rattle.meaning.specs.Changes.{taken, moved};
 ghost use Rattle.meaning.specs.Step.{defined, sent, after_taking};

@@ -1,4 +1,6 @@
 // A whole poll: named steps and posts out of lent words, one by one until the first refusal.
+#![tactic(auto)]
+
 ghost use Rattle.std.specs.Prelude.{◌≡◌};
 ghost use Rattle.step_poll.specs.Items.{given_in, name_in, act_in, acts_in};
 ghost use Rattle.step_poll.specs.Poll.{Left, settled_act, Polling, polled_from};

@@ -1,4 +1,6 @@
 // The queues of a state: the oldest equal message, one more behind the others, one taken out.
+#![tactic(auto)]
+
 ghost use Rattle.std.specs.Prelude.{◌≡◌, ◌+◌, ◌-◌, ◌*◌, ◌≤◌, eqb};
 ghost use Rattle.base_words.specs.All.{all};
 ghost use Rattle.base_words.specs.Seek.{seek};

@@ -1,4 +1,6 @@
 // The run: the first listed step, until none is accepted or the limit is used up.
+#![tactic(auto)]
+
 ghost use Rattle.std.specs.Prelude.{◌≡◌};
 ghost use Rattle.base_state.specs.Instances.{instances_of, queues_of};
 ghost use Rattle.step_take.specs.Settled.{settled};

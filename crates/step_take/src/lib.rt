@@ -1,4 +1,6 @@
 // A named step and a post, on a whole state: the instances, then the queues.
+#![tactic(auto)]
+
 ghost use Rattle.std.specs.Prelude.{◌≡◌, eqb, length, ◌≤◌};
 ghost use Rattle.base_kinds.specs.Moves.{move_of};
 ghost use Rattle.base_table.specs.Table.{kind_in, mode_in};

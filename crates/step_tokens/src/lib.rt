@@ -1,4 +1,6 @@
 // What a move asks of the tokens and counts of an instance, and what it does to them.
+#![tactic(auto)]
+
 ghost use Rattle.std.specs.Prelude.{◌≡◌};
 ghost use Rattle.meaning.specs.Requirements.{touched, first_touched, branch_count, instance_named, below_limit};
 ghost use Rattle.step_tokens.specs.Edges.{edge_from};

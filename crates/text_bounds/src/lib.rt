@@ -1,4 +1,6 @@
 // How many items a list of a text has: what can start one, one too many, too few of them.
+#![tactic(auto)]
+
 ghost use Rattle.std.specs.Prelude.{◌≡◌};
 ghost use Rattle.text_readers.specs.Reading.{place_of};
 ghost use Rattle.text_bounds.specs.Bounds.{starts_operand, starts, one_too_many, counted};

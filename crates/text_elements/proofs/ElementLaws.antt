@@ -6,7 +6,6 @@ use mathlib.Core.Bool.{Bool, true, false, not}
 use mathlib.Core.List.{List, [], ◌∷◌}
 use native.Mathlib.Numerals.{add-one}
 use native.Mathlib.Omega.{arith}
-use types.Run.{OneOf}
 use denote.Enum.Declared.{tag_of}
 use lib.Dec.{eqb, ltb}
 use lib.ListN.{length, set, drop, take, get_or, replicate, length-set, length-replicate, drop_of_length-le}
@@ -123,7 +122,7 @@ module _ (text : List ℕ) (at : ℕ) (t : Token) (e : t ≡ token_at text at) w
     abbrev of_other : ℕ → Parsed
     of_other p = refused_at misplaced p (blank 0 x)
 
-    pub element_no : (y : List ℕ) → OneOf (1 ∷ 2 ∷ 3 ∷ 4 ∷ []) (tag_of the_type t.form) → y ≡ blank 0 x → refused_at misplaced t.at y ≡ element text at x
+    pub element_no : (y : List ℕ) → (t.form ≡ Word → ⊥) → y ≡ blank 0 x → refused_at misplaced t.at y ≡ element text at x
     unfolding element
     element_no y f h = word_missed text at t e of_word of_other (refused_at misplaced t.at y) f (ap (refused_at misplaced t.at) h)
 
@@ -131,7 +130,7 @@ module _ (text : List ℕ) (at : ℕ) (t : Token) (e : t ≡ token_at text at) w
     unfolding element
     element_yes w l k f h n r = word_read text at t e of_word of_other w l f h (r ∙ ap (λ j. element_of j t.at text t.next x) n)
 
-  pub starts_no : OneOf (1 ∷ 2 ∷ 3 ∷ 4 ∷ []) (tag_of the_type t.form) → false ≡ starts_element text at
+  pub starts_no : (t.form ≡ Word → ⊥) → false ≡ starts_element text at
   unfolding starts_element
   starts_no f = word_missed text at t e (λ l p q. not (eqb (kind_named l) 0)) (λ p. false) false f refl
 

@@ -1,4 +1,6 @@
 // An element of a text, read into its words of a table: the keyword of its kind, and its parts by the table of kinds.
+#![tactic(auto)]
+
 ghost use Rattle.std.specs.Prelude.{◌≡◌, length, replicate};
 ghost use Rattle.base_words.specs.Seek.{seek};
 ghost use Rattle.base_kinds.specs.Kinds.{keyword_of};

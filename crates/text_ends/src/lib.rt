@@ -1,4 +1,6 @@
 // What the first pass notes of a pool behind its summary, so that it is known whether there is room for what its endSnds become.
+#![tactic(auto)]
+
 ghost use Rattle.std.specs.Prelude.{◌≡◌, ◌+◌, ◌≤◌, eqb, take};
 ghost use Rattle.base_words.specs.Sum.{one_if};
 ghost use Rattle.base_words.specs.Words.{at};

@@ -1,4 +1,6 @@
 // The tokens of a text, each at or after a given place.
+#![tactic(auto)]
+
 ghost use Rattle.std.specs.Prelude.{◌≡◌, drop};
 ghost use Rattle.base_words.specs.Words.{at};
 ghost use Rattle.text_lexer.specs.Lexer.{is_blank, is_word, is_sign, placed, token_here, token_at, sign_behind};

@@ -2,7 +2,6 @@
 use mathlib.Core.Path.{◌≡◌, refl}
 use mathlib.Core.List.{[], ◌∷◌}
 use Prim.Native.Nat.{ℕ}
-use types.Run.{OneOf, miss}
 use denote.Enum.Declared.{tag_of}
 use Rattle.text_numerals.specs.contracts.Number.{the_type as number-type}
 use Rattle.text_numerals.specs.contracts.Operand.{the_type as operand_type}
@@ -21,16 +20,16 @@ module _ {A : Type 0} (n : Number) where
   unfolding if_too_large
   is_too_large a b e = rw e
 
-pub not_value : {A : Type 0} (n : Number) (a : ℕ → A) (b : A) → OneOf (1 ∷ 2 ∷ []) (tag_of number-type n) → if_value n a b ≡ b
+pub not_value : {A : Type 0} (n : Number) (a : ℕ → A) (b : A) → ((v : ℕ) → n ≡ Value v → ⊥) → if_value n a b ≡ b
 unfolding if_value
-not_value (Value v) a b e = absurd (miss (1 ∷ 2 ∷ []) 0 tt e)
+not_value (Value v) a b e = absurd (e v refl)
 not_value TooLarge a b e = refl
 not_value NotANumber a b e = refl
 
-pub not_too_large : {A : Type 0} (n : Number) (a b : A) → OneOf (0 ∷ 2 ∷ []) (tag_of number-type n) → if_too_large n a b ≡ b
+pub not_too_large : {A : Type 0} (n : Number) (a b : A) → (n ≡ TooLarge → ⊥) → if_too_large n a b ≡ b
 unfolding if_too_large
 not_too_large (Value v) a b e = refl
-not_too_large TooLarge a b e = absurd (miss (0 ∷ 2 ∷ []) 1 tt e)
+not_too_large TooLarge a b e = absurd (e refl)
 not_too_large NotANumber a b e = refl
 
 module _ {A : Type 0} (o : Operand) where
@@ -46,23 +45,23 @@ module _ {A : Type 0} (o : Operand) where
   unfolding if_out_of_range
   is_out_of_range a b e = rw e
 
-pub not_number : {A : Type 0} (o : Operand) (a : ℕ → A) (b : A) → OneOf (1 ∷ 2 ∷ 3 ∷ []) (tag_of operand_type o) → if_number o a b ≡ b
+pub not_number : {A : Type 0} (o : Operand) (a : ℕ → A) (b : A) → ((v : ℕ) → o ≡ Constant v → ⊥) → if_number o a b ≡ b
 unfolding if_number
-not_number (Constant v) a b e = absurd (miss (1 ∷ 2 ∷ 3 ∷ []) 0 tt e)
+not_number (Constant v) a b e = absurd (e v refl)
 not_number (Field f) a b e = refl
 not_number OutOfRange a b e = refl
 not_number NotAnOperand a b e = refl
 
-pub not_field : {A : Type 0} (o : Operand) (a : ℕ → A) (b : A) → OneOf (0 ∷ 2 ∷ 3 ∷ []) (tag_of operand_type o) → if_field o a b ≡ b
+pub not_field : {A : Type 0} (o : Operand) (a : ℕ → A) (b : A) → ((v : ℕ) → o ≡ Field v → ⊥) → if_field o a b ≡ b
 unfolding if_field
 not_field (Constant v) a b e = refl
-not_field (Field f) a b e = absurd (miss (0 ∷ 2 ∷ 3 ∷ []) 1 tt e)
+not_field (Field f) a b e = absurd (e f refl)
 not_field OutOfRange a b e = refl
 not_field NotAnOperand a b e = refl
 
-pub not_out_of_range : {A : Type 0} (o : Operand) (a b : A) → OneOf (0 ∷ 1 ∷ 3 ∷ []) (tag_of operand_type o) → if_out_of_range o a b ≡ b
+pub not_out_of_range : {A : Type 0} (o : Operand) (a b : A) → (o ≡ OutOfRange → ⊥) → if_out_of_range o a b ≡ b
 unfolding if_out_of_range
 not_out_of_range (Constant v) a b e = refl
 not_out_of_range (Field f) a b e = refl
-not_out_of_range OutOfRange a b e = absurd (miss (0 ∷ 1 ∷ 3 ∷ []) 2 tt e)
+not_out_of_range OutOfRange a b e = absurd (e refl)
 not_out_of_range NotAnOperand a b e = refl

@@ -1,4 +1,6 @@
 // The parts of an element's text, each read from a place of the text on and stored at its place in the words of the element.
+#![tactic(auto)]
+
 ghost use Rattle.std.specs.Prelude.{◌≡◌};
 ghost use Rattle.text_parts.specs.Parts.{message, receiving, receiving_branches, one_edge, task_part, part_of};
 ghost use Rattle.text_parts.specs.Tails.{receiving_exit, guard_and_assignments};

@@ -3,7 +3,6 @@ use Prim.Native.Nat.{ℕ, ◌+◌}
 use mathlib.Core.Path.{◌≡◌, refl, sym, ◌∙◌, ap, ap₂}
 use mathlib.Core.Bool.{Bool, true, false, not}
 use mathlib.Core.List.{List, [], ◌∷◌}
-use types.Run.{OneOf}
 use denote.Enum.Declared.{tag_of}
 use lib.Dec.{eqb}
 use lib.ListN.{length, replicate, length-replicate}
@@ -126,7 +125,7 @@ module _ (fills : Bool) (i k : ℕ) (text : List ℕ) (at : ℕ) (w : List ℕ) 
 
 -- A POOL BY ITS FIRST TOKEN
 module _ (text : List ℕ) (at : ℕ) (t : Token) (e : t ≡ token_at text at) where
-  pub starts_no : OneOf (1 ∷ 2 ∷ 3 ∷ 4 ∷ []) (tag_of the_type t.form) → false ≡ starts_pool text at
+  pub starts_no : (t.form ≡ Word → ⊥) → false ≡ starts_pool text at
   unfolding starts_pool
   starts_no f = word_missed text at t e (λ l p q. not (eqb (pool_word l) 0)) (λ p. false) false f refl
 
@@ -144,7 +143,7 @@ module _ (fills : Bool) (i : ℕ) (text : List ℕ) (at : ℕ) (w : List ℕ) (t
   abbrev PoolHere : Read → List ℕ → Type 0
   PoolHere b v = Passed (kept_pool fills i) (pool text at) w b v
 
-  pub pool_missed : OneOf (1 ∷ 2 ∷ 3 ∷ 4 ∷ []) (tag_of the_type t.form) → PoolHere (Refused misplaced t.at) w
+  pub pool_missed : (t.form ≡ Word → ⊥) → PoolHere (Refused misplaced t.at) w
   unfolding pool
   pool_missed f =
       stopped _ _ w w (Refused misplaced t.at) misplaced t.at

@@ -1,4 +1,6 @@
 // A pass over a text. It is read twice in the same way: the first pass marks elements and pools in tallies, the second stores them in a table.
+#![tactic(auto)]
+
 ghost use Rattle.std.specs.Prelude.{◌≡◌};
 ghost use Rattle.text_passes.specs.Model.{model};
 ghost use Rattle.text_passes.specs.Passes.{kept_all, kept_pool, Passed};

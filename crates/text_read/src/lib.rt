@@ -1,4 +1,6 @@
 // A text read into a lent table. It is read twice: the first pass judges it, so that a refusal changes nothing; the second fills the table.
+#![tactic(auto)]
+
 ghost use Rattle.std.specs.Prelude.{◌≡◌, ℕ, true, map, eqb, take};
 ghost use Rattle.base_words.specs.Each.{each};
 ghost use Rattle.base_words.specs.Words.{at};

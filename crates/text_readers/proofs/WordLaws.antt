@@ -4,7 +4,6 @@ use mathlib.Core.Bool.{Bool, true, false}
 use mathlib.Core.List.{List, [], ◌∷◌}
 use Prim.Native.Nat.{ℕ, suc, ◌-◌, ◌<◌, ◌≤◌}
 use native.Mathlib.Omega.{arith}
-use types.Run.{OneOf}
 use denote.Enum.Declared.{tag_of}
 use lib.Dec.{eqb, ltb}
 use lib.ListN.{length, take, drop}
@@ -45,7 +44,7 @@ module _ (text : List ℕ) (at : ℕ) (t : Token) (e : t ≡ token_at text at) w
         ∙ sym (is_word_lem t.form (keep (part text t.at t.next) t.at t.next) (miss t.at) f)
         ∙ ap (word_of text keep miss) e
 
-    pub word_missed : OneOf (1 ∷ 2 ∷ 3 ∷ 4 ∷ []) (tag_of the_type t.form) → w ≡ miss t.at
+    pub word_missed : (t.form ≡ Word → ⊥) → w ≡ miss t.at
         → w ≡ if_word (token_at text at).form (keep (letters text at) (place_of text at) (behind text at)) (miss (place_of text at))
     word_missed f k =
         k
@@ -68,7 +67,7 @@ module _ (text : List ℕ) (at : ℕ) (t : Token) (e : t ≡ token_at text at) w
     unfolding starts_field
     starts_field_lem n w g k = word_read (λ z p q. is_spelled (field_of z)) (λ p. false) w l f h (k ∙ ap is_spelled g)
 
-  module _ (f : OneOf (1 ∷ 2 ∷ 3 ∷ 4 ∷ []) (tag_of the_type t.form)) where
+  module _ (f : (t.form ≡ Word → ⊥)) where
     pub mode_missed : (x : List ℕ) → refused_at misplaced t.at x ≡ mode text at x
     unfolding mode
     mode_missed x = word_missed (λ z p q. keep_mode (mode_named z) p q x) (λ p. refused_at misplaced p x) (refused_at misplaced t.at x) f refl
@@ -85,7 +84,7 @@ module _ (text : List ℕ) (at : ℕ) (t : Token) (e : t ≡ token_at text at) w
   pub word_known : {A : Type 0} (a b w : A) → t.form ≡ Word → w ≡ a → w ≡ if_word (token_at text at).form a b
   word_known a b w f k = k ∙ sym (is_word_lem t.form a b f) ∙ ap (λ (z : Token). if_word z.form a b) e
 
-  pub word_unknown : {A : Type 0} (a b w : A) → OneOf (1 ∷ 2 ∷ 3 ∷ 4 ∷ []) (tag_of the_type t.form) → w ≡ b → w ≡ if_word (token_at text at).form a b
+  pub word_unknown : {A : Type 0} (a b w : A) → (t.form ≡ Word → ⊥) → w ≡ b → w ≡ if_word (token_at text at).form a b
   word_unknown a b w f k = k ∙ sym (not_word t.form a b f) ∙ ap (λ (z : Token). if_word z.form a b) e
 
   pub place_known : (n : ℕ) (x : List ℕ) → refused_at n t.at x ≡ refused_at n (place_of text at) x
@@ -100,7 +99,7 @@ module _ (text : List ℕ) (at : ℕ) (t : Token) (e : t ≡ token_at text at) w
     unfolding starts_sign
     starts_read b f = rw (← e) (sym (is_sign t.form (λ z. eqb z s) false b f))
 
-    pub starts_missed : OneOf (0 ∷ 2 ∷ 3 ∷ 4 ∷ []) (tag_of the_type t.form) → false ≡ starts_sign s text at
+    pub starts_missed : ((v : ℕ) → t.form ≡ Sign v → ⊥) → false ≡ starts_sign s text at
     unfolding starts_sign
     starts_missed f = rw (← e) (sym (not_sign t.form (λ z. eqb z s) false f))
 
@@ -112,7 +111,7 @@ module _ (text : List ℕ) (at : ℕ) (t : Token) (e : t ≡ token_at text at) w
   pub assign_read : t.form ≡ Assign → At t.next ≡ assign_at text at
   assign_read f = sym (is_assign t.form (At t.next) (Refused misplaced t.at) f) ∙ by_assign
 
-  pub assign_missed : OneOf (0 ∷ 1 ∷ 3 ∷ 4 ∷ []) (tag_of the_type t.form) → Refused misplaced t.at ≡ assign_at text at
+  pub assign_missed : (t.form ≡ Assign → ⊥) → Refused misplaced t.at ≡ assign_at text at
   assign_missed f = sym (not_assign t.form (At t.next) (Refused misplaced t.at) f) ∙ by_assign
 
   by_end : if_end t.form (At t.next) (Refused misplaced t.at) ≡ end_at text at
@@ -122,7 +121,7 @@ module _ (text : List ℕ) (at : ℕ) (t : Token) (e : t ≡ token_at text at) w
   pub end_read : t.form ≡ End → At t.next ≡ end_at text at
   end_read f = sym (is_end t.form (At t.next) (Refused misplaced t.at) f) ∙ by_end
 
-  pub end_missed : OneOf (0 ∷ 1 ∷ 2 ∷ 4 ∷ []) (tag_of the_type t.form) → Refused misplaced t.at ≡ end_at text at
+  pub end_missed : (t.form ≡ End → ⊥) → Refused misplaced t.at ≡ end_at text at
   end_missed f = sym (not_end t.form (At t.next) (Refused misplaced t.at) f) ∙ by_end
 
 -- A TOKEN ASKED FOR at p, k is where it ends: it stands there, or another does

@@ -1,4 +1,6 @@
 // Readers of one token: the place behind it, or a refusal with the place of its first byte; what the token says is stored in words that are lent.
+#![tactic(auto)]
+
 ghost use Rattle.std.specs.Prelude.{◌≡◌};
 ghost use Rattle.text_readers.specs.Reading.{taken, sign_at, assign_at, end_at, keep_number, number, field, keep_operand, operand, mode_named, keep_mode, mode, is_spelled, starts_number, starts_field, starts_sign};
 

@@ -1,4 +1,6 @@
 // What the endSnds of a table that was filled become, in its words.
+#![tactic(auto)]
+
 ghost use Rattle.std.specs.Prelude.{◌≡◌, ◌+◌, ◌≤◌, eqb};
 ghost use Rattle.base_words.specs.All.{all};
 ghost use Rattle.base_words.specs.Counts.{edges};

@@ -1,4 +1,6 @@
 // The terms of an element's text: expressions, items of a template, conditions, assignments, guarded branches; each is stored at its place in the words of the element.
+#![tactic(auto)]
+
 ghost use Rattle.std.specs.Prelude.{◌≡◌, ◌&&◌, ◌+◌, ◌≤◌, set};
 ghost use Rattle.base_words.specs.Text.{bytes};
 ghost use Rattle.base_words.specs.Words.{part};

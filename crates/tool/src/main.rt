@@ -10,6 +10,8 @@
 //   nested     a model's text: nested, or the pool that is not, and the element at which it offends
 //
 // The version is 20 where none is given. A text or a drawing that is refused is told as the program `run` tells it. A command that there is not is said on standard error.
+#![tactic(auto)]
+
 use base_bytes::{piece, same};
 use libc::STDERR_FILENO;
 

@@ -1,4 +1,6 @@
 // What the programs share of what they say on standard output. That a text is said is not part of a promise; what it is, and what becomes of the state, is.
+#![tactic(auto)]
+
 ghost use Rattle.std.specs.Prelude.{◌≡◌, length, replicate, ◌+◌, ◌≤◌};
 ghost use Rattle.base_words.specs.Words.{greatest, digits};
 ghost use Rattle.base_words.specs.Counts.{text_most};

@@ -1,5 +1,7 @@
 // Texts written into a lent buffer from a place on, as far as the buffer goes; what stands before and behind stays. Each writer returns the place behind
 // its text, beyond the buffer's end too, so that one writing into an empty buffer measures the text.
+#![tactic(auto)]
+
 ghost use Rattle.std.specs.Prelude.{◌≡◌, [], ◌∷◌, ◌+◌, ◌≤◌, length};
 ghost use Rattle.write_buffer.specs.Buffers.{lesser, last_place, next, Put};
 

@@ -1,4 +1,6 @@
 // The text of a number: decimal, without leading zeros.
+#![tactic(auto)]
+
 ghost use Rattle.std.specs.Prelude.{◌≡◌, ◌-◌, ◌^◌, length};
 ghost use Rattle.base_words.specs.Words.{digits};
 ghost use Rattle.write_buffer.specs.Buffers.{Put};

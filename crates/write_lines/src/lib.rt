@@ -1,5 +1,7 @@
 // The line of a step, as it is printed and as it is logged. Each writer writes from a place on, as far as the lent buffer goes, and returns the place
 // behind its text.
+#![tactic(auto)]
+
 ghost use Rattle.std.specs.Prelude.{[], ◌∷◌, ◌++◌, ◌+◌};
 ghost use Rattle.base_words.specs.Words.{greatest, digits};
 ghost use Rattle.write_buffer.specs.Buffers.{Put, lesser};

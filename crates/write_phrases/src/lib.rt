@@ -1,5 +1,7 @@
 // The phrases of an element's text that take its words: messages, lists of edges and of branches, and what a task has. Each writer writes from a
 // place on, as far as the lent buffer goes, and returns the place behind its text.
+#![tactic(auto)]
+
 ghost use Rattle.std.specs.Prelude.{◌+◌};
 ghost use Rattle.write_buffer.specs.Buffers.{Put};
 ghost use Rattle.write_shown.specs.Shown.{shown_tuple, shown_message, shown_guarded, shown_guarded_list, shown_receiving, shown_assignments, shown_task};

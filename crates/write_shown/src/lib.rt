@@ -1,5 +1,7 @@
 // The shortest phrases of an element's text: operands, expressions, items, conditions, modes, assignments, and the sign between the pieces of a list.
 // Each writer writes from a place on, as far as the lent buffer goes, and returns the place behind its text.
+#![tactic(auto)]
+
 ghost use Rattle.std.specs.Prelude.{◌∷◌};
 ghost use Rattle.write_buffer.specs.Buffers.{Put};
 ghost use Rattle.write_decimals.specs.Decimals.{shown};

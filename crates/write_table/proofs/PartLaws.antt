@@ -103,5 +103,5 @@ module _ (s : ℕ) (codes el : List ℕ) (i : ℕ) (four : length codes ≡ 4) w
 pub in_use : (p r n : ℕ) → r ≡ n → p < r → ltb p n ≡ true
 in_use p r n e h = lt-ltb p n (omega arith)
 
-pub not-in-use : (p r n : ℕ) → r ≡ n → r ≤ p → ltb p n ≡ false
-not-in-use p r n e h = le-ltb p n (omega arith)
+pub not_in_use : (p r n : ℕ) → r ≡ n → r ≤ p → ltb p n ≡ false
+not_in_use p r n e h = le-ltb p n (omega arith)

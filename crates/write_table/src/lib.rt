@@ -1,5 +1,7 @@
 // The text of a table: its pools and their elements, as the table of kinds has their parts. Each writer writes from a place on, as far
 // as the lent buffer goes, and returns the place behind its text; each element's writer is lent the part of the buffer from the place reached.
+#![tactic(auto)]
+
 ghost use Rattle.std.specs.Prelude.{◌≡◌, ◌+◌, length};
 ghost use Rattle.base_words.specs.Words.{at};
 ghost use Rattle.base_kinds.specs.Kinds.{keyword_of};

@@ -1,4 +1,6 @@
 // The classes of bytes of an XML text; its references and the characters that they say.
+#![tactic(auto)]
+
 ghost use Rattle.std.specs.Prelude.{◌≡◌};
 ghost use Rattle.xml_characters.specs.Names.{is_blank, is_control, begins_name, is_name};
 

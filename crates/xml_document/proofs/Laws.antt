@@ -7,7 +7,6 @@ use Prim.Native.Nat.{ℕ, zero, suc, ◌+◌, ◌<◌, ◌≤◌}
 use native.Mathlib.Omega.{arith}
 use lib.Dec.{leb, eqb}
 use lib.ListN.{length, drop}
-use types.Run.{OneOf, miss}
 use denote.Enum.Declared.{tag_of}
 use borrow.Author.Tests.{le-leb}
 use Rattle.base_words.specs.Pick.{if◌then◌else◌}
@@ -110,10 +109,10 @@ pub outside_end : (t : List ℕ) (p : ℕ) → length t ≤ p → outside t p �
 unfolding further
 outside_end t p h = outside_is t p ∙ rw (step_end t p h)
 
-not_on : (g : Outside) (f : ℕ → Outside) → OneOf (0 ∷ 2 ∷ 3 ∷ []) (tag_of the_type g) → further g f ≡ g
+not_on : (g : Outside) (f : ℕ → Outside) → ((v : ℕ) → g ≡ On v → ⊥) → further g f ≡ g
 unfolding further
 not_on (Element q) f e = refl
-not_on (On q) f e = absurd (miss (0 ∷ 2 ∷ 3 ∷ []) 1 tt e)
+not_on (On q) f e = absurd (e q refl)
 not_on Nothing f e = refl
 not_on (Fault q) f e = refl
 
@@ -123,7 +122,7 @@ module _ (t : List ℕ) (p r : ℕ) (er : r ≡ run Blanks t p) (g : Outside) (e
   unfolding further
   outside_on q e = outside_is t p ∙ rw (← er, ← eg, e)
 
-  pub outside_stops : OneOf (0 ∷ 2 ∷ 3 ∷ []) (tag_of the_type g) → outside t p ≡ g
+  pub outside_stops : ((v : ℕ) → g ≡ On v → ⊥) → outside t p ≡ g
   outside_stops o = outside_is t p ∙ rw (← er, ← eg) (not_on g (outside t) o)
 
   pub outside_past : (q : ℕ) → g ≡ On q → p < q

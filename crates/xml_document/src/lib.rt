@@ -1,4 +1,6 @@
 // A document around its root: blanks, comments and instructions, and nothing else; and its character data byte by byte.
+#![tactic(auto)]
+
 ghost use Rattle.std.specs.Prelude.{◌≡◌};
 ghost use Rattle.xml_document.specs.Document.{other_of, opens_data, tag_at, outside_at, outside};
 

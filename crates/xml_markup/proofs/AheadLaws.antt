@@ -8,7 +8,6 @@ use native.Mathlib.Omega.{arith}
 use lib.Dec.{leb, eqb}
 use lib.ListN.{length, take, drop, get_or, length-drop}
 use lib.Seq.{drop-cons, get_or-take, take-take, take_all, length-take-le}
-use types.Run.{OneOf, miss}
 use denote.Enum.Declared.{tag_of}
 use borrow.Author.Tests.{eqb-true, lt-leb}
 use Rattle.base_words.specs.Pick.{if◌then◌else◌}
@@ -205,10 +204,10 @@ pub to_not : (m : ℕ) → To m ≡ Not → ⊥
 to_not m e = not_to m (sym e)
 
 module _ (κ : ℕ → ℕ) (v : List ℕ) (n k : ℕ) (w : Whole) (m : ℕ) where
-  pub takes_none : n ≤ length v → OneOf (0 ∷ 2 ∷ 3 ∷ []) (tag_of whole-type w) → To n ≡ To m → Rising κ v n → More κ v n v m × (w ≡ Attribute → With κ k v n v m)
+  pub takes_none : n ≤ length v → (w ≡ Attribute → ⊥) → To n ≡ To m → Rising κ v n → More κ v n v m × (w ≡ Attribute → With κ k v n v m)
   takes_none h o e up =
       rw (sym (ap count e))
-      (record { rising = up; fits = h; kept = λ x y. y }, λ a. absurd (miss (0 ∷ 2 ∷ 3 ∷ []) 1 tt (rw a at o)))
+      (record { rising = up; fits = h; kept = λ x y. y }, λ a. absurd (o a))
 
   pub takes_one : (u : List ℕ) → More κ v n u (n + 1) × With κ k v n u (n + 1) → To (n + 1) ≡ To m → More κ v n u m × (w ≡ Attribute → With κ k v n u m)
   takes_one u (a, b) e = rw (sym (ap count e)) (a, λ y. b)

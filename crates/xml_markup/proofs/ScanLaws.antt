@@ -9,7 +9,6 @@ use native.Mathlib.Omega.{arith}
 use lib.Dec.{leb}
 use lib.ListN.{length, take, drop, drop_of_length-le}
 use lib.Seq.{drop-cons, get_or-take, take-take}
-use types.Run.{OneOf, miss}
 use denote.Enum.Declared.{tag_of}
 use borrow.Author.Tests.{lt-leb}
 use Rattle.base_words.specs.Pick.{if◌then◌else◌}
@@ -31,7 +30,7 @@ module _ (t : List ℕ) (start : ℕ) (c : Cursor) (i : ℕ) (h : i < length t) 
   unfolding scan_from if_on
   scan_on next m = rw (drop-cons t i 0 h, add-one i, ← er, m)
 
-  pub scan_stops : OneOf (1 ∷ 2 ∷ []) (tag_of scan-type r) → scan_from t start c (drop i t) i ≡ r
+  pub scan_stops : ((v : Cursor) → r ≡ On v → ⊥) → scan_from t start c (drop i t) i ≡ r
   unfolding scan_from
   scan_stops m = rw (drop-cons t i 0 h, ← er) (not_on _ _ _ m)
 

@@ -6,7 +6,6 @@ use Prim.Native.Nat.{ℕ, ◌+◌, ◌<◌, ◌≤◌}
 use native.Mathlib.Numerals.{add-one}
 use lib.ListN.{length, drop, drop_of_length-le}
 use lib.Seq.{drop-cons}
-use types.Run.{OneOf, miss}
 use denote.Enum.Declared.{tag_of}
 use Rattle.base_words.specs.Pick.{if◌then◌else◌}
 use Rattle.base_words.specs.Words.{at, part}
@@ -27,9 +26,9 @@ pub is_on : {A : Type 0} (r : Scan) (f : Cursor → A) (a : A) (c : Cursor) → 
 unfolding if_on
 is_on r f a c e = rw e
 
-pub not_on : {A : Type 0} (r : Scan) (f : Cursor → A) (a : A) → OneOf (1 ∷ 2 ∷ []) (tag_of scan-type r) → if_on r f a ≡ a
+pub not_on : {A : Type 0} (r : Scan) (f : Cursor → A) (a : A) → ((v : Cursor) → r ≡ On v → ⊥) → if_on r f a ≡ a
 unfolding if_on
-not_on (On c) f a e = absurd (miss (1 ∷ 2 ∷ []) 0 tt e)
+not_on (On c) f a e = absurd (e c refl)
 not_on (Past sort q) f a e = refl
 not_on (Fault q) f a e = refl
 
@@ -37,10 +36,10 @@ pub is_attribute : {A : Type 0} (w : Whole) (a b : A) → w ≡ Attribute → if
 unfolding if_attribute
 is_attribute w a b e = rw e
 
-pub not_attribute : {A : Type 0} (w : Whole) (a b : A) → OneOf (0 ∷ 2 ∷ 3 ∷ []) (tag_of whole-type w) → if_attribute w a b ≡ b
+pub not_attribute : {A : Type 0} (w : Whole) (a b : A) → (w ≡ Attribute → ⊥) → if_attribute w a b ≡ b
 unfolding if_attribute
 not_attribute Nothing a b e = refl
-not_attribute Attribute a b e = absurd (miss (0 ∷ 2 ∷ 3 ∷ []) 1 tt e)
+not_attribute Attribute a b e = absurd (e refl)
 not_attribute Target a b e = refl
 not_attribute Reference a b e = refl
 
@@ -55,7 +54,7 @@ module _ (t name : List ℕ) (c : Cursor) (i : ℕ) (h : i < length t) where
     unfolding found_from if_on if◌then◌else◌
     found_on next m = rw (drop-cons t i 0 h, e, ← eb, ← er, m, add-one i)
 
-    pub found_stops : OneOf (1 ∷ 2 ∷ []) (tag_of scan-type r) → found_from t name c (drop i t) i ≡ Nowhere
+    pub found_stops : ((v : Cursor) → r ≡ On v → ⊥) → found_from t name c (drop i t) i ≡ Nowhere
     unfolding found_from if◌then◌else◌
     found_stops m = rw (drop-cons t i 0 h, e, ← eb, ← er) (not_on _ _ _ m)
 
@@ -65,7 +64,7 @@ found_end t name c i h = rw (drop_of_length-le t h)
 
 -- an attribute's name compared, by what the calls gave
 module _ (t name : List ℕ) (c : Cursor) (i b : ℕ) (w : Whole) (eb : b ≡ at t i) (ew : w ≡ whole c.state b) where
-  pub named_not : OneOf (0 ∷ 2 ∷ 3 ∷ []) (tag_of whole-type w) → false ≡ is_named t name c i
+  pub named_not : (w ≡ Attribute → ⊥) → false ≡ is_named t name c i
   unfolding is_named
   named_not o = rw (← eb, ← ew) (sym (not_attribute _ _ _ o))
 

@@ -1,4 +1,6 @@
 // Where a byte may stand in a markup, and what it does there.
+#![tactic(auto)]
+
 pub mod states;
 
 // What stands at a place: a tag, character data, a reference, a comment, a CDATA section, an instruction, the end of the text, or a fault.

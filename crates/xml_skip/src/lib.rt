@@ -1,4 +1,6 @@
 // "An element inside an element, up to 16 deep, is skipped whole." Skipping an element and skipping its content call each other, with remaining depth and bytes falling.
+#![tactic(auto)]
+
 ghost use Rattle.std.specs.Prelude.{◌≡◌};
 ghost use Rattle.xml_markup.specs.Markup.{markup};
 ghost use Rattle.xml_skip.specs.Skipping.{part_of, part_at, tag_of, element_at, content_at, skipped};
@@ -92,7 +94,7 @@ pub fn tag_of(m: Markup, p: usize) -> Tag
 }
 
 // Goes from an element's `<` to the place behind the element. `depth` is how many elements deep it may be, itself counted.
-#[cycle(skip_content_skip_element)]
+#[cycle(skipping)]
 pub fn skip_element(text: &[u8], p: usize, depth: usize) -> Reached
     ensures { result ≡ element_at text.now p depth }
 {
@@ -108,7 +110,7 @@ pub fn skip_element(text: &[u8], p: usize, depth: usize) -> Reached
 }
 
 // Goes from a place in the content of the element whose tag is at `outer` to the place behind that element's end tag.
-#[cycle(skip_content_skip_element)]
+#[cycle(skipping)]
 pub fn skip_content(text: &[u8], outer: usize, p: usize, depth: usize) -> Reached
     ensures { result ≡ content_at text.now outer p depth }
 {

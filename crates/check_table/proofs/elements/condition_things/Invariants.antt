@@ -1,0 +1,12 @@
+use Prim.Native.Nat.{◌≤◌, ◌-◌}
+use borrow.Author.Rules.{rules}
+use Rattle.base_table.specs.Places.{expression_words}
+use Rattle.check_limits.specs.Limits.{condition_fits}
+use Rattle.check_table.proofs.ThingsLaws.{Right, things_loop}
+use Rattle.check_table.proofs.elements.condition_things.Given as goal
+
+abbrev pub invariant-loop-j : goal.invariant-loop-j
+invariant-loop-j l = (l.j ≤ l.k) × Right (condition_fits l.conditions) l.x expression_words l.j
+
+abbrev pub decreases-loop-j : goal.decreases-loop-j
+decreases-loop-j l = l.k - l.j

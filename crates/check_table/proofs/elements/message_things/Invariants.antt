@@ -1,0 +1,12 @@
+use Prim.Native.Nat.{◌≤◌, ◌-◌}
+use borrow.Author.Rules.{rules}
+use Rattle.base_table.specs.Places.{message_words}
+use Rattle.check_limits.specs.Limits.{message_fits}
+use Rattle.check_table.proofs.ThingsLaws.{Right, things_loop}
+use Rattle.check_table.proofs.elements.message_things.Given as goal
+
+abbrev pub invariant-loop-j : goal.invariant-loop-j
+invariant-loop-j l = (l.j ≤ l.k) × Right (message_fits l.receives) l.x message_words l.j
+
+abbrev pub decreases-loop-j : goal.decreases-loop-j
+decreases-loop-j l = l.k - l.j

@@ -1,0 +1,40 @@
+use Prim.Native.Nat.{◌-◌, ◌≤◌}
+use lib.ListN.{length}
+use Rattle.check_verdict.specs.Verdict.{name_if, names_from, names_region}
+use Rattle.base_words.specs.Counts.{names}
+use Rattle.check_tally.specs.Tally.{place, tally, region_marks}
+use Rattle.base_words.specs.Each.{tab}
+use mathlib.Core.Path.{◌≡◌}
+use Rattle.check_tally.proofs.TallyLaws.{tally_loop}
+use borrow.Author.Rules.{rules}
+use Rattle.check_verdict.proofs.mark_names.Goals as goal
+
+ruleset L = (rules, tally_loop)
+
+pub loop-m-init : goal.loop-m-init
+unfolding region_marks names_region
+loop-m-init c = search L
+
+pub mark_name-requires : goal.mark_name-requires
+unfolding region_marks names_region
+mark_name-requires c = search L
+
+pub overflow_add-m : goal.overflow_add-m
+unfolding region_marks names_region
+overflow_add-m c = search L
+
+pub loop-m-smaller : goal.loop-m-smaller
+unfolding region_marks names_region
+loop-m-smaller c = search L
+
+pub loop-m-preserved : goal.loop-m-preserved
+unfolding region_marks names_region
+loop-m-preserved c = search L
+
+pub shape_of-t : goal.shape_of-t
+unfolding region_marks names_region
+shape_of-t c = search L
+
+pub returns : goal.returns
+unfolding region_marks names_region
+returns c = search L

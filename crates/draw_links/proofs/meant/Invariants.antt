@@ -1,0 +1,16 @@
+use Prim.Native.Nat.{◌-◌, ◌≤◌}
+use Rattle.draw_links.proofs.LinkLaws.{found_or_none, none_found}
+use Rattle.draw_links.specs.Links.{has_id, may_name, meant}
+use Rattle.base_words.proofs.PickLaws.{flag_is}
+use Rattle.base_words.proofs.SeekLaws.{seek_more, seek_none}
+use Rattle.base_words.specs.Seek.{seek}
+use mathlib.Core.Bool.{◌&&◌}
+use mathlib.Core.Path.{◌≡◌}
+use borrow.Author.Rules.{rules}
+use Rattle.draw_links.proofs.meant.Given as goal
+
+abbrev pub invariant-loop-j : goal.invariant-loop-j
+invariant-loop-j l = (l.j ≤ l.n) × (seek (λ i. may_name l.w l.k i && has_id l.text l.v l.w i) l.j ≡ l.j)
+
+abbrev pub decreases-loop-j : goal.decreases-loop-j
+decreases-loop-j l = l.n - l.j

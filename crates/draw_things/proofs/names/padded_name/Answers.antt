@@ -1,0 +1,8 @@
+use Rattle.draw_things.specs.Names.{rows}
+use Rattle.draw_things.proofs.NameLaws.{name_in}
+use borrow.Author.Rules.{rules}
+use Rattle.draw_things.proofs.names.padded_name.Goals as goal
+
+pub returns : goal.returns
+unfolding rows
+returns c = name_in _ _ c.requires

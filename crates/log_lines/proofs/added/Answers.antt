@@ -1,0 +1,6 @@
+use Rattle.log_lines.proofs.Laws.{added_is}
+use borrow.Author.Rules.{rules}
+use Rattle.log_lines.proofs.added.Goals as goal
+
+pub returns : goal.returns
+returns c = added_is _ _ _ _ c.one_more.ensures c.put.ensures

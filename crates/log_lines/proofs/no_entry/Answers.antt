@@ -1,0 +1,5 @@
+use borrow.Author.Rules.{rules}
+use Rattle.log_lines.proofs.no_entry.Goals as goal
+
+pub returns : goal.returns
+returns c = rw c.empty_tuple-given.ensures

@@ -1,0 +1,6 @@
+use Rattle.log_lines.proofs.Laws.{none_is}
+use borrow.Author.Rules.{rules}
+use Rattle.log_lines.proofs.none.Goals as goal
+
+pub returns : goal.returns
+returns c = none_is _ _ _ c.values_given.ensures c.empty_tuple.ensures

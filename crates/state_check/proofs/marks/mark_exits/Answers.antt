@@ -1,0 +1,19 @@
+use borrow.Author.Rules.{rules}
+use Rattle.state_check.proofs.marks.mark_exits.Goals as goal
+
+ruleset L = (rules)
+
+pub overflow_cast-mark_edges : goal.overflow_cast-mark_edges
+overflow_cast-mark_edges c = search L
+
+pub exit_count-requires : goal.exit_count-requires
+exit_count-requires c = search L
+
+pub mark_edges-requires : goal.mark_edges-requires
+mark_edges-requires c = search L
+
+pub shape_of-w : goal.shape_of-w
+shape_of-w c = search L
+
+pub returns : goal.returns
+returns c = rw c.exit_count.ensures at c.mark_edges.ensures

@@ -1,0 +1,10 @@
+use borrow.Author.Rules.{rules}
+use Rattle.step_effects.proofs.refuse.Goals as goal
+
+ruleset L = (rules)
+
+pub empty_tuple-requires : goal.empty_tuple-requires
+empty_tuple-requires c = search L
+
+pub returns : goal.returns
+returns c = rw c.empty_tuple.ensures

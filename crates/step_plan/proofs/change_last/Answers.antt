@@ -1,0 +1,13 @@
+use borrow.Author.Rules.{rules}
+use Rattle.step_plan.proofs.change_last.Goals as goal
+
+ruleset L = (rules)
+
+pub finish-requires : goal.finish-requires
+finish-requires c = search L
+
+pub shape_of-h : goal.shape_of-h
+shape_of-h c = search L
+
+pub returns : goal.returns
+returns c = search L

@@ -1,0 +1,19 @@
+use mathlib.Core.Logic.{⊎_elim, inl, inr}
+use mathlib.Core.Path.{◌≡◌, ◌∙◌, refl, sym}
+use Prim.Native.Nat.{◌+◌, ◌-◌, ◌*◌, ◌≤◌}
+use native.Mathlib.Omega.{arith}
+use lib.ListN.{length, drop}
+use Rattle.base_words.specs.Words.{greatest}
+use Rattle.base_words.proofs.PickLaws.{flag_yes, flag_no}
+use Rattle.text_numerals.specs.Numerals.{value_from}
+use Rattle.text_numerals.proofs.NumberLaws.{digit_bounds, value_none, value_within, value_above, value_on}
+use borrow.Author.Rules.{rules}
+use mathlib.Core.Path.{ap}
+use mathlib.Core.Bool.{not}
+use Rattle.text_numerals.proofs.digits.Given as goal
+
+abbrev pub invariant-loop-i : goal.invariant-loop-i
+invariant-loop-i l = (l.v ≤ greatest * 10 + 9) × (value_from l.v (drop l.i l.word) ≡ value_from 0 l.word)
+
+abbrev pub decreases-loop-i : goal.decreases-loop-i
+decreases-loop-i l = length l.word - l.i

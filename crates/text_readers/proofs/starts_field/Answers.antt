@@ -1,0 +1,9 @@
+use Rattle.text_readers.proofs.WordLaws.{starts_field_lem, starts_no_field}
+use borrow.Author.Rules.{rules}
+use Rattle.text_readers.proofs.starts_field.Goals as goal
+
+pub returns-in_default : goal.returns-in_default
+returns-in_default c = starts_no_field _ _ _ c.token_at-token.ensures c.in_default.not-Word
+
+pub returns : goal.returns
+returns c = starts_field_lem _ _ _ c.token_at-token.ensures _ c.in-Word.is c.piece.ensures _ _ c.field_of.ensures c.is_spelled.ensures

@@ -1,0 +1,6 @@
+use Rattle.text_terms.proofs.ReaderLaws.{store_goes}
+use borrow.Author.Rules.{rules}
+use Rattle.text_terms.proofs.joined.Goals as goal
+
+pub returns : goal.returns
+returns c = store_goes _ _ _ _ _ _ _ _ c.put.ensures c.operand_in.ensures

@@ -1,0 +1,9 @@
+use Rattle.write_decimals.proofs.PutLaws.{Counted, counted_start, counted_fits, counted_turn, counted_end}
+use borrow.Author.Rules.{rules}
+use Rattle.write_decimals.proofs.first_power.Given as goal
+
+abbrev pub invariant-loop-left : goal.invariant-loop-left
+invariant-loop-left l = Counted l.n l.left l.power
+
+abbrev pub decreases-loop-left : goal.decreases-loop-left
+decreases-loop-left l = l.left

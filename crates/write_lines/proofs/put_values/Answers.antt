@@ -1,0 +1,10 @@
+use Rattle.write_lines.proofs.LineLaws.{values_short}
+use Rattle.write_buffer.proofs.OverLaws.{put_as, put_short}
+use Rattle.write_lines.specs.Lines.{row, values_line}
+use mathlib.Core.Path.{ap}
+use borrow.Author.Rules.{rules}
+use Rattle.write_lines.proofs.put_values.Goals as goal
+
+pub returns : goal.returns
+unfolding values_line
+returns c = put_short (put_as _ (ap (row _ _) c.least-n.ensures.0) c.put_row.ensures) (values_short _)

@@ -1,0 +1,19 @@
+use Prim.Native.Char.{code}
+use Prim.Native.Nat.{◌-◌, ◌≤◌, ◌*◌, ◌+◌}
+use Rattle.write_buffer.proofs.OverLaws.{put_as, put_long, lent}
+use Rattle.write_buffer.specs.Buffers.{Put, last_place}
+use Rattle.base_table.specs.Table.{element_at}
+use Rattle.write_shown.proofs.PieceLaws.{list_none, list_more, list_done}
+use Rattle.write_shown.specs.Lengths.{element_most}
+use Rattle.write_shown.specs.Shown.{shown_element, shown_elements, separated}
+use lib.ListN.{length}
+use mathlib.Core.Path.{ap}
+use native.Mathlib.Omega.{arith}
+use borrow.Author.Rules.{rules}
+use Rattle.write_table.proofs.put_elements.Given as goal
+
+abbrev pub invariant-loop-e : goal.invariant-loop-e
+invariant-loop-e l = (l.e ≤ l.n) × Put (separated (code "|") (λ i. shown_element (element_at l.t l.p i)) l.e) (l.e * (1 + element_most)) l.from l.initial.out l.end l.out × (length l.initial.out ≤ last_place)
+
+abbrev pub decreases-loop-e : goal.decreases-loop-e
+decreases-loop-e l = l.n - l.e

@@ -1,0 +1,13 @@
+use mathlib.Core.Path.{◌≡◌, ◌∙◌, refl, sym}
+use Prim.Native.Nat.{◌-◌}
+use lib.ListN.{length, drop}
+use Rattle.xml_markup.specs.Markup.{text_from}
+use Rattle.xml_markup.proofs.TextLaws.{text_stops, text_control, text_data, text_on, text_end}
+use borrow.Author.Rules.{rules}
+use Rattle.xml_markup.proofs.scanning.text_from.Given as goal
+
+abbrev pub invariant-loop-i : goal.invariant-loop-i
+invariant-loop-i l = text_from l.text (drop l.i l.text) l.i ≡ text_from l.text (drop l.p l.text) l.p
+
+abbrev pub decreases-loop-i : goal.decreases-loop-i
+decreases-loop-i l = length l.text - l.i

@@ -1,0 +1,13 @@
+use mathlib.Core.Path.{◌∙◌, refl}
+use Prim.Native.Nat.{◌-◌}
+use native.Mathlib.Omega.{arith}
+use lib.ListN.{length}
+use Rattle.xml_markup.proofs.ShelfLaws.{Alike, alike_on, by_lengths, by_bytes, by_end}
+use borrow.Author.Rules.{rules}
+use Rattle.xml_markup.proofs.shelf.is_before.Given as goal
+
+abbrev pub invariant-loop-i : goal.invariant-loop-i
+invariant-loop-i l = Alike l.a l.b l.i
+
+abbrev pub decreases-loop-i : goal.decreases-loop-i
+decreases-loop-i l = length l.a - l.i

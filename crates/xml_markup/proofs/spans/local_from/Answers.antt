@@ -1,0 +1,16 @@
+use mathlib.Core.Path.{◌≡◌, ◌∙◌, refl, sym}
+use Prim.Native.Nat.{◌-◌}
+use lib.ListN.{length, drop}
+use Rattle.xml_markup.specs.Spans.{local_from}
+use Rattle.xml_markup.proofs.SpanLaws.{local_on, local_end}
+use borrow.Author.Rules.{rules}
+use Rattle.xml_markup.proofs.spans.local_from.Goals as goal
+
+pub loop-i-init : goal.loop-i-init
+loop-i-init c = refl
+
+pub loop-i-preserved : goal.loop-i-preserved
+loop-i-preserved c = sym (local_on _ _ _ _ c.loop-i-test.true c.behind_colon-from.ensures) ∙ c.loop-i.invariant
+
+pub returns : goal.returns
+returns c = sym (local_end _ _ _ c.loop-i-test.false) ∙ c.loop-i.invariant

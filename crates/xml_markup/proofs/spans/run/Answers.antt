@@ -1,0 +1,24 @@
+use mathlib.Core.Path.{◌≡◌, refl}
+use Prim.Native.Nat.{◌-◌}
+use lib.ListN.{length, drop}
+use Rattle.base_words.proofs.PickLaws.{flag_yes, flag_no}
+use Rattle.base_bytes.specs.Bytes.{past}
+use Rattle.base_bytes.proofs.PastLaws.{past_on, past_here, past_all}
+use Rattle.xml_markup.specs.Spans.{is_of, run}
+use borrow.Author.Rules.{rules}
+use mathlib.Core.Path.{ap}
+use mathlib.Core.Bool.{not}
+use Rattle.xml_markup.proofs.spans.run.Goals as goal
+
+pub loop-i-init : goal.loop-i-init
+unfolding run
+loop-i-init c = refl
+
+pub returns-then-not-is_of : goal.returns-then-not-is_of
+returns-then-not-is_of c = past_here _ _ _ _ c.loop-i.invariant c.loop-i-test.true (flag_no _ _ c.is_of.ensures (ap not c.if-not-is_of.true))
+
+pub loop-i-preserved : goal.loop-i-preserved
+loop-i-preserved c = past_on _ _ _ _ c.loop-i.invariant c.loop-i-test.true (flag_yes _ _ c.is_of.ensures (ap not c.if-not-is_of.false))
+
+pub returns : goal.returns
+returns c = past_all _ _ _ _ c.loop-i.invariant c.loop-i-test.false
