@@ -11,20 +11,18 @@ compiler_needed() {
     command -v "$cc" >/dev/null && echo '#include <stdio.h>' | "$cc" -E - >/dev/null 2>&1 || refuse "$cc or the C library's headers are not there; on Debian: apt-get install $packages"
 }
 
-# The emulator and the plugin in EMULATOR and PLUGIN: the kit's where it takes one, else Debian's.
+# The emulator and the plugin in EMULATOR and PLUGIN.
 plugin_needed() { # ROOM
     command -v gcc >/dev/null || refuse "gcc is not there; on Debian: apt-get install gcc libc6-dev"
     echo 'int main(void) { return 0; }' >"$1/nothing.c"
     "$cc" -static -o "$1/nothing" "$1/nothing.c"
-    kit=$(cd "$(dirname "$(readlink -f "$(command -v rt)")")/.." && pwd -P)
-    for EMULATOR in "${RATTLE_HOME:-$kit}/on/$(uname -m)/toolchain/bin/qemu-x86_64" "$(command -v qemu-x86_64)"; do
-        [ -x "$EMULATOR" ] || continue
+    if EMULATOR=$(command -v qemu-x86_64); then
         for version in 1 2; do
             PLUGIN=$1/counter-$version.so
             gcc -O2 -Wall -Wextra -shared -fPIC -DVERSION=$version -o "$PLUGIN" "$root/bench/counter.c"
             if "$EMULATOR" -plugin "$PLUGIN,out=$1/nothing.counts" "$1/nothing" >/dev/null 2>&1 && [ -f "$1/nothing.counts" ]; then return; fi
         done
-    done
+    fi
     refuse "there is no emulator here that takes plugins, and so none that counts instructions; on Debian: apt-get install qemu-user"
 }
 

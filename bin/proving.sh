@@ -22,13 +22,19 @@ crates_below() { # NAME...
             m = split(needs[n], below, " ")
             for (k = 1; k <= m; k++) visit(below[k])
         }
-        FNR == NR { sub(/#.*/, ""); i = index($0, ":"); if (i) { n = substr($0, 1, i - 1); needs[n] = substr($0, i + 1); listed[++count] = n } next }
+        # words behind a name, as `staticlib`, say what it is built as
+        FNR == NR { sub(/#.*/, ""); i = index($0, ":"); if (i) { split(substr($0, 1, i - 1), word, " "); n = word[1]; needs[n] = substr($0, i + 1); listed[++count] = n } next }
         { cost[$1] = $2 }
         END {
             m = split(ENVIRON["WANTED"], wanted, " ")
             for (k = 1; k <= m; k++) visit(wanted[k])
             for (k = 1; k <= count; k++) if (!m || listed[k] in seen) printf "%s %d\n", listed[k], listed[k] in cost ? cost[listed[k]] : 15
         }' "$root/crates.txt" "$root/docs/cost.tsv"
+}
+
+# How many crates are proved beside each other: one for each processor, as far as there are 3 GB of memory for each.
+at_once() {
+    awk -v processors="$(nproc)" '/^MemAvailable/ { n = int($2 / 3000000) } END { print n < 1 ? 1 : n < processors ? n : processors }' /proc/meminfo
 }
 
 clock() { # SECONDS
@@ -47,27 +53,29 @@ progress() { # WORDS
 # The crates that rt has begun and not reported yet; the last one is known by itself.
 under_way() {
     local name names=''
-    while read -r name; do
-        name=${name#./} name=${name%.out}
-        [ -z "${waiting[$name]:-}" ] || names="$names${names:+ and }$name"
-    done < <(cd "$root/target/log" 2>/dev/null && find . -name '*.out' -newer "$room/began")
+    for name in "${!waiting[@]}"; do
+        [ ! "$root/crates/$name/out" -nt "$room/began" ] || names="$names${names:+ and }$name"
+    done
     [ ${#waiting[@]} -ne 1 ] || names=${!waiting[*]}
     echo "${names:+now }$names"
 }
 
-# One line of rt: what it says of a crate, or, with its status, that it ended.
+# One line of rt: that a crate ended, how much of it was proved now, or, with its status, that all did.
 heard() { # LINE
     local name
     case $1 in
-    'rt: '*' proved ('*)
-        name=${1#rt: } name=${name%% *}
+    '== '*)
+        name=${1#== }
         [ -n "${waiting[$name]:-}" ] || return 0
         unset "waiting[$name]"
         ended=$((ended + 1)) left=$((left - cost[$name]))
-        if [ "${1%(unchanged *}" = "$1" ]; then
-            spent=$((spent + cost[$name]))
-            progress "last $name"
-        fi
+        ;;
+    # of a crate that did not change no module is checked again
+    'crate '*': modules loaded='*' checked='[1-9]*)
+        name=${1#crate } name=${name%%:*}
+        [ -n "${cost[$name]:-}" ] || return 0
+        spent=$((spent + cost[$name]))
+        progress "last $name"
         ;;
     'ended '*)
         status=${1#ended }
@@ -77,9 +85,10 @@ heard() { # LINE
     echo "$1" >>"$room/log"
 }
 
-# Runs rt and says on standard error how far it is, where something has to be proved.
-watched() { # WORDS-OF-RT...
-    local part held='' idle=0
+# Runs rt in a folder and says on standard error how far it is, where something has to be proved.
+watched() { # FOLDER WORDS-OF-RT...
+    local folder=$1 part held='' idle=0
+    shift
     while :; do
         part=
         if IFS= read -r -t 1 -u 3 part; then
@@ -92,29 +101,24 @@ watched() { # WORDS-OF-RT...
         else
             break
         fi
-    done 3< <(cd "$root" && rt "$@" 2>&1; echo "ended $?")
+    done 3< <(cd "$folder" && rt "$@" 2>&1; echo "ended $?")
 }
 
-# Proves the named crates, and what they stand on, by runs of rt, each given as one word; what rt said besides stays in $said.
-prove() { # NAMES RUN...
-    local names=$1 run name seconds status=0 ended=0 spent=0 left=0 began=$SECONDS room
+# Proves a crate and what it stands on, or every crate where none is named; how many there are stays in $said.
+prove() { # [NAME]
+    local name seconds status=0 ended=0 spent=0 left=0 began=$SECONDS room
     local -A cost=() waiting=()
-    shift
-    # shellcheck disable=SC2086
     while read -r name seconds; do
         cost[$name]=$seconds waiting[$name]=yes left=$((left + seconds))
-    done < <(crates_below $names)
+    done < <(crates_below "$@")
     mkdir -p "$root/target" && room=$(mktemp -d "$root/target/progress.XXXXXX") || exit 2
     touch "$room/began" "$room/log"
-    for run; do
-        # shellcheck disable=SC2086
-        [ "$status" -ne 0 ] || watched $run
-    done
+    watched "$root${1:+/crates/$1}" all check --jobs "$(at_once)"
     [ ! -t 2 ] || printf '\r\033[K' >&2
     [ $spent -eq 0 ] || [ "$status" -ne 0 ] || echo "all ${#cost[@]} crates proved, $(clock $((SECONDS - began)))" >&2
     # shellcheck disable=SC2034
-    said=$(grep '^rt: ' "$room/log" | grep -v ' proved (')
-    [ "$status" -eq 0 ] || grep -v '^library \|^logic=proved\|^rt: .* proved (' "$room/log" >&2
+    said=$(grep ' crates ok$' "$room/log")
+    [ "$status" -eq 0 ] || grep -v ': proved$\|^== \|^library \|^logic\|^statements \|^crate \|^axioms \|^rt: chose \|^checked ' "$room/log" >&2
     rm -rf "$room"
     return "$status"
 }
@@ -143,28 +147,30 @@ stale() { # FILE
     [ ! -e "$1" ] || [ -n "$(find "$root"/crates/*/{src,specs,proofs} "$root/crates.txt" -newer "$1" -type f 2>/dev/null | head -n 1)" ]
 }
 
+# Has rt build the program or the library of a crate that is proved, and copies it; what rt says is shown only where it fails.
+built() { # NAME WORD FILE
+    local log=$root/target/building made=$1
+    mkdir -p "$(dirname "$3")" || exit 2
+    # rt builds a program only to run it, here on no input
+    (cd "$root/crates/$1" && rt "$2") </dev/null >"$log" 2>&1 || { cat "$log" >&2 && return 1; }
+    rm "$log"
+    [ "$2" = run ] || made=lib$1.a
+    # the copy is there only whole
+    cp "$root/crates/$1/out/$made" "$3.new" && mv "$3.new" "$3"
+}
+
 # Proves and builds a program, where that has not been done since the sources changed.
 build() { # NAME
     ! released || return 0
     needs_rt
     stale "$root/target/bin/$1" || return 0
-    prove "$1" "check $1" || misused "$1 is not proved, so it is not run"
-    touch "$root/target/bin/$1"
+    { prove "$1" && built "$1" run "$root/target/bin/$1"; } || misused "$1 is not proved, so it is not run"
 }
 
 # Starts a program that was built, on standard input.
 start() { # NAME WORDS...
-    local name=$1
+    local name=$1 folder=$root/target/bin
     shift
-    if released; then
-        "$root/programs/$name" "$@"
-        return
-    fi
-    local kit tools emulator
-    # programs are for x86-64; on another processor the kit has an emulator, beside its compiler
-    kit=$(cd "$(dirname "$(readlink -f "$(command -v rt)")")/.." && pwd -P)
-    tools=${RATTLE_HOME:-$kit}/on/$(uname -m)/toolchain
-    emulator=$tools/bin/qemu-x86_64
-    [ -x "$emulator" ] || emulator=
-    ${emulator:+"$emulator"} "$tools/lib/ld-linux-x86-64.so.2" --library-path "$tools/lib" "$root/target/bin/$name" "$@"
+    ! released || folder=$root/programs
+    "$folder/$name" "$@"
 }

@@ -12,7 +12,7 @@ use borrow.Author.Tests.{ltb-true, eqb-true, ne_eqb}
 use Rattle.base_words.specs.Words.{at}
 use Rattle.base_words.specs.All.{all}
 use Rattle.base_words.specs.Each.{each}
-use Rattle.base_words.specs.Pick.{if◌then◌else◌}
+use Rattle.base_words.specs.Pick.{if◌then◌or_else◌}
 use Rattle.base_words.specs.Seek.{seek}
 use Rattle.base_words.proofs.AllLaws.{all_at}
 use Rattle.base_words.proofs.PickLaws.{pick_no, and_false_right}
@@ -42,7 +42,7 @@ unfoldable pub is_free : ℕ → Bool
 is_free i = each (λ n. not (eqb i n)) places
 
 free_or_none : all (λ i. not (is_free i) || eqb (rule_of (i / (modes * phases)) ((i / phases) % modes) (i % phases)) rules) row_places ≡ true
-unfolding all each places is_free rule_of seek is_rule mode_of if◌then◌else◌
+unfolding all each places is_free rule_of seek is_rule mode_of if◌then◌or_else◌
 free_or_none = refl
 
 pub row_none : (i : ℕ) → i < row_places → is_free i ≡ true → cells_of no_move ≡ cells_of (move_at i)

@@ -3,7 +3,7 @@
 use Rattle.std.specs.Prelude.{List, [], ◌∷◌, ◌++◌, ◌≡◌, ℕ, ◌-◌, ◌<◌, eqb, length, get_or, take, replicate}
 use Prim.Native.String.{String}
 use Rattle.base_words.specs.Blocks.{Bytes}
-use Rattle.base_words.specs.Pick.{if◌then◌else◌}
+use Rattle.base_words.specs.Pick.{if◌then◌or_else◌}
 use Rattle.base_words.specs.Text.{bytes}
 use Rattle.base_kinds.specs.declared.Kind.{Kind}
 use Rattle.base_kinds.specs.Cells.{Cell, ◌holding◌, cell}
@@ -148,4 +148,4 @@ keyword_of k = take (kind_of k).letters (kind_of k).keyword
 
 -- how many there are of what a cell says: none, one, or the n of a list
 unfoldable pub used : ℕ → ℕ → ℕ
-used holds n = if eqb holds many then n else holds
+used holds n = if eqb holds many then n or_else holds

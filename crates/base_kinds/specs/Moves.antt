@@ -1,7 +1,7 @@
 -- The rules of the paper's figures 7 to 9, one row each: what a step by the rule asks for and what it does.
 -- (P-XorSplit is the paper's two, of a true condition and of the default: the branch's own condition says which.)
 use Rattle.std.specs.Prelude.{ℕ, Bool, ◌&&◌, List, [], ◌∷◌, eqb, get_or}
-use Rattle.base_words.specs.Pick.{if◌then◌else◌}
+use Rattle.base_words.specs.Pick.{if◌then◌or_else◌}
 use Rattle.base_words.specs.Seek.{seek}
 use Rattle.base_kinds.specs.declared.moves.Move.{Move}
 use Rattle.base_kinds.specs.Cells.{Cell, ◌holding◌, cell}
@@ -174,7 +174,7 @@ rules = 23
 
 -- a row's mode stands for a task's: na for na-c and for na-nc
 unfoldable pub mode_of : ℕ → ℕ
-mode_of m = if eqb m na_nc then na else m
+mode_of m = if eqb m na_nc then na or_else m
 
 unfoldable pub is_rule : ℕ → ℕ → ℕ → ℕ → Bool
 is_rule k m p r = eqb (get_or moves r no_move).kind k && eqb (get_or moves r no_move).mode (mode_of m) && eqb (get_or moves r no_move).phase p

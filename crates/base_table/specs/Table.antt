@@ -1,7 +1,7 @@
 -- What a table t says of its pools, and an element el of its parts. An element, a condition or an item is the words from its place on.
 use Rattle.std.specs.Prelude.{ℕ, Bool, List, eqb, drop}
 use Rattle.base_words.specs.Blocks.{Block, Table, Element}
-use Rattle.base_words.specs.Pick.{if◌then◌else◌}
+use Rattle.base_words.specs.Pick.{if◌then◌or_else◌}
 use Rattle.base_words.specs.Seek.{seek}
 use Rattle.base_words.specs.Words.{at}
 use Rattle.base_kinds.specs.declared.Kind.{Kind}
@@ -26,7 +26,7 @@ pool_of t number = seek (has_number t number) (pool_count t)
 
 -- "A `pool` makes at most 1 instance, a `miPool` at most n." (RULES: model)
 unfoldable pub limit_of : Table → ℕ → ℕ
-limit_of t p = if eqb (at t (limit_place p)) 0 then 1 else at t (limit_place p)
+limit_of t p = if eqb (at t (limit_place p)) 0 then 1 or_else at t (limit_place p)
 
 abbrev pub kind_in : Element → ℕ
 kind_in el = at el kind_place

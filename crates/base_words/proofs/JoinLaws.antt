@@ -6,7 +6,7 @@ use Prim.Native.Nat.{ℕ, zero, suc, ◌+◌, ◌<◌}
 use native.Mathlib.Numerals.{add-one}
 use native.Mathlib.Omega.{arith}
 use Rattle.base_words.specs.Each.{joined, those}
-use Rattle.base_words.specs.Pick.{if◌then◌else◌}
+use Rattle.base_words.specs.Pick.{if◌then◌or_else◌}
 
 pub joined_none : {A : Type 0} (f : ℕ → List A) → joined f 0 ≡ []
 unfolding joined
@@ -26,11 +26,11 @@ unfolding those
 those_none f = refl
 
 pub those_append : {A : Type 0} (f : A → Bool) (xs ys : List A) → those f (xs ++ ys) ≡ those f xs ++ those f ys
-unfolding those if◌then◌else◌
+unfolding those if◌then◌or_else◌
 those_append f [] ys = refl
 those_append f (x ∷ xs) ys = go (f x) (those_append f xs ys)
   where
-    go : (b : Bool) → those f (xs ++ ys) ≡ those f xs ++ those f ys → (if b then x ∷ those f (xs ++ ys) else those f (xs ++ ys)) ≡ (if b then x ∷ those f xs else those f xs) ++ those f ys
+    go : (b : Bool) → those f (xs ++ ys) ≡ those f xs ++ those f ys → (if b then x ∷ those f (xs ++ ys) or_else those f (xs ++ ys)) ≡ (if b then x ∷ those f xs or_else those f xs) ++ those f ys
     go true e = ap (λ l. x ∷ l) e
     go false e = e
 

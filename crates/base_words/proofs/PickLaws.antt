@@ -3,15 +3,15 @@ use mathlib.Core.Path.{◌≡◌, ◌∙◌, refl, sym, ap}
 use mathlib.Core.Bool.{Bool, true, false, not, ◌&&◌, ◌||◌}
 use Prim.Native.Nat.{ℕ}
 use lib.Dec.{leb, eqb}
-use Rattle.base_words.specs.Pick.{if◌then◌else◌}
+use Rattle.base_words.specs.Pick.{if◌then◌or_else◌}
 use Rattle.base_words.proofs.AllLaws.{tests, tests_by}
 
-pub pick_yes : {A : Type 0} (b : Bool) (w x y : A) → b ≡ true → w ≡ x → w ≡ (if b then x else y)
-unfolding if◌then◌else◌
+pub pick_yes : {A : Type 0} (b : Bool) (w x y : A) → b ≡ true → w ≡ x → w ≡ (if b then x or_else y)
+unfolding if◌then◌or_else◌
 pick_yes b w x y e h = rw e h
 
-pub pick_no : {A : Type 0} (b : Bool) (w x y : A) → b ≡ false → w ≡ y → w ≡ (if b then x else y)
-unfolding if◌then◌else◌
+pub pick_no : {A : Type 0} (b : Bool) (w x y : A) → b ≡ false → w ≡ y → w ≡ (if b then x or_else y)
+unfolding if◌then◌or_else◌
 pick_no b w x y e h = rw e h
 
 pub and_yes : (a b w : Bool) → a ≡ true → w ≡ b → w ≡ a && b

@@ -1,6 +1,6 @@
 -- A number added up, or a test passed, over the things of a list; those that pass it; the list of a function's first n values, and these values as lists, one behind the other.
 use Rattle.std.specs.Prelude.{Bool, true, false, ◌&&◌, List, [], ◌∷◌, ◌++◌, ℕ, zero, suc, ◌+◌}
-use Rattle.base_words.specs.Pick.{if◌then◌else◌}
+use Rattle.base_words.specs.Pick.{if◌then◌or_else◌}
 
 unfoldable pub total : {A : Type 0} → (A → ℕ) → List A → ℕ
 total f [] = 0
@@ -20,4 +20,4 @@ joined f (suc n) = joined f n ++ f n
 
 unfoldable pub those : {A : Type 0} → (A → Bool) → List A → List A
 those f [] = []
-those f (x ∷ xs) = if f x then x ∷ those f xs else those f xs
+those f (x ∷ xs) = if f x then x ∷ those f xs or_else those f xs

@@ -1,7 +1,7 @@
 -- Words of a block: a read outside it is 0, a write outside it is none (as `set` has it).
 use Rattle.std.specs.Prelude.{List, ◌++◌, ℕ, ◌+◌, ◌-◌, ltb, get_or, take, drop}
 use Rattle.base_words.specs.Blocks.{Block}
-use Rattle.base_words.specs.Pick.{if◌then◌else◌}
+use Rattle.base_words.specs.Pick.{if◌then◌or_else◌}
 
 -- the greatest value of a word
 abbrev pub greatest : ℕ
@@ -24,4 +24,4 @@ patch s from to p = take from s ++ (p ++ drop (to - from) (drop from s))
 
 -- one more, as far as a word goes
 unfoldable pub one_more : ℕ → ℕ
-one_more n = if ltb n greatest then n + 1 else n
+one_more n = if ltb n greatest then n + 1 or_else n

@@ -6,7 +6,7 @@ use Prim.Native.Nat.{ℕ, ◌+◌, ◌<◌}
 use native.Mathlib.Omega.{arith}
 use lib.Dec.{eqb, ltb}
 use Rattle.base_words.specs.Each.{total, each}
-use Rattle.base_words.specs.Pick.{if◌then◌else◌}
+use Rattle.base_words.specs.Pick.{if◌then◌or_else◌}
 use Rattle.base_words.specs.Sum.{one_if}
 use Rattle.base_words.specs.Counts.{edges, tasks, names}
 use Rattle.base_kinds.specs.Kinds.{start, start_rcv}
@@ -21,10 +21,10 @@ use Rattle.check_answers.specs.Answers.{one_start_by, start_receives_by, edge_by
 
 -- a count of 0, 1 or many decides an edge
 edge_capped : (x n f : ℕ) → edge_right (capped x) (capped n) (capped f) ≡ edge_right x n f
-unfolding edge_right if◌then◌else◌
+unfolding edge_right if◌then◌or_else◌
 edge_capped x n f = rw (sum_capped x n 0 (omega arith), eqb-capped n 1 (omega arith), eqb-capped f 0 (omega arith)) (go (eqb f 0))
   where
-    go : (t : Bool) → (if eqb (x + n) 0 then true else eqb n 1 && eqb (capped x) (if t then 1 else 0)) ≡ (if eqb (x + n) 0 then true else eqb n 1 && eqb x (if t then 1 else 0))
+    go : (t : Bool) → (if eqb (x + n) 0 then true or_else eqb n 1 && eqb (capped x) (if t then 1 or_else 0)) ≡ (if eqb (x + n) 0 then true or_else eqb n 1 && eqb x (if t then 1 or_else 0))
     go true = rw (eqb-capped x 1 (omega arith))
     go false = rw (eqb-capped x 0 (omega arith))
 
@@ -46,7 +46,7 @@ module _ (p : Pool) where
   pub by_3 : start_receives_by p.limit s ≡ check3 p
   unfolding start_receives_by check3
   by_3 =
-      ap (λ b. if eqb p.limit 0 then true else b)
+      ap (λ b. if eqb p.limit 0 then true or_else b)
       (ap (λ x. eqb x 0) (starts_at start (omega arith) (omega arith) p.elements) ∙ eqb-capped (total (of_kind start) p.elements) 0 (omega arith))
 
   pub by_4 : edges_meet_by s ≡ check4 p

@@ -2,7 +2,7 @@
 use Rattle.std.specs.Prelude.{Bool, true, not, ◌&&◌, List, ℕ, ◌+◌, eqb, ltb}
 use Rattle.base_words.specs.Blocks.{Tally}
 use Rattle.base_words.specs.All.{all}
-use Rattle.base_words.specs.Pick.{if◌then◌else◌}
+use Rattle.base_words.specs.Pick.{if◌then◌or_else◌}
 use Rattle.base_words.specs.Words.{at}
 use Rattle.base_words.specs.Counts.{edges, tasks, names}
 use Rattle.base_kinds.specs.Kinds.{start, start_rcv}
@@ -14,7 +14,7 @@ unfoldable pub one_start_by : Tally → Bool
 one_start_by s = eqb (at s (starts_from + start) + at s (starts_from + start_rcv)) 1
 
 unfoldable pub start_receives_by : ℕ → Tally → Bool
-start_receives_by limit s = if eqb limit 0 then true else eqb (at s (starts_from + start)) 0
+start_receives_by limit s = if eqb limit 0 then true or_else eqb (at s (starts_from + start)) 0
 
 unfoldable pub edge_by : Tally → ℕ → Bool
 edge_by s k = edge_right (at s (exits_from + (k + 1))) (at s (entries_from + (k + 1))) (at s (firsts_from + (k + 1)))
@@ -43,10 +43,10 @@ binds_differ_by s = eqb (at s (binds_from + 1)) 0
 -- whether a pool keeps check k by itself
 unfoldable pub kept_by : ℕ → Tally → ℕ → Bool
 kept_by limit s k =
-    if eqb k one_start then one_start_by s else
-    if eqb k start_receives then start_receives_by limit s else
-    if eqb k edges_meet then edges_meet_by s else
-    if eqb k tasks_differ then tasks_differ_by s else
-    if eqb k names_apart then not_sent_there_by s else
-    if eqb k one_default then one_default_by s else
-    if eqb k binds_differ then binds_differ_by s else true
+    if eqb k one_start then one_start_by s or_else
+    if eqb k start_receives then start_receives_by limit s or_else
+    if eqb k edges_meet then edges_meet_by s or_else
+    if eqb k tasks_differ then tasks_differ_by s or_else
+    if eqb k names_apart then not_sent_there_by s or_else
+    if eqb k one_default then one_default_by s or_else
+    if eqb k binds_differ then binds_differ_by s or_else true

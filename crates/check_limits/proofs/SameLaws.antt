@@ -12,7 +12,7 @@ use borrow.Author.Tests.{eqb-true, eq-eqb, ne_eqb, leb-true}
 use Rattle.base_words.specs.All.{all}
 use Rattle.base_words.specs.Each.{each}
 use Rattle.base_words.specs.Counts.{fewest, branches, names, values, tasks, assignments}
-use Rattle.base_words.specs.Pick.{if◌then◌else◌}
+use Rattle.base_words.specs.Pick.{if◌then◌or_else◌}
 use Rattle.base_words.specs.Words.{at}
 use Rattle.base_words.proofs.AllLaws.{all_at, all_of, and_left, and_right}
 use Rattle.base_words.proofs.ListLaws.{each_at}
@@ -80,7 +80,7 @@ module _ (x z : List ℕ) where
 
 -- how many edges a list has
 pub count_most_lem : (column n : ℕ) → column ≤ many → count_fits column n ≡ true → n ≤ branches
-unfolding count_fits if◌then◌else◌
+unfolding count_fits if◌then◌or_else◌
 count_most_lem column n c h = by (eqb column many) refl
   where
     by : (b : Bool) → eqb column many ≡ b → n ≤ branches
@@ -118,7 +118,7 @@ unfolding kind_of
 low f e o k = leb-true (f (kind_of k)) many (each_at (λ r. leb (f r) many) kinds no_kind e o k)
 
 pub used_most : (holds n : ℕ) → holds ≤ many → n ≤ branches → used holds n ≤ branches
-unfolding used if◌then◌else◌
+unfolding used if◌then◌or_else◌
 used_most holds n l h = by (eqb holds many) refl
   where
     by : (b : Bool) → eqb holds many ≡ b → used holds n ≤ branches
@@ -126,7 +126,7 @@ used_most holds n l h = by (eqb holds many) refl
     by false e = rw e (omega (arith, l))
 
 assignments_most : (task : ℕ) (el : List ℕ) → task_fits task el ≡ true → at el assignments_place ≤ assignments
-unfolding task_fits if◌then◌else◌
+unfolding task_fits if◌then◌or_else◌
 assignments_most task el h = by (eqb task one) refl
   where
     by : (b : Bool) → eqb task one ≡ b → at el assignments_place ≤ assignments

@@ -3,7 +3,7 @@
 use Rattle.std.specs.Prelude.{ℕ, ◌+◌, ◌-◌, ◌*◌, Bool, true, false, not, ◌&&◌, List, eqb, leb, ltb, drop}
 use Rattle.base_words.specs.Blocks.{Block, Table, Element}
 use Rattle.base_words.specs.All.{all}
-use Rattle.base_words.specs.Pick.{if◌then◌else◌}
+use Rattle.base_words.specs.Pick.{if◌then◌or_else◌}
 use Rattle.base_words.specs.Words.{at}
 use Rattle.base_words.specs.Counts.{pools, elements, fewest, branches, pool_numbers, edges, tasks, names, instances, fields_named, values, assignments}
 use Rattle.base_kinds.specs.declared.Kind.{Kind}
@@ -26,27 +26,27 @@ things x w n k right = all (λ j. right (drop (w * j) x)) k && zeros (drop (w * 
 
 -- an operand: a number, or a field 0 to 15
 unfoldable pub operand_fits : Block → Bool
-operand_fits x = if eqb (at x 0) 0 then true else eqb (at x 0) a_field && ltb (at x operand_number) fields_named
+operand_fits x = if eqb (at x 0) 0 then true or_else eqb (at x 0) a_field && ltb (at x operand_number) fields_named
 
 -- an expression: an operand alone, or two joined
 unfoldable pub expression_fits : Block → Bool
 expression_fits x =
     if eqb (at x form_place) single then operand_fits (drop left_place x) && zeros (drop right_place x) operand_words
-    else within plus minus (at x form_place) && operand_fits (drop left_place x) && operand_fits (drop right_place x)
+    or_else within plus minus (at x form_place) && operand_fits (drop left_place x) && operand_fits (drop right_place x)
 
 -- an item of a message: an expression, or, where it is received, a field that it binds
 unfoldable pub bind_fits : Block → Bool
 bind_fits x = eqb (at x left_place) a_field && ltb (at x (left_place + operand_number)) fields_named && zeros (drop right_place x) operand_words
 
 unfoldable pub item_fits : ℕ → Block → Bool
-item_fits receives x = if eqb (at x form_place) binding then (if eqb receives none then false else bind_fits x) else expression_fits x
+item_fits receives x = if eqb (at x form_place) binding then (if eqb receives none then false or_else bind_fits x) or_else expression_fits x
 
 -- a condition: `true`; `default` where each exit has one; or two operands joined
 unfoldable pub condition_fits : ℕ → Block → Bool
 condition_fits conditions x =
     if eqb (at x form_place) always then zeros (drop left_place x) (operand_words + operand_words)
-    else if eqb (at x form_place) default then eqb conditions many && zeros (drop left_place x) (operand_words + operand_words)
-    else within equals below (at x form_place) && operand_fits (drop left_place x) && operand_fits (drop right_place x)
+    or_else if eqb (at x form_place) default then eqb conditions many && zeros (drop left_place x) (operand_words + operand_words)
+    or_else within equals below (at x form_place) && operand_fits (drop left_place x) && operand_fits (drop right_place x)
 
 -- a message: its name, its length, its items
 unfoldable pub message_fits : ℕ → Block → Bool
@@ -58,7 +58,7 @@ assignment_fits x = ltb (at x 0) fields_named && expression_fits (drop assigned_
 
 -- a list of entries or exits: none, one, or 2 to 8; each edge 1 to 48
 unfoldable pub count_fits : ℕ → ℕ → Bool
-count_fits column n = if eqb column many then within fewest branches n else eqb n column
+count_fits column n = if eqb column many then within fewest branches n or_else eqb n column
 
 unfoldable pub edge_fits : Block → Bool
 edge_fits x = within 1 edges (at x 0)
@@ -70,7 +70,7 @@ edges_fit column x = count_fits column (at x 0) && things (drop first_edge x) 1 
 unfoldable pub task_fits : ℕ → Element → Bool
 task_fits task el =
     if eqb task one then within 1 tasks (task_in el) && within a na_nc (mode_in el) && leb (assignment_count el) assignments
-    else eqb (task_in el) 0 && eqb (mode_in el) 0 && eqb (assignment_count el) 0
+    or_else eqb (task_in el) 0 && eqb (mode_in el) 0 && eqb (assignment_count el) 0
 
 -- an element: a kind, and what its row says
 unfoldable pub conditions_fit : ℕ → Element → Bool

@@ -4,7 +4,7 @@ use Rattle.std.specs.Prelude.{Bool, true, not, ◌&&◌, List, ℕ, ◌+◌, eqb
 use Rattle.base_words.specs.Blocks.{Element}
 use Rattle.base_words.specs.All.{all}
 use Rattle.base_words.specs.Each.{total, each}
-use Rattle.base_words.specs.Pick.{if◌then◌else◌}
+use Rattle.base_words.specs.Pick.{if◌then◌or_else◌}
 use Rattle.base_words.specs.Sum.{hit, one_if}
 use Rattle.base_words.specs.Counts.{pool_numbers, edges, tasks, names}
 use Rattle.base_kinds.specs.Kinds.{start, start_rcv}
@@ -34,7 +34,7 @@ abbrev pub start_receives : ℕ
 start_receives = 3
 
 unfoldable pub check3 : Pool → Bool
-check3 p = if eqb p.limit 0 then true else eqb (total (of_kind start) p.elements) 0
+check3 p = if eqb p.limit 0 then true or_else eqb (total (of_kind start) p.elements) 0
 
 -- 4. Each edge stands exactly once as an exit and exactly once as an entry; the first edge of `start` is an entry only.
 -- (x, n, f: how often it stands as an exit, as an entry, as the first edge of a `start`. An edge that stands nowhere is no edge of the pool.)
@@ -42,7 +42,7 @@ abbrev pub edges_meet : ℕ
 edges_meet = 4
 
 unfoldable pub edge_right : ℕ → ℕ → ℕ → Bool
-edge_right x n f = if eqb (x + n) 0 then true else eqb n 1 && eqb x (if eqb f 0 then 1 else 0)
+edge_right x n f = if eqb (x + n) 0 then true or_else eqb n 1 && eqb x (if eqb f 0 then 1 or_else 0)
 
 unfoldable pub check4 : Pool → Bool
 check4 p =
@@ -92,11 +92,11 @@ checks = binds_differ
 -- the lowest check broken, over the whole model; 0 where none is
 unfoldable pub lowest : List Pool → ℕ
 lowest ps =
-    if not (check1 ps) then numbers_differ else
-    if not (each check2 ps) then one_start else
-    if not (each check3 ps) then start_receives else
-    if not (each check4 ps) then edges_meet else
-    if not (each check5 ps) then tasks_differ else
-    if not (check6 ps) then names_apart else
-    if not (each check7 ps) then one_default else
-    if not (each check8 ps) then binds_differ else 0
+    if not (check1 ps) then numbers_differ or_else
+    if not (each check2 ps) then one_start or_else
+    if not (each check3 ps) then start_receives or_else
+    if not (each check4 ps) then edges_meet or_else
+    if not (each check5 ps) then tasks_differ or_else
+    if not (check6 ps) then names_apart or_else
+    if not (each check7 ps) then one_default or_else
+    if not (each check8 ps) then binds_differ or_else 0

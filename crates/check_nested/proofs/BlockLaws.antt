@@ -6,7 +6,7 @@ use mathlib.Core.List.{List}
 use native.Mathlib.Omega.{arith}
 use lib.Dec.{eqb, leb}
 use borrow.Author.Tests.{eq-eqb, ne_eqb, le-leb, lt-ltb, le-ltb}
-use Rattle.base_words.specs.Pick.{if◌then◌else◌}
+use Rattle.base_words.specs.Pick.{if◌then◌or_else◌}
 use Rattle.base_words.specs.Words.{greatest}
 use Rattle.base_words.proofs.PickLaws.{and_yes, and_no, flag_yes, flag_no, pick_yes, pick_no}
 use Rattle.base_kinds.specs.Kinds.{start, start_rcv, inter_rcv, inter_snd, task, task_rcv, task_snd, event_based, and_split, and_join, xor_join, xor_split}
@@ -106,9 +106,9 @@ module _ (P : ℕ → List ℕ) (c k a j : ℕ) (s : List ℕ) (b : Bool) (is : 
 
 -- a number that is a word is marked at its own place
 pub marked_one : (s u : List ℕ) (v : ℕ) → v ≤ greatest → u ≡ marked s (place 0 greatest v) → u ≡ marked s v
-unfolding place if◌then◌else◌
+unfolding place if◌then◌or_else◌
 marked_one s u v l e = e ∙ ap (marked s) (at_own (leb v greatest) (le-leb v greatest l))
   where
-    at_own : (b : Bool) → b ≡ true → (if b then 0 + v else 0) ≡ v
+    at_own : (b : Bool) → b ≡ true → (if b then 0 + v or_else 0) ≡ v
     at_own true h = omega arith
     at_own false h = absurd (false≢true h)

@@ -9,7 +9,7 @@ use lib.ListN.{replicate}
 use borrow.Author.Tests.{lt-ltb, le-ltb}
 use Rattle.base_words.specs.Counts.{edges}
 use Rattle.base_words.specs.Each.{tab}
-use Rattle.base_words.specs.Pick.{if◌then◌else◌}
+use Rattle.base_words.specs.Pick.{if◌then◌or_else◌}
 use Rattle.base_words.proofs.EachLaws.{tab_more}
 use Rattle.base_kinds.specs.Kinds.{event_based, and_split, and_join, xor_join, xor_split}
 use Rattle.base_table.specs.Table.{exit_at, kind_in}
@@ -19,12 +19,12 @@ use Rattle.check_nesting.specs.Nesting.{passes, exits_of, closes_all, closes_one
 use Rattle.check_nested.specs.Splits.{splits}
 use Rattle.check_nesting.specs.Deciding.{taker, edges_in, SequenceWalk, halted, walked_over, stops, elements_passed, last_in, is_block, closing_join, join_of, ahead, sequence_walk}
 
-taken : {A : Type 0} (b : Bool) (x y : A) → b ≡ true → (if b then x else y) ≡ x
-unfolding if◌then◌else◌
+taken : {A : Type 0} (b : Bool) (x y : A) → b ≡ true → (if b then x or_else y) ≡ x
+unfolding if◌then◌or_else◌
 taken b x y e = rw e
 
-left : {A : Type 0} (b : Bool) (x y : A) → b ≡ false → (if b then x else y) ≡ y
-unfolding if◌then◌else◌
+left : {A : Type 0} (b : Bool) (x y : A) → b ≡ false → (if b then x or_else y) ≡ y
+unfolding if◌then◌or_else◌
 left b x y e = rw e
 
 -- what a walk that is known stops at, and what it meets
@@ -76,10 +76,10 @@ module _ (P : ℕ → List ℕ) (c : ℕ) where
     unfolding tally
     way_nothing s e = met s s _ _ (walk_none e) refl
 
-  walk_next : (n a : ℕ) → (n ≡ 0 → ⊥) → sequence_walk P c n a ≡ (if ltb (taker P c a) c then ahead P c (sequence_walk P c (n - 1)) a (taker P c a) else halted a)
+  walk_next : (n a : ℕ) → (n ≡ 0 → ⊥) → sequence_walk P c n a ≡ (if ltb (taker P c a) c then ahead P c (sequence_walk P c (n - 1)) a (taker P c a) or_else halted a)
   unfolding sequence_walk
   walk_next zero a h = absurd (h refl)
-  walk_next (suc n) a h = let e : n ≡ suc n - 1 = omega arith in ap (λ m. if ltb (taker P c a) c then ahead P c (sequence_walk P c m) a (taker P c a) else halted a) e
+  walk_next (suc n) a h = let e : n ≡ suc n - 1 = omega arith in ap (λ m. if ltb (taker P c a) c then ahead P c (sequence_walk P c m) a (taker P c a) or_else halted a) e
 
   module _ (n a k m : ℕ) (some : n ≡ 0 → ⊥) (takes : k ≡ taker P c a) (many : m ≡ c) where
     walk_halted : m ≤ k → sequence_walk P c n a ≡ halted a

@@ -3,7 +3,7 @@
 use Rattle.std.specs.Prelude.{ℕ, zero, suc, ◌+◌, Bool, not, ◌&&◌, List, [], ◌∷◌, ◌++◌, eqb, ltb, replicate}
 use Rattle.base_words.specs.Blocks.{Table, Element}
 use Rattle.base_words.specs.All.{all}
-use Rattle.base_words.specs.Pick.{if◌then◌else◌}
+use Rattle.base_words.specs.Pick.{if◌then◌or_else◌}
 use Rattle.base_words.specs.Seek.{seek}
 use Rattle.base_words.specs.Words.{at}
 use Rattle.base_words.specs.Counts.{edges, elements}
@@ -59,7 +59,7 @@ unfoldable pub is_block : (ℕ → Element) → ℕ → List ℕ → ℕ → ℕ
 is_block P c s k j = ltb j c && (closes (P k) (P j) && same_edges s (edges_in (entries_of (P j))))
 
 unfoldable pub closing_join : (ℕ → Element) → ℕ → ℕ → ℕ → List ℕ → ℕ
-closing_join P c k a s = if is_block P c s k (taker P c a) then taker P c a else c
+closing_join P c k a s = if is_block P c s k (taker P c a) then taker P c a or_else c
 
 unfoldable pub join_of : (ℕ → Element) → ℕ → (ℕ → SequenceWalk) → ℕ → ℕ
 join_of P c go k = closing_join P c k (last_in (stops go (exits_of (P k)))) (edges_in (stops go (exits_of (P k))))
@@ -68,14 +68,14 @@ join_of P c go k = closing_join P c k (last_in (stops go (exits_of (P k)))) (edg
 unfoldable pub ahead : (ℕ → Element) → ℕ → (ℕ → SequenceWalk) → ℕ → ℕ → SequenceWalk
 ahead P c go a k =
     if passes (P k) then walked_over (k ∷ []) (go (exit_at (P k) 0))
-    else if ltb (join_of P c go k) c
+    or_else if ltb (join_of P c go k) c
     then walked_over (k ∷ join_of P c go k ∷ elements_passed go (exits_of (P k))) (go (exit_at (P (join_of P c go k)) 0))
-    else halted a
+    or_else halted a
 
 -- on from the edge a, by at most n elements, one behind or within the other
 unfoldable pub sequence_walk : (ℕ → Element) → ℕ → ℕ → ℕ → SequenceWalk
 sequence_walk P c zero a = halted a
-sequence_walk P c (suc n) a = if ltb (taker P c a) c then ahead P c (sequence_walk P c n) a (taker P c a) else halted a
+sequence_walk P c (suc n) a = if ltb (taker P c a) c then ahead P c (sequence_walk P c n) a (taker P c a) or_else halted a
 
 -- THE POOL: a start; the walk from its exit stops at an end; every element is met, once
 unfoldable pub first_of : (ℕ → Element) → ℕ → ℕ

@@ -12,7 +12,7 @@ use Rattle.base_words.specs.All.{all}
 use Rattle.base_words.specs.Sum.{sum, one_if}
 use Rattle.base_words.specs.Words.{at}
 use Rattle.base_words.specs.Counts.{fields_named}
-use Rattle.base_words.specs.Pick.{if◌then◌else◌}
+use Rattle.base_words.specs.Pick.{if◌then◌or_else◌}
 use Rattle.base_words.proofs.AllLaws.{all_of, all_at, eq_eqb_by, ne_eqb_by}
 use Rattle.base_words.proofs.PickLaws.{and_yes, and_no}
 use Rattle.base_table.specs.Places.{form_place, left_place, operand_number, binding}
@@ -34,11 +34,11 @@ abbrev field : List ℕ → ℕ
 field y = at y (left_place + operand_number)
 
 abbrev anew : List ℕ → (ℕ → ℕ) → Bool
-anew y S = if eqb (at y form_place) binding then (if ltb (field y) fields_named then eqb (S (field y)) 0 else true) else true
+anew y S = if eqb (at y form_place) binding then (if ltb (field y) fields_named then eqb (S (field y)) 0 or_else true) or_else true
 
 module _ (y : List ℕ) (S : ℕ → ℕ) where
   in_bind : eqb (at y form_place) binding ≡ true → ltb (field y) fields_named ≡ true → anew y S ≡ true → S (field y) ≡ 0
-  unfolding if◌then◌else◌
+  unfolding if◌then◌or_else◌
   in_bind e l h = eqb-true (S (field y)) 0 (rw (e, l) at h)
 
   up : (d : ℕ) → d < fields_named → S d ≤ 1 → anew y S ≡ true → (b c : Bool) → eqb (at y form_place) binding ≡ b → eqb (field y) d ≡ c → S d + binds_field d y ≤ 1
@@ -52,7 +52,7 @@ module _ (y : List ℕ) (S : ℕ → ℕ) where
       rw (e, q) (omega arith)
 
   down : ((d : ℕ) → d < fields_named → S d + binds_field d y ≤ 1) → (b c : Bool) → eqb (at y form_place) binding ≡ b → ltb (field y) fields_named ≡ c → anew y S ≡ true
-  unfolding binds_field if◌then◌else◌
+  unfolding binds_field if◌then◌or_else◌
   down h false c e q = rw e
   down h true false e q = rw (e, q)
   down h true true e q =

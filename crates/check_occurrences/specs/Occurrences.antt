@@ -2,7 +2,7 @@
 use Rattle.std.specs.Prelude.{Bool, true, ◌&&◌, List, ℕ, ◌+◌, eqb, leb, ltb}
 use Rattle.base_words.specs.Blocks.{Block, Element}
 use Rattle.base_words.specs.All.{all}
-use Rattle.base_words.specs.Pick.{if◌then◌else◌}
+use Rattle.base_words.specs.Pick.{if◌then◌or_else◌}
 use Rattle.base_words.specs.Sum.{sum, hit, one_if}
 use Rattle.base_words.specs.Words.{at}
 use Rattle.base_words.specs.Counts.{fields_named}
@@ -75,8 +75,8 @@ binds_anew el j i =
     if eqb (at (item_at el j i) form_place) binding
     then (if ltb (at (item_at el j i) (left_place + operand_number)) fields_named
     then eqb (sum (λ k. binds_field (at (item_at el j i) (left_place + operand_number)) (item_at el j k)) i) 0
-    else true)
-    else true
+    or_else true)
+    or_else true
 
 unfoldable pub bound_once : Element → Bool
 bound_once el = all (template_once el) (received_count el)

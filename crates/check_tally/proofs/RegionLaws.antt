@@ -11,7 +11,7 @@ use lib.ListN.{length, get_or, replicate, length-replicate}
 use borrow.Author.Tests.{le-leb, lt-leb, leb-true, leb-false, eq-eqb, ne_eqb}
 use Rattle.base_words.specs.All.{all}
 use Rattle.base_words.specs.Each.{total, each}
-use Rattle.base_words.specs.Pick.{if◌then◌else◌}
+use Rattle.base_words.specs.Pick.{if◌then◌or_else◌}
 use Rattle.base_words.specs.Sum.{sum, hit, one_if}
 use Rattle.base_words.specs.Words.{at}
 use Rattle.base_words.proofs.AllLaws.{and_left, and_right}
@@ -21,11 +21,11 @@ use Rattle.check_tally.specs.Tally.{tally, place, Region, no_region, region_mark
 use Rattle.check_tally.proofs.TallyLaws.{tally_at, hit_iff, hit_no, leb-capped}
 
 place_in : (from most v : ℕ) → v ≤ most → place from most v ≡ from + v
-unfolding place if◌then◌else◌
+unfolding place if◌then◌or_else◌
 place_in from most v h = rw (le-leb v most h)
 
 place_out : (from most v : ℕ) → most < v → place from most v ≡ from
-unfolding place if◌then◌else◌
+unfolding place if◌then◌or_else◌
 place_out from most v h = rw (lt-leb v most h)
 
 -- the place of a number is inside its region
@@ -131,22 +131,22 @@ sum_one v e = zero-add (hit v e)
 
 -- a region in which a thing marks the numbers that pass a test, each once
 module _ (f : ℕ → Bool) (m : ℕ) where
-  here : (t : Bool) → hit (if t then m + 1 else 0) (m + 1) ≡ one_if t
-  unfolding if◌then◌else◌
+  here : (t : Bool) → hit (if t then m + 1 or_else 0) (m + 1) ≡ one_if t
+  unfolding if◌then◌or_else◌
   here true = ap one_if (eq-eqb (m + 1) (m + 1) refl)
   here false = hit_no 0 (m + 1) (λ q. omega arith)
 
-  elsewhere : (t : Bool) (j : ℕ) → (j ≡ m → ⊥) → hit (if t then j + 1 else 0) (m + 1) ≡ 0
-  unfolding if◌then◌else◌
+  elsewhere : (t : Bool) (j : ℕ) → (j ≡ m → ⊥) → hit (if t then j + 1 or_else 0) (m + 1) ≡ 0
+  unfolding if◌then◌or_else◌
   elsewhere true j w = hit_no (j + 1) (m + 1) (λ q. w (omega arith))
   elsewhere false j w = hit_no 0 (m + 1) (λ q. omega arith)
 
-  pub once : (n : ℕ) → m < n → sum (λ j. hit (if f j then j + 1 else 0) (m + 1)) n ≡ one_if (f m)
+  pub once : (n : ℕ) → m < n → sum (λ j. hit (if f j then j + 1 or_else 0) (m + 1)) n ≡ one_if (f m)
   unfolding sum
   once zero h = absurd (not-suc-le-zero h)
   once (suc n) h =
       ⊎_elim
-      (λ q. ap₂ ◌+◌ (sum-zero (λ j. hit (if f j then j + 1 else 0) (m + 1)) n (λ k l. elsewhere (f k) k (λ w. omega arith))) (ap (λ k. hit (if f k then k + 1 else 0) (m + 1)) (sym q) ∙ here (f m)) ∙ zero-add (one_if (f m)))
+      (λ q. ap₂ ◌+◌ (sum-zero (λ j. hit (if f j then j + 1 or_else 0) (m + 1)) n (λ k l. elsewhere (f k) k (λ w. omega arith))) (ap (λ k. hit (if f k then k + 1 or_else 0) (m + 1)) (sym q) ∙ here (f m)) ∙ zero-add (one_if (f m)))
       (λ l. ap₂ ◌+◌ (once n l) (elsewhere (f n) n (λ w. omega arith)) ∙ add-zero (one_if (f m)))
       (eq-or-lt_of_le (le_of_suc-le-suc h))
 

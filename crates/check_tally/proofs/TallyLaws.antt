@@ -11,7 +11,7 @@ use lib.ListN.{length, get_or, set, replicate, length-set}
 use lib.Seq.{get_or-set_same, get_or-set_other}
 use borrow.Author.Tests.{eq-eqb, ne_eqb, eqb-true, eqb-false, lt-ltb, lt-leb}
 use Rattle.base_words.specs.Each.{total, tab}
-use Rattle.base_words.specs.Pick.{if◌then◌else◌}
+use Rattle.base_words.specs.Pick.{if◌then◌or_else◌}
 use Rattle.base_words.specs.Sum.{hit, one_if}
 use Rattle.base_words.proofs.EachLaws.{tab_more}
 use Rattle.check_tally.specs.Tally.{more, marked, tally, Region, one_region, region_marks, place, marks_of, all_marks, tallied, count, capped}
@@ -98,7 +98,7 @@ tallied-more size f xs x = ap (tally (replicate size 0)) (all_marks_more f xs x)
 
 -- What stands at a place.
 more-capped : (n : ℕ) → more (capped n) ≡ capped (n + 1)
-unfolding more capped if◌then◌else◌
+unfolding more capped if◌then◌or_else◌
 more-capped zero = refl
 more-capped (suc zero) = refl
 more-capped (suc (suc n)) = rw add-one

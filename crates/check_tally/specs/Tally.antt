@@ -4,7 +4,7 @@ use Rattle.std.specs.Prelude.{Bool, true, ◌&&◌, List, [], ◌∷◌, ◌++�
 use Rattle.base_words.specs.Blocks.{Tally}
 use Rattle.base_words.specs.All.{all}
 use Rattle.base_words.specs.Each.{total, tab}
-use Rattle.base_words.specs.Pick.{if◌then◌else◌}
+use Rattle.base_words.specs.Pick.{if◌then◌or_else◌}
 use Rattle.base_words.specs.Sum.{hit}
 use Rattle.base_words.specs.Words.{at}
 
@@ -13,7 +13,7 @@ abbrev pub several : ℕ
 several = 2
 
 unfoldable pub more : ℕ → ℕ
-more x = if ltb x several then x + 1 else x
+more x = if ltb x several then x + 1 or_else x
 
 unfoldable pub marked : Tally → ℕ → Tally
 marked s k = set s k (more (at s k))
@@ -24,7 +24,7 @@ tally s [] = s
 tally s (k ∷ ks) = tally (marked s k) ks
 
 unfoldable pub place : ℕ → ℕ → ℕ → ℕ
-place from most v = if leb v most then from + v else from
+place from most v = if leb v most then from + v or_else from
 
 -- `many` numbers, `number 0`, `number 1`, .., marked in a region
 pub record Region : Type 0 where

@@ -7,7 +7,7 @@ use native.Mathlib.Omega.{arith}
 use lib.Dec.{eqb}
 use lib.ListN.{get_or}
 use Rattle.base_words.specs.Each.{total, each}
-use Rattle.base_words.specs.Pick.{if◌then◌else◌}
+use Rattle.base_words.specs.Pick.{if◌then◌or_else◌}
 use Rattle.base_words.specs.Sum.{sum, hit, one_if}
 use Rattle.base_words.specs.Words.{at}
 use Rattle.base_words.specs.Counts.{pool_numbers, names}
@@ -70,23 +70,23 @@ module _ (ps : List Pool) where
   is_1 = once_in_lem t numbers_from pool_numbers (λ k. total (λ p. hit p.number (k + 1)) ps) (λ k h. numbers_at k h ps)
 
   is_2 : kept_in t one_start ≡ each check2 ps
-  unfolding kept_by if◌then◌else◌
+  unfolding kept_by if◌then◌or_else◌
   is_2 = kept_by_lem 1 (omega arith) check2 by_2 ps
 
   is_3 : kept_in t start_receives ≡ each check3 ps
-  unfolding kept_by if◌then◌else◌
+  unfolding kept_by if◌then◌or_else◌
   is_3 = kept_by_lem 2 (omega arith) check3 by_3 ps
 
   is_4 : kept_in t edges_meet ≡ each check4 ps
-  unfolding kept_by if◌then◌else◌
+  unfolding kept_by if◌then◌or_else◌
   is_4 = kept_by_lem 3 (omega arith) check4 by_4 ps
 
   is_5 : kept_in t tasks_differ ≡ each check5 ps
-  unfolding kept_by if◌then◌else◌
+  unfolding kept_by if◌then◌or_else◌
   is_5 = kept_by_lem 4 (omega arith) check5 by_5 ps
 
   own_6 : kept_in t names_apart ≡ each not_sent_there ps
-  unfolding kept_by if◌then◌else◌
+  unfolding kept_by if◌then◌or_else◌
   own_6 = kept_by_lem 5 (omega arith) not_sent_there by_6 ps
 
   is_6 : names_apart_in t ≡ check6 ps
@@ -94,11 +94,11 @@ module _ (ps : List Pool) where
   is_6 = ap₂ ◌&&◌ (once_in_lem t names_from names (λ m. total (λ p. one_if (pool_receives m p)) ps) (λ m h. names_at m h ps)) own_6
 
   is_7 : kept_in t one_default ≡ each check7 ps
-  unfolding kept_by if◌then◌else◌
+  unfolding kept_by if◌then◌or_else◌
   is_7 = kept_by_lem 6 (omega arith) check7 by_7 ps
 
   is_8 : kept_in t binds_differ ≡ each check8 ps
-  unfolding kept_by if◌then◌else◌
+  unfolding kept_by if◌then◌or_else◌
   is_8 = kept_by_lem 7 (omega arith) check8 by_8 ps
 
   pub lowest_by : lowest_in t ≡ lowest ps

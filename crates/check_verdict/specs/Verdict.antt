@@ -1,7 +1,7 @@
 -- The second tally: what the pools of a model mark, each by its summary s. From it the lowest check broken is read.
 use Rattle.std.specs.Prelude.{Bool, not, ◌&&◌, List, [], ◌∷◌, ℕ, ◌+◌, eqb}
 use Rattle.base_words.specs.Blocks.{Tally}
-use Rattle.base_words.specs.Pick.{if◌then◌else◌}
+use Rattle.base_words.specs.Pick.{if◌then◌or_else◌}
 use Rattle.base_words.specs.Words.{at}
 use Rattle.base_words.specs.Counts.{pool_numbers, names}
 use Rattle.check_tally.specs.Tally.{Region, one_region, once_in, tallied}
@@ -23,13 +23,13 @@ abbrev pub model_words : ℕ
 model_words = broken_from + 1 + checks
 
 unfoldable pub name_if : Tally → ℕ → ℕ
-name_if s m = if receives_by s m then m + 1 else 0
+name_if s m = if receives_by s m then m + 1 or_else 0
 
 unfoldable pub names_region : Tally → Region
 names_region s = record { from = names_from; most = names; number = λ m. name_if s m; many = names }
 
 unfoldable pub broken_if : ℕ → Tally → ℕ → ℕ
-broken_if limit s k = if not (kept_by limit s k) then k else 0
+broken_if limit s k = if not (kept_by limit s k) then k or_else 0
 
 unfoldable pub broken_region : ℕ → Tally → Region
 broken_region limit s = record { from = broken_from; most = checks; number = λ k. broken_if limit s (k + 1); many = checks }
@@ -56,11 +56,11 @@ names_apart_in t = once_in t names_from names && kept_in t names_apart
 
 unfoldable pub lowest_in : Tally → ℕ
 lowest_in t =
-    if not (numbers_differ_in t) then numbers_differ else
-    if not (kept_in t one_start) then one_start else
-    if not (kept_in t start_receives) then start_receives else
-    if not (kept_in t edges_meet) then edges_meet else
-    if not (kept_in t tasks_differ) then tasks_differ else
-    if not (names_apart_in t) then names_apart else
-    if not (kept_in t one_default) then one_default else
-    if not (kept_in t binds_differ) then binds_differ else 0
+    if not (numbers_differ_in t) then numbers_differ or_else
+    if not (kept_in t one_start) then one_start or_else
+    if not (kept_in t start_receives) then start_receives or_else
+    if not (kept_in t edges_meet) then edges_meet or_else
+    if not (kept_in t tasks_differ) then tasks_differ or_else
+    if not (names_apart_in t) then names_apart or_else
+    if not (kept_in t one_default) then one_default or_else
+    if not (kept_in t binds_differ) then binds_differ or_else 0

@@ -126,15 +126,16 @@ fn fill_line(line: &[u8], items: &mut [Word; POLL_WORDS]) -> Filled {
     fill(piece(line, BATCH, line.len()), items)
 }
 
-fn tell_polled(p: Polled) {
-    tell(b"accepted ");
-    tell_count(p.accepted);
-    tell(b" refused ");
-    tell_number(p.number);
-    tell(b"\n");
+fn tell_polled(rt: &impl Print, p: Polled) {
+    tell(rt, b"accepted ");
+    tell_count(rt, p.accepted);
+    tell(rt, b" refused ");
+    tell_number(rt, p.number);
+    tell(rt, b"\n");
 }
 
 pub(super) fn do_batch(
+    rt: &impl Print,
     line: &[u8],
     loaded: bool,
     t: &[Word; TABLE_WORDS],
@@ -144,12 +145,12 @@ pub(super) fn do_batch(
     let mut items: [Word; POLL_WORDS] = [0; POLL_WORDS];
     let f = fill_line(line, &mut items);
     if !f.good {
-        bad_line();
+        bad_line(rt);
         return;
     }
     if !loaded {
-        no_model();
+        no_model(rt);
         return;
     }
-    tell_polled(engine::poll(t, z, rs, &items, f.count));
+    tell_polled(rt, engine::poll(t, z, rs, &items, f.count));
 }

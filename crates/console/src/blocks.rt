@@ -14,9 +14,9 @@ use tool_print::{tell, tell_count, tell_unread};
 
 // clear, table, state
 
-pub(super) fn do_clear(t: &mut [Word; TABLE_WORDS]) {
+pub(super) fn do_clear(rt: &impl Print, t: &mut [Word; TABLE_WORDS]) {
     *t = [0; TABLE_WORDS];
-    tell(b"ok\n");
+    tell(rt, b"ok\n");
 }
 
 // Whether a line sets a word of a block of so many.
@@ -27,17 +27,18 @@ pub(super) fn is_setting(line: &[u8], keyword: &[u8], words: usize) -> bool {
     (number_at(line, 1) as usize) < words
 }
 
-fn set(line: &[u8], s: &mut [Word]) {
+fn set(rt: &impl Print, line: &[u8], s: &mut [Word]) {
     put(s, number_at(line, 1) as usize, value_of(line, 2));
-    tell(b"ok\n");
+    tell(rt, b"ok\n");
 }
 
-pub(super) fn do_set_table(line: &[u8], t: &mut [Word; TABLE_WORDS]) {
-    set(line, t);
+pub(super) fn do_set_table(rt: &impl Print, line: &[u8], t: &mut [Word; TABLE_WORDS]) {
+    set(rt, line, t);
 }
 
 // The records are counted anew, where table and state fit.
 pub(super) fn do_set_state(
+    rt: &impl Print,
     line: &[u8],
     loaded: bool,
     t: &[Word; TABLE_WORDS],
@@ -45,56 +46,62 @@ pub(super) fn do_set_state(
     rs: &mut [[Word; RECORD_WORDS]],
 ) {
     if !loaded {
-        no_model();
+        no_model(rt);
         return;
     }
-    set(line, z);
+    set(rt, line, z);
     engine::figures(t, z, rs);
 }
 
 // check
 
-pub(super) fn do_check(loaded: bool, t: &[Word; TABLE_WORDS]) {
+pub(super) fn do_check(rt: &impl Print, loaded: bool, t: &[Word; TABLE_WORDS]) {
     if !loaded {
-        no_model();
+        no_model(rt);
         return;
     }
     let v = engine::check(t);
     if v.number == 0 {
-        tell_done(v.number);
+        tell_done(rt, v.number);
         return;
     }
-    tell_unread(Reading {
-        number: v.number,
-        beside: v.beside as usize,
-    });
+    tell_unread(
+        rt,
+        Reading {
+            number: v.number,
+            beside: v.beside as usize,
+        },
+    );
 }
 
 // nested
 
 // 10 has nothing beside it, 29 the number of the pool.
-fn tell_unnested(v: Verdict) {
+fn tell_unnested(rt: &impl Print, v: Verdict) {
     if v.number == NOT_NESTED {
-        tell_unread(Reading {
-            number: v.number,
-            beside: v.beside as usize,
-        });
+        tell_unread(
+            rt,
+            Reading {
+                number: v.number,
+                beside: v.beside as usize,
+            },
+        );
         return;
     }
-    tell_refused(v.number);
+    tell_refused(rt, v.number);
 }
 
-pub(super) fn do_nested(loaded: bool, t: &[Word; TABLE_WORDS]) {
+pub(super) fn do_nested(rt: &impl Print, loaded: bool, t: &[Word; TABLE_WORDS]) {
     if !loaded {
-        no_model();
+        no_model(rt);
         return;
     }
     let v = engine::nested(t);
     if v.number == 0 {
-        tell(b"nested\n");
+        tell(rt, b"nested\n");
         return;
     }
-    tell_unnested(v);
+    tell_unnested(rt, v);
 }
 
 // again
@@ -110,43 +117,44 @@ fn same_tables(t: &[Word; TABLE_WORDS], y: &[Word; TABLE_WORDS]) -> bool {
     true
 }
 
-fn tell_again(length: usize, is_same_table: bool, is_same_text: bool) {
+fn tell_again(rt: &impl Print, length: usize, is_same_table: bool, is_same_text: bool) {
     if !is_same_table {
-        tell(b"table differs\n");
+        tell(rt, b"table differs\n");
         return;
     }
     if !is_same_text {
-        tell(b"text differs\n");
+        tell(rt, b"text differs\n");
         return;
     }
-    tell(b"same ");
-    tell_count(length);
-    tell(b"\n");
+    tell(rt, b"same ");
+    tell_count(rt, length);
+    tell(rt, b"\n");
 }
 
 // A table's text, read into another table and written from there.
-fn read_again(t: &[Word; TABLE_WORDS], text: &[u8]) {
+fn read_again(rt: &impl Print, t: &[Word; TABLE_WORDS], text: &[u8]) {
     let mut y: [Word; TABLE_WORDS] = [0; TABLE_WORDS];
     let mut out = [0u8; TEXT_MOST];
     engine::read(text, &mut y);
     let n = engine::write(&y, &mut out).length;
     tell_again(
+        rt,
         text.len(),
         same_tables(t, &y),
         same(text, piece(&out, 0, n)),
     );
 }
 
-pub(super) fn do_again(loaded: bool, t: &[Word; TABLE_WORDS]) {
+pub(super) fn do_again(rt: &impl Print, loaded: bool, t: &[Word; TABLE_WORDS]) {
     if !loaded {
-        no_model();
+        no_model(rt);
         return;
     }
     let mut out = [0u8; TEXT_MOST];
     let r = engine::write(t, &mut out);
     if r.number != 0 {
-        tell_refused(r.number);
+        tell_refused(rt, r.number);
         return;
     }
-    read_again(t, piece(&out, 0, r.length));
+    read_again(rt, t, piece(&out, 0, r.length));
 }

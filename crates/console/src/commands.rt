@@ -36,6 +36,7 @@ fn is_draw(line: &[u8]) -> bool {
 
 // What a text or a drawing was read as: a model gets a fresh state.
 fn begin(
+    rt: &impl Print,
     r: Reading,
     h: Held,
     t: &[Word; TABLE_WORDS],
@@ -43,14 +44,15 @@ fn begin(
     rs: &mut [[Word; RECORD_WORDS]],
 ) -> Held {
     if r.number != 0 {
-        tell_unread(r);
+        tell_unread(rt, r);
         return h;
     }
-    tell_done(engine::fresh(t, PRESENT, z));
+    tell_done(rt, engine::fresh(t, PRESENT, z));
     hold(t, z, rs)
 }
 
 fn do_read(
+    rt: &impl Print,
     line: &[u8],
     h: Held,
     t: &mut [Word; TABLE_WORDS],
@@ -58,10 +60,11 @@ fn do_read(
     rs: &mut [[Word; RECORD_WORDS]],
 ) -> Held {
     let r = engine::read(piece(line, READ, line.len()), t);
-    begin(r, h, t, z, rs)
+    begin(rt, r, h, t, z, rs)
 }
 
 fn do_draw(
+    rt: &impl Print,
     line: &[u8],
     h: Held,
     t: &mut [Word; TABLE_WORDS],
@@ -69,19 +72,19 @@ fn do_draw(
     rs: &mut [[Word; RECORD_WORDS]],
 ) -> Held {
     let r = engine::draw(piece(line, READ, line.len()), t);
-    begin(r, h, t, z, rs)
+    begin(rt, r, h, t, z, rs)
 }
 
 // step, post, list, run
 
-fn tell_answer(a: Answer) {
+fn tell_answer(rt: &impl Print, a: Answer) {
     if a.number != 0 {
-        tell_refused(a.number);
+        tell_refused(rt, a.number);
         return;
     }
-    tell(b"ok ");
-    tell_traffic(a);
-    tell(b"\n");
+    tell(rt, b"ok ");
+    tell_traffic(rt, a);
+    tell(rt, b"\n");
 }
 
 fn name_of(line: &[u8]) -> Name {
@@ -96,6 +99,7 @@ fn name_of(line: &[u8]) -> Name {
 }
 
 fn do_step(
+    rt: &impl Print,
     line: &[u8],
     loaded: bool,
     t: &[Word; TABLE_WORDS],
@@ -103,35 +107,51 @@ fn do_step(
     rs: &mut [[Word; RECORD_WORDS]],
 ) {
     if !loaded {
-        no_model();
+        no_model(rt);
         return;
     }
-    tell_answer(engine::step(t, z, rs, name_of(line)));
+    tell_answer(rt, engine::step(t, z, rs, name_of(line)));
 }
 
-fn do_post(line: &[u8], loaded: bool, t: &[Word; TABLE_WORDS], z: &mut [Word; STATE_WORDS]) {
+fn do_post(
+    rt: &impl Print,
+    line: &[u8],
+    loaded: bool,
+    t: &[Word; TABLE_WORDS],
+    z: &mut [Word; STATE_WORDS],
+) {
     if !loaded {
-        no_model();
+        no_model(rt);
         return;
     }
-    tell_done(engine::post(t, z, number_at(line, 1) as Word, values_at(line, 2)));
+    tell_done(
+        rt,
+        engine::post(t, z, number_at(line, 1) as Word, values_at(line, 2)),
+    );
 }
 
-fn do_list(line: &[u8], loaded: bool, t: &[Word; TABLE_WORDS], z: &[Word; STATE_WORDS]) {
+fn do_list(
+    rt: &impl Print,
+    line: &[u8],
+    loaded: bool,
+    t: &[Word; TABLE_WORDS],
+    z: &[Word; STATE_WORDS],
+) {
     if !loaded {
-        no_model();
+        no_model(rt);
         return;
     }
     let r = engine::list(t, z, number_at(line, 1) as usize);
     if r.number != 0 {
-        tell_refused(r.number);
+        tell_refused(rt, r.number);
         return;
     }
     let name = r.name;
-    tell_name(name);
+    tell_name(rt, name);
 }
 
 fn do_run(
+    rt: &impl Print,
     line: &[u8],
     loaded: bool,
     t: &[Word; TABLE_WORDS],
@@ -139,12 +159,12 @@ fn do_run(
     rs: &mut [[Word; RECORD_WORDS]],
 ) {
     if !loaded {
-        no_model();
+        no_model(rt);
         return;
     }
-    let r = tell_run(t, z, rs, number_at(line, 1));
+    let r = tell_run(rt, t, z, rs, number_at(line, 1));
     if r.number != 0 {
-        tell_refused(r.number);
+        tell_refused(rt, r.number);
     }
 }
 
@@ -158,17 +178,18 @@ fn is_judging(line: &[u8], word: &[u8]) -> bool {
     is_number_before(line, 1)
 }
 
-fn do_judge(line: &[u8], loaded: bool, t: &[Word; TABLE_WORDS]) {
+fn do_judge(rt: &impl Print, line: &[u8], loaded: bool, t: &[Word; TABLE_WORDS]) {
     if !loaded {
-        no_model();
+        no_model(rt);
         return;
     }
     let log = piece(line, start_of(line, 2), line.len());
-    tell_judged(engine::judge(t, number_at(line, 1) as Word, log));
+    tell_judged(rt, engine::judge(t, number_at(line, 1) as Word, log));
 }
 
 // The records are counted anew where the state is the log's.
 fn hold_judged(
+    rt: &impl Print,
     r: Judged,
     h: Held,
     t: &[Word; TABLE_WORDS],
@@ -176,7 +197,7 @@ fn hold_judged(
     rs: &mut [[Word; RECORD_WORDS]],
 ) -> Held {
     let number = r.number;
-    tell_judged(r);
+    tell_judged(rt, r);
     if number != 0 {
         return h;
     }
@@ -184,6 +205,7 @@ fn hold_judged(
 }
 
 fn do_replay(
+    rt: &impl Print,
     line: &[u8],
     h: Held,
     t: &[Word; TABLE_WORDS],
@@ -191,12 +213,12 @@ fn do_replay(
     rs: &mut [[Word; RECORD_WORDS]],
 ) -> Held {
     if !h.loaded {
-        no_model();
+        no_model(rt);
         return h;
     }
     let log = piece(line, start_of(line, 2), line.len());
     let r = engine::replay(t, number_at(line, 1) as Word, log, z);
-    hold_judged(r, h, t, z, rs)
+    hold_judged(rt, r, h, t, z, rs)
 }
 
 // The bytes of `resume` and its blank.
@@ -207,6 +229,7 @@ fn is_resume(line: &[u8]) -> bool {
 }
 
 fn do_resume(
+    rt: &impl Print,
     line: &[u8],
     h: Held,
     t: &[Word; TABLE_WORDS],
@@ -214,11 +237,11 @@ fn do_resume(
     rs: &mut [[Word; RECORD_WORDS]],
 ) -> Held {
     if !h.loaded {
-        no_model();
+        no_model(rt);
         return h;
     }
     let r = engine::resume(t, z, piece(line, RESUME, line.len()));
-    hold_judged(r, h, t, z, rs)
+    hold_judged(rt, r, h, t, z, rs)
 }
 
 // repair
@@ -239,13 +262,14 @@ fn is_diagnose(line: &[u8]) -> bool {
     same(piece(line, 0, DIAGNOSE), b"diagnose ")
 }
 
-fn do_diagnose(line: &[u8]) {
-    tell_diagnosed(engine::diagnose(piece(line, DIAGNOSE, line.len())));
+fn do_diagnose(rt: &impl Print, line: &[u8]) {
+    tell_diagnosed(rt, engine::diagnose(piece(line, DIAGNOSE, line.len())));
 }
 
 // fresh, state
 
 fn do_fresh(
+    rt: &impl Print,
     version: Word,
     h: Held,
     t: &[Word; TABLE_WORDS],
@@ -253,23 +277,23 @@ fn do_fresh(
     rs: &mut [[Word; RECORD_WORDS]],
 ) -> Held {
     if !h.loaded {
-        no_model();
+        no_model(rt);
         return h;
     }
     let number = engine::fresh(t, version, z);
-    tell_done(number);
+    tell_done(rt, number);
     if number != 0 {
         return h;
     }
     hold(t, z, rs)
 }
 
-fn do_state(loaded: bool, t: &[Word; TABLE_WORDS], z: &[Word; STATE_WORDS]) {
+fn do_state(rt: &impl Print, loaded: bool, t: &[Word; TABLE_WORDS], z: &[Word; STATE_WORDS]) {
     if !loaded {
-        no_model();
+        no_model(rt);
         return;
     }
-    report(t, z);
+    report(rt, t, z);
 }
 
 // write
@@ -281,49 +305,50 @@ fn write_from(t: &[Word; TABLE_WORDS], from: usize, out: &mut [u8]) -> Written {
 }
 
 // The buffer lent has so many bytes.
-fn do_write(room: usize, loaded: bool, t: &[Word; TABLE_WORDS]) {
+fn do_write(rt: &impl Print, room: usize, loaded: bool, t: &[Word; TABLE_WORDS]) {
     if !loaded {
-        no_model();
+        no_model(rt);
         return;
     }
     let mut out = [0u8; TEXT_MOST];
     let from = TEXT_MOST - least(room, TEXT_MOST);
     let r = write_from(t, from, &mut out);
     if r.number != 0 {
-        tell_refused(r.number);
+        tell_refused(rt, r.number);
         return;
     }
     let buffer = piece(&out, from, TEXT_MOST);
-    tell(piece(buffer, 0, r.length));
+    tell(rt, piece(buffer, 0, r.length));
 }
 
 // The commands on a table that stays; the last of them that a line can be.
-fn on_table(line: &[u8], loaded: bool, t: &[Word; TABLE_WORDS]) {
+fn on_table(rt: &impl Print, line: &[u8], loaded: bool, t: &[Word; TABLE_WORDS]) {
     if is_command(line, b"write", b"") {
-        do_write(TEXT_MOST, loaded, t);
+        do_write(rt, TEXT_MOST, loaded, t);
         return;
     }
     if is_command(line, b"write", b"n") {
-        do_write(number_at(line, 1) as usize, loaded, t);
+        do_write(rt, number_at(line, 1) as usize, loaded, t);
         return;
     }
     if is_command(line, b"check", b"") {
-        do_check(loaded, t);
+        do_check(rt, loaded, t);
         return;
     }
     if is_command(line, b"nested", b"") {
-        do_nested(loaded, t);
+        do_nested(rt, loaded, t);
         return;
     }
     if is_command(line, b"again", b"") {
-        do_again(loaded, t);
+        do_again(rt, loaded, t);
         return;
     }
-    bad_line();
+    bad_line(rt);
 }
 
 // The commands on a state as a whole, and why a drawing is refused, then those on a table.
 fn on_state(
+    rt: &impl Print,
     line: &[u8],
     loaded: bool,
     t: &[Word; TABLE_WORDS],
@@ -331,26 +356,27 @@ fn on_state(
     rs: &mut [[Word; RECORD_WORDS]],
 ) {
     if is_command(line, b"state", b"") {
-        do_state(loaded, t, z);
+        do_state(rt, loaded, t, z);
         return;
     }
     if is_setting(line, b"state", STATE_WORDS) {
-        do_set_state(line, loaded, t, z, rs);
+        do_set_state(rt, line, loaded, t, z, rs);
         return;
     }
     if is_command(line, b"figures", b"") {
-        do_figures(loaded, t, z, rs);
+        do_figures(rt, loaded, t, z, rs);
         return;
     }
     if is_diagnose(line) {
-        do_diagnose(line);
+        do_diagnose(rt, line);
         return;
     }
-    on_table(line, loaded, t);
+    on_table(rt, line, loaded, t);
 }
 
 // The commands on a model and its state, then those on a state.
 fn on_model(
+    rt: &impl Print,
     line: &[u8],
     loaded: bool,
     t: &[Word; TABLE_WORDS],
@@ -358,38 +384,39 @@ fn on_model(
     rs: &mut [[Word; RECORD_WORDS]],
 ) {
     if is_command(line, b"step", b"nnnnnv") {
-        do_step(line, loaded, t, z, rs);
+        do_step(rt, line, loaded, t, z, rs);
         return;
     }
     if is_command(line, b"post", b"nv") {
-        do_post(line, loaded, t, z);
+        do_post(rt, line, loaded, t, z);
         return;
     }
     if is_command(line, b"list", b"n") {
-        do_list(line, loaded, t, z);
+        do_list(rt, line, loaded, t, z);
         return;
     }
     if is_command(line, b"run", b"n") {
-        do_run(line, loaded, t, z, rs);
+        do_run(rt, line, loaded, t, z, rs);
         return;
     }
     if is_batch(line) {
-        do_batch(line, loaded, t, z, rs);
+        do_batch(rt, line, loaded, t, z, rs);
         return;
     }
     if is_judging(line, b"judge ") {
-        do_judge(line, loaded, t);
+        do_judge(rt, line, loaded, t);
         return;
     }
     if is_repair(line) {
-        tell_repaired(piece(line, REPAIR, line.len()));
+        tell_repaired(rt, piece(line, REPAIR, line.len()));
         return;
     }
-    on_state(line, loaded, t, z, rs);
+    on_state(rt, line, loaded, t, z, rs);
 }
 
 // As many of the records as are lent.
 fn on_lent(
+    rt: &impl Print,
     line: &[u8],
     h: Held,
     t: &[Word; TABLE_WORDS],
@@ -397,12 +424,13 @@ fn on_lent(
     rs: &mut [[Word; RECORD_WORDS]],
 ) -> Held {
     let n = least(h.records, rs.len());
-    on_model(line, h.loaded, t, z, &mut rs[..n]);
+    on_model(rt, line, h.loaded, t, z, &mut rs[..n]);
     h
 }
 
 // The commands that make a state or set the records, then those on a model.
 fn on_records(
+    rt: &impl Print,
     line: &[u8],
     h: Held,
     t: &[Word; TABLE_WORDS],
@@ -410,29 +438,30 @@ fn on_records(
     rs: &mut [[Word; RECORD_WORDS]],
 ) -> Held {
     if is_command(line, b"fresh", b"") {
-        return do_fresh(PRESENT, h, t, z, rs);
+        return do_fresh(rt, PRESENT, h, t, z, rs);
     }
     if is_command(line, b"fresh", b"n") {
-        return do_fresh(number_at(line, 1) as Word, h, t, z, rs);
+        return do_fresh(rt, number_at(line, 1) as Word, h, t, z, rs);
     }
     if is_judging(line, b"replay ") {
-        return do_replay(line, h, t, z, rs);
+        return do_replay(rt, line, h, t, z, rs);
     }
     if is_resume(line) {
-        return do_resume(line, h, t, z, rs);
+        return do_resume(rt, line, h, t, z, rs);
     }
     if is_record(line) {
-        do_record(line, h.loaded, rs);
+        do_record(rt, line, h.loaded, rs);
         return h;
     }
     if is_records(line) {
-        return do_records(line, h);
+        return do_records(rt, line, h);
     }
-    on_lent(line, h, t, z, rs)
+    on_lent(rt, line, h, t, z, rs)
 }
 
 // Does what a line says: the commands that make a table, then those on its records.
 pub(super) fn command(
+    rt: &impl Print,
     line: &[u8],
     h: Held,
     t: &mut [Word; TABLE_WORDS],
@@ -440,18 +469,18 @@ pub(super) fn command(
     rs: &mut [[Word; RECORD_WORDS]],
 ) -> Held {
     if is_read(line) {
-        return do_read(line, h, t, z, rs);
+        return do_read(rt, line, h, t, z, rs);
     }
     if is_draw(line) {
-        return do_draw(line, h, t, z, rs);
+        return do_draw(rt, line, h, t, z, rs);
     }
     if is_command(line, b"clear", b"") {
-        do_clear(t);
+        do_clear(rt, t);
         return hold(t, z, rs);
     }
     if is_setting(line, b"table", TABLE_WORDS) {
-        do_set_table(line, t);
+        do_set_table(rt, line, t);
         return hold(t, z, rs);
     }
-    on_records(line, h, t, z, rs)
+    on_records(rt, line, h, t, z, rs)
 }

@@ -33,49 +33,50 @@ pub(super) fn hold(
 
 // figures
 
-fn tell_record(t: &[Word], p: Word, r: [Word; RECORD_WORDS]) {
-    tell(b"figures ");
-    tell_number(word(t, FIRST_POOL + POOL_WORDS * (p as usize)));
-    tell(b" ");
-    tell_number(r[0]);
-    tell(b" ");
-    tell_number(r[1]);
-    tell(b" ");
-    tell_number(r[2]);
-    tell(b"\n");
+fn tell_record(rt: &impl Print, t: &[Word], p: Word, r: [Word; RECORD_WORDS]) {
+    tell(rt, b"figures ");
+    tell_number(rt, word(t, FIRST_POOL + POOL_WORDS * (p as usize)));
+    tell(rt, b" ");
+    tell_number(rt, r[0]);
+    tell(rt, b" ");
+    tell_number(rt, r[1]);
+    tell(rt, b" ");
+    tell_number(rt, r[2]);
+    tell(rt, b"\n");
 }
 
-fn tell_lent(t: &[Word], p: Word, rs: &[[Word; RECORD_WORDS]]) {
+fn tell_lent(rt: &impl Print, t: &[Word], p: Word, rs: &[[Word; RECORD_WORDS]]) {
     if wide(p) < rs.len() {
-        tell_record(t, p, rs[p as usize]);
+        tell_record(rt, t, p, rs[p as usize]);
     }
 }
 
-fn tell_records(t: &[Word], rs: &[[Word; RECORD_WORDS]]) {
+fn tell_records(rt: &impl Print, t: &[Word], rs: &[[Word; RECORD_WORDS]]) {
     let mut p: Word = 0;
     while p < POOLS {
-        tell_lent(t, p, rs);
+        tell_lent(rt, t, p, rs);
         p += 1;
     }
 }
 
 pub(super) fn do_figures(
+    rt: &impl Print,
     loaded: bool,
     t: &[Word; TABLE_WORDS],
     z: &[Word; STATE_WORDS],
     rs: &mut [[Word; RECORD_WORDS]],
 ) {
     if !loaded {
-        no_model();
+        no_model(rt);
         return;
     }
     let number = engine::figures(t, z, rs);
     if number != 0 {
-        tell_refused(number);
+        tell_refused(rt, number);
         return;
     }
-    tell_records(t, rs);
-    tell(b"end\n");
+    tell_records(rt, t, rs);
+    tell(rt, b"end\n");
 }
 
 // record, records
@@ -95,9 +96,14 @@ fn set(rs: &mut [[Word; RECORD_WORDS]], p: usize, k: usize, v: Word) {
     }
 }
 
-pub(super) fn do_record(line: &[u8], loaded: bool, rs: &mut [[Word; RECORD_WORDS]]) {
+pub(super) fn do_record(
+    rt: &impl Print,
+    line: &[u8],
+    loaded: bool,
+    rs: &mut [[Word; RECORD_WORDS]],
+) {
     if !loaded {
-        no_model();
+        no_model(rt);
         return;
     }
     set(
@@ -106,7 +112,7 @@ pub(super) fn do_record(line: &[u8], loaded: bool, rs: &mut [[Word; RECORD_WORDS
         number_at(line, 2) as usize,
         value_of(line, 3),
     );
-    tell(b"ok\n");
+    tell(rt, b"ok\n");
 }
 
 pub(super) fn is_records(line: &[u8]) -> bool {
@@ -116,12 +122,12 @@ pub(super) fn is_records(line: &[u8]) -> bool {
     (number_at(line, 1) as usize) <= KEPT
 }
 
-pub(super) fn do_records(line: &[u8], h: Held) -> Held {
+pub(super) fn do_records(rt: &impl Print, line: &[u8], h: Held) -> Held {
     if !h.loaded {
-        no_model();
+        no_model(rt);
         return h;
     }
-    tell(b"ok\n");
+    tell(rt, b"ok\n");
     Held {
         loaded: true,
         records: number_at(line, 1) as usize,

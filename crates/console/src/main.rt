@@ -9,9 +9,8 @@ use base_bytes::piece;
 use base_state::places::STATE_WORDS;
 use base_table::places::TABLE_WORDS;
 use base_words::Word;
-use libc::STDIN_FILENO;
 use state_figures::RECORD_WORDS;
-use tool_print::tell;
+use tool_print::{argument, read_part, tell};
 
 mod arguments;
 mod batch;
@@ -34,6 +33,9 @@ const PROMPT: usize = 1;
 
 // The bytes of the longest prompt.
 const PROMPT_MOST: usize = 16;
+
+// The most bytes of a read.
+const PIECE: usize = 4096;
 
 // How much of a line there is so far, and whether more came than fits; whether there is a model, how many records are lent, and whether the input is at its end.
 #[derive(Clone, Copy)]
@@ -76,6 +78,7 @@ fn is_remark(line: &[u8]) -> bool {
 
 // The line is complete.
 fn complete(
+    rt: &impl Print,
     s: Session,
     line: &[u8; LINE],
     t: &mut [Word; TABLE_WORDS],
@@ -86,14 +89,14 @@ fn complete(
         return emptied(s);
     }
     if s.excess {
-        tell(b"bad line\n");
+        tell(rt, b"bad line\n");
         return emptied(s);
     }
     let held = Held {
         loaded: s.loaded,
         records: s.records,
     };
-    let h = command(piece(line, 0, s.length), held, t, z, rs);
+    let h = command(rt, piece(line, 0, s.length), held, t, z, rs);
     Session {
         length: 0,
         excess: false,
@@ -126,6 +129,7 @@ fn extend(s: Session, line: &mut [u8; LINE], b: u8) -> Session {
 }
 
 fn take_byte(
+    rt: &impl Print,
     s: Session,
     b: u8,
     line: &mut [u8; LINE],
@@ -134,12 +138,13 @@ fn take_byte(
     rs: &mut [[Word; RECORD_WORDS]; KEPT],
 ) -> Session {
     if b == NEWLINE {
-        return complete(s, line, t, z, rs);
+        return complete(rt, s, line, t, z, rs);
     }
     extend(s, line, b)
 }
 
 fn take_piece(
+    rt: &impl Print,
     first: Session,
     piece: &[u8],
     line: &mut [u8; LINE],
@@ -150,7 +155,7 @@ fn take_piece(
     let mut s = first;
     let mut i: usize = 0;
     while i < piece.len() {
-        s = take_byte(s, piece[i], line, t, z, rs);
+        s = take_byte(rt, s, piece[i], line, t, z, rs);
         i += 1;
     }
     s
@@ -158,6 +163,7 @@ fn take_piece(
 
 // A last line without newline counts.
 fn take_rest(
+    rt: &impl Print,
     s: Session,
     line: &[u8; LINE],
     t: &mut [Word; TABLE_WORDS],
@@ -165,19 +171,20 @@ fn take_rest(
     rs: &mut [[Word; RECORD_WORDS]; KEPT],
 ) {
     if s.length > 0 {
-        complete(s, line, t, z, rs);
+        complete(rt, s, line, t, z, rs);
     }
 }
 
 // Says the prompt, where no part of a line was read yet.
-fn invite(length: usize, prompt: &[u8]) {
+fn invite(rt: &impl Print, length: usize, prompt: &[u8]) {
     if length == 0 {
-        tell(prompt);
+        tell(rt, prompt);
     }
 }
 
 // Reads what is there, and does what came: a line is answered before the next one is waited for.
 fn read_some(
+    rt: &(impl Print + Input),
     s: Session,
     prompt: &[u8],
     line: &mut [u8; LINE],
@@ -185,9 +192,8 @@ fn read_some(
     z: &mut [Word; STATE_WORDS],
     rs: &mut [[Word; RECORD_WORDS]; KEPT],
 ) -> Session {
-    let mut piece = io::buffer();
-    let got = libc::read(STDIN_FILENO, &mut piece);
-    let n = io::count(got, &piece);
+    let mut piece = [0u8; PIECE];
+    let n = read_part(rt, &mut piece);
     if n == 0 {
         return Session {
             length: s.length,
@@ -197,12 +203,12 @@ fn read_some(
             over: true,
         };
     }
-    let next = take_piece(s, &piece[..n], line, t, z, rs);
-    invite(next.length, prompt);
+    let next = take_piece(rt, s, &piece[..n], line, t, z, rs);
+    invite(rt, next.length, prompt);
     next
 }
 
-fn talk(prompt: &[u8]) {
+fn talk(rt: &(impl Print + Input), prompt: &[u8]) {
     let mut t: [Word; TABLE_WORDS] = [0; TABLE_WORDS];
     let mut z: [Word; STATE_WORDS] = [0; STATE_WORDS];
     let mut rs: [[Word; RECORD_WORDS]; KEPT] = [[0; RECORD_WORDS]; KEPT];
@@ -211,14 +217,14 @@ fn talk(prompt: &[u8]) {
     // A proved loop has to end, and nothing says that an input does: the turns are more than any run uses up.
     let mut turns = u64::MAX;
     while turns > 0 && !s.over {
-        s = read_some(s, prompt, &mut line, &mut t, &mut z, &mut rs);
+        s = read_some(rt, s, prompt, &mut line, &mut t, &mut z, &mut rs);
         turns -= 1;
     }
-    take_rest(s, &line, &mut t, &mut z, &mut rs);
+    take_rest(rt, s, &line, &mut t, &mut z, &mut rs);
 }
 
-fn main() {
+fn main(rt: HostRuntime) {
     let mut prompt = [0u8; PROMPT_MOST];
-    let n = os::arg(PROMPT, &mut prompt);
-    talk(piece(&prompt, 0, n));
+    let n = argument(&rt, PROMPT, &mut prompt);
+    talk(&rt, piece(&prompt, 0, n));
 }

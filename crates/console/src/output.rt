@@ -5,51 +5,51 @@ use meaning::{Answer, Name, Tuple};
 use tool_print::{tell, tell_count};
 use write_lines::{NAME_LINE, STEP_LINE};
 
-pub(super) fn bad_line() {
-    tell(b"bad line\n");
+pub(super) fn bad_line(rt: &impl Print) {
+    tell(rt, b"bad line\n");
 }
 
-pub(super) fn no_model() {
-    tell(b"no model\n");
+pub(super) fn no_model(rt: &impl Print) {
+    tell(rt, b"no model\n");
 }
 
-pub(super) fn tell_number(n: Word) {
-    tell_count(n as usize);
+pub(super) fn tell_number(rt: &impl Print, n: Word) {
+    tell_count(rt, n as usize);
 }
 
-pub(super) fn tell_refused(number: Word) {
-    tell(b"refused ");
-    tell_number(number);
-    tell(b"\n");
+pub(super) fn tell_refused(rt: &impl Print, number: Word) {
+    tell(rt, b"refused ");
+    tell_number(rt, number);
+    tell(rt, b"\n");
 }
 
 // A call that gives back only a number.
-pub(super) fn tell_done(number: Word) {
+pub(super) fn tell_done(rt: &impl Print, number: Word) {
     if number == 0 {
-        tell(b"ok\n");
+        tell(rt, b"ok\n");
         return;
     }
-    tell_refused(number);
+    tell_refused(rt, number);
 }
 
 // `-`, or the message sent or consumed.
-pub(super) fn tell_traffic(a: Answer) {
+pub(super) fn tell_traffic(rt: &impl Print, a: Answer) {
     let mut out = [0u8; STEP_LINE];
     let n = write_lines::put_traffic(&mut out, 0, a);
-    tell(piece(&out, 0, n));
+    tell(rt, piece(&out, 0, n));
 }
 
 // The name of a step, and its values.
-pub(super) fn tell_name(n: Name) {
+pub(super) fn tell_name(rt: &impl Print, n: Name) {
     let mut out = [0u8; NAME_LINE];
     let k = write_lines::put_name(&mut out, 0, n);
-    tell(piece(&out, 0, k));
-    tell(b"\n");
+    tell(rt, piece(&out, 0, k));
+    tell(rt, b"\n");
 }
 
 // The values of a message, `-` for none.
-pub(super) fn tell_tuple(g: Tuple) {
+pub(super) fn tell_tuple(rt: &impl Print, g: Tuple) {
     let mut out = [0u8; NAME_LINE];
     let k = write_lines::put_tuple(&mut out, 0, g);
-    tell(piece(&out, 0, k));
+    tell(rt, piece(&out, 0, k));
 }

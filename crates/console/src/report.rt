@@ -12,48 +12,48 @@ use step_queues::{message_at, queued_in};
 use tool_print::tell;
 
 // `number:value`, a comma before it where another stands there.
-fn tell_pair(is_first: bool, number: Word, value: Word) {
+fn tell_pair(rt: &impl Print, is_first: bool, number: Word, value: Word) {
     if !is_first {
-        tell(b",");
+        tell(rt, b",");
     }
-    tell_number(number);
-    tell(b":");
-    tell_number(value);
+    tell_number(rt, number);
+    tell(rt, b":");
+    tell_number(rt, value);
 }
 
 // One pair, where its flag is not 0; answers whether the next one is still the first.
-fn pair_if(is_first: bool, flag: Word, number: Word, value: Word) -> bool {
+fn pair_if(rt: &impl Print, is_first: bool, flag: Word, number: Word, value: Word) -> bool {
     if flag == 0 {
         return is_first;
     }
-    tell_pair(is_first, number, value);
+    tell_pair(rt, is_first, number, value);
     false
 }
 
 // The counts of n places that are not 0: their numbers count from 1.
-fn tell_counts(h: &[Word], n: Word) {
+fn tell_counts(rt: &impl Print, h: &[Word], n: Word) {
     let mut is_first = true;
     let mut k: Word = 0;
     while k < n {
         let count = word(h, k as usize);
         k += 1;
-        is_first = pair_if(is_first, count, k, count);
+        is_first = pair_if(rt, is_first, count, k, count);
     }
     if is_first {
-        tell(b"-");
+        tell(rt, b"-");
     }
 }
 
 // The fields that are defined.
-fn tell_fields(h: &[Word]) {
+fn tell_fields(rt: &impl Print, h: &[Word]) {
     let mut is_first = true;
     let mut d: Word = 0;
     while d < FIELDS {
-        is_first = pair_if(is_first, defined_at(h, d), d, value_at(h, d));
+        is_first = pair_if(rt, is_first, defined_at(h, d), d, value_at(h, d));
         d += 1;
     }
     if is_first {
-        tell(b"-");
+        tell(rt, b"-");
     }
 }
 
@@ -70,79 +70,82 @@ fn has_fields(h: &[Word]) -> bool {
 }
 
 // The stores stand as fields do, in a block that starts as far before them.
-fn tell_stores(z: &[Word]) {
+fn tell_stores(rt: &impl Print, z: &[Word]) {
     let h = tail(z, SHARED - DEFINED);
     if !has_fields(h) {
         return;
     }
-    tell(b"stores ");
-    tell_fields(h);
-    tell(b"\n");
+    tell(rt, b"stores ");
+    tell_fields(rt, h);
+    tell(rt, b"\n");
 }
 
-fn tell_instance(number: Word, i: Word, h: &[Word]) {
-    tell(b"instance ");
-    tell_number(number);
-    tell(b" ");
-    tell_number(i);
-    tell(b" tokens ");
-    tell_counts(h, EDGES);
-    tell(b" active ");
-    tell_counts(tail(h, ACTIVE), TASKS);
-    tell(b" ready ");
-    tell_counts(tail(h, READY), TASKS);
-    tell(b" fields ");
-    tell_fields(h);
-    tell(b"\n");
+fn tell_instance(rt: &impl Print, number: Word, i: Word, h: &[Word]) {
+    tell(rt, b"instance ");
+    tell_number(rt, number);
+    tell(rt, b" ");
+    tell_number(rt, i);
+    tell(rt, b" tokens ");
+    tell_counts(rt, h, EDGES);
+    tell(rt, b" active ");
+    tell_counts(rt, tail(h, ACTIVE), TASKS);
+    tell(rt, b" ready ");
+    tell_counts(rt, tail(h, READY), TASKS);
+    tell(rt, b" fields ");
+    tell_fields(rt, h);
+    tell(rt, b"\n");
 }
 
-fn tell_pool(t: &[Word], z: &[Word], p: Word) {
+fn tell_pool(rt: &impl Print, t: &[Word], z: &[Word], p: Word) {
     let number = word(t, FIRST_POOL + POOL_WORDS * (p as usize));
     let made = at_most(made_count(z, p), INSTANCES);
     let mut i: Word = 0;
     while i < made {
-        tell_instance(number, i, instance_at(z, p, i));
+        tell_instance(rt, number, i, instance_at(z, p, i));
         i += 1;
     }
 }
 
-fn tell_message(g: Tuple) {
+fn tell_message(rt: &impl Print, g: Tuple) {
     let values = g.values;
-    tell(b" ");
-    tell_tuple(Tuple {
-        length: at_most(g.length, VALUES),
-        values: values,
-    });
+    tell(rt, b" ");
+    tell_tuple(
+        rt,
+        Tuple {
+            length: at_most(g.length, VALUES),
+            values: values,
+        },
+    );
 }
 
-fn tell_queue(q: &[Word], m: Word) {
+fn tell_queue(rt: &impl Print, q: &[Word], m: Word) {
     let n = at_most(queued_in(q, m), MESSAGES);
     if n == 0 {
         return;
     }
-    tell(b"queue ");
-    tell_number(m);
+    tell(rt, b"queue ");
+    tell_number(rt, m);
     let mut k: Word = 0;
     while k < n {
-        tell_message(message_at(q, m, k));
+        tell_message(rt, message_at(q, m, k));
         k += 1;
     }
-    tell(b"\n");
+    tell(rt, b"\n");
 }
 
-fn tell_pools(t: &[Word], z: &[Word]) {
+fn tell_pools(rt: &impl Print, t: &[Word], z: &[Word]) {
     let n = at_most(pool_count(t), POOLS);
     let mut p: Word = 0;
     while p < n {
-        tell_pool(t, z, p);
+        tell_pool(rt, t, z, p);
         p += 1;
     }
 }
 
-fn tell_queues(q: &[Word]) {
+fn tell_queues(rt: &impl Print, q: &[Word]) {
     let mut m: Word = 0;
     while m < NAMES {
-        tell_queue(q, m);
+        tell_queue(rt, q, m);
         m += 1;
     }
 }
@@ -153,16 +156,16 @@ fn at_most(n: Word, most: Word) -> Word {
 }
 
 // The present version is not said.
-fn tell_version(z: &[Word]) {
+fn tell_version(rt: &impl Print, z: &[Word]) {
     if version_of(z) == FORMER {
-        tell(b"version 10\n");
+        tell(rt, b"version 10\n");
     }
 }
 
-pub(super) fn report(t: &[Word; TABLE_WORDS], z: &[Word; STATE_WORDS]) {
-    tell_version(z);
-    tell_pools(t, z);
-    tell_stores(z);
-    tell_queues(tail(z, INSTANCES_WORDS));
-    tell(b"end\n");
+pub(super) fn report(rt: &impl Print, t: &[Word; TABLE_WORDS], z: &[Word; STATE_WORDS]) {
+    tell_version(rt, z);
+    tell_pools(rt, t, z);
+    tell_stores(rt, z);
+    tell_queues(rt, tail(z, INSTANCES_WORDS));
+    tell(rt, b"end\n");
 }

@@ -1,7 +1,7 @@
 -- THE CALLS AS C HAS THEM: each block comes with its length in words. A wrong length is 10 before the block is looked at, and what was lent stays; else it is the call of `engine`.
 use Rattle.std.specs.Prelude.{ℕ, ◌*◌, Bool, ◌&&◌, List, eqb, ltb}
 use Rattle.base_words.specs.Blocks.{Records, Block, Bytes, Table, State}
-use Rattle.base_words.specs.Pick.{if◌then◌else◌}
+use Rattle.base_words.specs.Pick.{if◌then◌or_else◌}
 use Rattle.base_table.specs.Places.{table_words}
 use Rattle.base_state.specs.Places.{state_words}
 use Rattle.meaning.specs.declared.Name.{Name}
@@ -31,10 +31,10 @@ unfoldable pub are_whole : ℕ → ℕ → Bool
 are_whole n m = eqb n table_words && eqb m state_words
 
 unfoldable pub checked_by : Table → ℕ → Verdict
-checked_by t n = if eqb n table_words then verdict_of t else record { number = 10; beside = 0 }
+checked_by t n = if eqb n table_words then verdict_of t or_else record { number = 10; beside = 0 }
 
 unfoldable pub freshened_by : Table → ℕ → ℕ → State → ℕ → Left
-freshened_by t n v z m = if are_whole n m then freshened t v z else record { number = 10; state = z }
+freshened_by t n v z m = if are_whole n m then freshened t v z or_else record { number = 10; state = z }
 
 -- what a step did to the queues, as a number
 unfoldable pub traffic_number : Traffic → ℕ
@@ -61,29 +61,29 @@ told_at s = record { done = told_to_c s.done; records = s.records }
 unfoldable pub stepped_by : Table → ℕ → State → ℕ → Records → Name → AtDesk TakenTo
 stepped_by t n z m rs name =
     if are_whole n m then told_at (stepped_at t z rs name)
-    else record { done = record { answer = record { number = 10; traffic = 0; name = 0; tuple = empty }; state = z }; records = rs }
+    or_else record { done = record { answer = record { number = 10; traffic = 0; name = 0; tuple = empty }; state = z }; records = rs }
 
 unfoldable pub posted_by : Table → ℕ → State → ℕ → ℕ → Tuple → Left
-posted_by t n z m name g = if are_whole n m then posted_to t z name g else record { number = 10; state = z }
+posted_by t n z m name g = if are_whole n m then posted_to t z name g or_else record { number = 10; state = z }
 
 unfoldable pub listed_by : Table → ℕ → State → ℕ → ℕ → Listed
-listed_by t n z m k = if are_whole n m then listed_at t z k else record { number = 10; name = blank_name }
+listed_by t n z m k = if are_whole n m then listed_at t z k or_else record { number = 10; name = blank_name }
 
 unfoldable pub ran_lent : Table → ℕ → State → ℕ → Records → ℕ → AtDesk RanTo
 ran_lent t n z m rs limit =
-    if are_whole n m then ran_at t z rs limit else record { done = record { number = 10; steps = 0; left = 0; state = z }; records = rs }
+    if are_whole n m then ran_at t z rs limit or_else record { done = record { number = 10; steps = 0; left = 0; state = z }; records = rs }
 
 unfoldable pub figured_by : Table → ℕ → State → ℕ → Records → Figured
-figured_by t n z m rs = if are_whole n m then figured_to t z rs else record { number = 10; records = rs }
+figured_by t n z m rs = if are_whole n m then figured_to t z rs or_else record { number = 10; records = rs }
 
 unfoldable pub read_by : Bytes → Table → ℕ → ReadInto
-read_by text t n = if eqb n table_words then read_into text t else record { number = 10; beside = 0; table = t }
+read_by text t n = if eqb n table_words then read_into text t or_else record { number = 10; beside = 0; table = t }
 
 unfoldable pub drawn_by : Bytes → Table → ℕ → ReadInto
-drawn_by text t n = if eqb n table_words then draw_into text t else record { number = 10; beside = 0; table = t }
+drawn_by text t n = if eqb n table_words then draw_into text t or_else record { number = 10; beside = 0; table = t }
 
 unfoldable pub written_by : Table → ℕ → Bytes → WrittenTo
-written_by t n out = if eqb n table_words then written_to t out else record { number = 10; length = 0; buffer = out }
+written_by t n out = if eqb n table_words then written_to t out or_else record { number = 10; length = 0; buffer = out }
 
 abbrev pub poll_words : ℕ
 poll_words = item_words * items_most
@@ -93,27 +93,27 @@ unfoldable pub are_lent : ℕ → ℕ → ℕ → Bool
 are_lent n m k = eqb k poll_words && are_whole n m
 
 unfoldable pub lent_wrong : ℕ → ℕ
-lent_wrong count = if ltb items_most count then 22 else 10
+lent_wrong count = if ltb items_most count then 22 or_else 10
 
 unfoldable pub polled_lent : Table → ℕ → State → ℕ → Records → Block → ℕ → ℕ → AtDesk Polling
 polled_lent t n z m rs w k count =
-    if are_lent n m k then polled_at t z rs w count else record { done = record { number = lent_wrong count; accepted = 0; state = z }; records = rs }
+    if are_lent n m k then polled_at t z rs w count or_else record { done = record { number = lent_wrong count; accepted = 0; state = z }; records = rs }
 
 unfoldable pub judged_lent : Table → ℕ → ℕ → Bytes → Judged
-judged_lent t n v log = if eqb n table_words then judged_to t v log else record { number = 10; beside = 0; own = 0 }
+judged_lent t n v log = if eqb n table_words then judged_to t v log or_else record { number = 10; beside = 0; own = 0 }
 
 unfoldable pub replayed_by : Table → ℕ → ℕ → Bytes → State → ℕ → Replayed
-replayed_by t n v log z m = if are_whole n m then replayed_to t v log z else record { answer = record { number = 10; beside = 0; own = 0 }; state = z }
+replayed_by t n v log z m = if are_whole n m then replayed_to t v log z or_else record { answer = record { number = 10; beside = 0; own = 0 }; state = z }
 
 unfoldable pub resumed_by : Table → ℕ → State → ℕ → Bytes → Replayed
-resumed_by t n z m log = if are_whole n m then resumed_to t z log else record { answer = record { number = 10; beside = 0; own = 0 }; state = z }
+resumed_by t n z m log = if are_whole n m then resumed_to t z log or_else record { answer = record { number = 10; beside = 0; own = 0 }; state = z }
 
 -- a step's answer as C has it, back: another number than 1 and 2 is nothing
 unfoldable pub traffic_by : ℕ → Traffic
-traffic_by n = if eqb n 1 then Consumed else if eqb n 2 then Sent else Nothing
+traffic_by n = if eqb n 1 then Consumed or_else if eqb n 2 then Sent or_else Nothing
 
 unfoldable pub answer_to_c : Taken → Answer
 answer_to_c a = record { number = a.number; traffic = traffic_by a.traffic; name = a.name; tuple = a.tuple }
 
 unfoldable pub nested_by : Table → ℕ → Verdict
-nested_by t n = if eqb n table_words then nested_of t else record { number = 10; beside = 0 }
+nested_by t n = if eqb n table_words then nested_of t or_else record { number = 10; beside = 0 }

@@ -1,4 +1,4 @@
-// The public calls as C has them: include/cuttingvale.h. Each block comes with its length in words, and a wrong one is refused before the block is looked at.
+// The public calls as C has them: include/cuttingvale.h; the static library cuttingvale_c exports them. Each block comes with its length in words, and a wrong one is refused before the block is looked at.
 #![tactic(auto)]
 
 ghost use Rattle.std.specs.Prelude.{◌≡◌};
@@ -47,8 +47,7 @@ pub struct Taken {
     pub tuple: Tuple,
 }
 
-#[unsafe(no_mangle)]
-pub extern "C" fn cv_check(table: &[Word; TABLE_WORDS], tablelength: usize) -> Verdict
+pub fn cv_check(table: &[Word; TABLE_WORDS], tablelength: usize) -> Verdict
     ensures { result ≡ checked_by table.now tablelength }
 {
     if tablelength != TABLE_WORDS {
@@ -69,8 +68,7 @@ fn are_whole(tablelength: usize, statelength: usize) -> bool
     statelength == STATE_WORDS
 }
 
-#[unsafe(no_mangle)]
-pub extern "C" fn cv_fresh(
+pub fn cv_fresh(
     table: &[Word; TABLE_WORDS],
     tablelength: usize,
     version: Word,
@@ -106,8 +104,7 @@ fn untaken() -> Taken
     }
 }
 
-#[unsafe(no_mangle)]
-pub extern "C" fn cv_step(
+pub fn cv_step(
     table: &[Word; TABLE_WORDS],
     tablelength: usize,
     state: &mut [Word; STATE_WORDS],
@@ -131,8 +128,7 @@ pub extern "C" fn cv_step(
     }
 }
 
-#[unsafe(no_mangle)]
-pub extern "C" fn cv_post(
+pub fn cv_post(
     table: &[Word; TABLE_WORDS],
     tablelength: usize,
     state: &mut [Word; STATE_WORDS],
@@ -164,8 +160,7 @@ fn unlisted() -> Listed
     }
 }
 
-#[unsafe(no_mangle)]
-pub extern "C" fn cv_list(
+pub fn cv_list(
     table: &[Word; TABLE_WORDS],
     tablelength: usize,
     state: &[Word; STATE_WORDS],
@@ -180,8 +175,7 @@ pub extern "C" fn cv_list(
     engine::list(table, state, ordinal)
 }
 
-#[unsafe(no_mangle)]
-pub extern "C" fn cv_run(
+pub fn cv_run(
     table: &[Word; TABLE_WORDS],
     tablelength: usize,
     state: &mut [Word; STATE_WORDS],
@@ -202,8 +196,7 @@ pub extern "C" fn cv_run(
 }
 
 // The records' number comes with them, as a text's length does.
-#[unsafe(no_mangle)]
-pub extern "C" fn cv_figures(
+pub fn cv_figures(
     table: &[Word; TABLE_WORDS],
     tablelength: usize,
     state: &[Word; STATE_WORDS],
@@ -218,12 +211,7 @@ pub extern "C" fn cv_figures(
     engine::figures(table, state, records)
 }
 
-#[unsafe(no_mangle)]
-pub extern "C" fn cv_read(
-    text: &[u8],
-    table: &mut [Word; TABLE_WORDS],
-    tablelength: usize,
-) -> Reading
+pub fn cv_read(text: &[u8], table: &mut [Word; TABLE_WORDS], tablelength: usize) -> Reading
     ensures { record { number = result.number; beside = result.beside; table = table.new } ≡ read_by text.now table.old tablelength }
 {
     if tablelength != TABLE_WORDS {
@@ -235,12 +223,7 @@ pub extern "C" fn cv_read(
     engine::read(text, table)
 }
 
-#[unsafe(no_mangle)]
-pub extern "C" fn cv_draw(
-    text: &[u8],
-    table: &mut [Word; TABLE_WORDS],
-    tablelength: usize,
-) -> Reading
+pub fn cv_draw(text: &[u8], table: &mut [Word; TABLE_WORDS], tablelength: usize) -> Reading
     ensures { record { number = result.number; beside = result.beside; table = table.new } ≡ drawn_by text.now table.old tablelength }
 {
     if tablelength != TABLE_WORDS {
@@ -253,19 +236,13 @@ pub extern "C" fn cv_draw(
 }
 
 // The text's length comes with it: there is no other length to be wrong.
-#[unsafe(no_mangle)]
-pub extern "C" fn cv_diagnose(text: &[u8]) -> Diagnosis
+pub fn cv_diagnose(text: &[u8]) -> Diagnosis
     ensures { result ≡ diagnosed text.now }
 {
     engine::diagnose(text)
 }
 
-#[unsafe(no_mangle)]
-pub extern "C" fn cv_write(
-    table: &[Word; TABLE_WORDS],
-    tablelength: usize,
-    buffer: &mut [u8],
-) -> Written
+pub fn cv_write(table: &[Word; TABLE_WORDS], tablelength: usize, buffer: &mut [u8]) -> Written
     ensures { record { number = result.number; length = result.length; buffer = buffer.new } ≡ written_by table.now tablelength buffer.old }
 {
     if tablelength != TABLE_WORDS {
@@ -296,8 +273,7 @@ fn are_lent(tablelength: usize, statelength: usize, itemslength: usize) -> bool
     are_whole(tablelength, statelength)
 }
 
-#[unsafe(no_mangle)]
-pub extern "C" fn cv_poll(
+pub fn cv_poll(
     table: &[Word; TABLE_WORDS],
     tablelength: usize,
     state: &mut [Word; STATE_WORDS],
@@ -328,8 +304,7 @@ fn unjudged() -> Judged
     }
 }
 
-#[unsafe(no_mangle)]
-pub extern "C" fn cv_judge(
+pub fn cv_judge(
     table: &[Word; TABLE_WORDS],
     tablelength: usize,
     version: Word,
@@ -343,8 +318,7 @@ pub extern "C" fn cv_judge(
     engine::judge(table, version, log)
 }
 
-#[unsafe(no_mangle)]
-pub extern "C" fn cv_replay(
+pub fn cv_replay(
     table: &[Word; TABLE_WORDS],
     tablelength: usize,
     version: Word,
@@ -360,8 +334,7 @@ pub extern "C" fn cv_replay(
     engine::replay(table, version, log, state)
 }
 
-#[unsafe(no_mangle)]
-pub extern "C" fn cv_resume(
+pub fn cv_resume(
     table: &[Word; TABLE_WORDS],
     tablelength: usize,
     state: &mut [Word; STATE_WORDS],
@@ -401,44 +374,38 @@ fn answer_of(a: Taken) -> Answer
     }
 }
 
-#[unsafe(no_mangle)]
-pub extern "C" fn cv_log_begin(buffer: &mut [u8]) -> Piece
+pub fn cv_log_begin(buffer: &mut [u8]) -> Piece
     ensures { record { number = result.number; length = result.length; buffer = buffer.new } ≡ piece_in header buffer.old }
 {
     log_pieces::begin(buffer)
 }
 
-#[unsafe(no_mangle)]
-pub extern "C" fn cv_log_step(name: Name, answer: Taken, moment: u64, buffer: &mut [u8]) -> Piece
+pub fn cv_log_step(name: Name, answer: Taken, moment: u64, buffer: &mut [u8]) -> Piece
     ensures { record { number = result.number; length = result.length; buffer = buffer.new } ≡ piece_in (event_text moment (step_line name (answer_to_c answer))) buffer.old }
 {
     log_pieces::step(name, answer_of(answer), moment, buffer)
 }
 
-#[unsafe(no_mangle)]
-pub extern "C" fn cv_log_post(name: Word, values: Tuple, moment: u64, buffer: &mut [u8]) -> Piece
+pub fn cv_log_post(name: Word, values: Tuple, moment: u64, buffer: &mut [u8]) -> Piece
     ensures { record { number = result.number; length = result.length; buffer = buffer.new } ≡ piece_in (event_text moment (post_line name values)) buffer.old }
 {
     log_pieces::post(name, values, moment, buffer)
 }
 
-#[unsafe(no_mangle)]
-pub extern "C" fn cv_log_end(buffer: &mut [u8]) -> Piece
+pub fn cv_log_end(buffer: &mut [u8]) -> Piece
     ensures { record { number = result.number; length = result.length; buffer = buffer.new } ≡ piece_in footer buffer.old }
 {
     log_pieces::end(buffer)
 }
 
 // The buffer's length comes with it, as the text's does: there is no other length to be wrong.
-#[unsafe(no_mangle)]
-pub extern "C" fn cv_repair(text: &[u8], buffer: &mut [u8]) -> Repaired
+pub fn cv_repair(text: &[u8], buffer: &mut [u8]) -> Repaired
     ensures { record { number = result.number; length = result.length; kept = result.kept; dropped = result.dropped; buffer = buffer.new } ≡ repaired_to text.now buffer.old }
 {
     engine::repair(text, buffer)
 }
 
-#[unsafe(no_mangle)]
-pub extern "C" fn cv_nested(table: &[Word; TABLE_WORDS], tablelength: usize) -> Verdict
+pub fn cv_nested(table: &[Word; TABLE_WORDS], tablelength: usize) -> Verdict
     ensures { result ≡ nested_by table.now tablelength }
 {
     if tablelength != TABLE_WORDS {

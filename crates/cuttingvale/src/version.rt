@@ -5,16 +5,14 @@ ghost use Rattle.cuttingvale.specs.Release.{layouts, release};
 use base_words::Word;
 
 // The version in the file VERSION: 10,000 for its first number, 100 for its second, 1 for its third.
-#[unsafe(no_mangle)]
-pub extern "C" fn cv_version() -> Word
+pub fn cv_version() -> Word
     ensures { result ≡ release }
 {
     20000
 }
 
 // The header refers to this name: where a table, a state or what crosses in a call is laid out otherwise, the name has another number, and a program of the other header does not link.
-#[unsafe(no_mangle)]
-pub extern "C" fn cv_abi_4() -> Word
+pub fn cv_abi_4() -> Word
     ensures { result ≡ layouts }
 {
     4

@@ -7,7 +7,7 @@ use native.Mathlib.Omega.{arith}
 use borrow.Author.Tests.{eqb-true}
 use lib.Dec.{eqb, ltb}
 use lib.ListN.{length}
-use Rattle.base_words.specs.Pick.{if◌then◌else◌}
+use Rattle.base_words.specs.Pick.{if◌then◌or_else◌}
 use Rattle.base_table.specs.Table.{pool_count}
 use Rattle.base_state.specs.Instances.{instances_of}
 use Rattle.meaning.specs.declared.Name.{Name}
@@ -52,10 +52,10 @@ module _ (t z : List ℕ) (ys : List Record) where
 
   poll_lent : (count : ℕ) → poll_number t z (lent_words (four_of ys)) count ≡ poll_number t z (triples ys) count
   unfolding poll_number
-  poll_lent count = ap (λ (k : ℕ). if ltb items_most count then 22 else k) number_lent
+  poll_lent count = ap (λ (k : ℕ). if ltb items_most count then 22 or_else k) number_lent
 
-  within : (b : Bool) (k : ℕ) → (if b then 22 else k) ≡ 0 → k ≡ 0
-  unfolding if◌then◌else◌
+  within : (b : Bool) (k : ℕ) → (if b then 22 or_else k) ≡ 0 → k ≡ 0
+  unfolding if◌then◌or_else◌
   within true k h = absurd (omega (arith, h))
   within false k h = h
 
@@ -66,14 +66,14 @@ module _ (t z : List ℕ) (ys : List Record) where
 -- A CALL that returns x and leaves the state y, or is refused with R of its number
 module _ {A : Type 0} (t : List ℕ) (ys : List Record) (x : A) (y : List ℕ) where
   abbrev called : Bool → A → List (List ℕ) → AtDesk A
-  called b r rs = if b then record { done = x; records = counted t (instances_of y) } else record { done = r; records = rs }
+  called b r rs = if b then record { done = x; records = counted t (instances_of y) } or_else record { done = r; records = rs }
 
   -- with the records put back
   abbrev back : AtDesk A → AtDesk A
   back a = record { done = a.done; records = triples (put_back ys (four_left (four_of ys) a.records)) }
 
   by_number : (b : Bool) (r : A) → (b ≡ true → Fit t ys) → back (called b r (lent_words (four_of ys))) ≡ called b r (triples ys)
-  unfolding if◌then◌else◌
+  unfolding if◌then◌or_else◌
   by_number true r h = λ i. record { done = x; records = put_counted ys t (instances_of y) (h refl).0 (h refl).1 i }
   by_number false r h = λ i. record { done = r; records = triples (put_same ys i) }
 
@@ -115,22 +115,22 @@ module _ (t z : List ℕ) (ys : List Record) (f : Four) (zs : List Record) (e : 
 -- THE COUNT ITSELF
 module _ (t s : List ℕ) (ys : List Record) where
   abbrev counting : Bool → List (List ℕ) → Figured
-  counting b rs = if b then record { number = 0; records = counted t s } else record { number = 26; records = rs }
+  counting b rs = if b then record { number = 0; records = counted t s } or_else record { number = 26; records = rs }
 
   abbrev asked : Bool → Bool → ℕ → List (List ℕ) → Figured
-  asked a b k rs = if a then counting b rs else record { number = k; records = rs }
+  asked a b k rs = if a then counting b rs or_else record { number = k; records = rs }
 
   abbrev set_back : Figured → Figured
   set_back a = record { number = a.number; records = triples (put_back ys (four_left (four_of ys) a.records)) }
 
   by_count : (b : Bool) → (b ≡ true → Fit t ys) → set_back (counting b (lent_words (four_of ys))) ≡ counting b (triples ys)
-  unfolding if◌then◌else◌
+  unfolding if◌then◌or_else◌
   by_count true h = λ i. record { number = 0; records = put_counted ys t s (h refl).0 (h refl).1 i }
   by_count false h = λ i. record { number = 26; records = triples (put_same ys i) }
 
   by_lent : (a : Bool) (k : ℕ) → (a ≡ true → pool_count t ≤ 4)
       → set_back (asked a (eqb (length (lent_words (four_of ys))) (pool_count t)) k (lent_words (four_of ys))) ≡ asked a (eqb (length (triples ys)) (pool_count t)) k (triples ys)
-  unfolding if◌then◌else◌
+  unfolding if◌then◌or_else◌
   by_lent true k h =
       ap (λ (b : Bool). set_back (counting b (lent_words (four_of ys)))) (count_same ys t (h refl))
       ∙ by_count (eqb (length ys) (pool_count t)) (λ e. (h refl, eqb-true (length ys) (pool_count t) e))

@@ -1,5 +1,5 @@
 -- THE CALLS on the words of four records, f being what the desk's list was taken apart into: what they return, and the records to put back. t is a table, z a state.
-use Rattle.std.specs.Prelude.{ℕ, List}
+use Rattle.std.specs.Prelude.{ℕ}
 use Rattle.meaning.specs.declared.Name.{Name}
 use Rattle.state_records.specs.declared.Four.{Four}
 use Rattle.state_records.specs.Records.{lent_words, four_left}

@@ -1,5 +1,4 @@
-// The calls that take steps, on the list of pool records that the desk lends: each takes it apart, has the engine's call on words work on them, and puts back what that left. The thin functions that hold the list
-// are proved by hand.
+// The calls that take steps, on the list of pool records that the desk lends: each takes it apart, has the engine's call on words work on them, and puts back what that left.
 #![tactic(auto)]
 
 ghost use Rattle.std.specs.Prelude.{◌≡◌};

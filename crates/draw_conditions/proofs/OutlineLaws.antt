@@ -1,5 +1,5 @@
 -- A markup by its outline: as the loop goes; where it ends; and that of a markup without fault it is the markup. Assumes nothing.
-use mathlib.Core.Path.{◌≡◌, ◌∙◌, refl, sym, ap}
+use mathlib.Core.Path.{◌≡◌, refl, ap}
 use mathlib.Core.Bool.{Bool, true, false, false≢true}
 use mathlib.Core.List.{List, [], ◌∷◌}
 use Prim.Native.Nat.{ℕ, ◌+◌, ◌<◌, ◌≤◌}
@@ -9,8 +9,7 @@ use lib.Dec.{leb}
 use lib.ListN.{length, drop, drop_of_length-le}
 use lib.Seq.{drop-cons}
 use borrow.Author.Tests.{lt-leb}
-use denote.Enum.Declared.{tag_of}
-use Rattle.base_words.specs.Pick.{if◌then◌else◌}
+use Rattle.base_words.specs.Pick.{if◌then◌or_else◌}
 use Rattle.base_words.specs.Words.{at, part}
 use Rattle.base_bytes.specs.Bytes.{past}
 use Rattle.base_bytes.proofs.PastLaws.{past_from}
@@ -20,7 +19,6 @@ use Rattle.xml_scanner.specs.declared.Sort.TheVariants.{Fault as AFault}
 use Rattle.xml_scanner.specs.declared.Move.{Move}
 use Rattle.xml_scanner.specs.declared.Move.TheVariants.{On as Onward, Next, Close, Here, Back}
 use Rattle.xml_scanner.specs.Moves.{step}
-use Rattle.xml_markup.specs.contracts.Scan.{the_type as scan-type}
 use Rattle.xml_markup.proofs.TokenLaws.{not_on}
 use Rattle.xml_markup.proofs.StayLaws.{in_state, run_stay}
 use Rattle.xml_markup.specs.declared.Cursor.{Cursor}
@@ -109,13 +107,13 @@ unfolding scan_from outline_from advance
 same_from t start [] c i sort q e = absurd (no_fault i sort q e)
 same_from t start (b ∷ s) c i sort q e = go (leb (length t) i) (is_faulty (whole c.state (at t i)) (part t 0 i) start c.mark) (is_control (at t i)) (moved c (at t i) i (i + 1)) (λ next. same_from t start s next (i + 1) sort q) e
   where
-    go : (x y z : Bool) (m : Scan) → ((next : Cursor) → scan_from t start next s (i + 1) ≡ Past sort q → outline_from t next s (i + 1) ≡ Past sort q) → if_on (if x then Fault i else if y then Fault c.mark else if z then Fault i else m) (λ next. scan_from t start next s (i + 1)) (if x then Fault i else if y then Fault c.mark else if z then Fault i else m) ≡ Past sort q → if_on m (λ next. outline_from t next s (i + 1)) m ≡ Past sort q
-    go true y z m k h = unfold if_on if◌then◌else◌ in absurd (no_fault i sort q h)
-    go false true z m k h = unfold if_on if◌then◌else◌ in absurd (no_fault c.mark sort q h)
-    go false false true m k h = unfold if_on if◌then◌else◌ in absurd (no_fault i sort q h)
-    go false false false (On next) k h = unfold if_on if◌then◌else◌ in k next h
-    go false false false (Past r p) k h = unfold if_on if◌then◌else◌ in h
-    go false false false (Fault p) k h = unfold if_on if◌then◌else◌ in h
+    go : (x y z : Bool) (m : Scan) → ((next : Cursor) → scan_from t start next s (i + 1) ≡ Past sort q → outline_from t next s (i + 1) ≡ Past sort q) → if_on (if x then Fault i or_else if y then Fault c.mark or_else if z then Fault i or_else m) (λ next. scan_from t start next s (i + 1)) (if x then Fault i or_else if y then Fault c.mark or_else if z then Fault i or_else m) ≡ Past sort q → if_on m (λ next. outline_from t next s (i + 1)) m ≡ Past sort q
+    go true y z m k h = unfold if_on if◌then◌or_else◌ in absurd (no_fault i sort q h)
+    go false true z m k h = unfold if_on if◌then◌or_else◌ in absurd (no_fault c.mark sort q h)
+    go false false true m k h = unfold if_on if◌then◌or_else◌ in absurd (no_fault i sort q h)
+    go false false false (On next) k h = unfold if_on if◌then◌or_else◌ in k next h
+    go false false false (Past r p) k h = unfold if_on if◌then◌or_else◌ in h
+    go false false false (Fault p) k h = unfold if_on if◌then◌or_else◌ in h
 
 module _ (t : List ℕ) (p : ℕ) where
   by_scan : (r : Scan) → scan t p ≡ r → ((placed r).sort ≡ AFault → ⊥) → outline t p ≡ Past (placed r).sort (placed r).next
@@ -125,7 +123,7 @@ module _ (t : List ℕ) (p : ℕ) where
   by_scan (Fault q) e h = absurd (h refl)
 
   pub outline_is : p < length t → opens_markup (at t p) ≡ true → ((markup t p).sort ≡ AFault → ⊥) → outline t p ≡ Past (markup t p).sort (markup t p).next
-  unfolding markup if◌then◌else◌
+  unfolding markup if◌then◌or_else◌
   outline_is l o h = rw (lt-leb (length t) p l, o) (by_scan (scan t p) refl (rw (lt-leb (length t) p l, o) at h))
 
 -- an answer taken apart

@@ -1,15 +1,15 @@
 -- What is said, step by step, as the loop goes. Assumes nothing.
 use mathlib.Core.Path.{◌≡◌, ◌∙◌, refl, sym}
-use mathlib.Core.Bool.{Bool, true, false, ◌||◌}
-use mathlib.Core.List.{List, [], ◌∷◌}
+use mathlib.Core.Bool.{Bool, true, false}
+use mathlib.Core.List.{List}
 use Prim.Native.Char.{code}
-use Prim.Native.Nat.{ℕ, zero, suc, ◌+◌, ◌<◌, ◌≤◌, min}
+use Prim.Native.Nat.{ℕ, zero, suc, ◌+◌, ◌<◌, ◌≤◌}
 use native.Mathlib.Nat.{min-eq_left, min-eq_right}
 use native.Mathlib.Omega.{arith}
 use lib.Dec.{leb, ltb, eqb}
 use lib.ListN.{length}
-use borrow.Author.Tests.{le-leb, lt-leb, lt-ltb, le-ltb}
-use Rattle.base_words.specs.Pick.{if◌then◌else◌}
+use borrow.Author.Tests.{le-leb, lt-ltb, le-ltb}
+use Rattle.base_words.specs.Pick.{if◌then◌or_else◌}
 use Rattle.base_words.specs.Text.{bytes}
 use Rattle.base_words.specs.Words.{at}
 use Rattle.base_bytes.proofs.PieceLaws.{by_order}
@@ -19,8 +19,6 @@ use Rattle.xml_markup.specs.declared.Scan.{Scan}
 use Rattle.xml_markup.specs.declared.Scan.TheVariants.{On as OnScan, Past, Fault as ScanFault}
 use Rattle.xml_markup.specs.Markup.{begins_at}
 use Rattle.xml_markup.specs.Spans.{after, is_called}
-use Rattle.xml_markup.specs.contracts.Scan.{the_type as scan-type}
-use denote.Enum.Declared.{tag_of}
 use Rattle.xml_skip.specs.Skipping.{depth}
 use Rattle.draw_conditions.specs.Outline.{outline, if_past}
 use Rattle.draw_conditions.proofs.OutlineLaws.{Ahead, outline_ahead, past_is, past_not}
@@ -51,8 +49,8 @@ Onward p (Byte b i s) = p < s.at
 Onward p (On s) = p < s.at
 Onward p End = Unit {0}
 
-onward_if : (p : ℕ) (b : Bool) (x y : Step) → Onward p x → Onward p y → Onward p (if b then x else y)
-unfolding if◌then◌else◌
+onward_if : (p : ℕ) (b : Bool) (x y : Step) → Onward p x → Onward p y → Onward p (if b then x or_else y)
+unfolding if◌then◌or_else◌
 onward_if p true x y h k = h
 onward_if p false x y h k = k
 
@@ -64,7 +62,7 @@ module _ (t : List ℕ) (i : ℕ) (in_text : i < length t) where
       (λ h. omega (arith, forward_in t i (suc n) (let z : i + suc n ≤ length t = omega arith in z)))
 
   after_is : after t i ≡ i + 1
-  unfolding after if◌then◌else◌
+  unfolding after if◌then◌or_else◌
   after_is = rw (lt-ltb i (length t) in_text)
 
   line_ahead : (j : ℕ) → j ≤ length t → j ≤ behind_line t j
@@ -72,19 +70,19 @@ module _ (t : List ℕ) (i : ℕ) (in_text : i < length t) where
   line_ahead j h = by (eqb (at t j) (code "\n"))
     where
       on : j ≤ after t j
-      on = unfold after if◌then◌else◌ in by_order (length t) j (λ l. rw (le-ltb j (length t) l) h) (λ l. rw (lt-ltb j (length t) l) (omega arith))
+      on = unfold after if◌then◌or_else◌ in by_order (length t) j (λ l. rw (le-ltb j (length t) l) h) (λ l. rw (lt-ltb j (length t) l) (omega arith))
 
-      by : (b : Bool) → j ≤ (if b then after t j else j)
-      by true = unfold if◌then◌else◌ in on
-      by false = unfold if◌then◌else◌ in omega arith
+      by : (b : Bool) → j ≤ (if b then after t j or_else j)
+      by true = unfold if◌then◌or_else◌ in on
+      by false = unfold if◌then◌or_else◌ in omega arith
 
   plain_ahead : i < (plain_at t i).next
   unfolding plain_at
   plain_ahead = by (eqb (at t i) (code "\r"))
     where
-      by : (b : Bool) → i < (if b then decoded (code "\n") (behind_line t (after t i)) else decoded (at t i) (after t i)).next
-      by true = unfold if◌then◌else◌ in omega (arith, after_is, line_ahead (after t i) (omega (arith, after_is, in_text)))
-      by false = unfold if◌then◌else◌ in omega (arith, after_is)
+      by : (b : Bool) → i < (if b then decoded (code "\n") (behind_line t (after t i)) or_else decoded (at t i) (after t i)).next
+      by true = unfold if◌then◌or_else◌ in omega (arith, after_is, line_ahead (after t i) (omega (arith, after_is, in_text)))
+      by false = unfold if◌then◌or_else◌ in omega (arith, after_is)
 
   plain_onward : (section : Bool) → Onward i (plain_step t section i)
   unfolding plain_step
@@ -148,14 +146,14 @@ module _ (t : List ℕ) (i : ℕ) (in_text : i < length t) where
 
 module _ (t : List ℕ) (s : Spot) where
   step_end : length t ≤ s.at → step_at t s ≡ End
-  unfolding step_at if◌then◌else◌
+  unfolding step_at if◌then◌or_else◌
   step_end h = rw (le-leb (length t) s.at h)
 
   step_onward : Onward s.at (step_at t s)
   unfolding step_at
   step_onward =
       by_order (length t) s.at
-      (λ h. rw (le-leb (length t) s.at h) (unfold if◌then◌else◌ in tt))
+      (λ h. rw (le-leb (length t) s.at h) (unfold if◌then◌or_else◌ in tt))
       (λ h. onward_if s.at (leb (length t) s.at) End _ tt (onward_if s.at s.section (section_step t s.at) _ (section_onward t s.at h) (onward_if s.at (ltb 0 s.deep) (skip_step t s.deep s.at) (text_step t s.at) (skip_onward t s.at h s.deep) (text_onward t s.at h))))
 
 further_same : (p : ℕ) (f g : Spot → List Said) → ((s : Spot) → p < s.at → f s ≡ g s) → (x : Step) → Onward p x → further x f ≡ further x g

@@ -5,18 +5,17 @@ use mathlib.Core.List.{List, [], ◌∷◌}
 use Prim.Native.Nat.{ℕ, suc, ◌+◌, ◌*◌, ◌-◌, ◌<◌, ◌≤◌}
 use native.Mathlib.Numerals.{add-one}
 use native.Mathlib.Omega.{arith}
-use lib.Dec.{ltb, leb, eqb}
+use lib.Dec.{ltb, eqb}
 use lib.ListN.{length, drop, drop_of_length-le}
 use lib.Seq.{drop-cons}
 use borrow.Author.Tests.{eq-eqb, ne_eqb, le-leb, lt-leb, lt-ltb}
-use Rattle.base_words.specs.Pick.{if◌then◌else◌}
+use Rattle.base_words.specs.Pick.{if◌then◌or_else◌}
 use Rattle.base_words.specs.Words.{at, greatest}
-use Rattle.base_words.proofs.PickLaws.{pick_yes, pick_no}
 use Rattle.text_lexer.specs.Lexer.{is_word}
 use Rattle.base_bytes.specs.Bytes.{is_digit}
 use Rattle.base_bytes.proofs.PieceLaws.{by_order}
 use Rattle.text_numerals.specs.declared.Number.{Number}
-use Rattle.text_numerals.specs.declared.Number.TheVariants.{Value, TooLarge, NotANumber}
+use Rattle.text_numerals.specs.declared.Number.TheVariants.{NotANumber}
 use Rattle.text_numerals.specs.Numerals.{value_from, leading_zero, number_of, is_field_letter, field_from, field_of, as_number, as_field, operand_of}
 use Rattle.base_bytes.specs.Bytes.{same_bytes}
 use Rattle.text_numerals.proofs.NumberLaws.{value_large}
@@ -26,7 +25,7 @@ use Rattle.draw_conditions.specs.declared.saying.View.{View}
 use Rattle.draw_conditions.specs.declared.saying.View.TheVariants.{Byte as Seen, End as Over}
 use Rattle.draw_conditions.specs.declared.spelled.Class.{Class}
 use Rattle.draw_conditions.specs.declared.spelled.Side.{Side}
-use Rattle.draw_conditions.specs.Saying.{Said, says, said, seen}
+use Rattle.draw_conditions.specs.Saying.{says, said, seen}
 use Rattle.draw_conditions.specs.Words.{is_of, behind, letters, spelt, goes_on, grown, place_said, is_over, nothing, side, side_of, side_at}
 
 -- the next byte of what is said
@@ -48,7 +47,7 @@ module _ (t : List ℕ) (s : Spot) (v : View) (e : said t s ≡ seen t v) where
   letter_over k = rw (over k)
 
   pub side_over : (r : Side) → v ≡ Over → r ≡ side false nothing 0 → r ≡ side_at (said t s)
-  unfolding side_at side_of letters operand_of is_field_letter number_of as_number if◌then◌else◌
+  unfolding side_at side_of letters operand_of is_field_letter number_of as_number if◌then◌or_else◌
   side_over r k h = h ∙ sym (rw (over k))
 
   module _ (b i : ℕ) (q : Spot) (k : v ≡ Seen b i q) where
@@ -64,38 +63,38 @@ module _ (t : List ℕ) (s : Spot) (v : View) (e : said t s ≡ seen t v) where
     not_over = rw byte
 
     pub behind_on : (class : Class) → is_of class b ≡ true → behind class (said t s) ≡ behind class (said t q)
-    unfolding behind if◌then◌else◌
+    unfolding behind if◌then◌or_else◌
     behind_on class y = rw (byte, y)
 
     pub behind_here : (class : Class) → is_of class b ≡ false → said t s ≡ behind class (said t s)
-    unfolding behind if◌then◌else◌
+    unfolding behind if◌then◌or_else◌
     behind_here class y = rw (byte, y)
 
     pub letter_yes : is_word b ≡ true → letters (said t s) ≡ spelt t (Seen b i q)
-    unfolding letters spelt if◌then◌else◌
+    unfolding letters spelt if◌then◌or_else◌
     letter_yes y = rw (byte, y)
 
     pub letter_no : is_word b ≡ false → letters (said t s) ≡ spelt t Over
-    unfolding letters spelt if◌then◌else◌
+    unfolding letters spelt if◌then◌or_else◌
     letter_no y = rw (byte, y)
 
     -- an operand by its first byte
     pub side_field : (n f : Number) (r : Side) → is_field_letter b ≡ true → n ≡ number_of (letters (said t q)) → f ≡ field_from b n → r ≡ side_of (as_field f) i → r ≡ side_at (said t s)
-    unfolding side_at letters place_said operand_of field_of if◌then◌else◌
+    unfolding side_at letters place_said operand_of field_of if◌then◌or_else◌
     side_field n f r y e k h = h ∙ rw (k, e, byte, letter_word b y, y)
 
     pub side_number : (n : Number) (r : Side) → is_field_letter b ≡ false → n ≡ number_of (letters (said t s)) → r ≡ side_of (as_number n) i → r ≡ side_at (said t s)
     side_number n r y f h = h ∙ rw f (sym operand)
       where
-        first : (w : Bool) → is_field_letter (at (if w then b ∷ letters (said t q) else []) 0) ≡ false
-        first true = unfold if◌then◌else◌ in y
-        first false = unfold if◌then◌else◌ is_field_letter in refl
+        first : (w : Bool) → is_field_letter (at (if w then b ∷ letters (said t q) or_else []) 0) ≡ false
+        first true = unfold if◌then◌or_else◌ in y
+        first false = unfold if◌then◌or_else◌ is_field_letter in refl
 
         same : is_field_letter (at (letters (said t s)) 0) ≡ false
         same = unfold letters in rw byte (first (is_word b))
 
         operand : side_at (said t s) ≡ side_of (as_number (number_of (letters (said t s)))) i
-        operand = unfold side_at operand_of if◌then◌else◌ in rw same (ap (side_of (as_number (number_of (letters (said t s))))) (unfold place_said in rw byte))
+        operand = unfold side_at operand_of if◌then◌or_else◌ in rw same (ap (side_of (as_number (number_of (letters (said t s))))) (unfold place_said in rw byte))
 
 -- the next byte of a word
 module _ (t : List ℕ) (s : Spot) (v : View) (e : letters (said t s) ≡ spelt t v) where
@@ -147,20 +146,20 @@ module _ (w : List ℕ) (v : ℕ) where
 
   module _ (b : ℕ) (u : List ℕ) (e : w ≡ b ∷ u) where
     pub value_none : is_digit b ≡ false → value_from v w ≡ NotANumber
-    unfolding value_from if◌then◌else◌
+    unfolding value_from if◌then◌or_else◌
     value_none y = rw (e, y)
 
     pub value_on : is_digit b ≡ true → (x : ℕ) → x ≡ grown v b → value_from v w ≡ value_from x u
     value_on y x f = step ∙ by_order v greatest (λ l. rw f (small l)) (λ l. rw f (large l))
       where
         step : value_from v w ≡ value_from (v * 10 + (b - 48)) u
-        step = unfold value_from if◌then◌else◌ in rw (e, y)
+        step = unfold value_from if◌then◌or_else◌ in rw (e, y)
 
         small : v ≤ greatest → value_from (v * 10 + (b - 48)) u ≡ value_from (grown v b) u
-        small l = unfold grown if◌then◌else◌ in rw (le-leb v greatest l)
+        small l = unfold grown if◌then◌or_else◌ in rw (le-leb v greatest l)
 
         large : greatest < v → value_from (v * 10 + (b - 48)) u ≡ value_from (grown v b) u
-        large l = unfold grown if◌then◌else◌ in rw (lt-leb v greatest l) (value_large u (v * 10 + (b - 48)) v (omega arith) l)
+        large l = unfold grown if◌then◌or_else◌ in rw (lt-leb v greatest l) (value_large u (v * 10 + (b - 48)) v (omega arith) l)
 
 -- a number
 pub lead_other : (b : ℕ) (u : List ℕ) → (b ≡ 48 → ⊥) → false ≡ leading_zero (b ∷ u)
@@ -178,7 +177,7 @@ lead_zero b (x ∷ u) e r f = f ∙ sym (rw (lt-ltb 1 (suc (suc (length u))) (om
 
 module _ (w : List ℕ) where
   pub number_none : w ≡ [] → NotANumber ≡ number_of w
-  unfolding number_of if◌then◌else◌
+  unfolding number_of if◌then◌or_else◌
   number_none e = rw e
 
   module _ (b : ℕ) (u : List ℕ) (e : w ≡ b ∷ u) (z : Bool) (ez : z ≡ leading_zero (b ∷ u)) where
@@ -186,9 +185,9 @@ module _ (w : List ℕ) where
     some = ne_eqb (length (b ∷ u)) 0 (λ x. omega (arith, x))
 
     pub number_led : z ≡ true → NotANumber ≡ number_of w
-    unfolding number_of if◌then◌else◌
+    unfolding number_of if◌then◌or_else◌
     number_led y = rw (e, some, ← ez, y)
 
     pub number_is : z ≡ false → (r : Number) → r ≡ value_from 0 w → r ≡ number_of w
-    unfolding number_of if◌then◌else◌
+    unfolding number_of if◌then◌or_else◌
     number_is y r h = h ∙ rw (e, some, ← ez, y)

@@ -4,7 +4,7 @@
 use Prim.Native.Char.{code}
 use Rattle.std.specs.Prelude.{ℕ, zero, suc, ◌+◌, ◌-◌, min, Bool, true, false, ◌||◌, List, [], ◌∷◌, leb, ltb, eqb, length}
 use Rattle.base_words.specs.Blocks.{Bytes}
-use Rattle.base_words.specs.Pick.{if◌then◌else◌}
+use Rattle.base_words.specs.Pick.{if◌then◌or_else◌}
 use Rattle.base_words.specs.Text.{bytes}
 use Rattle.base_words.specs.Words.{at}
 use Rattle.xml_scanner.specs.declared.Sort.{Sort}
@@ -12,7 +12,6 @@ use Rattle.xml_scanner.specs.declared.Sort.TheVariants.{StartTag, EmptyTag, EndT
 use Rattle.xml_markup.specs.Markup.{begins_at}
 use Rattle.xml_markup.specs.Spans.{is_called}
 use Rattle.xml_skip.specs.Skipping.{depth}
-use Rattle.xml_document.specs.declared.decoding.Decoded.{Decoded}
 use Rattle.xml_document.specs.Decoding.{plain_at, decoded_at}
 use Rattle.draw_conditions.specs.Outline.{outline, if_past}
 use Rattle.draw_conditions.specs.declared.saying.Spot.{Spot}
@@ -51,7 +50,7 @@ is_skipped t i = is_called t i (bytes "documentation") || is_called t i (bytes "
 
 -- a tag at i with q behind it, where an element that is skipped is d deep
 unfoldable pub tag_step : Bytes → ℕ → ℕ → ℕ → Step
-tag_step t d i q = if is_skipped t i then On (inside d q) else Byte 0 i (spot false q)
+tag_step t d i q = if is_skipped t i then On (inside d q) or_else Byte 0 i (spot false q)
 
 -- a markup at i, with q behind it; a section's text begins behind `<![CDATA[`
 unfoldable pub step_by : Sort → Bytes → ℕ → ℕ → Step
@@ -72,16 +71,16 @@ markup_step t i = if_past (outline t i) (λ s q. step_by s t i q) End
 unfoldable pub text_step : Bytes → ℕ → Step
 text_step t i =
     if eqb (at t i) (code "<") then markup_step t i
-    else if eqb (at t i) (code "&") then markup_step t i
-    else plain_step t false i
+    or_else if eqb (at t i) (code "&") then markup_step t i
+    or_else plain_step t false i
 
 -- a section goes up to `]]>`
 unfoldable pub section_step : Bytes → ℕ → Step
-section_step t i = if begins_at t i (bytes "]]>") then On (spot false (forward t i 3)) else plain_step t true i
+section_step t i = if begins_at t i (bytes "]]>") then On (spot false (forward t i 3)) or_else plain_step t true i
 
 -- inside what is skipped, d deep, a markup with q behind it; "up to 16 deep" (RULES: skipping)
 unfoldable pub skip_by : Sort → ℕ → ℕ → Step
-skip_by StartTag d q = if ltb d depth then On (inside (d + 1) q) else End
+skip_by StartTag d q = if ltb d depth then On (inside (d + 1) q) or_else End
 skip_by EmptyTag d q = On (inside d q)
 skip_by EndTag d q = On (inside (d - 1) q)
 skip_by Text d q = On (inside d q)
@@ -97,14 +96,14 @@ skip_markup t d i = if_past (outline t i) (λ s q. skip_by s d q) End
 
 -- its text is passed byte by byte
 unfoldable pub skip_step : Bytes → ℕ → ℕ → Step
-skip_step t d i = if eqb (at t i) (code "<") then skip_markup t d i else On (inside d (forward t i 1))
+skip_step t d i = if eqb (at t i) (code "<") then skip_markup t d i or_else On (inside d (forward t i 1))
 
 unfoldable pub step_at : Bytes → Spot → Step
 step_at t s =
     if leb (length t) s.at then End
-    else if s.section then section_step t s.at
-    else if ltb 0 s.deep then skip_step t s.deep s.at
-    else text_step t s.at
+    or_else if s.section then section_step t s.at
+    or_else if ltb 0 s.deep then skip_step t s.deep s.at
+    or_else text_step t s.at
 
 unfoldable pub further : Step → (Spot → List Said) → List Said
 further (Byte b i s) on = says b i ∷ on s

@@ -2,7 +2,7 @@
 use Prim.Native.Char.{code}
 use Rattle.std.specs.Prelude.{ℕ, ◌+◌, ◌-◌, ◌*◌, Bool, true, false, List, [], ◌∷◌, leb}
 use Rattle.base_words.specs.Blocks.{Bytes}
-use Rattle.base_words.specs.Pick.{if◌then◌else◌}
+use Rattle.base_words.specs.Pick.{if◌then◌or_else◌}
 use Rattle.base_words.specs.Words.{greatest}
 use Rattle.text_lexer.specs.Lexer.{is_blank, is_word}
 use Rattle.base_table.specs.Places.{a_field}
@@ -24,12 +24,12 @@ is_of Word b = is_word b
 -- what stands behind the blanks, or behind the word, that come first
 unfoldable pub behind : Class → List Said → List Said
 behind class [] = []
-behind class (x ∷ s) = if is_of class x.byte then behind class s else x ∷ s
+behind class (x ∷ s) = if is_of class x.byte then behind class s or_else x ∷ s
 
 -- the word that comes first; no byte where none does
 unfoldable pub letters : List Said → Bytes
 letters [] = []
-letters (x ∷ s) = if is_word x.byte then x.byte ∷ letters s else []
+letters (x ∷ s) = if is_word x.byte then x.byte ∷ letters s or_else []
 
 -- the same by the view of the next byte, where it is of a word
 unfoldable pub spelt : Bytes → View → Bytes
@@ -42,7 +42,7 @@ goes_on (b ∷ w) = true
 
 -- one digit more; a value above the greatest word grows no further
 unfoldable pub grown : ℕ → ℕ → ℕ
-grown v b = if leb v greatest then v * 10 + (b - code "0") else v
+grown v b = if leb v greatest then v * 10 + (b - code "0") or_else v
 
 unfoldable pub place_said : List Said → ℕ
 place_said [] = 0

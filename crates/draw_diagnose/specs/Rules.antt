@@ -2,7 +2,7 @@
 -- branches, conditions, pools at all. t is the text, w the things drawn, with their flows joined and their kinds; n their count; k a thing. (RULES: drawings)
 use Rattle.std.specs.Prelude.{ℕ, ◌+◌, Bool, ◌&&◌, ◌||◌, List, eqb, ltb}
 use Rattle.base_words.specs.Blocks.{Bytes, Drawing}
-use Rattle.base_words.specs.Pick.{if◌then◌else◌}
+use Rattle.base_words.specs.Pick.{if◌then◌or_else◌}
 use Rattle.base_words.specs.Seek.{seek}
 use Rattle.draw_things.specs.Things.{room, place, source, target}
 use Rattle.draw_diagnose.specs.declared.Broken.{Broken}
@@ -75,33 +75,33 @@ too_many = 18
 unfoldable pub breaks_pools : ℕ → Bytes → Drawing → ℕ → ℕ → Bool
 breaks_pools rule t w n k =
     if eqb rule strange then is_strange w k
-    else if eqb rule repeated then is_repeated t w k
-    else if eqb rule second_collaboration then is_second_collaboration w k
-    else if eqb rule lost then is_lost t w k
-    else if eqb rule unowned then is_unowned w n k
-    else is_second_multiplicity w k
+    or_else if eqb rule repeated then is_repeated t w k
+    or_else if eqb rule second_collaboration then is_second_collaboration w k
+    or_else if eqb rule lost then is_lost t w k
+    or_else if eqb rule unowned then is_unowned w n k
+    or_else is_second_multiplicity w k
 
 unfoldable pub breaks_nodes : ℕ → Bytes → Drawing → ℕ → ℕ → Bool
 breaks_nodes rule t w n k =
     if eqb rule loose then is_loose w k
-    else if eqb rule adrift then is_adrift t w k
-    else if eqb rule of_no_kind then is_of_no_kind w k
-    else if eqb rule wrong_default then has_wrong_default t w n k
-    else is_wrong_message t w k
+    or_else if eqb rule adrift then is_adrift t w k
+    or_else if eqb rule of_no_kind then is_of_no_kind w k
+    or_else if eqb rule wrong_default then has_wrong_default t w n k
+    or_else is_wrong_message t w k
 
 unfoldable pub breaks_flows : ℕ → Bytes → Drawing → ℕ → ℕ → Bool
 breaks_flows rule t w n k =
     if eqb rule unheard then is_unheard w n k
-    else if eqb rule untold then is_untold w n k
-    else if eqb rule wrong_branch then is_wrong_branch w k
-    else if eqb rule second_condition then is_second_condition w k
-    else is_wrong_condition t w k
+    or_else if eqb rule untold then is_untold w n k
+    or_else if eqb rule wrong_branch then is_wrong_branch w k
+    or_else if eqb rule second_condition then is_second_condition w k
+    or_else is_wrong_condition t w k
 
 unfoldable pub breaks : ℕ → Bytes → Drawing → ℕ → ℕ → Bool
 breaks rule t w n k =
     if ltb rule loose then breaks_pools rule t w n k
-    else if ltb rule unheard then breaks_nodes rule t w n k
-    else breaks_flows rule t w n k
+    or_else if ltb rule unheard then breaks_nodes rule t w n k
+    or_else breaks_flows rule t w n k
 
 -- the first thing that breaks a rule, n where none does; the first rule that is broken
 unfoldable pub first_breaking : ℕ → Bytes → Drawing → ℕ → ℕ
@@ -117,10 +117,10 @@ first_broken t w n = seek (is_broken t w n) rules_of_things
 unfoldable pub broken_by_all : Drawing → ℕ → Broken
 broken_by_all w n =
     if has_pool (has_participants w n) w n then
-    (if ltb room n then record { rule = too_many; place = place w 0 } else record { rule = 0; place = 0 })
-    else record { rule = no_pool; place = place w 0 }
+    (if ltb room n then record { rule = too_many; place = place w 0 } or_else record { rule = 0; place = 0 })
+    or_else record { rule = no_pool; place = place w 0 }
 
 unfoldable pub broken_in : Bytes → Drawing → ℕ → Broken
 broken_in t w n =
     if ltb (first_broken t w n) rules_of_things then record { rule = first_broken t w n + 1; place = place w (first_breaking (first_broken t w n + 1) t w n) }
-    else broken_by_all w n
+    or_else broken_by_all w n

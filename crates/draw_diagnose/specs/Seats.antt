@@ -2,7 +2,7 @@
 use Rattle.std.specs.Prelude.{ℕ, ◌+◌, Bool, not, ◌&&◌, ◌||◌, List, eqb, ltb}
 use Rattle.base_words.specs.Blocks.{Bytes, Drawing}
 use Rattle.base_words.specs.Counts.{elements, edges}
-use Rattle.base_words.specs.Pick.{if◌then◌else◌}
+use Rattle.base_words.specs.Pick.{if◌then◌or_else◌}
 use Rattle.base_words.specs.Seek.{seek}
 use Rattle.base_kinds.specs.Kinds as kinds
 use Rattle.check_occurrences.specs.Occurrences.{default_once}
@@ -41,8 +41,8 @@ is_crowded w n p =
 unfoldable pub is_pool_seat : ℕ → Drawing → ℕ → ℕ → ℕ → Bool
 is_pool_seat check w n p k =
     if eqb check one_start then is_misstarted w n p
-    else if eqb check start_receives then is_unasked w n p k
-    else is_crowded w n p
+    or_else if eqb check start_receives then is_unasked w n p k
+    or_else is_crowded w n p
 
 -- 6: a message flow between two nodes of one process
 unfoldable pub joins_own : Drawing → ℕ → ℕ → Bool
@@ -58,12 +58,12 @@ has_defaults t w n k = is_split w k && not (default_once (element_drawn t w n k)
 unfoldable pub is_seat : ℕ → Bool → Bytes → Drawing → ℕ → ℕ → Bool
 is_seat check owned t w n k =
     if eqb check names_apart then is_own_message w k
-    else if eqb check one_default then has_defaults t w n k
-    else is_pool owned w k && is_pool_seat check w n (process_of owned w k) k
+    or_else if eqb check one_default then has_defaults t w n k
+    or_else is_pool owned w k && is_pool_seat check w n (process_of owned w k) k
 
 -- the first such thing, and its place; 0 where there is none
 unfoldable pub first_seat : ℕ → Bytes → Drawing → ℕ → ℕ
 first_seat check t w n = seek (is_seat check (has_participants w n) t w n) n
 
 unfoldable pub seat_at : ℕ → Bytes → Drawing → ℕ → ℕ
-seat_at check t w n = if ltb (first_seat check t w n) n then place w (first_seat check t w n) else 0
+seat_at check t w n = if ltb (first_seat check t w n) n then place w (first_seat check t w n) or_else 0

@@ -6,7 +6,7 @@ use mathlib.Core.List.{List}
 use native.Mathlib.Omega.{arith}
 use lib.Dec.{eqb}
 use Rattle.base_words.specs.All.{all}
-use Rattle.base_words.specs.Pick.{if◌then◌else◌}
+use Rattle.base_words.specs.Pick.{if◌then◌or_else◌}
 use Rattle.base_words.specs.Seek.{seek}
 use Rattle.base_words.specs.Text.{bytes}
 use Rattle.base_words.proofs.AllLaws.{all_fails'}
@@ -29,10 +29,10 @@ or_before a b e = rw e
 
 -- where a participant is not odd, its source says whether it is outside
 pub outside_plain : (t w : List ℕ) (j : ℕ) → is_odd t w j ≡ false → of_sort participant w j ≡ true → eqb (source w j) 0 ≡ not (has t (bytes "processRef") w j)
-unfolding is_odd if◌then◌else◌
+unfolding is_odd if◌then◌or_else◌
 outside_plain t w j = go (of_sort participant w j) (has t (bytes "processRef") w j) (eqb (source w j) 0)
   where
-    go : (o h z : Bool) → o && (if h then z else not z) ≡ false → o ≡ true → z ≡ not h
+    go : (o h z : Bool) → o && (if h then z or_else not z) ≡ false → o ≡ true → z ≡ not h
     go false h z e q = absurd (false≢true q)
     go true true true e q = absurd (false≢true (sym e))
     go true true false e q = refl

@@ -1,7 +1,7 @@
 -- WHAT IS ASKED ONCE of all things, and not for each pair of them. t is the text, w the things drawn, n their count.
 use Rattle.std.specs.Prelude.{ℕ, ◌<◌, ◌≤◌, ◌≡◌, Bool, true, false, not, ◌&&◌, List, eqb}
 use Rattle.base_words.specs.Blocks.{Bytes, Drawing}
-use Rattle.base_words.specs.Pick.{if◌then◌else◌}
+use Rattle.base_words.specs.Pick.{if◌then◌or_else◌}
 use Rattle.base_words.specs.Text.{bytes}
 use Rattle.base_words.specs.Words.{part}
 use Rattle.xml_markup.specs.declared.Attribute.TheVariants.{Is}
@@ -23,7 +23,7 @@ pub record Shelved (t w : List ℕ) (b k : ℕ) (v : List ℕ) (m : ℕ) : Type 
 
 -- a participant whose source does not say whether it is outside
 unfoldable pub is_odd : Bytes → Drawing → ℕ → Bool
-is_odd t w j = of_sort participant w j && (if has t (bytes "processRef") w j then eqb (source w j) 0 else not (eqb (source w j) 0))
+is_odd t w j = of_sort participant w j && (if has t (bytes "processRef") w j then eqb (source w j) 0 or_else not (eqb (source w j) 0))
 
 abbrev pub Plain : Bytes → Drawing → ℕ → Type 0
 Plain t w n = (j : ℕ) → j < n → is_odd t w j ≡ false

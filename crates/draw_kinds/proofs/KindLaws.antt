@@ -11,7 +11,7 @@ use lib.Dec.{eqb, leb}
 use lib.Seq.{get_or-set_other}
 use borrow.Author.Tests.{eq-eqb, ne_eqb, le-leb, lt-leb, leb-true, leb-false}
 use Rattle.base_words.specs.Iter.{iter}
-use Rattle.base_words.specs.Pick.{if◌then◌else◌}
+use Rattle.base_words.specs.Pick.{if◌then◌or_else◌}
 use Rattle.base_words.specs.Seek.{seek}
 use Rattle.base_words.specs.Sum.{sum, one_if}
 use Rattle.base_words.proofs.IterLaws.{iter_more}
@@ -136,19 +136,19 @@ module _ (w : List ℕ) (k : ℕ) where
   shape_done n j d h l e = e ∙ ap (λ (m : ℕ). shape_of w m k) (let z : j ≡ n = omega arith in z)
 
 -- WHAT IS CAUGHT is asked of a catch event alone
-caught_once : (b : Bool) (f : ℕ → ℕ) (c y : ℕ) → (if b then f (if b then c else 0) else y) ≡ (if b then f c else y)
-unfolding if◌then◌else◌
+caught_once : (b : Bool) (f : ℕ → ℕ) (c y : ℕ) → (if b then f (if b then c or_else 0) or_else y) ≡ (if b then f c or_else y)
+unfolding if◌then◌or_else◌
 caught_once true f c y = refl
 caught_once false f c y = refl
 
-pub kind_caught : (s c : ℕ) (d : Shape) → kind_by s (if eqb s intermediate_catch_event then c else 0) d ≡ kind_by s c d
+pub kind_caught : (s c : ℕ) (d : Shape) → kind_by s (if eqb s intermediate_catch_event then c or_else 0) d ≡ kind_by s c d
 unfolding kind_by
-kind_caught s c d = ap (λ z. if eqb s start_event then start_drawn d else if eqb s end_event then end_drawn d else z) (caught_once (eqb s intermediate_catch_event) (λ v. intermediate v d) c _)
+kind_caught s c d = ap (λ z. if eqb s start_event then start_drawn d or_else if eqb s end_event then end_drawn d or_else z) (caught_once (eqb s intermediate_catch_event) (λ v. intermediate v d) c _)
 
 -- SETTLED NODES stay as they are
 module _ (n : ℕ) where
-  unsettled_in : (b : Bool) (m k x : ℕ) (v : List ℕ) → k < m → is_unsettled (if b then with_source v m x else v) k ≡ is_unsettled v k
-  unfolding is_unsettled if◌then◌else◌
+  unsettled_in : (b : Bool) (m k x : ℕ) (v : List ℕ) → k < m → is_unsettled (if b then with_source v m x or_else v) k ≡ is_unsettled v k
+  unfolding is_unsettled if◌then◌or_else◌
   unsettled_in true m k x v h = rw (get_or-set_other v (source_place m) (sort_place k) x 0 (λ e. omega arith), get_or-set_other v (source_place m) (source_place k) x 0 (λ e. omega arith)) refl
   unsettled_in false m k x v h = refl
 

@@ -2,7 +2,7 @@
 use Rattle.std.specs.Prelude.{ℕ, ◌+◌, ◌-◌, ◌<◌, min, ◌≡◌, Bool, ◌&&◌, List, eqb, leb}
 use Rattle.base_words.specs.Blocks.{Drawing}
 use Rattle.base_words.specs.Iter.{iter}
-use Rattle.base_words.specs.Pick.{if◌then◌else◌}
+use Rattle.base_words.specs.Pick.{if◌then◌or_else◌}
 use Rattle.base_words.specs.Seek.{seek}
 use Rattle.base_kinds.specs.Kinds as kinds
 use Rattle.draw_things.specs.Things.{sort, source, kind, is_node, with_source, sequence_flow, message_event_definition, terminate_event_definition, start_event, end_event, intermediate_catch_event, intermediate_throw_event, task, send_task, receive_task, parallel_gateway, exclusive_gateway, event_based_gateway, branch}
@@ -40,16 +40,16 @@ unfoldable pub defines : ℕ → ℕ → Shape → Bool
 defines m e d = eqb d.messages m && eqb d.terminates e
 
 unfoldable pub when : Bool → ℕ → ℕ
-when right kind = if right then kind else 0
+when right kind = if right then kind or_else 0
 
 -- "startEvent none = start, message = startRcv" (RULES: nodes)
 unfoldable pub start_drawn : Shape → ℕ
-start_drawn d = when (flows 0 1 d) (if defines 0 0 d then kinds.start else when (defines 1 0 d) kinds.start_rcv)
+start_drawn d = when (flows 0 1 d) (if defines 0 0 d then kinds.start or_else when (defines 1 0 d) kinds.start_rcv)
 
 -- "endEvent none = end, message = endSnd, terminate = terminate" (RULES: nodes)
 unfoldable pub end_drawn : Shape → ℕ
 end_drawn d =
-    when (flows 1 0 d) (if defines 0 0 d then kinds.end else if defines 1 0 d then kinds.end_snd else when (defines 0 1 d) kinds.terminate)
+    when (flows 1 0 d) (if defines 0 0 d then kinds.end or_else if defines 1 0 d then kinds.end_snd or_else when (defines 0 1 d) kinds.terminate)
 
 -- "intermediateCatchEvent message = interRcv; intermediateThrowEvent message = interSnd", and "task, sendTask, receiveTask" (RULES: nodes)
 unfoldable pub intermediate : ℕ → Shape → ℕ
@@ -66,32 +66,32 @@ unfoldable pub joins : Shape → Bool
 joins d = leb 2 d.ins && eqb d.outs 1
 
 unfoldable pub gateway : ℕ → ℕ → Shape → ℕ
-gateway split join d = if splits d then split else when (joins d) join
+gateway split join d = if splits d then split or_else when (joins d) join
 
 unfoldable pub kind_by : ℕ → ℕ → Shape → ℕ
 kind_by s caught d =
     if eqb s start_event then start_drawn d
-    else if eqb s end_event then end_drawn d
-    else if eqb s intermediate_catch_event then intermediate caught d
-    else if eqb s intermediate_throw_event then intermediate kinds.inter_snd d
-    else if eqb s task then activity kinds.task d
-    else if eqb s send_task then activity kinds.task_snd d
-    else if eqb s receive_task then activity kinds.task_rcv d
-    else if eqb s parallel_gateway then gateway kinds.and_split kinds.and_join d
-    else if eqb s exclusive_gateway then gateway kinds.xor_split kinds.xor_join d
+    or_else if eqb s end_event then end_drawn d
+    or_else if eqb s intermediate_catch_event then intermediate caught d
+    or_else if eqb s intermediate_throw_event then intermediate kinds.inter_snd d
+    or_else if eqb s task then activity kinds.task d
+    or_else if eqb s send_task then activity kinds.task_snd d
+    or_else if eqb s receive_task then activity kinds.task_rcv d
+    or_else if eqb s parallel_gateway then gateway kinds.and_split kinds.and_join d
+    or_else if eqb s exclusive_gateway then gateway kinds.xor_split kinds.xor_join d
     -- "an event gateway only splits" (RULES: nodes)
-    else gateway kinds.event_based 0 d
+    or_else gateway kinds.event_based 0 d
 
 -- "A catch event behind an event gateway becomes its branch": the first flow into it comes from one (RULES: nodes)
 unfoldable pub caught_as : Drawing → ℕ → ℕ → ℕ
-caught_as w n k = if eqb (sort w (source w (first_with sequence_flow target_in k w n))) event_based_gateway then branch else kinds.inter_rcv
+caught_as w n k = if eqb (sort w (source w (first_with sequence_flow target_in k w n))) event_based_gateway then branch or_else kinds.inter_rcv
 
 unfoldable pub kind_drawn : Drawing → ℕ → ℕ → ℕ
 kind_drawn w n k = kind_by (sort w k) (caught_as w n k) (shape_of w n k)
 
 -- THE KINDS of nodes, stored in the things
 unfoldable pub kind_settled : ℕ → ℕ → Drawing → Drawing
-kind_settled n k w = if is_node (sort w k) then with_source w k (kind_drawn w n k) else w
+kind_settled n k w = if is_node (sort w k) then with_source w k (kind_drawn w n k) or_else w
 
 unfoldable pub roles : ℕ → Drawing → Drawing
 roles n w = iter (kind_settled n) w n

@@ -4,7 +4,7 @@
 ghost use Rattle.std.specs.Prelude.{◌≡◌, ◌-◌, ◌≤◌, eqb};
 ghost use Rattle.draw_kinds.specs.Roles.{shape_of, Before, flows, defines, when, start_drawn, end_drawn, intermediate, activity, splits, joins, gateway, kind_by, caught_as, kind_drawn, kind_settled, roles, is_unsettled, are_settled, settled_up_to};
 ghost use Rattle.draw_things.specs.Things.{sort, sequence_flow, message_event_definition, terminate_event_definition, intermediate_catch_event};
-ghost use Rattle.base_words.specs.Pick.{if◌then◌else◌};
+ghost use Rattle.base_words.specs.Pick.{if◌then◌or_else◌};
 ghost use Rattle.base_words.specs.Sum.{one_if};
 
 use base_words::Word;
@@ -236,7 +236,7 @@ fn caught_as(w: &[Note], n: Note, k: Note) -> Note
 
 // The same where it is asked for: of a catch event.
 fn caught_by(s: Note, w: &[Note], n: Note, k: Note) -> Note
-    ensures { result ≡ (if eqb s intermediate_catch_event then caught_as w.now n k else 0) }
+    ensures { result ≡ (if eqb s intermediate_catch_event then caught_as w.now n k or_else 0) }
 {
     if s == INTERMEDIATE_CATCH_EVENT {
         return caught_as(w, n, k);

@@ -3,7 +3,7 @@
 use Rattle.std.specs.Prelude.{ℕ, ◌+◌, Bool, true, false, not, ◌&&◌, ◌||◌, List, eqb, leb, ltb}
 use Rattle.base_words.specs.Blocks.{Bytes, Drawing}
 use Rattle.base_words.specs.Counts.{pools, elements, branches, edges, tasks, names, instances}
-use Rattle.base_words.specs.Pick.{if◌then◌else◌}
+use Rattle.base_words.specs.Pick.{if◌then◌or_else◌}
 use Rattle.base_words.specs.Seek.{seek}
 use Rattle.base_words.specs.Text.{bytes}
 use Rattle.base_words.specs.Words.{part}
@@ -71,8 +71,8 @@ value_place t w k = if_is (attribute t (place w k) (bytes "maximum")) (λ from t
 unfoldable pub beyond_at : Bytes → Drawing → ℕ → ℕ
 beyond_at t w k =
     if of_sort participant_multiplicity w k then value_place t w k
-    else if of_sort condition_expression w k then (condition_at t (place w k)).beyond
-    else place w k
+    or_else if of_sort condition_expression w k then (condition_at t (place w k)).beyond
+    or_else place w k
 
 -- the first thing that is beyond the limits, n where none is
 unfoldable pub first_beyond : Bytes → Drawing → ℕ → ℕ

@@ -3,7 +3,7 @@ use mathlib.Core.Path.{◌≡◌, refl}
 use mathlib.Core.Bool.{Bool, true}
 use Prim.Native.Nat.{ℕ, ◌≤◌, ◌<◌}
 use borrow.Author.Tests.{lt-ltb, le-ltb}
-use Rattle.base_words.specs.Pick.{if◌then◌else◌}
+use Rattle.base_words.specs.Pick.{if◌then◌or_else◌}
 use Rattle.base_words.specs.Seek.{seek}
 use Rattle.base_words.proofs.SeekLaws.{seek_found, seek_done}
 use Rattle.xml_markup.specs.declared.Attribute.{Attribute}
@@ -21,10 +21,10 @@ if_absent r b f x e h = rw (← e, h) refl
 module _ (f : ℕ → Bool) where
   -- it is found at i
   pub found_or_none : (n i : ℕ) → i < n → seek f i ≡ i → f i ≡ true → i ≡ or_none n (seek f n)
-  unfolding or_none if◌then◌else◌
+  unfolding or_none if◌then◌or_else◌
   found_or_none n i h p q = rw (← seek_found f n i h p q, lt-ltb i n h) refl
 
   -- it is found nowhere
   pub none_found : (n i : ℕ) → n ≤ i → i ≤ n → seek f i ≡ i → 0 ≡ or_none n (seek f n)
-  unfolding or_none if◌then◌else◌
+  unfolding or_none if◌then◌or_else◌
   none_found n i h k p = rw (← seek_done f n i h k p, le-ltb i n h) refl

@@ -9,7 +9,7 @@ use lib.Dec.{eqb, ltb}
 use lib.ListN.{length, take, drop, length-drop, drop_of_length-le, get_or-eq_default}
 use lib.Seq.{drop-cons, take_all}
 use borrow.Author.Tests.{eq-eqb, ne_eqb, lt-ltb, le-ltb}
-use Rattle.base_words.specs.Pick.{if◌then◌else◌}
+use Rattle.base_words.specs.Pick.{if◌then◌or_else◌}
 use Rattle.base_words.specs.Seek.{seek}
 use Rattle.base_words.specs.Text.{bytes}
 use Rattle.base_words.specs.Words.{at, part}
@@ -77,7 +77,7 @@ none_taken n s e = rw e
 -- what stands up to a quote is these bytes exactly when they stand there up to it
 module _ (c a b : ℕ) (s : List ℕ) where
   up_here : (v : List ℕ) → eqb b c ≡ true → same_bytes (take (past (is_of (Value c)) (b ∷ s) a - a) (b ∷ s)) v ≡ is_up_to c v (b ∷ s)
-  unfolding past is_of is_up_to same_bytes if◌then◌else◌
+  unfolding past is_of is_up_to same_bytes if◌then◌or_else◌
   up_here [] e = rw (e, none_taken (a - a) (b ∷ s) (omega arith))
   up_here (x ∷ v) e = rw (e, none_taken (a - a) (b ∷ s) (omega arith)) (sym (and_false_right (eqb b x) false refl))
 
@@ -85,7 +85,7 @@ module _ (c a b : ℕ) (s : List ℕ) where
   further_on p h = let e : p - a ≡ suc (p - (a + 1)) = omega arith in rw e
 
   up_on : (v : List ℕ) → eqb b c ≡ false → ((u : List ℕ) → same_bytes (take (past (is_of (Value c)) s (a + 1) - (a + 1)) s) u ≡ is_up_to c u s) → same_bytes (take (past (is_of (Value c)) (b ∷ s) a - a) (b ∷ s)) v ≡ is_up_to c v (b ∷ s)
-  unfolding past is_up_to same_bytes if◌then◌else◌
+  unfolding past is_up_to same_bytes if◌then◌or_else◌
   up_on [] e ih = let f : is_of (Value c) b ≡ true = unfold is_of in rw e in rw (f, further_on _ (past_from (is_of (Value c)) s (a + 1)), e)
   up_on (x ∷ v) e ih = let f : is_of (Value c) b ≡ true = unfold is_of in rw e in rw (f, further_on _ (past_from (is_of (Value c)) s (a + 1)), e, ih v)
 
@@ -99,7 +99,7 @@ up_to_run c a (b ∷ s) v = go (eqb b c) refl (up_to_run c (a + 1) s)
     go false e ih = up_on c a b s v e ih
 
 value_up_to : (t v : List ℕ) (q : ℕ) → same_bytes (part t (after t q) (run (Value (at t q)) t (after t q))) v ≡ is_up_to (at t q) v (drop (q + 1) t)
-unfolding run after if◌then◌else◌
+unfolding run after if◌then◌or_else◌
 value_up_to t v q =
     by_order (length t) q
     (λ h. rw (le-ltb q (length t) h) (up_to_run (at t q) (length t) (drop (length t) t) v ∙ ap (is_up_to (at t q) v) (drop_of_length-le t (let z : length t ≤ length t = omega arith in z) ∙ sym (drop_of_length-le t (let z : length t ≤ q + 1 = omega arith in z)))))
@@ -124,17 +124,17 @@ module _ (t v w : List ℕ) (j : ℕ) (is : IdNoted t w j) where
   unfolding behind_quote
   quote_some q = go (ltb q 65534)
     where
-      go : (b : Bool) → (if b then q + 1 else far) ≡ 0 → ⊥
-      go true e = let z : q + 1 ≡ 0 = unfold if◌then◌else◌ in e in omega (arith, z)
-      go false e = let z : ◌≡◌ {A = ℕ} far 0 = unfold if◌then◌else◌ in e in omega (arith, z)
+      go : (b : Bool) → (if b then q + 1 or_else far) ≡ 0 → ⊥
+      go true e = let z : q + 1 ≡ 0 = unfold if◌then◌or_else◌ in e in omega (arith, z)
+      go false e = let z : ◌≡◌ {A = ℕ} far 0 = unfold if◌then◌or_else◌ in e in omega (arith, z)
 
   quote_told : (q a : ℕ) → behind_quote q ≡ a → (a ≡ far → ⊥) → a ≡ q + 1
   unfolding behind_quote
   quote_told q a = go (ltb q 65534)
     where
-      go : (b : Bool) → (if b then q + 1 else far) ≡ a → (a ≡ far → ⊥) → a ≡ q + 1
-      go true e n = sym (unfold if◌then◌else◌ in e)
-      go false e n = absurd (n (sym (unfold if◌then◌else◌ in e)))
+      go : (b : Bool) → (if b then q + 1 or_else far) ≡ a → (a ≡ far → ⊥) → a ≡ q + 1
+      go true e n = sym (unfold if◌then◌or_else◌ in e)
+      go false e n = absurd (n (sym (unfold if◌then◌or_else◌ in e)))
 
   noted_none : (f : Found) → f₀ ≡ f → note_by t f ≡ 0 → false ≡ has_id t v w j
   unfolding note_by has_id attribute value_of if_is
@@ -160,15 +160,15 @@ module _ (t v w : List ℕ) (j : ℕ) (is : IdNoted t w j) where
 -- WHAT IS NAMED, by the sort of the thing that names it
 module _ (t w : List ℕ) (n k : ℕ) (v : List ℕ) (r s : ℕ) (es : s ≡ sort w k) where
   pub node_meant : (p : ℕ) → s ≡ sequence_flow → p ≡ within w k → r ≡ or_none n (seek (λ j. (is_node (sort w j) && eqb (within w j) p) && has_id t v w j) n) → r ≡ meant t w n k v
-  unfolding meant may_name if◌then◌else◌
+  unfolding meant may_name if◌then◌or_else◌
   node_meant p f g h = rw (eq-eqb (sort w k) sequence_flow (sym es ∙ f), ← g) h
 
   pub end_meant : (s ≡ sequence_flow → ⊥) → s ≡ message_flow → r ≡ or_none n (seek (λ j. (is_node (sort w j) || eqb (sort w j) participant) && has_id t v w j) n) → r ≡ meant t w n k v
-  unfolding meant may_name if◌then◌else◌
+  unfolding meant may_name if◌then◌or_else◌
   end_meant a f h = rw (ne_eqb (sort w k) sequence_flow (λ q. a (es ∙ q)), eq-eqb (sort w k) message_flow (sym es ∙ f)) h
 
   pub process-meant : (s ≡ sequence_flow → ⊥) → (s ≡ message_flow → ⊥) → s ≡ participant → r ≡ or_none n (seek (λ j. eqb (sort w j) process && has_id t v w j) n) → r ≡ meant t w n k v
-  unfolding meant may_name if◌then◌else◌
+  unfolding meant may_name if◌then◌or_else◌
   process-meant a b f h = rw (ne_eqb (sort w k) sequence_flow (λ q. a (es ∙ q)), ne_eqb (sort w k) message_flow (λ q. b (es ∙ q)), eq-eqb (sort w k) participant (sym es ∙ f)) h
 
 -- the note of a thing, as it is found

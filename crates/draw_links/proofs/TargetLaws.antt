@@ -12,7 +12,7 @@ use lib.Seq.{get_or-set_same, get_or-set_other, set-get_or, set-set, set_comm, s
 use borrow.Author.Tests.{leb-true, eqb-true, ne_eqb}
 use Rattle.base_words.specs.All.{all}
 use Rattle.base_words.specs.Iter.{iter}
-use Rattle.base_words.specs.Pick.{if◌then◌else◌}
+use Rattle.base_words.specs.Pick.{if◌then◌or_else◌}
 use Rattle.base_words.specs.Seek.{seek}
 use Rattle.base_words.specs.Text.{bytes}
 use Rattle.base_words.specs.Words.{at, part}
@@ -59,25 +59,25 @@ module _ (f : List ℕ → ℕ → ℕ) where
   unfolding retargeted
   retarget_at k i w h = go (is_flow w k)
     where
-      go : (b : Bool) → at (if b then w else set w (target_place k) (f w k)) i ≡ at w i
-      go true = unfold if◌then◌else◌ in refl
-      go false = unfold if◌then◌else◌ in get_or-set_other w (target_place k) i (f w k) 0 h
+      go : (b : Bool) → at (if b then w or_else set w (target_place k) (f w k)) i ≡ at w i
+      go true = unfold if◌then◌or_else◌ in refl
+      go false = unfold if◌then◌or_else◌ in get_or-set_other w (target_place k) i (f w k) 0 h
 
   retarget_length : (k : ℕ) (w : List ℕ) → length (retargeted f k w) ≡ length w
   unfolding retargeted
   retarget_length k w = go (is_flow w k)
     where
-      go : (b : Bool) → length (if b then w else set w (target_place k) (f w k)) ≡ length w
-      go true = unfold if◌then◌else◌ in refl
-      go false = unfold if◌then◌else◌ in length-set w (target_place k) (f w k)
+      go : (b : Bool) → length (if b then w or_else set w (target_place k) (f w k)) ≡ length w
+      go true = unfold if◌then◌or_else◌ in refl
+      go false = unfold if◌then◌or_else◌ in length-set w (target_place k) (f w k)
 
   pub retarget_out : (k : ℕ) (w : List ℕ) → length w < thing_words * (k + 1) → w ≡ retargeted f k w
   unfolding retargeted
   retarget_out k w h = go (is_flow w k)
     where
-      go : (b : Bool) → w ≡ (if b then w else set w (target_place k) (f w k))
-      go true = unfold if◌then◌else◌ in refl
-      go false = unfold if◌then◌else◌ in sym (set_out w (target_place k) (f w k) (omega (arith, h)))
+      go : (b : Bool) → w ≡ (if b then w or_else set w (target_place k) (f w k))
+      go true = unfold if◌then◌or_else◌ in refl
+      go false = unfold if◌then◌or_else◌ in sym (set_out w (target_place k) (f w k) (omega (arith, h)))
 
   stays_at : (i m : ℕ) (w : List ℕ) → ((k : ℕ) → i ≡ target_place k → ⊥) → at (iter (retargeted f) w m) i ≡ at w i
   stays_at i m w h = iter_keeps (retargeted f) w (λ x. at x i ≡ at w i) m (λ k x l e. retarget_at k i x (h k) ∙ e) refl
@@ -100,9 +100,9 @@ module _ (t x y : List ℕ) (s : (j : ℕ) → sort x j ≡ sort y j) (p : (j : 
   unfolding may_name
   may_same k j =
       λ z. if eqb (s k z) sequence_flow then is_node (s j z) && eqb (i j z) (i k z)
-      else if eqb (s k z) message_flow then is_node (s j z) || eqb (s j z) participant
-      else if eqb (s k z) participant then eqb (s j z) process
-      else eqb (s j z) sequence_flow && eqb (o j z) k
+      or_else if eqb (s k z) message_flow then is_node (s j z) || eqb (s j z) participant
+      or_else if eqb (s k z) participant then eqb (s j z) process
+      or_else eqb (s j z) sequence_flow && eqb (o j z) k
 
   has_same : (v : List ℕ) (j : ℕ) → has_id t v x j ≡ has_id t v y j
   unfolding has_id
@@ -125,12 +125,12 @@ module _ (k p v : ℕ) (w : List ℕ) (h : sort_place k ≡ p → ⊥) where
   bare_set : (is_flow w k ≡ false → p ≡ target_place k → ⊥) → retargeted no_note k (set w p v) ≡ set (retargeted no_note k w) p v
   unfolding retargeted
   bare_set g =
-      ap (λ (s : ℕ). if eqb s sequence_flow || eqb s message_flow then set w p v else set (set w p v) (target_place k) 0) sort_apart
+      ap (λ (s : ℕ). if eqb s sequence_flow || eqb s message_flow then set w p v or_else set (set w p v) (target_place k) 0) sort_apart
       ∙ go (is_flow w k) refl
     where
-      go : (b : Bool) → is_flow w k ≡ b → (if b then set w p v else set (set w p v) (target_place k) 0) ≡ set (if b then w else set w (target_place k) 0) p v
-      go true e = unfold if◌then◌else◌ in refl
-      go false e = unfold if◌then◌else◌ in set_comm w p (target_place k) v 0 (g e)
+      go : (b : Bool) → is_flow w k ≡ b → (if b then set w p v or_else set (set w p v) (target_place k) 0) ≡ set (if b then w or_else set w (target_place k) 0) p v
+      go true e = unfold if◌then◌or_else◌ in refl
+      go false e = unfold if◌then◌or_else◌ in set_comm w p (target_place k) v 0 (g e)
 
 bared-set : (m p v : ℕ) (w : List ℕ) → ((k : ℕ) → sort_place k ≡ p → ⊥) → ((k : ℕ) → k < m → is_flow w k ≡ false → p ≡ target_place k → ⊥) → iter (retargeted no_note) (set w p v) m ≡ set (iter (retargeted no_note) w m) p v
 unfolding iter
@@ -143,12 +143,12 @@ bared-set (suc m) p v w h g =
 bare_over : (k v : ℕ) (w : List ℕ) → is_flow w k ≡ false → retargeted no_note k (set w (target_place k) v) ≡ retargeted no_note k w
 unfolding retargeted
 bare_over k v w e =
-    ap (λ (s : ℕ). if eqb s sequence_flow || eqb s message_flow then set w (target_place k) v else set (set w (target_place k) v) (target_place k) 0) (sort_apart k (target_place k) v w (λ q. omega (arith, q)))
+    ap (λ (s : ℕ). if eqb s sequence_flow || eqb s message_flow then set w (target_place k) v or_else set (set w (target_place k) v) (target_place k) 0) (sort_apart k (target_place k) v w (λ q. omega (arith, q)))
     ∙ go (is_flow w k) e
   where
-    go : (b : Bool) → b ≡ false → (if b then set w (target_place k) v else set (set w (target_place k) v) (target_place k) 0) ≡ (if b then w else set w (target_place k) 0)
+    go : (b : Bool) → b ≡ false → (if b then set w (target_place k) v or_else set (set w (target_place k) v) (target_place k) 0) ≡ (if b then w or_else set w (target_place k) 0)
     go true q = absurd (false≢true (sym q))
-    go false q = unfold if◌then◌else◌ in set-set w (target_place k) v 0
+    go false q = unfold if◌then◌or_else◌ in set-set w (target_place k) v 0
 
 last_over : (m v : ℕ) (w : List ℕ) → is_flow w m ≡ false → iter (retargeted no_note) (set w (target_place m) v) (suc m) ≡ iter (retargeted no_note) w (suc m)
 unfolding iter
@@ -168,9 +168,9 @@ bared_over (suc m) k v w e h =
 bared-noted : (f : List ℕ → ℕ → ℕ) (n : ℕ) (w : List ℕ) → iter (retargeted no_note) (iter (retargeted f) w n) n ≡ iter (retargeted no_note) w n
 bared-noted f n w = iter_keeps (retargeted f) w (λ x. iter (retargeted no_note) x n ≡ iter (retargeted no_note) w n) n (λ k x l h. one k x l ∙ h) refl
   where
-    go : (k : ℕ) (x : List ℕ) → k < n → (b : Bool) → is_flow x k ≡ b → iter (retargeted no_note) (if b then x else set x (target_place k) (f x k)) n ≡ iter (retargeted no_note) x n
-    go k x l true e = unfold if◌then◌else◌ in refl
-    go k x l false e = unfold if◌then◌else◌ in bared_over n k (f x k) x e l
+    go : (k : ℕ) (x : List ℕ) → k < n → (b : Bool) → is_flow x k ≡ b → iter (retargeted no_note) (if b then x or_else set x (target_place k) (f x k)) n ≡ iter (retargeted no_note) x n
+    go k x l true e = unfold if◌then◌or_else◌ in refl
+    go k x l false e = unfold if◌then◌or_else◌ in bared_over n k (f x k) x e l
 
     one : (k : ℕ) (x : List ℕ) → k < n → iter (retargeted no_note) (retargeted f k x) n ≡ iter (retargeted no_note) x n
     one k x l = unfold retargeted in go k x l (is_flow x k) refl
@@ -180,9 +180,9 @@ bare_free : (w : List ℕ) (k : ℕ) → is_free w k ≡ true → retargeted no_
 unfolding is_free retargeted
 bare_free w k e = go (is_flow w k) e
   where
-    go : (b : Bool) → b || eqb (target w k) 0 ≡ true → (if b then w else set w (target_place k) 0) ≡ w
-    go true h = unfold if◌then◌else◌ in refl
-    go false h = unfold if◌then◌else◌ in ap (set w (target_place k)) (sym (eqb-true (target w k) 0 h)) ∙ set-get_or w (target_place k) 0
+    go : (b : Bool) → b || eqb (target w k) 0 ≡ true → (if b then w or_else set w (target_place k) 0) ≡ w
+    go true h = unfold if◌then◌or_else◌ in refl
+    go false h = unfold if◌then◌or_else◌ in ap (set w (target_place k)) (sym (eqb-true (target w k) 0 h)) ∙ set-get_or w (target_place k) 0
 
 bared_free : (w : List ℕ) (m : ℕ) → ((k : ℕ) → k < m → is_free w k ≡ true) → iter (retargeted no_note) w m ≡ w
 unfolding iter
@@ -200,19 +200,19 @@ module _ (t : List ℕ) (n k : ℕ) (x : List ℕ) where
       source-set v = get_or-set_other x (source_place k) i v 0 h
 
       go : (a : Bool) → is_flow x k ≡ a → (b : Bool)
-          → at (if a then set (set x (source_place k) (named t x n k (bytes "sourceRef"))) (target_place k) (named t x n k (bytes "targetRef")) else if b then set x (source_place k) (named t x n k (bytes "processRef")) else x) i ≡ at x i
-      go true e b = unfold if◌then◌else◌ in get_or-set_other (set x (source_place k) (named t x n k (bytes "sourceRef"))) (target_place k) i (named t x n k (bytes "targetRef")) 0 (g e) ∙ source-set _
-      go false e true = unfold if◌then◌else◌ in source-set _
-      go false e false = unfold if◌then◌else◌ in refl
+          → at (if a then set (set x (source_place k) (named t x n k (bytes "sourceRef"))) (target_place k) (named t x n k (bytes "targetRef")) or_else if b then set x (source_place k) (named t x n k (bytes "processRef")) or_else x) i ≡ at x i
+      go true e b = unfold if◌then◌or_else◌ in get_or-set_other (set x (source_place k) (named t x n k (bytes "sourceRef"))) (target_place k) i (named t x n k (bytes "targetRef")) 0 (g e) ∙ source-set _
+      go false e true = unfold if◌then◌or_else◌ in source-set _
+      go false e false = unfold if◌then◌or_else◌ in refl
 
   linked_long : length (linked t n k x) ≡ length x
   unfolding linked flow_joined owned
   linked_long = go (is_flow x k) (eqb (sort x k) participant) (named t x n k (bytes "sourceRef")) (named t x n k (bytes "targetRef")) (named t x n k (bytes "processRef"))
     where
-      go : (a b : Bool) (u v o : ℕ) → length (if a then set (set x (source_place k) u) (target_place k) v else if b then set x (source_place k) o else x) ≡ length x
-      go true b u v o = unfold if◌then◌else◌ in length-set (set x (source_place k) u) (target_place k) v ∙ length-set x (source_place k) u
-      go false true u v o = unfold if◌then◌else◌ in length-set x (source_place k) o
-      go false false u v o = unfold if◌then◌else◌ in refl
+      go : (a b : Bool) (u v o : ℕ) → length (if a then set (set x (source_place k) u) (target_place k) v or_else if b then set x (source_place k) o or_else x) ≡ length x
+      go true b u v o = unfold if◌then◌or_else◌ in length-set (set x (source_place k) u) (target_place k) v ∙ length-set x (source_place k) u
+      go false true u v o = unfold if◌then◌or_else◌ in length-set x (source_place k) o
+      go false false u v o = unfold if◌then◌or_else◌ in refl
 
   link_keeps : (m : ℕ) → Noted t x m → Noted t (linked t n k x) m
   link_keeps m h j l e r =
@@ -245,7 +245,7 @@ module _ (t : List ℕ) (n k : ℕ) (x : List ℕ) where
     name_bared name = named_same t x y (λ j. sym (sort_stays no_note m x j)) (λ j. sym (place_stays no_note m x j)) (λ j. sym (within_stays no_note m x j)) (λ j. sym (source_stays no_note m x j)) n k name
 
     abbrev form : ℕ → ℕ → ℕ → ℕ → List ℕ
-    form s a b c = if eqb s sequence_flow || eqb s message_flow then set (set y (source_place k) a) (target_place k) b else if eqb s participant then set y (source_place k) c else y
+    form s a b c = if eqb s sequence_flow || eqb s message_flow then set (set y (source_place k) a) (target_place k) b or_else if eqb s participant then set y (source_place k) c or_else y
 
     link_bared : iter (retargeted no_note) (linked t n k x) m ≡ linked t n k y
     unfolding linked flow_joined owned
@@ -254,10 +254,10 @@ module _ (t : List ℕ) (n k : ℕ) (x : List ℕ) where
         ∙ λ z. form (sym (sort_stays no_note m x k) z) (name_bared (bytes "sourceRef") z) (name_bared (bytes "targetRef") z) (name_bared (bytes "processRef") z)
       where
         go : (d : Bool) → is_flow x k ≡ d → (f : Bool) (a b c : ℕ)
-            → iter (retargeted no_note) (if d then set (set x (source_place k) a) (target_place k) b else if f then set x (source_place k) c else x) m ≡ (if d then set (set y (source_place k) a) (target_place k) b else if f then set y (source_place k) c else y)
-        go true e f a b c = unfold if◌then◌else◌ in both_bared a b e
-        go false e true a b c = unfold if◌then◌else◌ in source-bared c
-        go false e false a b c = unfold if◌then◌else◌ in refl
+            → iter (retargeted no_note) (if d then set (set x (source_place k) a) (target_place k) b or_else if f then set x (source_place k) c or_else x) m ≡ (if d then set (set y (source_place k) a) (target_place k) b or_else if f then set y (source_place k) c or_else y)
+        go true e f a b c = unfold if◌then◌or_else◌ in both_bared a b e
+        go false e true a b c = unfold if◌then◌or_else◌ in source-bared c
+        go false e false a b c = unfold if◌then◌or_else◌ in refl
 
 links-bared : (t : List ℕ) (n m k : ℕ) (x : List ℕ) → iter (retargeted no_note) (iter (linked t n) x k) m ≡ iter (linked t n) (iter (retargeted no_note) x m) k
 unfolding iter
@@ -282,9 +282,9 @@ module _ (t x : List ℕ) (m : ℕ) where
   unfolding retargeted
   noted_here room = go (is_flow x m)
     where
-      go : (b : Bool) → b ≡ false → at (if b then x else set x (target_place m) (note_of t x m)) (target_place m) ≡ note_of t x m
+      go : (b : Bool) → b ≡ false → at (if b then x or_else set x (target_place m) (note_of t x m)) (target_place m) ≡ note_of t x m
       go true q = absurd (false≢true (sym q))
-      go false q = unfold if◌then◌else◌ in get_or-set_same x (target_place m) (note_of t x m) 0 (omega (arith, room))
+      go false q = unfold if◌then◌or_else◌ in get_or-set_same x (target_place m) (note_of t x m) 0 (omega (arith, room))
 
   one_noted : Noted t x m → Noted t next (suc m)
   one_noted a j l e r =

@@ -3,7 +3,7 @@
 use Rattle.std.specs.Prelude.{ℕ, Bool, false, ◌&&◌, ◌||◌, List, eqb, ltb}
 use Rattle.base_words.specs.Blocks.{Bytes, Drawing}
 use Rattle.base_words.specs.Iter.{iter}
-use Rattle.base_words.specs.Pick.{if◌then◌else◌}
+use Rattle.base_words.specs.Pick.{if◌then◌or_else◌}
 use Rattle.base_words.specs.Seek.{seek}
 use Rattle.base_words.specs.Text.{bytes}
 use Rattle.base_words.specs.Words.{part}
@@ -25,12 +25,12 @@ has_id t v w j = if_is (attribute t (place w j) (bytes "id")) (λ from to. same_
 unfoldable pub may_name : Drawing → ℕ → ℕ → Bool
 may_name w k j =
     if eqb (sort w k) sequence_flow then is_node (sort w j) && eqb (within w j) (within w k)
-    else if eqb (sort w k) message_flow then is_node (sort w j) || eqb (sort w j) participant
-    else if eqb (sort w k) participant then eqb (sort w j) process
-    else eqb (sort w j) sequence_flow && eqb (source w j) k
+    or_else if eqb (sort w k) message_flow then is_node (sort w j) || eqb (sort w j) participant
+    or_else if eqb (sort w k) participant then eqb (sort w j) process
+    or_else eqb (sort w j) sequence_flow && eqb (source w j) k
 
 unfoldable pub or_none : ℕ → ℕ → ℕ
-or_none n j = if ltb j n then j else 0
+or_none n j = if ltb j n then j or_else 0
 
 -- the thing that is meant by the bytes v in thing k
 unfoldable pub meant : Bytes → Drawing → ℕ → ℕ → Bytes → ℕ
@@ -51,8 +51,8 @@ owned t n k w = with_source w k (named t w n k (bytes "processRef"))
 unfoldable pub linked : Bytes → ℕ → ℕ → Drawing → Drawing
 linked t n k w =
     if eqb (sort w k) sequence_flow || eqb (sort w k) message_flow then flow_joined t n k w
-    else if eqb (sort w k) participant then owned t n k w
-    else w
+    or_else if eqb (sort w k) participant then owned t n k w
+    or_else w
 
 unfoldable pub links : Bytes → ℕ → Drawing → Drawing
 links t n w = iter (linked t n) w n

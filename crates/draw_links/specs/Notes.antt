@@ -2,7 +2,7 @@
 use Rattle.std.specs.Prelude.{ℕ, ◌+◌, ◌*◌, ◌≤◌, ◌<◌, ◌≡◌, Bool, true, false, not, ◌&&◌, ◌||◌, [], ◌∷◌, eqb, ltb, length}
 use Rattle.base_words.specs.Blocks.{Bytes, Drawing}
 use Rattle.base_words.specs.Iter.{iter}
-use Rattle.base_words.specs.Pick.{if◌then◌else◌}
+use Rattle.base_words.specs.Pick.{if◌then◌or_else◌}
 use Rattle.base_words.specs.Text.{bytes}
 use Rattle.xml_markup.specs.declared.Found.{Found}
 use Rattle.xml_markup.specs.declared.Found.TheVariants.{Behind, Nowhere}
@@ -16,7 +16,7 @@ far = 65535
 
 -- an id is noted by the place behind its first quote; 0 for none
 unfoldable pub behind_quote : ℕ → ℕ
-behind_quote q = if ltb q 65534 then q + 1 else far
+behind_quote q = if ltb q 65534 then q + 1 or_else far
 
 unfoldable pub note_by : Bytes → Found → ℕ
 note_by t (Behind i) = behind_quote (quote_at t i)
@@ -30,7 +30,7 @@ is_flow w k = eqb (sort w k) sequence_flow || eqb (sort w k) message_flow
 
 -- thing k with a note as its target, where it is no flow
 unfoldable pub retargeted : (Drawing → ℕ → ℕ) → ℕ → Drawing → Drawing
-retargeted f k w = if is_flow w k then w else with_target w k (f w k)
+retargeted f k w = if is_flow w k then w or_else with_target w k (f w k)
 
 abbrev pub no_note : Drawing → ℕ → ℕ
 no_note w k = 0

@@ -3,7 +3,7 @@
 use Rattle.std.specs.Prelude.{ℕ, ◌+◌, Bool, ◌&&◌, List, [], ◌∷◌, ◌++◌, map, eqb, length}
 use Rattle.base_words.specs.Blocks.{Bytes, Table, Drawing}
 use Rattle.base_words.specs.Each.{joined}
-use Rattle.base_words.specs.Pick.{if◌then◌else◌}
+use Rattle.base_words.specs.Pick.{if◌then◌or_else◌}
 use Rattle.base_words.specs.Text.{bytes}
 use Rattle.base_words.specs.Words.{at, greatest}
 use Rattle.base_kinds.specs.Kinds as kinds
@@ -48,7 +48,7 @@ unfoldable pub branch_line : ℕ → ℕ → Drawing → ℕ → ℕ → Bytes
 branch_line i e w k j =
     if is_with sequence_flow source_in k w j then
     line (bytes "branch") (one_more i ∷ e ∷ count_with sequence_flow source_in k w j ∷ place w j ∷ place w (target w j) ∷ [])
-    else []
+    or_else []
 
 unfoldable pub branch_lines : ℕ → ℕ → Drawing → ℕ → ℕ → Bytes
 branch_lines i e w n k = joined (branch_line i e w k) n
@@ -57,14 +57,14 @@ branch_lines i e w n k = joined (branch_line i e w k) n
 unfoldable pub belonging : Table → Drawing → ℕ → ℕ → ℕ → ℕ → Bytes
 belonging table w n i e k =
     if is_of_kind kinds.start w k then within_line table i e (place w k)
-    else if is_of_kind kinds.event_based w k then branch_lines i e w n k
-    else []
+    or_else if is_of_kind kinds.event_based w k then branch_lines i e w n k
+    or_else []
 
 unfoldable pub with_belonging : Table → Drawing → ℕ → ℕ → ℕ → ℕ → Bytes
 with_belonging table w n i e k = element_line i e (place w k) ++ belonging table w n i e k
 
 unfoldable pub element_lines : Table → Drawing → ℕ → ℕ → ℕ → ℕ → Bytes
-element_lines table w n i p k = if is_of an_element p w k then with_belonging table w n i (count_before (is_of an_element p w) k) k else []
+element_lines table w n i p k = if is_of an_element p w k then with_belonging table w n i (count_before (is_of an_element p w) k) k or_else []
 
 -- THE END behind a message end event, "behind the pool's other elements; several are treated in text order"; its edge is within it (RULES: ends)
 unfoldable pub is_message_end : ℕ → Drawing → ℕ → Bool
@@ -77,11 +77,11 @@ unfoldable pub with_end : Table → ℕ → ℕ → ℕ → Bytes
 with_end table i e at = element_line i e at ++ within_line table i e at
 
 unfoldable pub end_lines : Table → Drawing → ℕ → ℕ → ℕ → ℕ → Bytes
-end_lines table w n i p k = if is_message_end p w k then with_end table i (end_place w n p k) (place w k) else []
+end_lines table w n i p k = if is_message_end p w k then with_end table i (end_place w n p k) (place w k) or_else []
 
 -- A FLOW that is an edge
 unfoldable pub edge_line : Drawing → ℕ → ℕ → ℕ → Bytes
-edge_line w i p k = if is_of an_edge p w k then line (bytes "edge") (one_more i ∷ edge_of w k ∷ place w k ∷ []) else []
+edge_line w i p k = if is_of an_edge p w k then line (bytes "edge") (one_more i ∷ edge_of w k ∷ place w k ∷ []) or_else []
 
 -- A POOL: "Pools in order, in each its elements, then its edges by number". Which of its lines are meant, by a number
 abbrev pub the_elements : ℕ
@@ -96,8 +96,8 @@ the_edges = 2
 unfoldable pub lines_of : ℕ → Table → Drawing → ℕ → ℕ → ℕ → ℕ → Bytes
 lines_of class table w n i p k =
     if eqb class the_elements then element_lines table w n i p k
-    else if eqb class the_ends then end_lines table w n i p k
-    else edge_line w i p k
+    or_else if eqb class the_ends then end_lines table w n i p k
+    or_else edge_line w i p k
 
 unfoldable pub all_of : ℕ → Table → Drawing → ℕ → ℕ → ℕ → Bytes
 all_of class table w n i p = joined (lines_of class table w n i p) n
@@ -109,14 +109,14 @@ unfoldable pub with_inside : Table → Drawing → ℕ → ℕ → ℕ → ℕ �
 with_inside table w n i p k = line (bytes "pool") (one_more i ∷ place w k ∷ []) ++ inside table w n i p
 
 unfoldable pub pool_lines : Bool → Table → Drawing → ℕ → ℕ → Bytes
-pool_lines owned table w n k = if is_pool owned w k then with_inside table w n (count_before (is_pool owned w) k) (process_of owned w k) k else []
+pool_lines owned table w n k = if is_pool owned w k then with_inside table w n (count_before (is_pool owned w) k) (process_of owned w k) k or_else []
 
 -- BEHIND THE POOLS: participants without a process, and the messages, also those between two of these
 unfoldable pub outside_line : Bytes → Drawing → ℕ → Bytes
-outside_line text w k = if is_outside text w k then line (bytes "outside") (place w k ∷ []) else []
+outside_line text w k = if is_outside text w k then line (bytes "outside") (place w k ∷ []) or_else []
 
 unfoldable pub message_line : Drawing → ℕ → Bytes
-message_line w k = if of_sort message_flow w k then line (bytes "message") (message_of w k ∷ place w k ∷ []) else []
+message_line w k = if of_sort message_flow w k then line (bytes "message") (message_of w k ∷ place w k ∷ []) or_else []
 
 -- THE WHOLE. Which lines are meant, by a number
 abbrev pub the_pools : ℕ
@@ -131,8 +131,8 @@ the_messages = 2
 unfoldable pub part_of : ℕ → Bool → Bytes → Table → Drawing → ℕ → ℕ → Bytes
 part_of class owned text table w n k =
     if eqb class the_pools then pool_lines owned table w n k
-    else if eqb class the_outsiders then outside_line text w k
-    else message_line w k
+    or_else if eqb class the_outsiders then outside_line text w k
+    or_else message_line w k
 
 unfoldable pub every_of : ℕ → Bytes → Table → Drawing → ℕ → Bytes
 every_of class text table w n = joined (part_of class (has_participants w n) text table w n) n
@@ -142,7 +142,7 @@ map_of text table w n = every_of the_pools text table w n ++ (every_of the_outsi
 
 -- a refused drawing: "`refused`, the number and what stands beside it" (RULES: lines)
 unfoldable pub map_by : Reading → List ℕ → Bytes
-map_by a m = if eqb a.number 0 then m else unread_line a.number (lesser a.beside greatest)
+map_by a m = if eqb a.number 0 then m or_else unread_line a.number (lesser a.beside greatest)
 
 unfoldable pub map_text : Bytes → Bytes
 map_text text = map_by (answered text) (map_of text (table_of (map rewritten (content text (things_of text) (walked_text text).count))) (things_of text) (walked_text text).count)

@@ -1,7 +1,7 @@
 -- NUMBERS, "from the lowest allowed, as they stand" (R26): by how many stand before. w is the things of a drawing, n their count, p a process, k a thing. (RULES: numbering)
 use Rattle.std.specs.Prelude.{ℕ, Bool, not, ◌&&◌, ◌||◌, List, eqb, leb, ltb}
 use Rattle.base_words.specs.Blocks.{Bytes, Drawing}
-use Rattle.base_words.specs.Pick.{if◌then◌else◌}
+use Rattle.base_words.specs.Pick.{if◌then◌or_else◌}
 use Rattle.base_words.specs.Sum.{sum, one_if}
 use Rattle.base_words.specs.Text.{bytes}
 use Rattle.base_words.specs.Words.{part}
@@ -46,7 +46,7 @@ abbrev pub an_edge : ℕ
 an_edge = 2
 
 unfoldable pub is_of : ℕ → ℕ → Drawing → ℕ → Bool
-is_of class p w j = if eqb class an_element then is_element p w j else if eqb class a_task then is_task p w j else is_edge p w j
+is_of class p w j = if eqb class an_element then is_element p w j or_else if eqb class a_task then is_task p w j or_else is_edge p w j
 
 unfoldable pub task_of : Drawing → ℕ → ℕ
 task_of w k = one_more (count_before (is_of a_task (within w k) w) k)

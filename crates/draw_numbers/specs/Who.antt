@@ -1,7 +1,7 @@
 -- WHO IS WHO IN A DRAWING: a pool, a node of a kind, a split, a sender, a receiver. w is the things drawn, with their flows joined and their kinds; n their count. (RULES: drawn)
 use Rattle.std.specs.Prelude.{ℕ, Bool, not, ◌&&◌, ◌||◌, eqb, ltb}
 use Rattle.base_words.specs.Blocks.{Drawing}
-use Rattle.base_words.specs.Pick.{if◌then◌else◌}
+use Rattle.base_words.specs.Pick.{if◌then◌or_else◌}
 use Rattle.base_words.specs.Seek.{seek}
 use Rattle.base_kinds.specs.Kinds as kinds
 use Rattle.draw_things.specs.Things.{sort, source, kind, is_node, participant, process, branch}
@@ -12,7 +12,7 @@ unfoldable pub has_participants : Drawing → ℕ → Bool
 has_participants w n = ltb (seek (of_sort participant w) n) n
 
 unfoldable pub is_pool : Bool → Drawing → ℕ → Bool
-is_pool owned w k = if owned then of_sort participant w k && not (eqb (source w k) 0) else of_sort process w k
+is_pool owned w k = if owned then of_sort participant w k && not (eqb (source w k) 0) or_else of_sort process w k
 
 -- a node of a kind
 unfoldable pub is_of_kind : ℕ → Drawing → ℕ → Bool

@@ -8,7 +8,7 @@ use lib.Dec.{eqb, ltb}
 use lib.ListN.{length, take, replicate}
 use borrow.Author.Tests.{eq-eqb, ne_eqb, lt-ltb, le-ltb, lt-leb}
 use Rattle.base_words.specs.Each.{each}
-use Rattle.base_words.specs.Pick.{if◌then◌else◌}
+use Rattle.base_words.specs.Pick.{if◌then◌or_else◌}
 use Rattle.base_words.specs.Words.{at}
 use Rattle.base_words.proofs.PickLaws.{pick_yes, pick_no}
 use Rattle.base_table.specs.Places.{table_words}
@@ -63,21 +63,21 @@ module _ (text w : List ℕ) (n : ℕ) where
   unfolding answer_for
   room_zero k r = go (eqb k 0) r
     where
-      go : (c b : Bool) → ◌≡◌ {A = ℕ} (if c then (if b then 0 else 28) else 4) 0 → b ≡ true
+      go : (c b : Bool) → ◌≡◌ {A = ℕ} (if c then (if b then 0 or_else 28) or_else 4) 0 → b ≡ true
       go true true e = refl
-      go true false e = absurd (let z : ◌≡◌ {A = ℕ} 28 0 = unfold if◌then◌else◌ in e in omega (arith, z))
-      go false b e = absurd (let z : ◌≡◌ {A = ℕ} 4 0 = unfold if◌then◌else◌ in e in omega (arith, z))
+      go true false e = absurd (let z : ◌≡◌ {A = ℕ} 28 0 = unfold if◌then◌or_else◌ in e in omega (arith, z))
+      go false b e = absurd (let z : ◌≡◌ {A = ℕ} 4 0 = unfold if◌then◌or_else◌ in e in omega (arith, z))
 
   checked_zero : (checked_as (content text w n)).number ≡ 0 → each has_room (content text w n) ≡ true
   unfolding checked_as
   checked_zero = room_zero (lowest (content text w n)) (each has_room (content text w n))
 
   not_beyond : (meant_by text w n).number ≡ 0 → (ltb (first_beyond text w n) n ≡ false) × (each has_room (content text w n) ≡ true)
-  unfolding meant_by if◌then◌else◌
+  unfolding meant_by if◌then◌or_else◌
   not_beyond = go (is_drawing text w n) (ltb (first_beyond text w n) n) refl
     where
       go : (a b : Bool) → ltb (first_beyond text w n) n ≡ b
-          → (if not a then answer not_run 0 else if b then answer excessive (beyond_at text w (first_beyond text w n)) else checked_as (content text w n)).number ≡ 0
+          → (if not a then answer not_run 0 or_else if b then answer excessive (beyond_at text w (first_beyond text w n)) or_else checked_as (content text w n)).number ≡ 0
           → (ltb (first_beyond text w n) n ≡ false) × (each has_room (content text w n) ≡ true)
       go false b e h = absurd (omega (arith, h))
       go true true e h = absurd (omega (arith, h))
@@ -85,18 +85,18 @@ module _ (text w : List ℕ) (n : ℕ) where
 
   module _ (t : List ℕ) (a : Reading) (e : a ≡ meant_by text w n) where
     pub table_stays : (a.number ≡ 0 → ⊥) → with_table a t ≡ filled_by (meant_by text w n) (content text w n) t
-    unfolding filled_by if◌then◌else◌
+    unfolding filled_by if◌then◌or_else◌
     table_stays z = rw (← e, ne_eqb a.number 0 z) refl
 
     pub table_drawn : (v : List ℕ) → a.number ≡ 0 → (ltb (first_beyond text w n) n ≡ false → each has_room (content text w n) ≡ true → v ≡ table_of (map rewritten (content text w n))) → with_table a v ≡ filled_by (meant_by text w n) (content text w n) t
-    unfolding filled_by if◌then◌else◌
+    unfolding filled_by if◌then◌or_else◌
     table_drawn v z f =
         let right = not_beyond (ap (λ (r : Reading). r.number) (sym e) ∙ z) in
         rw (← e, eq-eqb a.number 0 z, f right.0 right.1) refl
 
 module _ (text t : List ℕ) where
   pub too_long_lem : (a : Reading) → drawing_most < length text → a ≡ answer too_long 0 → with_table a t ≡ draw_into text t
-  unfolding draw_into answered filled_by if◌then◌else◌
+  unfolding draw_into answered filled_by if◌then◌or_else◌
   too_long_lem a l e = rw (lt-ltb drawing_most (length text) l, e) refl
 
   module _ (short : length text ≤ drawing_most) (r : Walked) (v : List ℕ) (met : walk_told r v ≡ walk text (replicate block_words 0)) where
@@ -108,15 +108,15 @@ module _ (text t : List ℕ) where
     walk_met = met
 
     pub walk_stopped : (q : ℕ) (a : Reading) → r.end ≡ Fault q → a ≡ answer not_xml q → with_table a t ≡ draw_into text t
-    unfolding draw_into answered unless_fault walk_told filled_by if◌then◌else◌
+    unfolding draw_into answered unless_fault walk_told filled_by if◌then◌or_else◌
     walk_stopped q a f e = rw (← walk_met, le-ltb drawing_most (length text) short, f, e) refl
 
     pub walk_done : (q : ℕ) (w : List ℕ) (u : ReadInto) → r.end ≡ Past q → w ≡ settled_by text n v → u ≡ filled_by (meant_by text w n) (content text w n) t → u ≡ draw_into text t
-    unfolding draw_into answered unless_fault walk_told things_of if◌then◌else◌
+    unfolding draw_into answered unless_fault walk_told things_of if◌then◌or_else◌
     walk_done q w u f s e = rw (← walk_met, le-ltb drawing_most (length text) short, f, ← s) e
 
     pub walk_amiss : (q : ℕ) (a : Reading) → r.end ≡ Past q → is_drawing text (settled_by text n v) n ≡ false → a ≡ answer not_run 0 → with_table a t ≡ draw_into text t
-    unfolding draw_into answered unless_fault walk_told things_of meant_by filled_by if◌then◌else◌
+    unfolding draw_into answered unless_fault walk_told things_of meant_by filled_by if◌then◌or_else◌
     walk_amiss q a f d e = rw (← walk_met, le-ltb drawing_most (length text) short, f, d, e) refl
 
 -- what shows a drawing to be amiss before it is judged: more things than there is room for, or a node of no kind

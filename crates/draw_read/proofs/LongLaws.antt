@@ -4,7 +4,7 @@ use mathlib.Core.Path.{◌≡◌, ◌∙◌}
 use mathlib.Core.Bool.{Bool, true, false}
 use mathlib.Core.List.{List}
 use lib.ListN.{length, set, replicate, length-set, length-replicate}
-use Rattle.base_words.specs.Pick.{if◌then◌else◌}
+use Rattle.base_words.specs.Pick.{if◌then◌or_else◌}
 use Rattle.base_words.proofs.IterLaws.{iter_keeps}
 use Rattle.base_table.specs.Places.{element_words, kind_place}
 use Rattle.draw_things.specs.Things.{kind}
@@ -20,8 +20,8 @@ record Long (x : List ℕ) : Type 0 where
 put_long : (x : List ℕ) (i v : ℕ) → Long x → Long (set x i v)
 put_long x i v l = record { is = length-set x i v ∙ l.is }
 
-either_long : (b : Bool) (x y : List ℕ) → Long x → Long y → Long (if b then x else y)
-unfolding if◌then◌else◌
+either_long : (b : Bool) (x y : List ℕ) → Long x → Long y → Long (if b then x or_else y)
+unfolding if◌then◌or_else◌
 either_long true x y l m = l
 either_long false x y l m = m
 

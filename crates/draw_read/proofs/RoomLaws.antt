@@ -9,7 +9,7 @@ use lib.ListN.{length, length-append}
 use borrow.Author.Tests.{eqb-true, ltb-false, leb-false}
 use Rattle.base_words.specs.Counts.{pools, elements, tasks}
 use Rattle.base_words.specs.Each.{joined}
-use Rattle.base_words.specs.Pick.{if◌then◌else◌}
+use Rattle.base_words.specs.Pick.{if◌then◌or_else◌}
 use Rattle.base_words.specs.Seek.{seek}
 use Rattle.base_words.specs.Sum.{sum, one_if}
 use Rattle.base_words.proofs.AllLaws.{and_left, and_right}
@@ -59,10 +59,10 @@ room_for P (suc m) (x ∷ xs) (cons p d) l = some p (room_for P m xs d (omega (a
 
 module _ {A : Type 0} (P : A → Type 0) (f : ℕ → Bool) (x : ℕ → A) where
   abbrev one : ℕ → List A
-  one k = if f k then x k ∷ [] else []
+  one k = if f k then x k ∷ [] or_else []
 
-  one_counts : (b : Bool) (a : A) → length (if b then a ∷ [] else []) ≡ one_if b
-  unfolding if◌then◌else◌
+  one_counts : (b : Bool) (a : A) → length (if b then a ∷ [] or_else []) ≡ one_if b
+  unfolding if◌then◌or_else◌
   one_counts true a = refl
   one_counts false a = refl
 
@@ -71,8 +71,8 @@ module _ {A : Type 0} (P : A → Type 0) (f : ℕ → Bool) (x : ℕ → A) wher
   many_count zero = refl
   many_count (suc n) = length-append (joined one n) (one n) ∙ rw (many_count n, one_counts (f n) (x n))
 
-  one_is : (b : Bool) (a : A) → (b ≡ true → P a) → Every P (if b then a ∷ [] else [])
-  unfolding if◌then◌else◌
+  one_is : (b : Bool) (a : A) → (b ≡ true → P a) → Every P (if b then a ∷ [] or_else [])
+  unfolding if◌then◌or_else◌
   one_is true a p = cons (p refl) nil
   one_is false a p = nil
 
@@ -110,7 +110,7 @@ module _ (t w : List ℕ) (n : ℕ) (h : ltb (first_beyond t w n) n ≡ false) w
     its_process k e = eqb-true (within w k) p (and_left _ _ (and_right (is_node (sort w k)) _ e))
 
     element_few : (k : ℕ) → k < n → is_element p w k && leb elements (count_before (is_element p w) k) ≡ false
-    unfolding is_one_too_many is_of if◌then◌else◌ count_before
+    unfolding is_one_too_many is_of if◌then◌or_else◌ count_before
     element_few k l = go (is_element p w k) refl
       where
         go : (b : Bool) → is_element p w k ≡ b → is_element p w k && leb elements (count_before (is_element p w) k) ≡ false

@@ -3,7 +3,7 @@
 use Rattle.std.specs.Prelude.{ℕ, not, List, map, eqb, ltb, length, replicate}
 use Rattle.base_words.specs.Blocks.{Bytes, Table, Drawing}
 use Rattle.base_words.specs.Each.{each}
-use Rattle.base_words.specs.Pick.{if◌then◌else◌}
+use Rattle.base_words.specs.Pick.{if◌then◌or_else◌}
 use Rattle.check_model.specs.Checks.{Pool, lowest}
 use Rattle.text_readers.specs.Reading.{excessive}
 use Rattle.text_read.specs.declared.Reading.{Reading}
@@ -44,8 +44,8 @@ checked_as ps = answer_for (lowest ps) (each has_room ps)
 unfoldable pub meant_by : Bytes → Drawing → ℕ → Reading
 meant_by text w n =
     if not (is_drawing text w n) then answer not_run 0
-    else if ltb (first_beyond text w n) n then answer excessive (beyond_at text w (first_beyond text w n))
-    else checked_as (content text w n)
+    or_else if ltb (first_beyond text w n) n then answer excessive (beyond_at text w (first_beyond text w n))
+    or_else checked_as (content text w n)
 
 -- what the walk meets, then with the ends of flows and the kinds of nodes
 unfoldable pub walked_text : Bytes → Walk
@@ -65,11 +65,11 @@ unless_fault (Fault q) a = answer not_xml q
 unfoldable pub answered : Bytes → Reading
 answered text =
     if ltb drawing_most (length text) then answer too_long 0
-    else unless_fault (walked_text text).end (meant_by text (things_of text) (walked_text text).count)
+    or_else unless_fault (walked_text text).end (meant_by text (things_of text) (walked_text text).count)
 
 -- a refusal leaves the table; else every word of it is the model's
 unfoldable pub filled_by : Reading → List Pool → Table → ReadInto
-filled_by a ps t = record { number = a.number; beside = a.beside; table = if eqb a.number 0 then table_of (map rewritten ps) else t }
+filled_by a ps t = record { number = a.number; beside = a.beside; table = if eqb a.number 0 then table_of (map rewritten ps) or_else t }
 
 unfoldable pub draw_into : Bytes → Table → ReadInto
 draw_into text t = filled_by (answered text) (content text (things_of text) (walked_text text).count) t

@@ -7,7 +7,7 @@ use native.Mathlib.Numerals.{add-one}
 use lib.ListN.{length, drop, take, drop_of_length-le}
 use lib.Seq.{drop-cons}
 use denote.Enum.Declared.{tag_of}
-use Rattle.base_words.specs.Pick.{if◌then◌else◌}
+use Rattle.base_words.specs.Pick.{if◌then◌or_else◌}
 use Rattle.base_words.specs.Words.{at, part}
 use Rattle.xml_markup.specs.contracts.Scan.{the_type as scan-type}
 use Rattle.xml_markup.specs.contracts.Whole.{the_type as whole-type}
@@ -45,16 +45,16 @@ module _ (t : List ℕ) (c : Cursor) (i b : ℕ) (w : Whole) (eb : b ≡ at t i)
 -- the byte at i, where the loop stands at c
 module _ (t : List ℕ) (c : Cursor) (i : ℕ) (h : i < length t) where
   pub another_here : differs_at t c i ≡ true → differs_from t c (drop i t) i ≡ true
-  unfolding differs_from if◌then◌else◌
+  unfolding differs_from if◌then◌or_else◌
   another_here e = rw (drop-cons t i 0 h, e)
 
   module _ (e : differs_at t c i ≡ false) (b : ℕ) (eb : b ≡ at t i) (r : Scan) (er : r ≡ moved c b i (i + 1)) where
     pub another_on : (next : Cursor) → r ≡ On next → differs_from t c (drop i t) i ≡ differs_from t next (drop (i + 1) t) (i + 1)
-    unfolding differs_from if_on if◌then◌else◌
+    unfolding differs_from if_on if◌then◌or_else◌
     another_on next m = rw (drop-cons t i 0 h, e, ← eb, ← er, m, add-one i)
 
     pub another_stops : ((v : Cursor) → r ≡ On v → ⊥) → differs_from t c (drop i t) i ≡ false
-    unfolding differs_from if◌then◌else◌
+    unfolding differs_from if◌then◌or_else◌
     another_stops m = rw (drop-cons t i 0 h, e, ← eb, ← er) (not_on _ _ _ m)
 
 -- bytes that are passed together

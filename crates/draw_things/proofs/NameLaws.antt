@@ -7,7 +7,7 @@ use native.Mathlib.Numerals.{add-one}
 use native.Mathlib.Omega.{arith}
 use lib.ListN.{length, get_or, take, drop, replicate, length-map, get_or-map, get_or-eq_default, drop_of_length-le}
 use lib.Seq.{drop-cons, take_at}
-use Rattle.base_words.specs.Pick.{if◌then◌else◌}
+use Rattle.base_words.specs.Pick.{if◌then◌or_else◌}
 use Rattle.base_words.specs.Words.{at, part}
 use Rattle.base_words.proofs.ListLaws.{get_d_in}
 use Rattle.base_bytes.specs.Bytes.{same_bytes}
@@ -63,11 +63,11 @@ module _ (name : List ℕ) (i : ℕ) (h : i < row_count) where
   split = drop-cons rows i unknown (rw rows_many h) ∙ rw (add-one i)
 
   pub row_here : same_bytes name (row_of i).name ≡ true → row_from name (drop i rows) i ≡ i
-  unfolding row_from if◌then◌else◌
+  unfolding row_from if◌then◌or_else◌
   row_here e = rw (split, e)
 
   pub row_on : same_bytes name (row_of i).name ≡ false → row_from name (drop i rows) i ≡ row_from name (drop (i + 1) rows) (i + 1)
-  unfolding row_from if◌then◌else◌
+  unfolding row_from if◌then◌or_else◌
   row_on e = rw (split, e)
 
 pub row_end : (name : List ℕ) (i : ℕ) → row_count ≤ i → row_from name (drop i rows) i ≡ i

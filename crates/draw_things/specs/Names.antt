@@ -2,7 +2,7 @@
 use Rattle.std.specs.Prelude.{ℕ, ◌+◌, ◌-◌, Bool, true, false, not, ◌&&◌, List, [], ◌∷◌, ◌++◌, map, eqb, leb, length, get_or, drop, replicate}
 use Prim.Native.String.{String}
 use Rattle.base_words.specs.Blocks.{Bytes}
-use Rattle.base_words.specs.Pick.{if◌then◌else◌}
+use Rattle.base_words.specs.Pick.{if◌then◌or_else◌}
 use Rattle.base_words.specs.Text.{bytes}
 use Rattle.base_words.specs.Words.{at, part}
 use Rattle.base_bytes.specs.Bytes.{same_bytes}
@@ -75,7 +75,7 @@ unknown = record { name = []; sort = stranger; parent = nothing }
 -- the row of a name, of those from row i on; behind them all where there is none
 unfoldable pub row_from : Bytes → List Row → ℕ → ℕ
 row_from name [] i = i
-row_from name (r ∷ rs) i = if same_bytes name r.name then i else row_from name rs (i + 1)
+row_from name (r ∷ rs) i = if same_bytes name r.name then i or_else row_from name rs (i + 1)
 
 unfoldable pub row_named : Bytes → ℕ
 row_named name = row_from name rows 0
@@ -92,18 +92,18 @@ padded name = name ++ replicate (24 - length name) 32
 unfoldable pub is_false : Bytes → Bool
 is_false name =
     if same_bytes name (bytes "instantiate") then true
-    else if same_bytes name (bytes "isForCompensation") then true
-    else same_bytes name (bytes "isCollection")
+    or_else if same_bytes name (bytes "isForCompensation") then true
+    or_else same_bytes name (bytes "isCollection")
 
 unfoldable pub is_one : Bytes → Bool
-is_one name = if same_bytes name (bytes "startQuantity") then true else same_bytes name (bytes "completionQuantity")
+is_one name = if same_bytes name (bytes "startQuantity") then true or_else same_bytes name (bytes "completionQuantity")
 
 unfoldable pub differs : Bytes → Bytes → Bool
 differs name value =
     if is_false name then not (same_bytes value (bytes "false"))
-    else if is_one name then not (same_bytes value (bytes "1"))
-    else if same_bytes name (bytes "eventGatewayType") then not (same_bytes value (bytes "Exclusive"))
-    else false
+    or_else if is_one name then not (same_bytes value (bytes "1"))
+    or_else if same_bytes name (bytes "eventGatewayType") then not (same_bytes value (bytes "Exclusive"))
+    or_else false
 
 unfoldable pub value_bytes : Bytes → Attribute → Bytes
 value_bytes t (Is from to) = part t from to
@@ -120,7 +120,7 @@ differs_at t c i = if_attribute (whole c.state (at t i)) (differs (part t c.mark
 -- in the tag that is read so far, with the bytes s from the place i on
 unfoldable pub differs_from : Bytes → Cursor → List ℕ → ℕ → Bool
 differs_from t c [] i = false
-differs_from t c (b ∷ s) i = if differs_at t c i then true else if_on (moved c (at t i) i (i + 1)) (λ next. differs_from t next s (i + 1)) false
+differs_from t c (b ∷ s) i = if differs_at t c i then true or_else if_on (moved c (at t i) i (i + 1)) (λ next. differs_from t next s (i + 1)) false
 
 unfoldable pub draws_another : Bytes → ℕ → Bool
 draws_another t p = differs_from t (begun p) (drop p t) p
@@ -129,11 +129,11 @@ unfoldable pub is_event : ℕ → Bool
 is_event s = leb start_event s && leb s intermediate_throw_event
 
 unfoldable pub family : ℕ → ℕ
-family s = if is_event s then event else s
+family s = if is_event s then event or_else s
 
 -- what a name with this row draws inside a thing of the sort `parent`
 unfoldable pub named_in : Row → ℕ → ℕ
-named_in r parent = if eqb r.sort nothing then nothing else if not (eqb r.parent (family parent)) then stranger else r.sort
+named_in r parent = if eqb r.sort nothing then nothing or_else if not (eqb r.parent (family parent)) then stranger or_else r.sort
 
 unfoldable pub named_at : ℕ → Bytes → ℕ → ℕ
 named_at parent t p = named_in (row_of (row_named (local_of (bytes_of t (name_at t p))))) parent
@@ -142,5 +142,5 @@ named_at parent t p = named_in (row_of (row_named (local_of (bytes_of t (name_at
 unfoldable pub drawn_as : ℕ → ℕ → Bytes → ℕ → ℕ
 drawn_as s parent t p =
     if not (eqb parent process) then s
-    else if draws_another t p then stranger
-    else s
+    or_else if draws_another t p then stranger
+    or_else s

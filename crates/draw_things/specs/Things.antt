@@ -1,7 +1,7 @@
 -- The things of a drawing, in the order in which they stand: a block of notes, five for each. Thing 0 is the root, so 0 is none where another thing is named.
 use Rattle.std.specs.Prelude.{ℕ, ◌+◌, ◌*◌, Bool, ◌&&◌, List, leb, ltb, set}
 use Rattle.base_words.specs.Blocks.{Drawing}
-use Rattle.base_words.specs.Pick.{if◌then◌else◌}
+use Rattle.base_words.specs.Pick.{if◌then◌or_else◌}
 use Rattle.base_words.specs.Words.{at}
 
 -- SORTS. Nothing: an element that is no thing.
@@ -140,11 +140,11 @@ greatest_note = 65535
 
 -- A place as a note; the greatest note stands for those above it, which no text of 65,536 bytes has.
 unfoldable pub narrow : ℕ → ℕ
-narrow p = if ltb p greatest_note then p else greatest_note
+narrow p = if ltb p greatest_note then p or_else greatest_note
 
 -- one more; the greatest note stays
 unfoldable pub one_more : ℕ → ℕ
-one_more n = if ltb n greatest_note then n + 1 else greatest_note
+one_more n = if ltb n greatest_note then n + 1 or_else greatest_note
 
 -- thing n added: of a sort, at a place, within a thing, with no source and no target yet
 unfoldable pub added : ℕ → ℕ → ℕ → Drawing → ℕ → Drawing

@@ -7,7 +7,7 @@ use native.Mathlib.Omega.{arith}
 use lib.Dec.{leb, eqb}
 use lib.ListN.{length}
 use borrow.Author.Tests.{le-leb, lt-leb}
-use Rattle.base_words.specs.Pick.{if◌then◌else◌}
+use Rattle.base_words.specs.Pick.{if◌then◌or_else◌}
 use Rattle.base_words.specs.Text.{bytes}
 use Rattle.base_words.specs.Words.{part}
 use Rattle.text_numerals.specs.Numerals.{number_of}
@@ -35,8 +35,8 @@ further_from : (p q : ℕ) (r : Reached) → p < q → Further q r → Further p
 further_from p q (Past x) h o = omega arith
 further_from p q (Fault x) h o = tt
 
-further_if : (p : ℕ) (b : Bool) (x y : Reached) → Further p x → Further p y → Further p (if b then x else y)
-unfolding if◌then◌else◌
+further_if : (p : ℕ) (b : Bool) (x y : Reached) → Further p x → Further p y → Further p (if b then x or_else y)
+unfolding if◌then◌or_else◌
 further_if p true x y h k = h
 further_if p false x y h k = k
 
@@ -66,8 +66,8 @@ unfolding tag_from
 entered_from p e (Past q) h = h
 entered_from p e (Fault q) h = tt
 
-entered_if : (p e : ℕ) (b : Bool) (x y : Tag) → Entered p e x → Entered p e y → Entered p e (if b then x else y)
-unfolding if◌then◌else◌
+entered_if : (p e : ℕ) (b : Bool) (x y : Tag) → Entered p e x → Entered p e y → Entered p e (if b then x or_else y)
+unfolding if◌then◌or_else◌
 entered_if p e true x y h k = h
 entered_if p e false x y h k = k
 
@@ -108,9 +108,9 @@ module _ (C : Content) (on : (o : Outer) (q : ℕ) (w : List ℕ) (n : ℕ) → 
       r : Walk
       r = thing_by C (named_at o.sort t p) (drawn_as (named_at o.sort t p) o.sort t p) t o.thing p w n
 
-      go : (b : Bool) → Further p (if b then walk_told (walked (Fault (length t)) n) w else by_part (part_at t o.tag p) r (C o) w n).end
-      go true = unfold if◌then◌else◌ walk_told in tt
-      go false = unfold if◌then◌else◌ in by_part_lem o (part_at t o.tag p) r (thing_on (named_at o.sort t p) (drawn_as (named_at o.sort t p) o.sort t p) o.thing) (part_onward t o.tag p)
+      go : (b : Bool) → Further p (if b then walk_told (walked (Fault (length t)) n) w or_else by_part (part_at t o.tag p) r (C o) w n).end
+      go true = unfold if◌then◌or_else◌ walk_told in tt
+      go false = unfold if◌then◌or_else◌ in by_part_lem o (part_at t o.tag p) r (thing_on (named_at o.sort t p) (drawn_as (named_at o.sort t p) o.sort t p) o.thing) (part_onward t o.tag p)
 
 in_on : (m : ℕ) (t : List ℕ) (o : Outer) (p : ℕ) (w : List ℕ) (n : ℕ) → Further p (content_in m t o p w n).end
 unfolding content_in walk_told
@@ -150,7 +150,7 @@ module _ (C D : Content) (on : (o : Outer) (q : ℕ) (w : List ℕ) (n : ℕ) �
 
 -- any two numbers of steps that are enough give the same
 stable : (m l : ℕ) (t : List ℕ) (o : Outer) (p : ℕ) (w : List ℕ) (n : ℕ) → length t ≤ p + m → length t ≤ p + l → content_in m t o p w n ≡ content_in l t o p w n
-unfolding content_in content_by if◌then◌else◌
+unfolding content_in content_by if◌then◌or_else◌
 stable zero zero t o p w n h k = refl
 stable zero (suc l) t o p w n h k = sym (rw (le-leb (length t) p (omega arith)))
 stable (suc m) zero t o p w n h k = rw (le-leb (length t) p (omega arith))
@@ -162,7 +162,7 @@ unfolding content_at content_in
 content_is t o p w n = stable (length t) (suc (length t)) t o p w n (omega arith) (omega arith)
 
 pub content_end : (t : List ℕ) (o : Outer) (p : ℕ) (w : List ℕ) (n : ℕ) → length t ≤ p → content_at t o p w n ≡ walk_told (walked (Fault (length t)) n) w
-unfolding content_by if◌then◌else◌
+unfolding content_by if◌then◌or_else◌
 content_end t o p w n h = content_is t o p w n ∙ rw (le-leb (length t) p h)
 
 -- the part at a place of content, as the loop meets it
@@ -171,7 +171,7 @@ part_past t tag p g eg q e = rw (← eg, e) at (part_onward t tag p)
 
 module _ (t : List ℕ) (o : Outer) (p : ℕ) (w : List ℕ) (n : ℕ) (in_text : p < length t) (g : Part) (eg : g ≡ part_at t o.tag p) where
   content_part : content_at t o p w n ≡ by_part g (thing_at (named_at o.sort t p) (drawn_as (named_at o.sort t p) o.sort t p) t o.thing p w n) (content_at t o) w n
-  unfolding content_by thing_at if◌then◌else◌
+  unfolding content_by thing_at if◌then◌or_else◌
   content_part = content_is t o p w n ∙ rw (lt-leb (length t) p in_text, ← eg)
 
   pub content_close : (q : ℕ) → g ≡ Close q → content_at t o p w n ≡ walk_told (walked (Past q) n) w

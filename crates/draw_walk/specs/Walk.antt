@@ -1,7 +1,7 @@
 -- ONE WALK THROUGH A DRAWING, from left to right, that stops at the first fault of the XML text (20) and notes what is drawn on the way. "An element that is not read into is skipped whole" (R11a). (RULES: skipping)
 use Rattle.std.specs.Prelude.{ℕ, zero, suc, Bool, true, false, ◌&&◌, List, ltb, leb, eqb, length}
 use Rattle.base_words.specs.Blocks.{Bytes, Drawing}
-use Rattle.base_words.specs.Pick.{if◌then◌else◌}
+use Rattle.base_words.specs.Pick.{if◌then◌or_else◌}
 use Rattle.base_words.specs.Text.{bytes}
 use Rattle.base_words.specs.Words.{part}
 use Rattle.text_numerals.specs.declared.Number.{Number}
@@ -46,8 +46,8 @@ is_number NotANumber = false
 unfoldable pub judged : Bytes → ℕ → ℕ → ℕ → Reached
 judged t p from to =
     if is_number (number_of (part t from to)) then skipped t p
-    else if leb (markup t p).next to then skipped t p
-    else Fault from
+    or_else if leb (markup t p).next to then skipped t p
+    or_else Fault from
 
 unfoldable pub multiplicity_by : Attribute → Bytes → ℕ → Reached
 multiplicity_by (Is from to) t p = judged t p from to
@@ -58,10 +58,10 @@ multiplicity t p = multiplicity_by (attribute t p (bytes "maximum")) t p
 
 -- "The same holds for elements of 21 and for the four read from their tag or text alone (participantMultiplicity, the two event definitions, conditionExpression)" (R11a) (RULES: skipping)
 unfoldable pub is_passed : ℕ → Bool
-is_passed s = if eqb s participant_multiplicity then true else leb condition_expression s && leb s stranger
+is_passed s = if eqb s participant_multiplicity then true or_else leb condition_expression s && leb s stranger
 
 unfoldable pub passed : ℕ → Bytes → ℕ → Reached
-passed s t p = if eqb s participant_multiplicity then multiplicity t p else skipped t p
+passed s t p = if eqb s participant_multiplicity then multiplicity t p or_else skipped t p
 
 unfoldable pub tag_from : Reached → Tag
 tag_from (Past q) = Empty q
@@ -71,15 +71,15 @@ tag_from (Fault q) = TagFault q
 unfoldable pub entered : ℕ → Bytes → ℕ → Tag
 entered s t p =
     if eqb s nothing then tag_from (skipped t p)
-    else if is_passed s then tag_from (passed s t p)
-    else tag_of (markup t p) p
+    or_else if is_passed s then tag_from (passed s t p)
+    or_else tag_of (markup t p) p
 
 -- it is noted where it is a thing: at p, within thing k, after n things
 unfoldable pub noted : ℕ → ℕ → ℕ → Drawing → ℕ → Drawing
-noted s p k w n = if eqb s nothing then w else added s p k w n
+noted s p k w n = if eqb s nothing then w or_else added s p k w n
 
 unfoldable pub counted : ℕ → ℕ → ℕ
-counted s n = if eqb s nothing then n else one_more n
+counted s n = if eqb s nothing then n or_else one_more n
 
 abbrev pub outer : ℕ → ℕ → ℕ → Outer
 outer s k p = record { sort = s; thing = k; tag = p }
@@ -115,7 +115,7 @@ by_part (PartFault q) element content w n = walk_told (walked (Fault q) n) w
 unfoldable pub content_by : Content → Bytes → Outer → ℕ → Drawing → ℕ → Walk
 content_by content t o p w n =
     if leb (length t) p then walk_told (walked (Fault (length t)) n) w
-    else by_part (part_at t o.tag p) (thing_by content (named_at o.sort t p) (drawn_as (named_at o.sort t p) o.sort t p) t o.thing p w n) (content o) w n
+    or_else by_part (part_at t o.tag p) (thing_by content (named_at o.sort t p) (drawn_as (named_at o.sort t p) o.sort t p) t o.thing p w n) (content o) w n
 
 -- the same, in m steps at most
 unfoldable pub content_in : ℕ → Bytes → Content

@@ -66,7 +66,7 @@ fn counted(s: Note, n: Note) -> Note
 }
 
 // An element at a place, walked as a sort and drawing d, within thing k, after n things.
-#[cycle(walk_content_walk_thing)]
+#[cycle(walking)]
 pub fn walk_thing(
     s: Note,
     d: Note,
@@ -102,7 +102,7 @@ pub fn walk_thing(
 }
 
 // The content of a thing from a place on, after n things.
-#[cycle(walk_content_walk_thing)]
+#[cycle(walking)]
 pub fn walk_content(text: &[u8], o: Outer, p: usize, w: &mut [Note], n: Note) -> Walked
     ensures { walk_told result w.new ≡ content_at text.now o p w.old n }
 {

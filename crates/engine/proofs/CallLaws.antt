@@ -8,7 +8,7 @@ use borrow.Author.Tests.{eqb-true, eq-eqb, ne_eqb, leb-true, leb-false, le-leb, 
 use lib.Dec.{eqb, leb}
 use lib.ListN.{length, drop, length-drop, take-append-drop}
 use lib.Seq.{length-take-le, get_or-take}
-use Rattle.base_words.specs.Pick.{if◌then◌else◌}
+use Rattle.base_words.specs.Pick.{if◌then◌or_else◌}
 use Rattle.base_words.specs.Counts.{text_most, names}
 use Rattle.base_words.proofs.AllLaws.{and_left, and_right}
 use Rattle.base_words.proofs.PickLaws.{pick_no, and_false_right}
@@ -46,21 +46,21 @@ use Rattle.write_buffer.specs.Buffers.{over, lesser, last_place}
 use Rattle.write_buffer.proofs.OverLaws.{over_all, lesser_is}
 
 -- a choice between a number and 10 that comes to 0
-passed_both : (b : Bool) (x : ℕ) → (if b then x else 10) ≡ 0 → (b ≡ true) × (x ≡ 0)
-unfolding if◌then◌else◌
+passed_both : (b : Bool) (x : ℕ) → (if b then x or_else 10) ≡ 0 → (b ≡ true) × (x ≡ 0)
+unfolding if◌then◌or_else◌
 passed_both true x e = (refl, e)
 passed_both false x e = absurd (omega arith)
 
 pub version_known : (v : ℕ) → version_number v ≡ 0 → is_version v ≡ true
-unfolding version_number if◌then◌else◌
+unfolding version_number if◌then◌or_else◌
 version_known v e = go (is_version v) e
   where
-    go : (b : Bool) → ◌≡◌ {A = ℕ} (if b then 0 else 25) 0 → b ≡ true
+    go : (b : Bool) → ◌≡◌ {A = ℕ} (if b then 0 or_else 25) 0 → b ≡ true
     go true d = refl
     go false d = absurd (omega (arith, d))
 
 pub version_right : (v : ℕ) → is_version v ≡ true → version_number v ≡ 0
-unfolding version_number if◌then◌else◌
+unfolding version_number if◌then◌or_else◌
 version_right v e = rw e
 
 -- 0, 25 or 10: what holds of each holds of the number of a lent table and state, and of that of a version asked for
@@ -121,7 +121,7 @@ module _ (t z : List ℕ) (l : length z ≡ state_words) (h : fitting t z ≡ tr
       posted_is (queues_of z) (long_queues z l) (λ m k. queue_tidy (queues_of z) m (state_queues t (instances_of z) (queues_of z) (state_fits_lem t z h) m k)) name g
 
   pub step_done : (n : Name) (r : Answer) (y : List ℕ) → Done (settled t (instances_of z) (queues_of z) n) r y → ◌≡◌ {A = Stepped} (record { answer = r; state = y }) (stepped t z n)
-  unfolding stepped leaving if◌then◌else◌
+  unfolding stepped leaving if◌then◌or_else◌
   step_done n r y d =
       let o : Done (step t (instances_of z) (queues_of z) n) r y = subst (λ (o : Outcome). Done o r y) (settled-step t (table_fits_lem t z h) (instances_of z) (queues_of z) lent_fits n) d in
       rw h (λ i. record { answer = o.answer i; state = o.state i })
@@ -129,7 +129,7 @@ module _ (t z : List ℕ) (l : length z ≡ state_words) (h : fitting t z ≡ tr
   pub post_done : (name : ℕ) (g : Tuple) (r : ℕ) (y : List ℕ)
       → (◌≡◌ {A = Posted} (record { number = r; queues = queues_of y }) (posted (queues_of z) name g)) × (instances_of y ≡ instances_of z)
       → ◌≡◌ {A = Left} (record { number = r; state = y }) (posted_to t z name g)
-  unfolding posted_to if◌then◌else◌
+  unfolding posted_to if◌then◌or_else◌
   post_done name g r y d =
       let e : ◌≡◌ {A = Posted} (record { number = r; queues = queues_of y }) (post (queues_of z) name g) = d.0 ∙ settled_post_lem name g in
       let n : r ≡ (post (queues_of z) name g).number = ap (λ (o : Posted). o.number) e in
@@ -138,13 +138,13 @@ module _ (t z : List ℕ) (l : length z ≡ state_words) (h : fitting t z ≡ tr
       rw h (λ i. record { number = n i; state = k i })
 
   pub list_done : (k : ℕ) (r : Listed) → r ≡ chosen (scanned t (instances_of z) (queues_of z)) k → r ≡ listed_at t z k
-  unfolding listed_at if◌then◌else◌
+  unfolding listed_at if◌then◌or_else◌
   list_done k r e = rw h (e ∙ ap (λ (ns : List Name). chosen ns k) (scanned_is t (instances_of z) (queues_of z) (table_fits_lem t z h) (checks_hold t z h)))
 
   pub run_done : (limit steps left : ℕ) (y : List ℕ)
       → ◌≡◌ {A = Run} (record { steps = steps; left = left; instances = instances_of y; queues = queues_of y }) (ran_by (scanned t) (settled t) limit (instances_of z) (queues_of z))
       → ◌≡◌ {A = RanTo} (record { number = 0; steps = steps; left = left; state = y }) (ran_to t z limit)
-  unfolding ran_to ended if◌then◌else◌
+  unfolding ran_to ended if◌then◌or_else◌
   run_done limit steps left y e =
       let d : ◌≡◌ {A = Run} (record { steps = steps; left = left; instances = instances_of y; queues = queues_of y }) (ran t limit (instances_of z) (queues_of z))
       = e ∙ run_is t (table_fits_lem t z h) (checks_hold t z h) limit (instances_of z) (queues_of z) lent_fits in
@@ -153,7 +153,7 @@ module _ (t z : List ℕ) (l : length z ≡ state_words) (h : fitting t z ≡ tr
 -- the number of a lent table and state
 module _ (t z : List ℕ) where
   pub lent_invalid : valid t ≡ false → 10 ≡ lent_number t z
-  unfolding lent_number if◌then◌else◌
+  unfolding lent_number if◌then◌or_else◌
   lent_invalid h = rw h
 
   pub lent_unfit : state_fits t (instances_of z) (queues_of z) ≡ false → 10 ≡ lent_number t z
@@ -162,21 +162,21 @@ module _ (t z : List ℕ) where
 
   -- v and k as the code has them
   pub lent_right : valid t ≡ true → state_fits t (instances_of z) (queues_of z) ≡ true → (v k : ℕ) → v ≡ version_of z → k ≡ version_number v → k ≡ lent_number t z
-  unfolding lent_number if◌then◌else◌
+  unfolding lent_number if◌then◌or_else◌
   lent_right f h v k e d = rw (f, h) (d ∙ ap version_number (e ∙ sym (get_or-take instances_words z version_at 0 (omega arith))))
 
   pub fitting_of : valid t ≡ true → state_fits t (instances_of z) (queues_of z) ≡ true → is_version (version_of (instances_of z)) ≡ true → fitting t z ≡ true
-  unfolding fitting lent_number if◌then◌else◌
+  unfolding fitting lent_number if◌then◌or_else◌
   fitting_of f h k = rw (f, h, version_right (version_of (instances_of z)) k)
 
 -- the number of a lent table and a version asked for
 module _ (t : List ℕ) (v : ℕ) where
   pub asked_invalid : valid t ≡ false → 10 ≡ asked_number t v
-  unfolding asked_number if◌then◌else◌
+  unfolding asked_number if◌then◌or_else◌
   asked_invalid h = rw h
 
   pub asked_right : valid t ≡ true → (k : ℕ) → k ≡ version_number v → k ≡ asked_number t v
-  unfolding asked_number if◌then◌else◌
+  unfolding asked_number if◌then◌or_else◌
   asked_right h k e = rw h e
 
   pub asked_good : valid t ≡ true → is_version v ≡ true → asked_number t v ≡ 0
@@ -204,34 +204,34 @@ module _ (t z : List ℕ) (k : ℕ) (e : k ≡ lent_number t z) where
 
     -- a table or a state that does not fit, or another version
     pub step_bad : (n : Name) (r : Answer) → r ≡ record { number = k; traffic = Nothing; name = 0; tuple = empty } → ◌≡◌ {A = Stepped} (record { answer = r; state = z }) (stepped t z n)
-    unfolding stepped if◌then◌else◌
+    unfolding stepped if◌then◌or_else◌
     step_bad n r d = rw (lent_bad, d, e)
 
     pub post_bad : (name : ℕ) (g : Tuple) → ◌≡◌ {A = Left} (record { number = k; state = z }) (posted_to t z name g)
-    unfolding posted_to if◌then◌else◌
+    unfolding posted_to if◌then◌or_else◌
     post_bad name g = rw (lent_bad, e)
 
     pub list_bad : (j : ℕ) (r : Listed) → r ≡ record { number = k; name = blank_name } → r ≡ listed_at t z j
-    unfolding listed_at if◌then◌else◌
+    unfolding listed_at if◌then◌or_else◌
     list_bad j r d = rw (lent_bad, d, e)
 
     pub run_bad : (limit : ℕ) → ◌≡◌ {A = RanTo} (record { number = k; steps = 0; left = 0; state = z }) (ran_to t z limit)
-    unfolding ran_to if◌then◌else◌
+    unfolding ran_to if◌then◌or_else◌
     run_bad limit = rw (lent_bad, e)
 
 -- a writing, by the length that was measured
 module _ (t out : List ℕ) where
   pub write_bad : valid t ≡ false → ◌≡◌ {A = WrittenTo} (record { number = 10; length = 0; buffer = out }) (written_to t out)
-  unfolding written_to if◌then◌else◌
+  unfolding written_to if◌then◌or_else◌
   write_bad h = rw h
 
   pub write_short : valid t ≡ true → leb (length (shown_table t)) (length out) ≡ false → ◌≡◌ {A = WrittenTo} (record { number = 5; length = 0; buffer = out }) (written_to t out)
-  unfolding written_to written if◌then◌else◌
+  unfolding written_to written if◌then◌or_else◌
   write_short h e = rw (h, lt-ltb (length out) (length (shown_table t)) (leb-false (length (shown_table t)) (length out) e))
 
   pub write_done : (r : ℕ) (y : List ℕ) → valid t ≡ true → leb (length (shown_table t)) (length out) ≡ true → r ≡ length (shown_table t) → y ≡ over (shown_table t) out
       → ◌≡◌ {A = WrittenTo} (record { number = 0; length = r; buffer = y }) (written_to t out)
-  unfolding written_to written if◌then◌else◌
+  unfolding written_to written if◌then◌or_else◌
   write_done r y h e l w =
       let k : length (shown_table t) ≤ length out = leb-true (length (shown_table t)) (length out) e in
       let v : y ≡ shown_table t ++ drop (length (shown_table t)) out = w ∙ over_all (shown_table t) out k in

@@ -8,7 +8,7 @@ use borrow.Author.Tests.{eqb-true, eqb-false, eq-eqb, ne_eqb, ltb-true, ltb-fals
 use lib.Dec.{eqb, ltb}
 use lib.ListN.{length}
 use lib.Seq.{take_at}
-use Rattle.base_words.specs.Pick.{if◌then◌else◌}
+use Rattle.base_words.specs.Pick.{if◌then◌or_else◌}
 use Rattle.base_words.proofs.ListLaws.{length-tab}
 use Rattle.base_table.specs.Table.{pool_count, pool_of}
 use Rattle.base_state.specs.Places.{instances_words, state_words}
@@ -40,7 +40,7 @@ pub number_lent : (k : ℕ) (rs : List (List ℕ)) (t s : List ℕ) → desk_num
 unfolding desk_number
 number_lent k rs t s e =
     by_test (eqb k 0) (λ d. eqb-true k 0 d)
-    (λ d. sym (passed (eqb k 0) (if agree rs t s then 0 else 26) k d) ∙ e)
+    (λ d. sym (passed (eqb k 0) (if agree rs t s then 0 or_else 26) k d) ∙ e)
 
 -- THE NUMBER r of what is lent, by that of table and state, k
 pub number_done : (t z : List ℕ) (rs : List (List ℕ)) (k r : ℕ)
@@ -74,11 +74,11 @@ module _ (t z : List ℕ) (rs : List (List ℕ)) (k : ℕ) (e : k ≡ records_nu
 
     pub step_refused : (n : Name) (r : Answer) → r ≡ record { number = k; traffic = Nothing; name = 0; tuple = empty }
         → ◌≡◌ {A = AtDesk Stepped} (record { done = record { answer = r; state = z }; records = rs }) (stepped_at t z rs n)
-    unfolding stepped_at at_desk if◌then◌else◌
+    unfolding stepped_at at_desk if◌then◌or_else◌
     step_refused n r d = rw (refused, d, e)
 
     pub run_refused : (limit : ℕ) → ◌≡◌ {A = AtDesk RanTo} (record { done = record { number = k; steps = 0; left = 0; state = z }; records = rs }) (ran_at t z rs limit)
-    unfolding ran_at at_desk if◌then◌else◌
+    unfolding ran_at at_desk if◌then◌or_else◌
     run_refused limit = rw (refused, e)
 
   lent : k ≡ 0 → lent_number t z ≡ 0
@@ -100,7 +100,7 @@ module _ (t z : List ℕ) (rs : List (List ℕ)) (k : ℕ) (e : k ≡ records_nu
       pub step_taken : (n : Name) (r : Answer) (y : List ℕ) (ys : List (List ℕ)) → Done (settled t (instances_of z) (queues_of z) n) r y
           → ys ≡ followed r.number rs (instances_of y) (pool_of t n.pool) n.instance
           → ◌≡◌ {A = AtDesk Stepped} (record { done = record { answer = r; state = y }; records = ys }) (stepped_at t z rs n)
-      unfolding stepped_at at_desk if◌then◌else◌
+      unfolding stepped_at at_desk if◌then◌or_else◌
       step_taken n r y ys d f =
           let o : ◌≡◌ {A = Stepped} (record { answer = r; state = y }) (stepped t z n) = step_done t z (l h) fits n r y d in
           let w : ys ≡ counted t (instances_of (stepped t z n).state)
@@ -114,7 +114,7 @@ module _ (t z : List ℕ) (rs : List (List ℕ)) (k : ℕ) (e : k ≡ records_nu
           → ◌≡◌ {A = Run} (record { steps = steps; left = left; instances = instances_of y; queues = queues_of y }) (ran_by (scanned t) (settled t) limit (instances_of z) (queues_of z))
           → ys ≡ records_left k rs t (instances_of y)
           → ◌≡◌ {A = AtDesk RanTo} (record { done = record { number = 0; steps = steps; left = left; state = y }; records = ys }) (ran_at t z rs limit)
-      unfolding ran_at at_desk records_left if◌then◌else◌
+      unfolding ran_at at_desk records_left if◌then◌or_else◌
       run_taken limit steps left y ys d f =
           let o : ◌≡◌ {A = RanTo} (record { number = 0; steps = steps; left = left; state = y }) (ran_to t z limit) = run_done t z (l h) fits limit steps left y d in
           let w : ys ≡ counted t (instances_of (ran_to t z limit).state)
@@ -133,14 +133,14 @@ module _ (t z : List ℕ) (rs : List (List ℕ)) (k : ℕ) (e : k ≡ records_nu
 
       -- nothing is done, j is the number
       untouched : (j : ℕ) → (j ≡ 0 → ⊥) → j ≡ poll_number t z rs count → record { number = j; accepted = 0; state = z } ≡ polled_from (settled_act t) k w count z → Taken
-      unfolding polled_at at_desk if◌then◌else◌
+      unfolding polled_at at_desk if◌then◌or_else◌
       untouched j n m p =
           let o : r ≡ record { number = j; accepted = 0; state = z } = d ∙ sym p in
           let u : ys ≡ rs = f ∙ ap (λ (x : Polling). records_left k rs t (instances_of x.state)) o ∙ left_alone in
           rw (← m, ne_eqb j 0 n) (λ i. record { done = o i; records = u i })
 
       all_few : ltb items_most count ≡ false → k ≡ 0 → Taken
-      unfolding polled_at poll_number at_desk records_left if◌then◌else◌
+      unfolding polled_at poll_number at_desk records_left if◌then◌or_else◌
       all_few few h =
           let o : r ≡ polled_to t z w count = d ∙ poll_done t z w count k (h ∙ sym (lent h)) l in
           let u : ys ≡ counted t (instances_of (polled_to t z w count).state)
@@ -148,7 +148,7 @@ module _ (t z : List ℕ) (rs : List (List ℕ)) (k : ℕ) (e : k ≡ records_nu
           rw (few, taken h) (λ i. record { done = o i; records = u i })
 
       pub poll_taken : Taken
-      unfolding poll_number if◌then◌else◌
+      unfolding poll_number if◌then◌or_else◌
       poll_taken =
           by_test (ltb items_most count)
           (λ many. untouched 22 (λ n. omega (arith, n)) (rw many) (too_many_lem (settled_act t) k w count z (ltb-true items_most count many)))

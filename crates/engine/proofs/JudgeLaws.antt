@@ -6,7 +6,7 @@ use mathlib.Core.List.{List}
 use lib.Dec.{eqb}
 use lib.ListN.{length}
 use borrow.Author.Tests.{eq-eqb, ne_eqb}
-use Rattle.base_words.specs.Pick.{if◌then◌else◌}
+use Rattle.base_words.specs.Pick.{if◌then◌or_else◌}
 use Rattle.base_state.specs.Places.{state_words}
 use Rattle.state_fits.specs.Fresh.{fresh}
 use Rattle.proof_steps.proofs.Choices.{by_choice}
@@ -45,11 +45,11 @@ module _ (t : List ℕ) where
   -- from the fresh state: k is the number of the table and the version asked for
   module _ (v : ℕ) (log : List ℕ) (k : ℕ) (e : k ≡ asked_number t v) where
     pub judge_bad : (k ≡ 0 → ⊥) → judgment k 0 0 ≡ judged_to t v log
-    unfolding judged_to if◌then◌else◌
+    unfolding judged_to if◌then◌or_else◌
     judge_bad h = let none : eqb (asked_number t v) 0 ≡ false = ne_eqb (asked_number t v) 0 (λ d. h (e ∙ d)) in rw (none, e)
 
     pub judge_done : (z : List ℕ) (r : Judged) → k ≡ 0 → z ≡ fresh t v → r ≡ judged_from (line_taken (settled_step t) settled_post) log z → r ≡ judged_to t v log
-    unfolding judged_to if◌then◌else◌
+    unfolding judged_to if◌then◌or_else◌
     judge_done z r h f d =
         let asked : asked_number t v ≡ 0 = sym e ∙ h in
         let good : eqb (asked_number t v) 0 ≡ true = eq-eqb (asked_number t v) 0 asked in
@@ -66,21 +66,21 @@ not_judged r k h e n = absurd (h (sym (ap (λ (j : Judged). j.number) e) ∙ n))
 -- WHAT IS KEPT of it: y where the run was lawful, else what was lent, z
 module _ (r j : Judged) (x z : List ℕ) (judged : r ≡ j) where
   pub kept_state : (y : List ℕ) → r.number ≡ 0 → (r.number ≡ 0 → y ≡ x) → ◌≡◌ {A = Replayed} (record { answer = r; state = y }) (kept_by j x z)
-  unfolding kept_by if◌then◌else◌
+  unfolding kept_by if◌then◌or_else◌
   kept_state y h left = let good : eqb j.number 0 ≡ true = eq-eqb j.number 0 (sym (ap (λ (d : Judged). d.number) judged) ∙ h) in rw (good, ← judged, left h)
 
   pub lent_state : (r.number ≡ 0 → ⊥) → ◌≡◌ {A = Replayed} (record { answer = r; state = z }) (kept_by j x z)
-  unfolding kept_by if◌then◌else◌
+  unfolding kept_by if◌then◌or_else◌
   lent_state h = let bad : eqb j.number 0 ≡ false = ne_eqb j.number 0 (λ d. h (ap (λ (d : Judged). d.number) judged ∙ d)) in rw (bad, ← judged)
 
 -- FROM THE LENT STATE: k is the number of table and state
 module _ (t z log : List ℕ) (k : ℕ) (e : k ≡ lent_number t z) where
   pub resume_bad : (k ≡ 0 → ⊥) → (r : Judged) → r ≡ judgment k 0 0 → ◌≡◌ {A = Replayed} (record { answer = r; state = z }) (resumed_to t z log)
-  unfolding resumed_to fitting if◌then◌else◌
+  unfolding resumed_to fitting if◌then◌or_else◌
   resume_bad h r d = let bad : eqb (lent_number t z) 0 ≡ false = ne_eqb (lent_number t z) 0 (λ x. h (e ∙ x)) in rw (bad, d, e)
 
   resumes : k ≡ 0 → resumed_to t z log ≡ kept_by (judged_from (line_taken (stepped t) (posted_to t)) log z) (left_to t log z) z
-  unfolding resumed_to fitting if◌then◌else◌
+  unfolding resumed_to fitting if◌then◌or_else◌
   resumes h = let good : eqb (lent_number t z) 0 ≡ true = eq-eqb (lent_number t z) 0 (sym e ∙ h) in rw good
 
   lent_valid : k ≡ 0 → length z ≡ state_words → Valid t z

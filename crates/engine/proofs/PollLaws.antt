@@ -4,7 +4,7 @@ use mathlib.Core.Path.{◌≡◌, refl, ◌∙◌, ap}
 use mathlib.Core.List.{List, [], ◌∷◌, ◌++◌}
 use lib.Dec.{eqb}
 use lib.ListN.{length}
-use Rattle.base_words.specs.Pick.{if◌then◌else◌}
+use Rattle.base_words.specs.Pick.{if◌then◌or_else◌}
 use Rattle.base_state.specs.Places.{state_words}
 use Rattle.base_state.specs.Instances.{instances_of, queues_of}
 use Rattle.meaning.specs.declared.Name.{Name}
@@ -29,7 +29,7 @@ module _ (t : List ℕ) where
         step_done t z v.long v.fits n o.answer (o.instances ++ o.queues) (record { answer = refl; state = refl })
 
     pub same_post : (name : ℕ) (g : Tuple) → settled_post z name g ≡ posted_to t z name g
-    unfolding settled_post posted_to if◌then◌else◌
+    unfolding settled_post posted_to if◌then◌or_else◌
     same_post name g = rw (v.fits, settled_post_lem t z v.long v.fits name g)
 
   settled-did : (a : Act) (z : List ℕ) → Valid t z → settled_act t a z ≡ did t a z

@@ -1,7 +1,7 @@
 -- CALLS ONE AFTER THE OTHER: t is a table, z a state.
 use Rattle.std.specs.Prelude.{ℕ, ◌≡◌, Bool, true, ◌&&◌, List, [], ◌∷◌, eqb, length}
 use Rattle.base_words.specs.Blocks.{Block, Bytes, Table, State}
-use Rattle.base_words.specs.Pick.{if◌then◌else◌}
+use Rattle.base_words.specs.Pick.{if◌then◌or_else◌}
 use Rattle.base_state.specs.Places.{state_words}
 use Rattle.meaning.specs.declared.Name.{Name}
 use Rattle.meaning.specs.declared.Tuple.{Tuple}
@@ -44,4 +44,4 @@ polled_to t z w count = polled_from (did t) (lent_number t z) w count z
 -- 10 and 25 go before 23 and 24 (RULES: lawful)
 unfoldable pub judged_to : Table → ℕ → Bytes → Judged
 judged_to t v log =
-    if eqb (asked_number t v) 0 then judged_from (line_taken (stepped t) (posted_to t)) log (fresh t v) else judgment (asked_number t v) 0 0
+    if eqb (asked_number t v) 0 then judged_from (line_taken (stepped t) (posted_to t)) log (fresh t v) or_else judgment (asked_number t v) 0 0

@@ -1,7 +1,7 @@
 -- FIGURES FOR THE ROUTE DESK: the calls that take steps, with the list of pool records rs that the desk lends; t is a table, z a state.
 use Rattle.std.specs.Prelude.{ℕ, List, eqb, ltb}
 use Rattle.base_words.specs.Blocks.{Records, Block, Table, State}
-use Rattle.base_words.specs.Pick.{if◌then◌else◌}
+use Rattle.base_words.specs.Pick.{if◌then◌or_else◌}
 use Rattle.base_state.specs.Instances.{instances_of}
 use Rattle.meaning.specs.declared.Name.{Name}
 use Rattle.meaning.specs.declared.Traffic.TheVariants.{Nothing}
@@ -23,7 +23,7 @@ pub record AtDesk (A : Type 0) : Type 0 where
 
 -- k is the number that refuses what is lent: where it is 0 the call, x what it does and y the state that it leaves, and "they always equal what a count over the state gives"; else r, and the records stay (RULES: figures)
 unfoldable pub at_desk : {A : Type 0} → ℕ → Block → A → List ℕ → A → List (List ℕ) → AtDesk A
-at_desk k t x y r rs = if eqb k 0 then record { done = x; records = counted t (instances_of y) } else record { done = r; records = rs }
+at_desk k t x y r rs = if eqb k 0 then record { done = x; records = counted t (instances_of y) } or_else record { done = r; records = rs }
 
 -- A STEP: 10, 25, 26, then 11 to 18
 unfoldable pub stepped_at : Table → State → Records → Name → AtDesk Stepped
@@ -39,7 +39,7 @@ ran_at t z rs limit =
 
 -- A WHOLE POLL: 22, 10, 25, 26, then its items; the records are those of the accepted part
 unfoldable pub poll_number : Table → State → Records → ℕ → ℕ
-poll_number t z rs count = if ltb items_most count then 22 else records_number t z rs
+poll_number t z rs count = if ltb items_most count then 22 or_else records_number t z rs
 
 unfoldable pub polled_at : Table → State → Records → Block → ℕ → AtDesk Polling
 polled_at t z rs w count =

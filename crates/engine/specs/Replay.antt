@@ -1,7 +1,7 @@
 -- THE STATE THAT A LOG LEAVES: the run that it tells is judged, and where it was lawful the state is the one that its last event left; else what was lent stays.
 use Rattle.std.specs.Prelude.{ℕ, List, eqb}
 use Rattle.base_words.specs.Blocks.{Bytes, Table, State}
-use Rattle.base_words.specs.Pick.{if◌then◌else◌}
+use Rattle.base_words.specs.Pick.{if◌then◌or_else◌}
 use Rattle.state_fits.specs.Fresh.{fresh}
 use Rattle.log_text.specs.Logs.{lines_of}
 use Rattle.log_judge.specs.declared.Judged.{Judged}
@@ -15,7 +15,7 @@ pub record Replayed : Type 0 where
 
 -- y is the state that the lines leave, z the one that was lent
 unfoldable pub kept_by : Judged → State → State → Replayed
-kept_by j y z = if eqb j.number 0 then record { answer = j; state = y } else record { answer = j; state = z }
+kept_by j y z = if eqb j.number 0 then record { answer = j; state = y } or_else record { answer = j; state = z }
 
 -- the lines of a log one after the other, by the public calls
 unfoldable pub left_to : Table → Bytes → State → State
@@ -29,4 +29,4 @@ replayed_to t v log z = kept_by (judged_to t v log) (left_to t log (fresh t v)) 
 unfoldable pub resumed_to : Table → State → Bytes → Replayed
 resumed_to t z log =
     if fitting t z then kept_by (judged_from (line_taken (stepped t) (posted_to t)) log z) (left_to t log z) z
-    else record { answer = judgment (lent_number t z) 0 0; state = z }
+    or_else record { answer = judgment (lent_number t z) 0 0; state = z }

@@ -8,7 +8,7 @@ use denote.Enum.Declared.{tag_of}
 use lib.ListN.{length}
 use lib.Seq.{take-nil}
 use Rattle.base_words.specs.Sum.{one_if}
-use Rattle.base_words.specs.Pick.{if◌then◌else◌}
+use Rattle.base_words.specs.Pick.{if◌then◌or_else◌}
 use Rattle.base_words.specs.Words.{part}
 use Rattle.base_state.specs.Instances.{instances_of, queues_of}
 use Rattle.meaning.specs.declared.Answer.{Answer}
@@ -43,14 +43,14 @@ module _ (m : ℕ) (g : Tuple) (t z w y : List ℕ) (e : Line) (said : e ≡ ent
   pub post_took : (k : ℕ) (r : Noted) → e.posts ≡ true
       → (◌≡◌ {A = Posted} (record { number = k; queues = queues_of y }) (posted (queues_of z) e.name.pool e.name.given)) × (instances_of y ≡ instances_of z)
       → r ≡ entry_noted m g (post_gave e.name.pool e.name.given k) → Took r
-  unfolding act_of entry_by state_by if◌then◌else◌
+  unfolding act_of entry_by state_by if◌then◌or_else◌
   post_took k r p d q =
       let l : record { number = k; state = y } ≡ settled_post z e.name.pool e.name.given = post_left z y e.name.pool e.name.given k d in
       rw (← said, p)
       (q ∙ ap (λ (x : Left). entry_noted m g (post_gave e.name.pool e.name.given x.number)) l, ap (λ (x : Left). x.state) l)
 
   pub step_took : (a : Answer) (r : Noted) → e.posts ≡ false → Done (settled t (instances_of z) (queues_of z) e.name) a y → r ≡ entry_noted m g (step_gave e.name a) → Took r
-  unfolding act_of entry_by state_by if◌then◌else◌
+  unfolding act_of entry_by state_by if◌then◌or_else◌
   step_took a r p d q =
       let l : record { answer = a; state = y } ≡ settled_step t z e.name = step_left t z y e.name a d in
       rw (← said, p)
@@ -153,7 +153,7 @@ module _ (step : List ℕ → Name → Stepped) (post : List ℕ → ℕ → Tup
     tell_full e = comes_none (lines_in left t c) b z r y inv (ap (λ (k : ℕ). acts_of (lines_in left t c) k) e)
 
     module _ (some : 0 < left) (v : Move) (next : v ≡ advance t c) where
-      pub tell_stop : ((v : Cursor) → v ≡ On v → ⊥) → Ends
+      pub tell_stop : ((w : Cursor) → v ≡ On w → ⊥) → Ends
       tell_stop o = none (lines_stop t c left some v next o)
 
       module _ (d : Cursor) (on : v ≡ On d) (closed : Bool) (closes : closed ≡ closes_event c.level d.level) where
@@ -174,7 +174,7 @@ module _ (step : List ℕ → Name → Stepped) (post : List ℕ → ℕ → Tup
     pub tell_start : (c : Cursor) → v ≡ On c → (r : Telling) (y : List ℕ) → r ≡ onward m g (nothing_told most) (told_by step post (acts_of (lines_from t c) most) z) → y ≡ left_by step post (acts_of (lines_from t c) most) z → Whole r y
     tell_start c on r y e s = subst (λ (ws : List (List ℕ)). (r ≡ onward m g (nothing_told most) (told_by step post (acts_of ws most) z)) × (y ≡ left_by step post (acts_of ws most) z)) (lines_begin t v first c on) (e, s)
 
-    pub tell_none : ((v : Cursor) → v ≡ On v → ⊥) → (r : Telling) → r ≡ nothing_told most → Whole r z
+    pub tell_none : ((w : Cursor) → v ≡ On w → ⊥) → (r : Telling) → r ≡ nothing_told most → Whole r z
     unfolding told_by left_by
     tell_none o r e =
         let none : acts_of (lines_of t) most ≡ [] = ap (λ (ws : List (List ℕ)). acts_of ws most) (sym (lines_unbegun t v first o)) ∙ take-nil most in

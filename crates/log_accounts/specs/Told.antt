@@ -1,7 +1,7 @@
 -- WHAT A LOG TELLS of a name and a tuple: its events as calls in turn, by a way to do one step and one post, with the answers that they give. "for each name and tuple the four numbers". w is a line, z a state.
 use Rattle.std.specs.Prelude.{ℕ, ◌+◌, ◌-◌, List, [], ◌∷◌, map, length, take}
 use Rattle.base_words.specs.Blocks.{Bytes, State}
-use Rattle.base_words.specs.Pick.{if◌then◌else◌}
+use Rattle.base_words.specs.Pick.{if◌then◌or_else◌}
 use Rattle.meaning.specs.declared.Name.{Name}
 use Rattle.meaning.specs.declared.Tuple.{Tuple}
 use Rattle.step_poll.specs.Items.{Act, a_step, a_post}
@@ -16,7 +16,7 @@ use Rattle.log_accounts.specs.declared.Told.{Told}
 
 -- the step or post that a line names
 unfoldable pub act_of : Bytes → Act
-act_of w = if (entry_of w).posts then a_post (entry_of w).name.pool (entry_of w).name.given else a_step (entry_of w).name
+act_of w = if (entry_of w).posts then a_post (entry_of w).name.pool (entry_of w).name.given or_else a_step (entry_of w).name
 
 -- THE HISTORY of the first `most` events, and the state that they leave
 abbrev pub acts_of : List Bytes → ℕ → List Act

@@ -6,7 +6,7 @@ use mathlib.Core.List.{List, [], ◌∷◌, ◌++◌}
 use native.Mathlib.Omega.{arith}
 use lib.Dec.{eqb}
 use lib.ListN.{length, take}
-use Rattle.base_words.specs.Pick.{if◌then◌else◌}
+use Rattle.base_words.specs.Pick.{if◌then◌or_else◌}
 use Rattle.xml_skip.specs.declared.Reached.{Reached}
 use Rattle.log_text.specs.Logs.{scan, lines_of}
 use Rattle.log_judge.specs.declared.Judged.{Judged}
@@ -16,18 +16,18 @@ module _ (give : List ℕ → List ℕ → Taking) where
   -- a line that is accepted and true
   taken_on : (w : List ℕ) (rest : List (List ℕ)) (k : ℕ) (z : List ℕ) → eqb (give w z).number 0 ≡ true → (give w z).right ≡ true
       → judged_by give (w ∷ rest) k z ≡ judged_by give rest (k + 1) (give w z).state
-  unfolding judged_by if◌then◌else◌
+  unfolding judged_by if◌then◌or_else◌
   taken_on w rest k z a b = rw (a, b)
 
   -- "a lawful log stays lawful when its last events are left out"
   pub lawful_before : (xs ys : List (List ℕ)) (k : ℕ) (z : List ℕ) → judged_by give (xs ++ ys) k z ≡ lawful → judged_by give xs k z ≡ lawful
-  unfolding judged_by if◌then◌else◌
+  unfolding judged_by if◌then◌or_else◌
   lawful_before [] ys k z h = refl
   lawful_before (w ∷ xs) ys k z h = go (eqb (give w z).number 0) (give w z).right (lawful_before xs ys (k + 1) (give w z).state) h
     where
       go : (a b : Bool) → (judged_by give (xs ++ ys) (k + 1) (give w z).state ≡ lawful → judged_by give xs (k + 1) (give w z).state ≡ lawful)
-          → (if a then if b then judged_by give (xs ++ ys) (k + 1) (give w z).state else judgment 24 k 0 else judgment 24 k (give w z).number) ≡ lawful
-          → (if a then if b then judged_by give xs (k + 1) (give w z).state else judgment 24 k 0 else judgment 24 k (give w z).number) ≡ lawful
+          → (if a then if b then judged_by give (xs ++ ys) (k + 1) (give w z).state or_else judgment 24 k 0 or_else judgment 24 k (give w z).number) ≡ lawful
+          → (if a then if b then judged_by give xs (k + 1) (give w z).state or_else judgment 24 k 0 or_else judgment 24 k (give w z).number) ≡ lawful
       go true true later e = later e
       go true false later e = e
       go false b later e = e
@@ -49,13 +49,13 @@ module _ (give : List ℕ → List ℕ → Taking) where
       (omega (arith, f.0), omega (arith, one, f.1), ap (λ (n : ℕ). judged_by give (take n (w ∷ xs)) k z) one ∙ taken_on w (take (j - (k + 1)) xs) k z a b ∙ f.2)
 
   pub first_at_fault : (xs : List (List ℕ)) (k : ℕ) (z : List ℕ) (j own : ℕ) → judged_by give xs k z ≡ judgment 24 j own → First xs k z j
-  unfolding judged_by if◌then◌else◌
+  unfolding judged_by if◌then◌or_else◌
   first_at_fault [] k z j own h = absurd (omega (arith, ap (λ (d : Judged). d.number) h))
   first_at_fault (w ∷ xs) k z j own h = go (eqb (give w z).number 0) (give w z).right refl refl (first_at_fault xs (k + 1) (give w z).state j own) h
     where
       go : (a b : Bool) → eqb (give w z).number 0 ≡ a → (give w z).right ≡ b
           → (judged_by give xs (k + 1) (give w z).state ≡ judgment 24 j own → First xs (k + 1) (give w z).state j)
-          → (if a then if b then judged_by give xs (k + 1) (give w z).state else judgment 24 k 0 else judgment 24 k (give w z).number) ≡ judgment 24 j own
+          → (if a then if b then judged_by give xs (k + 1) (give w z).state or_else judgment 24 k 0 or_else judgment 24 k (give w z).number) ≡ judgment 24 j own
           → First (w ∷ xs) k z j
       go true true ea eb later e = later_on w xs k z j ea eb (later e)
       go true false ea eb later e = here w xs k z j (ap (λ (d : Judged). d.beside) e)

@@ -7,7 +7,7 @@ use native.Mathlib.Omega.{arith}
 use denote.Enum.Declared.{tag_of}
 use borrow.Author.Tests.{ne_eqb}
 use lib.ListN.{length, take}
-use Rattle.base_words.specs.Pick.{if◌then◌else◌}
+use Rattle.base_words.specs.Pick.{if◌then◌or_else◌}
 use Rattle.base_words.specs.Words.{part}
 use Rattle.base_words.proofs.PickLaws.{flag_yes, flag_no}
 use Rattle.base_state.specs.Instances.{instances_of, queues_of}
@@ -51,13 +51,13 @@ module _ (t z w y : List ℕ) (e : Entry) (said : e ≡ entry_of w) where
   pub post_taken : (r : ℕ) → e.posts ≡ true
       → (◌≡◌ {A = Posted} (record { number = r; queues = queues_of y }) (posted (queues_of z) e.name.pool e.name.given)) × (instances_of y ≡ instances_of z)
       → ◌≡◌ {A = Taking} (record { number = r; right = true; state = y }) (line_taken (settled_step t) settled_post w z)
-  unfolding line_taken taken_by if◌then◌else◌
+  unfolding line_taken taken_by if◌then◌or_else◌
   post_taken r p d =
       rw (← said, p) (ap (λ (x : Left). record { number = x.number; right = true; state = x.state }) (post_left z y e.name.pool e.name.given r d))
 
   pub step_taken : (a : Answer) (b : Bool) → e.posts ≡ false → Done (settled t (instances_of z) (queues_of z) e.name) a y → b ≡ same_bytes (step_line e.name a) w
       → ◌≡◌ {A = Taking} (record { number = a.number; right = b; state = y }) (line_taken (settled_step t) settled_post w z)
-  unfolding line_taken taken_by if◌then◌else◌
+  unfolding line_taken taken_by if◌then◌or_else◌
   step_taken a b p d q =
       rw (← said, p, q)
       (ap (λ (x : Stepped). record { number = x.answer.number; right = same_bytes (step_line e.name x.answer) w; state = x.state }) (step_left t z y e.name a d))
@@ -66,15 +66,15 @@ module _ (t z w y : List ℕ) (e : Entry) (said : e ≡ entry_of w) where
 module _ (give : List ℕ → List ℕ → Taking) (w : List ℕ) (rest : List (List ℕ)) (k : ℕ) (z : List ℕ) (r : ℕ) (b : Bool) (y : List ℕ)
     (e : ◌≡◌ {A = Taking} (record { number = r; right = b; state = y }) (give w z)) where
   first_refused : (r ≡ 0 → ⊥) → judgment 24 k r ≡ judged_by give (w ∷ rest) k z
-  unfolding judged_by if◌then◌else◌
+  unfolding judged_by if◌then◌or_else◌
   first_refused h = rw (← e, ne_eqb r 0 h)
 
   first_untrue : r ≡ 0 → b ≡ false → judgment 24 k 0 ≡ judged_by give (w ∷ rest) k z
-  unfolding judged_by if◌then◌else◌
+  unfolding judged_by if◌then◌or_else◌
   first_untrue h n = rw (← e, h, n)
 
   first_true : r ≡ 0 → b ≡ true → judged_by give rest (k + 1) y ≡ judged_by give (w ∷ rest) k z
-  unfolding judged_by if◌then◌else◌
+  unfolding judged_by if◌then◌or_else◌
   first_true h n = rw (← e, h, n)
 
 -- no line is left

@@ -5,7 +5,7 @@ use mathlib.Core.Bool.{Bool, true, false, not}
 use mathlib.Core.List.{List, [], ◌∷◌}
 use native.Mathlib.Omega.{arith}
 use denote.Enum.Declared.{tag_of}
-use Rattle.base_words.specs.Pick.{if◌then◌else◌}
+use Rattle.base_words.specs.Pick.{if◌then◌or_else◌}
 use Rattle.base_words.specs.Words.{part}
 use Rattle.base_words.proofs.PickLaws.{flag_yes, flag_no}
 use Rattle.log_text.specs.declared.Cursor.{Cursor}
@@ -37,7 +37,7 @@ module _ (t : List ℕ) (m : Move) (first : m ≡ start t) where
 
 -- m is the reader's next move
 module _ (t : List ℕ) (c : Cursor) (left : ℕ) (some : 0 < left) (m : Move) (next : m ≡ advance t c) where
-  lines_by : lines_in left t c ≡ by_move m (λ d. if closes_event c.level d.level then line_of t d ∷ lines_in (left - 1) t d else lines_in (left - 1) t d) (λ d. []) (λ q. [])
+  lines_by : lines_in left t c ≡ by_move m (λ d. if closes_event c.level d.level then line_of t d ∷ lines_in (left - 1) t d or_else lines_in (left - 1) t d) (λ d. []) (λ q. [])
   unfolding lines_in
   lines_by =
       let e : left ≡ suc (left - 1) = omega (arith, some) in
@@ -48,9 +48,9 @@ module _ (t : List ℕ) (c : Cursor) (left : ℕ) (some : 0 < left) (m : Move) (
 
   module _ (d : Cursor) (on : m ≡ On d) (closed : Bool) (closes : closed ≡ closes_event c.level d.level) where
     pub lines_pass : not closed ≡ true → lines_in left t c ≡ lines_in (left - 1) t d
-    unfolding by_move if◌then◌else◌
+    unfolding by_move if◌then◌or_else◌
     lines_pass h = lines_by ∙ rw (on, flag_no closed (closes_event c.level d.level) closes h)
 
     pub lines_next : not closed ≡ false → (w : List ℕ) → w ≡ part t d.from d.to → lines_in left t c ≡ w ∷ lines_in (left - 1) t d
-    unfolding by_move if◌then◌else◌ line_of
+    unfolding by_move if◌then◌or_else◌ line_of
     lines_next h w here = lines_by ∙ rw (on, flag_yes closed (closes_event c.level d.level) closes h, here)

@@ -2,7 +2,7 @@
 -- true. Otherwise name the first event at fault." z is a state, w an event's line. (RULES: lawful)
 use Rattle.std.specs.Prelude.{ℕ, ◌+◌, Bool, true, List, [], ◌∷◌, eqb}
 use Rattle.base_words.specs.Blocks.{Bytes, State}
-use Rattle.base_words.specs.Pick.{if◌then◌else◌}
+use Rattle.base_words.specs.Pick.{if◌then◌or_else◌}
 use Rattle.meaning.specs.declared.Name.{Name}
 use Rattle.meaning.specs.declared.Tuple.{Tuple}
 use Rattle.base_bytes.specs.Bytes.{same_bytes}
@@ -26,7 +26,7 @@ unfoldable pub taken_by : (State → Name → Stepped) → (State → ℕ → Tu
 taken_by step post e w z =
     if e.posts then
     record { number = (post z e.name.pool e.name.given).number; right = true; state = (post z e.name.pool e.name.given).state }
-    else
+    or_else
     record { number = (step z e.name).answer.number; right = same_bytes (step_line e.name (step z e.name).answer) w; state = (step z e.name).state }
 
 unfoldable pub line_taken : (State → Name → Stepped) → (State → ℕ → Tuple → Left) → Bytes → State → Taking
@@ -43,8 +43,8 @@ unfoldable pub judged_by : (Bytes → State → Taking) → List (List ℕ) → 
 judged_by take [] k z = lawful
 judged_by take (w ∷ rest) k z =
     if eqb (take w z).number 0 then
-    if (take w z).right then judged_by take rest (k + 1) (take w z).state else judgment 24 k 0
-    else judgment 24 k (take w z).number
+    if (take w z).right then judged_by take rest (k + 1) (take w z).state or_else judgment 24 k 0
+    or_else judgment 24 k (take w z).number
 
 -- the state that the lines leave, one after the other
 unfoldable pub left_by_lines : (Bytes → State → Taking) → List (List ℕ) → State → State

@@ -10,7 +10,7 @@ use lib.Dec.{leb, ltb}
 use lib.ListN.{length, set}
 use denote.Enum.Declared.{tag_of}
 use borrow.Author.Tests.{le-leb, lt-leb, eq-eqb, ne_eqb}
-use Rattle.base_words.specs.Pick.{if◌then◌else◌}
+use Rattle.base_words.specs.Pick.{if◌then◌or_else◌}
 use Rattle.base_words.specs.Text.{bytes}
 use Rattle.base_words.specs.Words.{at, part}
 use Rattle.base_words.proofs.PickLaws.{pick_yes, pick_no}
@@ -71,12 +71,12 @@ module _ (w : List ℕ) (q : ℕ) (g : Tuple) where
       value_is a b = is_value (number_up_to (code ",") w q) a b v (sym ex ∙ ev)
 
       pub values_last : (n : ℕ) → 0 < n → length w ≤ e → values_in n w q g ≡ given true more
-      unfolding values_in if◌then◌else◌
+      unfolding values_in if◌then◌or_else◌
       values_last zero k h = absurd (not-suc-le-zero k)
       values_last (suc n) k h = value_is _ _ ∙ rw (← ee, le-leb (length w) e h, em)
 
       pub values_next : (n : ℕ) → 0 < n → e < length w → values_in n w q g ≡ values_in (n - 1) w (e + 1) more
-      unfolding values_in if◌then◌else◌
+      unfolding values_in if◌then◌or_else◌
       values_next zero k h = absurd (not-suc-le-zero k)
       values_next (suc n) k h = let m : suc n - 1 ≡ n = omega arith in value_is _ _ ∙ rw (m, ← ee, lt-leb (length w) e h, em)
 

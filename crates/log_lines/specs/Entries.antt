@@ -2,7 +2,7 @@
 use Prim.Native.Char.{code}
 use Rattle.std.specs.Prelude.{ℕ, zero, suc, ◌+◌, Bool, true, false, ◌&&◌, leb, ltb, eqb, length, set}
 use Rattle.base_words.specs.Blocks.{Bytes}
-use Rattle.base_words.specs.Pick.{if◌then◌else◌}
+use Rattle.base_words.specs.Pick.{if◌then◌or_else◌}
 use Rattle.base_words.specs.Text.{bytes}
 use Rattle.base_words.specs.Words.{at, part, one_more}
 use Rattle.meaning.specs.declared.Name.{Name}
@@ -60,12 +60,12 @@ unfoldable pub values_in : ℕ → Bytes → ℕ → Tuple → Given
 values_in zero w p g = given false empty
 values_in (suc n) w p g =
     if_value (number_up_to (code ",") w p)
-    (λ v. if leb (length w) (run (NotByte (code ",")) w p) then given true (added g v) else values_in n w (run (NotByte (code ",")) w p + 1) (added g v))
+    (λ v. if leb (length w) (run (NotByte (code ",")) w p) then given true (added g v) or_else values_in n w (run (NotByte (code ",")) w p + 1) (added g v))
     (given false empty)
 
 -- "possibly none"; each value passes a byte, so the entry's length is enough steps
 unfoldable pub values_from : Bytes → ℕ → Given
-values_from w p = if leb (length w) p then given true empty else values_in (length w) w p empty
+values_from w p = if leb (length w) p then given true empty or_else values_in (length w) w p empty
 
 -- "M:V"
 unfoldable pub message_from : Bytes → ℕ → Message
@@ -80,9 +80,9 @@ message_from w p =
 unfoldable pub traffic_from : Bytes → ℕ → Given
 traffic_from w p =
     if same_bytes (part w p (length w)) (bytes "-") then given true empty
-    else if eqb (at w p) (code "!") then given (message_from w (after w p)).right empty
-    else if eqb (at w p) (code "?") then given (message_from w (after w p)).right (message_from w (after w p)).tuple
-    else given false empty
+    or_else if eqb (at w p) (code "!") then given (message_from w (after w p)).right empty
+    or_else if eqb (at w p) (code "?") then given (message_from w (after w p)).right (message_from w (after w p)).tuple
+    or_else given false empty
 
 -- where the k-th of the numbers stands, and the number
 unfoldable pub number_place : Bytes → ℕ → ℕ
@@ -118,14 +118,14 @@ unfoldable pub step_entry : Bytes → Entry
 step_entry w =
     if all_right (five_placed w) && (traffic_from w (number_place w 5)).right then
     record { right = true; posts = false; name = name_of (five_placed w) (traffic_from w (number_place w 5)).tuple }
-    else no_entry
+    or_else no_entry
 
 -- a post has its message's name in place of the pool
 abbrev pub post_name : Message → Name
 post_name m = record { pool = m.name; instance = 0; element = 0; phase = 0; branch = 0; given = m.tuple }
 
 unfoldable pub post_entry : Bytes → Entry
-post_entry w = if (message_from w 5).right then record { right = true; posts = true; name = post_name (message_from w 5) } else no_entry
+post_entry w = if (message_from w 5).right then record { right = true; posts = true; name = post_name (message_from w 5) } or_else no_entry
 
 unfoldable pub entry_of : Bytes → Entry
-entry_of w = if begins_at w 0 (bytes "post ") then post_entry w else step_entry w
+entry_of w = if begins_at w 0 (bytes "post ") then post_entry w or_else step_entry w

@@ -6,7 +6,7 @@ use native.Mathlib.Omega.{arith}
 use lib.Dec.{ltb}
 use lib.ListN.{length, drop}
 use borrow.Author.Tests.{lt-ltb, le-ltb}
-use Rattle.base_words.specs.Pick.{if◌then◌else◌}
+use Rattle.base_words.specs.Pick.{if◌then◌or_else◌}
 use Rattle.base_words.specs.Text.{bytes}
 use Rattle.meaning.specs.declared.Tuple.{Tuple}
 use Rattle.write_buffer.specs.Buffers.{last_place, Put}
@@ -21,11 +21,11 @@ module _ {w none other : List ℕ} {most n : ℕ} (few : most ≤ last_place) (m
   long = put_length measured few
 
   pub piece_short : (out : List ℕ) (p : Piece) → p ≡ record { number = 5; length = 0 } → length out < n → ◌≡◌ {A = Pieced} (record { number = p.number; length = p.length; buffer = out }) (piece_in w out)
-  unfolding piece_in if◌then◌else◌
+  unfolding piece_in if◌then◌or_else◌
   piece_short out p e h = rw (e, lt-ltb (length out) (length w) (omega (arith, h, long))) refl
 
   pub piece_written : {out y : List ℕ} {r : ℕ} → length out ≤ last_place → n ≤ length out → Put w most 0 out r y → ◌≡◌ {A = Pieced} (record { number = 0; length = r; buffer = y }) (piece_in w out)
-  unfolding piece_in if◌then◌else◌
+  unfolding piece_in if◌then◌or_else◌
   piece_written {out} {y} {r} within h put =
       let room : length w ≤ length out = omega (arith, h, long) in
       let a : r ≡ length w = put_length put few in

@@ -1,7 +1,7 @@
 -- A PIECE OF A LOG in a lent buffer, whole or not at all; and the line of a post.
 use Rattle.std.specs.Prelude.{ℕ, ◌+◌, List, ◌++◌, ltb, length, drop}
 use Rattle.base_words.specs.Blocks.{Bytes}
-use Rattle.base_words.specs.Pick.{if◌then◌else◌}
+use Rattle.base_words.specs.Pick.{if◌then◌or_else◌}
 use Rattle.base_words.specs.Text.{bytes}
 use Rattle.base_words.specs.Words.{digits}
 use Rattle.meaning.specs.declared.Tuple.{Tuple}
@@ -29,4 +29,4 @@ pub record Pieced : Type 0 where
 unfoldable pub piece_in : Bytes → Bytes → Pieced
 piece_in w out =
     if ltb (length out) (length w) then record { number = 5; length = 0; buffer = out }
-    else record { number = 0; length = length w; buffer = w ++ drop (length w) out }
+    or_else record { number = 0; length = length w; buffer = w ++ drop (length w) out }

@@ -1,7 +1,7 @@
 -- Every row of the table of points holds. Assumes nothing.
 use mathlib.Core.Path.{◌≡◌, refl}
 use mathlib.Core.List.{map}
-use Rattle.base_words.specs.Pick.{if◌then◌else◌}
+use Rattle.base_words.specs.Pick.{if◌then◌or_else◌}
 use Rattle.base_bytes.specs.Bytes.{between as isBetween, is_letter, is_digit, past}
 use Rattle.text_numerals.specs.Numerals.{value_from, leading_zero, number_of, if_value}
 use Rattle.base_bytes.specs.Bytes.{same_bytes}
@@ -26,5 +26,5 @@ use Rattle.log_repair.specs.Repair.{end_tag, trace_end, closing_tags, closed, is
 use Rattle.log_repair.specs.Points.{Point, points}
 
 pub points_hold : map (λ (p : Point). repaired_to p.text p.out) points ≡ map (λ (p : Point). p.gives) points
-unfolding if◌then◌else◌ isBetween is_letter is_digit past value_from leading_zero number_of same_bytes if_value is_blank is_control begins_name is_name digit base more number_from referred character_of is_character behind_less behind_bracket in_opening in_comment in_data in_target in_instruction closingTag behindValue namedTag behind_blank is_quote equals is_reference in_value in_value_reference in_tag behind_end in_end in_reference at_begin step end_of whole_in_tag whole_in_instruction whole move_to moved if_on if_attribute is_named found_from found is_found twice first lower says_xml is_declaration reserved is_faulty advanceMarkup scanMarkupFrom scanMarkup begins_at closes_data opens_markup text_from placedMarkup markup is_of run after has_second name_from name_at bytes_of opens_name second opener behind_colon local_from local_of is_called same_name quote_at value_at value_of attribute part_by part_of part_for part_at tag_for tag_of go_on by_tag element_by by_part content_by content_in content_at element_at skipped other_by other_of opens_data outsideTag tag_at outside_at further outside_in outside root_by root_at last_by last_from number_up_to is_small value_in number_before one_more added values_in values_from message_from traffic_from number_place number_at five_placed all_right step_entry post_entry entry_of ends_at closing between inside_at tag_by lacks_by over over_named line_by name_by string_by string_at trace_by event_by is_of_log other_at entered_by left_by by_inside advance by_move scan_in scan_from begin_by begin start scan end_tag trace_end closing_tags closed is_lost refused repair_given repaired_by repaired_to
+unfolding if◌then◌or_else◌ isBetween is_letter is_digit past value_from leading_zero number_of same_bytes if_value is_blank is_control begins_name is_name digit base more number_from referred character_of is_character behind_less behind_bracket in_opening in_comment in_data in_target in_instruction closingTag behindValue namedTag behind_blank is_quote equals is_reference in_value in_value_reference in_tag behind_end in_end in_reference at_begin step end_of whole_in_tag whole_in_instruction whole move_to moved if_on if_attribute is_named found_from found is_found twice first lower says_xml is_declaration reserved is_faulty advanceMarkup scanMarkupFrom scanMarkup begins_at closes_data opens_markup text_from placedMarkup markup is_of run after has_second name_from name_at bytes_of opens_name second opener behind_colon local_from local_of is_called same_name quote_at value_at value_of attribute part_by part_of part_for part_at tag_for tag_of go_on by_tag element_by by_part content_by content_in content_at element_at skipped other_by other_of opens_data outsideTag tag_at outside_at further outside_in outside root_by root_at last_by last_from number_up_to is_small value_in number_before one_more added values_in values_from message_from traffic_from number_place number_at five_placed all_right step_entry post_entry entry_of ends_at closing between inside_at tag_by lacks_by over over_named line_by name_by string_by string_at trace_by event_by is_of_log other_at entered_by left_by by_inside advance by_move scan_in scan_from begin_by begin start scan end_tag trace_end closing_tags closed is_lost refused repair_given repaired_by repaired_to
 points_hold = refl

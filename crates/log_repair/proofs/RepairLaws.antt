@@ -7,7 +7,7 @@ use native.Mathlib.Omega.{arith}
 use lib.Dec.{ltb}
 use lib.ListN.{length, take, drop}
 use borrow.Author.Tests.{lt-ltb, le-ltb}
-use Rattle.base_words.specs.Pick.{if◌then◌else◌}
+use Rattle.base_words.specs.Pick.{if◌then◌or_else◌}
 use Rattle.base_words.specs.Words.{part}
 use Rattle.write_buffer.specs.Buffers.{over, lesser, last_place, Put}
 use Rattle.write_buffer.proofs.OverLaws.{over_all, lesser_is, after, put_as, put_short, put_over}
@@ -41,16 +41,16 @@ measured n l e h = omega arith
 
 module _ (w out : List ℕ) (events dropped : ℕ) where
   pub too_long_lem : (r : Repaired) → r ≡ refusal 5 → log_most < length w → filled r out ≡ repair_given w events dropped out
-  unfolding repair_given refused if◌then◌else◌
+  unfolding repair_given refused if◌then◌or_else◌
   too_long_lem r e h = rw (e, lt-ltb log_most (length w) h) refl
 
   pub no_room : (r : Repaired) → r ≡ refusal 5 → length w ≤ log_most → length out < length w → filled r out ≡ repair_given w events dropped out
-  unfolding repair_given refused if◌then◌else◌
+  unfolding repair_given refused if◌then◌or_else◌
   no_room r e h k = rw (e, le-ltb log_most (length w) h, lt-ltb (length out) (length w) k) refl
 
   pub has_room_lem : (r d : ℕ) (y : List ℕ) → length w ≤ log_most → length w ≤ length out → r ≡ lesser (length w) last_place → y ≡ over w out → d ≡ dropped
       → ◌≡◌ {A = Repair} (record { number = 0; length = r; kept = events; dropped = d; buffer = y }) (repair_given w events dropped out)
-  unfolding repair_given refused if◌then◌else◌
+  unfolding repair_given refused if◌then◌or_else◌
   has_room_lem r d y h k l v z =
       let a : r ≡ length w = lesser_is r (length w) log_most l h (omega arith) in
       let b : y ≡ w ++ drop (length w) out = v ∙ over_all w out k in
@@ -81,12 +81,12 @@ unfolding closed
 closed_put t s out o y c k r e h i l = put_over (after (put_as (take c.kept t) (e ∙ ap (λ (n : ℕ). take n t) (let z : c.kept - 0 ≡ c.kept = omega arith in z)) h) i) l
 
 pub lost : (t out : List ℕ) (r : Repaired) (q : ℕ) (c : Cursor) → is_lost q t c ≡ true → r ≡ refusal 27 → filled r out ≡ repaired_by (Fault q) t c out
-unfolding repaired_by refused if◌then◌else◌
+unfolding repaired_by refused if◌then◌or_else◌
 lost t out r q c e z = rw (z, e) refl
 
 module _ (t out y : List ℕ) (r : Repaired) where
   pub found : (q : ℕ) (c : Cursor) → is_lost q t c ≡ false → filled r y ≡ repair_given (closed t c) c.events (length t - c.kept) out → filled r y ≡ repaired_by (Fault q) t c out
-  unfolding repaired_by if◌then◌else◌
+  unfolding repaired_by if◌then◌or_else◌
   found q c e z = rw e z
 
   pub whole_log : (s : Scanned) → s ≡ scan t → (q : ℕ) → s.end ≡ Past q → filled r y ≡ repair_given t s.last.events 0 out → filled r y ≡ repaired_to t out

@@ -2,7 +2,7 @@
 -- it dropped. A complete log comes out as the same bytes with 0 dropped." t is a text, c where its reader was at the end, out the lent buffer. (RULES: repair)
 use Rattle.std.specs.Prelude.{ℕ, ◌-◌, Bool, true, List, [], ◌++◌, eqb, ltb, length, take, drop}
 use Rattle.base_words.specs.Blocks.{Bytes}
-use Rattle.base_words.specs.Pick.{if◌then◌else◌}
+use Rattle.base_words.specs.Pick.{if◌then◌or_else◌}
 use Rattle.base_words.specs.Text.{bytes}
 use Rattle.xml_markup.specs.Markup.{markup}
 use Rattle.xml_markup.specs.Spans.{name_at, bytes_of}
@@ -34,7 +34,7 @@ closed t c = take c.kept t ++ closing_tags t c
 
 -- "27 the text breaks off before the trace opens, is no such log at an earlier place than its end, or is longer" (RULES: repair)
 unfoldable pub is_lost : ℕ → Bytes → Cursor → Bool
-is_lost q t c = if ltb q (length t) then true else eqb c.opened 0
+is_lost q t c = if ltb q (length t) then true or_else eqb c.opened 0
 
 -- a number, the length written, events kept, bytes dropped, the buffer
 pub record Repair : Type 0 where
@@ -51,13 +51,13 @@ refused number out = record { number = number; length = 0; kept = 0; dropped = 0
 unfoldable pub repair_given : Bytes → ℕ → ℕ → Bytes → Repair
 repair_given w events dropped out =
     if ltb log_most (length w) then refused 5 out
-    else if ltb (length out) (length w) then refused 5 out
-    else record { number = 0; length = length w; kept = events; dropped = dropped; buffer = w ++ drop (length w) out }
+    or_else if ltb (length out) (length w) then refused 5 out
+    or_else record { number = 0; length = length w; kept = events; dropped = dropped; buffer = w ++ drop (length w) out }
 
 -- "27 goes before it, since without a repair there is no output"; "Dropped: bytes of the input that are not in the output; the closing tags don't count" (RULES: repair)
 unfoldable pub repaired_by : Reached → Bytes → Cursor → Bytes → Repair
 repaired_by (Past q) t c out = repair_given t c.events 0 out
-repaired_by (Fault q) t c out = if is_lost q t c then refused 27 out else repair_given (closed t c) c.events (length t - c.kept) out
+repaired_by (Fault q) t c out = if is_lost q t c then refused 27 out or_else repair_given (closed t c) c.events (length t - c.kept) out
 
 unfoldable pub repaired_to : Bytes → Bytes → Repair
 repaired_to t out = repaired_by (scan t).end t (scan t).last out

@@ -6,7 +6,7 @@ use Prim.Native.Nat.{ℕ, zero, suc, ◌+◌, ◌-◌, ◌<◌, ◌≤◌}
 use native.Mathlib.Omega.{arith}
 use lib.Dec.{eqb}
 use lib.ListN.{length, get_or-eq_default}
-use Rattle.base_words.specs.Pick.{if◌then◌else◌}
+use Rattle.base_words.specs.Pick.{if◌then◌or_else◌}
 use Rattle.base_words.specs.Text.{bytes}
 use Rattle.base_words.specs.Words.{part}
 use Rattle.base_bytes.specs.Bytes.{same_bytes}
@@ -54,8 +54,8 @@ ahead_from p q (Close x) h k = omega (arith, h, k)
 ahead_from p q (Onward x) h k = omega (arith, h, k)
 ahead_from p q (InsideFault x) h k = tt
 
-ahead_if : (p : ℕ) (b : Bool) (x y : Inside) → Ahead p x → Ahead p y → Ahead p (if b then x else y)
-unfolding if◌then◌else◌
+ahead_if : (p : ℕ) (b : Bool) (x y : Inside) → Ahead p x → Ahead p y → Ahead p (if b then x or_else y)
+unfolding if◌then◌or_else◌
 ahead_if p true x y h k = h
 ahead_if p false x y h k = k
 
@@ -90,8 +90,8 @@ beyond_from p q (On c) h k = omega (arith, h, k)
 beyond_from p q (Done c) h k = omega (arith, h, k)
 beyond_from p q (Fault x) h k = tt
 
-beyond_if : (p : ℕ) (b : Bool) (x y : Move) → Beyond p x → Beyond p y → Beyond p (if b then x else y)
-unfolding if◌then◌else◌
+beyond_if : (p : ℕ) (b : Bool) (x y : Move) → Beyond p x → Beyond p y → Beyond p (if b then x or_else y)
+unfolding if◌then◌or_else◌
 beyond_if p true x y h k = h
 beyond_if p false x y h k = k
 
@@ -175,11 +175,11 @@ advance_beyond t c =
 
 -- THE END OF THE TEXT
 opener_end : (t : List ℕ) (p : ℕ) → length t ≤ p → opener t p ≡ Other
-unfolding opener opens_name if◌then◌else◌
+unfolding opener opens_name if◌then◌or_else◌
 opener_end t p h = rw (get_or-eq_default t 0 h)
 
 pub advance_end : (t : List ℕ) (c : Cursor) → length t ≤ c.at → advance t c ≡ Fault (length t)
-unfolding advance by_inside inside_at between ends_at if◌then◌else◌
+unfolding advance by_inside inside_at between ends_at if◌then◌or_else◌
 advance_end t c h = rw (opener_end t (run Blanks t c.at) (omega (arith, h, ran t c.at)), step_end t c.at h)
 
 -- ENOUGH STEPS
@@ -208,7 +208,7 @@ scan_end t c h = scan_is t c ∙ rw (advance_end t c h)
 
 -- a line, where the step closed an event, before the lines that follow
 unfoldable pub with_line : List ℕ → Cursor → Cursor → List (List ℕ) → List (List ℕ)
-with_line t c d rest = if closes_event c.level d.level then line_of t d ∷ rest else rest
+with_line t c d rest = if closes_event c.level d.level then line_of t d ∷ rest or_else rest
 
 lines_in_lem : (n : ℕ) (t : List ℕ) (c : Cursor) → lines_in (suc n) t c ≡ by_move (advance t c) (λ d. with_line t c d (lines_in n t d)) (λ d. []) (λ q. [])
 unfolding lines_in with_line

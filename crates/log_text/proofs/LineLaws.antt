@@ -8,7 +8,7 @@ use lib.Dec.{eqb, leb, ltb}
 use lib.ListN.{length}
 use borrow.Author.Tests.{leb-true, leb-false, lt-ltb}
 use Rattle.base_words.specs.Each.{each}
-use Rattle.base_words.specs.Pick.{if◌then◌else◌}
+use Rattle.base_words.specs.Pick.{if◌then◌or_else◌}
 use Rattle.base_words.specs.Text.{bytes}
 use Rattle.base_words.specs.Words.{part}
 use Rattle.base_words.proofs.PickLaws.{and_true}
@@ -48,7 +48,7 @@ Right t c = eqb c.to 0 ≡ false → (entry_of (part t c.from c.to)).right ≡ t
 -- one step: it counts the event that it closes; lines stay right; an event that is closed has a line
 abbrev Tells : List ℕ → Cursor → Move → Type 0
 Tells t c (On d) =
-    (d.events ≡ (if closes_event c.level d.level then after t c.events else c.events)) × (Right t c → Right t d)
+    (d.events ≡ (if closes_event c.level d.level then after t c.events or_else c.events)) × (Right t c → Right t d)
     × (closes_event c.level d.level ≡ true → eqb d.to 0 ≡ false)
 Tells t c (Done d) = d.events ≡ c.events
 Tells t c (Fault q) = Unit {0}
@@ -60,14 +60,14 @@ closes_same Trace = refl
 closes_same Event = refl
 
 module _ (t : List ℕ) (c : Cursor) where
-  tells_if : (b : Bool) (x y : Move) → (b ≡ true → Tells t c x) → (b ≡ false → Tells t c y) → Tells t c (if b then x else y)
-  unfolding if◌then◌else◌
+  tells_if : (b : Bool) (x y : Move) → (b ≡ true → Tells t c x) → (b ≡ false → Tells t c y) → Tells t c (if b then x or_else y)
+  unfolding if◌then◌or_else◌
   tells_if true x y h k = h refl
   tells_if false x y h k = k refl
 
   -- no event is closed
   still : (d : Cursor) → closes_event c.level d.level ≡ false → d.events ≡ c.events → (Right t c → Right t d) → Tells t c (On d)
-  unfolding if◌then◌else◌
+  unfolding if◌then◌or_else◌
   still d e h r = (rw e h, r, λ x. absurd (false≢true (sym e ∙ x)))
 
   reached_tells : (q : ℕ) → Tells t c (On (reached c q))
@@ -128,7 +128,7 @@ module _ (t : List ℕ) (c : Cursor) where
   entered_tells Event p e = tells_if (is_called t p (bytes "string")) _ _ (λ h. string_tells (tag_of (markup t p) p) p) (λ h. other_tells p)
 
   closed : (q : ℕ) → c.level ≡ Event → eqb c.to 0 ≡ false → Tells t c (On (behind_event t c q))
-  unfolding if◌then◌else◌ closes_event
+  unfolding if◌then◌or_else◌ closes_event
   closed q e h = (rw e, λ r. r, λ x. h)
 
   left_tells : (l : Level) (q : ℕ) → c.level ≡ l → lacks_by l c ≡ false → Tells t c (left_by l t c q)
@@ -157,13 +157,13 @@ whole_between b (OutsideOn q) e = tt
 whole_between b Nothing e = tt
 whole_between b (OutsideFault q) e = tt
 
-whole_if : (b k : Bool) (x y : Inside) → Whole b x → Whole b y → Whole b (if k then x else y)
-unfolding if◌then◌else◌
+whole_if : (b k : Bool) (x y : Inside) → Whole b x → Whole b y → Whole b (if k then x or_else y)
+unfolding if◌then◌or_else◌
 whole_if b true x y h k = h
 whole_if b false x y h k = k
 
-whole_lacking : (b : Bool) (p : ℕ) (g : Inside) → Whole b (if b then InsideFault p else g)
-unfolding if◌then◌else◌
+whole_lacking : (b : Bool) (p : ℕ) (g : Inside) → Whole b (if b then InsideFault p or_else g)
+unfolding if◌then◌or_else◌
 whole_lacking true p g = tt
 whole_lacking false p g = whole_none g
 
@@ -205,19 +205,19 @@ advance_room t c = go (leb (length t) c.at) refl
 
 -- AS MANY LINES AS EVENTS
 after_room : (t : List ℕ) (n : ℕ) → n < length t → after t n ≡ n + 1
-unfolding after if◌then◌else◌
+unfolding after if◌then◌or_else◌
 after_room t n h = rw (lt-ltb n (length t) h)
 
 module _ (t : List ℕ) (c : Cursor) (S : Cursor → Scanned) (R : Cursor → List (List ℕ)) (same : (d : Cursor) → d.events ≤ d.at → (S d).last.events ≡ d.events + length (R d)) (few : c.events ≤ c.at) where
-  count_on : (d : Cursor) → c.at < d.at → c.at < length t → (b : Bool) → d.events ≡ (if b then after t c.events else c.events)
-      → (S d).last.events ≡ c.events + length (if b then line_of t d ∷ R d else R d)
-  unfolding if◌then◌else◌
+  count_on : (d : Cursor) → c.at < d.at → c.at < length t → (b : Bool) → d.events ≡ (if b then after t c.events or_else c.events)
+      → (S d).last.events ≡ c.events + length (if b then line_of t d ∷ R d or_else R d)
+  unfolding if◌then◌or_else◌
   count_on d h k true e = omega (arith, e, after_room t c.events (omega (arith, few, k)), same d (omega (arith, e, few, h, after_room t c.events (omega (arith, few, k)))))
   count_on d h k false e = omega (arith, e, same d (omega (arith, e, few, h)))
 
   count_by : (g : Move) → Beyond c.at g → Room t c g → Tells t c g
       → (by_move g S (λ d. scanned (last_from t d.at) d) (λ q. scanned (SkipFault q) c)).last.events
-      ≡ c.events + length (by_move g (λ d. if closes_event c.level d.level then line_of t d ∷ R d else R d) (λ d. []) (λ q. []))
+      ≡ c.events + length (by_move g (λ d. if closes_event c.level d.level then line_of t d ∷ R d or_else R d) (λ d. []) (λ q. []))
   unfolding by_move
   count_by (On d) h k e = count_on d h k (closes_event c.level d.level) e.0
   count_by (Done d) h k e = omega (arith, e)
@@ -230,12 +230,12 @@ count_in_lem (suc n) t c h = count_by t c (scan_in n t) (lines_in n t) (λ d k. 
 
 -- EACH LINE IS AN ENTRY
 module _ (t : List ℕ) (c : Cursor) (R : Cursor → List (List ℕ)) (same : (d : Cursor) → Right t d → each (λ w. (entry_of w).right) (R d) ≡ true) (r : Right t c) where
-  right_on : (d : Cursor) → Right t d → (b : Bool) → (b ≡ true → eqb d.to 0 ≡ false) → each (λ w. (entry_of w).right) (if b then line_of t d ∷ R d else R d) ≡ true
-  unfolding if◌then◌else◌ each line_of
+  right_on : (d : Cursor) → Right t d → (b : Bool) → (b ≡ true → eqb d.to 0 ≡ false) → each (λ w. (entry_of w).right) (if b then line_of t d ∷ R d or_else R d) ≡ true
+  unfolding if◌then◌or_else◌ each line_of
   right_on d h true k = and_true (entry_of (part t d.from d.to)).right (each (λ w. (entry_of w).right) (R d)) (h (k refl)) (same d h)
   right_on d h false k = same d h
 
-  right_by : (g : Move) → Tells t c g → each (λ w. (entry_of w).right) (by_move g (λ d. if closes_event c.level d.level then line_of t d ∷ R d else R d) (λ d. []) (λ q. [])) ≡ true
+  right_by : (g : Move) → Tells t c g → each (λ w. (entry_of w).right) (by_move g (λ d. if closes_event c.level d.level then line_of t d ∷ R d or_else R d) (λ d. []) (λ q. [])) ≡ true
   unfolding by_move each
   right_by (On d) e = right_on d (e.1 r) (closes_event c.level d.level) e.2
   right_by (Done d) e = refl
@@ -263,8 +263,8 @@ unfolding begin
 begin_begins (Past p) t = begin_by_begins (tag_of (markup t p) p) p
 begin_begins (SkipFault q) t = tt
 
-begins_if : (b : Bool) (x y : Move) → Begins x → Begins y → Begins (if b then x else y)
-unfolding if◌then◌else◌
+begins_if : (b : Bool) (x y : Move) → Begins x → Begins y → Begins (if b then x or_else y)
+unfolding if◌then◌or_else◌
 begins_if true x y h k = h
 begins_if false x y h k = k
 
@@ -295,5 +295,5 @@ lines_are_entries t = go (start t) (start_begins t)
 
 -- "Above 65,536 bytes: 23 with 0, nothing else looked at"
 pub too_long_lem : (t : List ℕ) → log_most < length t → (scan t).end ≡ SkipFault 0
-unfolding scan start by_move if◌then◌else◌
+unfolding scan start by_move if◌then◌or_else◌
 too_long_lem t h = rw (lt-ltb log_most (length t) h)

@@ -1,7 +1,7 @@
 -- "Directly in log, trace and event only blanks, comments and instructions may stand between elements (no text, references or CDATA), as outside the root." (RULES: logs)
 use Rattle.std.specs.Prelude.{ℕ, Bool, true, false, List, length}
 use Rattle.base_words.specs.Blocks.{Bytes}
-use Rattle.base_words.specs.Pick.{if◌then◌else◌}
+use Rattle.base_words.specs.Pick.{if◌then◌or_else◌}
 use Rattle.xml_markup.specs.declared.Opener.{Opener}
 use Rattle.xml_markup.specs.declared.Opener.TheVariants.{Start, End, Other}
 use Rattle.xml_markup.specs.Spans.{opener}
@@ -35,5 +35,5 @@ between (OutsideFault q) e = Fault q
 -- at p, no blank first, in the element whose tag is at `outer`; "an event or a log that ends without what it needs: the `<` of its end tag" (RULES: logs)
 unfoldable pub inside_at : Bool → Bytes → ℕ → ℕ → Inside
 inside_at lacking t outer p =
-    if ends_at (opener t p) then (if lacking then Fault p else closing (part_at t outer p) p)
-    else between (outside_at t p) (length t)
+    if ends_at (opener t p) then (if lacking then Fault p or_else closing (part_at t outer p) p)
+    or_else between (outside_at t p) (length t)

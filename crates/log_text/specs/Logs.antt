@@ -2,7 +2,7 @@
 -- attribute `value` is a line. Every other element directly in the log, the trace or an event is skipped whole." Read from left to right, up to the first fault: its place is that of 23.
 use Rattle.std.specs.Prelude.{ℕ, zero, suc, ◌-◌, Bool, true, false, ◌||◌, List, [], ◌∷◌, ltb, eqb, length}
 use Rattle.base_words.specs.Blocks.{Bytes}
-use Rattle.base_words.specs.Pick.{if◌then◌else◌}
+use Rattle.base_words.specs.Pick.{if◌then◌or_else◌}
 use Rattle.base_words.specs.Text.{bytes}
 use Rattle.base_words.specs.Words.{part}
 use Rattle.base_bytes.specs.Bytes.{same_bytes}
@@ -44,14 +44,14 @@ over_named (Past q) c from to = On (named c from to q)
 over_named (SkipFault q) c from to = Fault q
 
 unfoldable pub line_by : Attribute → Bytes → Cursor → ℕ → ℕ → Move
-line_by (Is from to) t c p end = if (entry_of (part t from to)).right then over_named (skipped t p) c from to else Fault (from - 1)
+line_by (Is from to) t c p end = if (entry_of (part t from to)).right then over_named (skipped t p) c from to or_else Fault (from - 1)
 line_by Absent t c p end = Fault end
 
 unfoldable pub name_by : Attribute → Bytes → Cursor → ℕ → ℕ → Move
 name_by (Is from to) t c p end =
     if same_bytes (part t from to) (bytes "concept:name") then
-    if eqb c.to 0 then line_by (attribute t p (bytes "value")) t c p end else Fault (from - 1)
-    else over (skipped t p) c
+    if eqb c.to 0 then line_by (attribute t p (bytes "value")) t c p end or_else Fault (from - 1)
+    or_else over (skipped t p) c
 name_by Absent t c p end = over (skipped t p) c
 
 -- "A tag's attributes are looked at when the tag is whole" (RULES: logs)
@@ -79,15 +79,15 @@ unfoldable pub is_of_log : Bytes → ℕ → Bool
 is_of_log t p = is_called t p (bytes "log") || (is_called t p (bytes "trace") || is_called t p (bytes "event"))
 
 unfoldable pub other_at : Bytes → Cursor → ℕ → Move
-other_at t c p = if is_of_log t p then Fault p else over (skipped t p) c
+other_at t c p = if is_of_log t p then Fault p or_else over (skipped t p) c
 
 -- an element at p
 unfoldable pub entered_by : Level → Bytes → Cursor → ℕ → Move
 entered_by Log t c p =
-    if is_called t p (bytes "trace") then (if eqb c.opened 0 then trace_by (tag_of (markup t p) p) c p else Fault p)
-    else other_at t c p
-entered_by Trace t c p = if is_called t p (bytes "event") then event_by (tag_of (markup t p) p) c p else other_at t c p
-entered_by Event t c p = if is_called t p (bytes "string") then string_at t c p else other_at t c p
+    if is_called t p (bytes "trace") then (if eqb c.opened 0 then trace_by (tag_of (markup t p) p) c p or_else Fault p)
+    or_else other_at t c p
+entered_by Trace t c p = if is_called t p (bytes "event") then event_by (tag_of (markup t p) p) c p or_else other_at t c p
+entered_by Event t c p = if is_called t p (bytes "string") then string_at t c p or_else other_at t c p
 
 -- behind the end tag of what the reader is in
 unfoldable pub left_by : Level → Bytes → Cursor → ℕ → Move
@@ -133,7 +133,7 @@ begin (SkipFault q) t = Fault q
 
 -- "Above 65,536 bytes: 23 with 0, nothing else looked at" (RULES: logs)
 unfoldable pub start : Bytes → Move
-start t = if ltb log_most (length t) then Fault 0 else begin (root_at (bytes "log") t) t
+start t = if ltb log_most (length t) then Fault 0 or_else begin (root_at (bytes "log") t) t
 
 unfoldable pub scan : Bytes → Scanned
 scan t = by_move (start t) (scan_from t) (λ d. scanned (Past d.at) d) (λ q. scanned (SkipFault q) nowhere)
@@ -152,7 +152,7 @@ line_of t c = part t c.from c.to
 unfoldable pub lines_in : ℕ → Bytes → Cursor → List Bytes
 lines_in zero t c = []
 lines_in (suc n) t c =
-    by_move (advance t c) (λ d. if closes_event c.level d.level then line_of t d ∷ lines_in n t d else lines_in n t d) (λ d. []) (λ q. [])
+    by_move (advance t c) (λ d. if closes_event c.level d.level then line_of t d ∷ lines_in n t d or_else lines_in n t d) (λ d. []) (λ q. [])
 
 unfoldable pub lines_from : Bytes → Cursor → List Bytes
 lines_from t c = lines_in (length t) t c

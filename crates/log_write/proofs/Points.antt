@@ -2,7 +2,7 @@
 use mathlib.Core.Path.{◌≡◌, refl}
 use mathlib.Core.List.{[], ◌++◌}
 use Rattle.base_words.specs.Text.{bytes}
-use Rattle.base_words.specs.Pick.{if◌then◌else◌}
+use Rattle.base_words.specs.Pick.{if◌then◌or_else◌}
 use Rattle.log_write.specs.Times.{quarters, in_century, fifths, day_in, day_of, two, field, day_text, clock_text, millis_text, moment_text, date_opening, stamp_text}
 
 pub record Moments : Type 0 where
@@ -23,7 +23,7 @@ pub record Moments : Type 0 where
   pub none : stamp_text 0 ≡ []
 
 pub moments : Moments
-unfolding quarters in_century fifths day_in day_of two field day_text clock_text millis_text moment_text date_opening stamp_text if◌then◌else◌
+unfolding quarters in_century fifths day_in day_of two field day_text clock_text millis_text moment_text date_opening stamp_text if◌then◌or_else◌
 moments =
     record {
       first = refl;

@@ -4,7 +4,7 @@ use mathlib.Core.Path.{◌≡◌, refl, sym}
 use mathlib.Core.List.{List, [], ◌++◌}
 use native.Mathlib.Omega.{arith}
 use borrow.Author.Tests.{eq-eqb, ne_eqb, lt-ltb, le-ltb}
-use Rattle.base_words.specs.Pick.{if◌then◌else◌}
+use Rattle.base_words.specs.Pick.{if◌then◌or_else◌}
 use Rattle.base_words.specs.Text.{bytes}
 use Rattle.write_buffer.specs.Buffers.{Put}
 use Rattle.write_buffer.proofs.OverLaws.{put_nothing, put_as, put_within}
@@ -12,15 +12,15 @@ use Rattle.log_write.specs.Times.{moments_end, moment_text, date_opening, stamp_
 
 module _ (m : ℕ) where
   none : m ≡ 0 → stamp_text m ≡ []
-  unfolding stamp_text if◌then◌else◌
+  unfolding stamp_text if◌then◌or_else◌
   none e = rw (eq-eqb m 0 e) refl
 
   late : (m ≡ 0 → ⊥) → moments_end ≤ m → stamp_text m ≡ []
-  unfolding stamp_text if◌then◌else◌
+  unfolding stamp_text if◌then◌or_else◌
   late n h = rw (ne_eqb m 0 n, le-ltb m moments_end h) refl
 
   dated : (m ≡ 0 → ⊥) → m < moments_end → stamp_text m ≡ date_opening ++ moment_text m ++ bytes "\"/>"
-  unfolding stamp_text if◌then◌else◌
+  unfolding stamp_text if◌then◌or_else◌
   dated n h = rw (ne_eqb m 0 n, lt-ltb m moments_end h) refl
 
   module _ {out : List ℕ} {from : ℕ} where

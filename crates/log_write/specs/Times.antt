@@ -2,7 +2,7 @@
 -- year: a century has 36,524 days and a quarter, a year of it 365 and a quarter, and five months 153, and division finds each.
 use Rattle.std.specs.Prelude.{ℕ, ◌+◌, ◌*◌, ◌-◌, ◌/◌, ◌%◌, List, [], ◌∷◌, ◌++◌, ltb, leb, eqb}
 use Rattle.base_words.specs.Blocks.{Bytes}
-use Rattle.base_words.specs.Pick.{if◌then◌else◌}
+use Rattle.base_words.specs.Pick.{if◌then◌or_else◌}
 use Rattle.base_words.specs.Text.{bytes}
 use Rattle.write_decimals.specs.Decimals.{digit}
 use Rattle.log_write.specs.declared.times.Day.{Day}
@@ -33,7 +33,7 @@ fifths q = 5 * (q % 1461 / 4) + 461
 unfoldable pub day_in : ℕ → ℕ → Day
 day_in year f =
     if leb (f / 153) 12 then record { year = year; month = f / 153; day = f % 153 / 5 + 1 }
-    else record { year = year + 1; month = f / 153 - 12; day = f % 153 / 5 + 1 }
+    or_else record { year = year + 1; month = f / 153 - 12; day = f % 153 / 5 + 1 }
 
 unfoldable pub day_of : ℕ → Day
 day_of moment =
@@ -67,8 +67,8 @@ date_opening = bytes "<date key=\"time:timestamp\" value=\""
 unfoldable pub stamp_text : ℕ → Bytes
 stamp_text moment =
     if eqb moment 0 then []
-    else if ltb moment moments_end then date_opening ++ moment_text moment ++ bytes "\"/>"
-    else []
+    or_else if ltb moment moments_end then date_opening ++ moment_text moment ++ bytes "\"/>"
+    or_else []
 
 -- the greatest length
 abbrev pub stamp_most : ℕ

@@ -2,7 +2,7 @@
 use Rattle.std.specs.Prelude.{ℕ, Bool, true, false, List, leb, drop}
 use Rattle.base_words.specs.Blocks.{Element, Instance}
 use Rattle.base_words.specs.Iter.{iter}
-use Rattle.base_words.specs.Pick.{if◌then◌else◌}
+use Rattle.base_words.specs.Pick.{if◌then◌or_else◌}
 use Rattle.base_words.specs.Words.{at}
 use Rattle.base_words.specs.Counts.{assignments}
 use Rattle.meaning.specs.declared.Value.{Value}
@@ -24,8 +24,8 @@ assigned_value h d Undefined = record { defined = false; instance = h }
 unfoldable pub assign_one : Element → ℕ → Assigned → Assigned
 assign_one el j a =
     if leb (assignment_count el) j then a
-    else if a.defined then assigned_value a.instance (at (assignment_at el j) 0) (expression_of (drop assigned_in (assignment_at el j)) a.instance)
-    else a
+    or_else if a.defined then assigned_value a.instance (at (assignment_at el j) 0) (expression_of (drop assigned_in (assignment_at el j)) a.instance)
+    or_else a
 
 unfoldable pub assigned : Element → Instance → Assigned
 assigned el h = iter (assign_one el) (record { defined = true; instance = h }) assignments

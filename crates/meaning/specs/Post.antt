@@ -1,7 +1,7 @@
 -- A POST of a tuple g under a name to the queues q. "For a post only 10, 19 and 17 apply, in the order 10, 19, 17." (RULES: post)
 use Rattle.std.specs.Prelude.{ℕ, Bool, ◌&&◌, List, [], ◌∷◌, eqb, leb, ltb, length}
 use Rattle.base_words.specs.Blocks.{Queues}
-use Rattle.base_words.specs.Pick.{if◌then◌else◌}
+use Rattle.base_words.specs.Pick.{if◌then◌or_else◌}
 use Rattle.base_words.specs.Counts.{names, values, messages}
 use Rattle.meaning.specs.declared.Tuple.{Tuple}
 use Rattle.meaning.specs.Queues.{messages_of, sending}
@@ -19,4 +19,4 @@ pub record Posted : Type 0 where
 unfoldable pub post : Queues → ℕ → Tuple → Posted
 post q name g =
     if eqb (first_refusal (post_refusals q name g)) 0 then record { number = 0; queues = sending q name g }
-    else record { number = first_refusal (post_refusals q name g); queues = q }
+    or_else record { number = first_refusal (post_refusals q name g); queues = q }

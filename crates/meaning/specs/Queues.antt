@@ -2,7 +2,7 @@
 use Rattle.std.specs.Prelude.{ℕ, ◌+◌, ◌-◌, ◌≤◌, ◌<◌, ◌≡◌, List, [], ◌∷◌, eqb, ltb, length}
 use Rattle.base_words.specs.Blocks.{Queues}
 use Rattle.base_words.specs.Each.{tab}
-use Rattle.base_words.specs.Pick.{if◌then◌else◌}
+use Rattle.base_words.specs.Pick.{if◌then◌or_else◌}
 use Rattle.base_words.specs.Words.{at}
 use Rattle.base_words.specs.Writes.{writes}
 use Rattle.base_words.specs.Counts.{values, messages}
@@ -26,14 +26,14 @@ messages_of q name = tab (message_at q name) (message_count q name)
 
 -- WRITING: word i of a message, of messages one behind the other, of a queue; what is not in use is 0
 unfoldable pub message_word : Tuple → ℕ → ℕ
-message_word g i = if eqb i 0 then g.length else value_of g (i - values_in)
+message_word g i = if eqb i 0 then g.length or_else value_of g (i - values_in)
 
 unfoldable pub messages_word : List Tuple → ℕ → ℕ
 messages_word [] i = 0
-messages_word (g ∷ gs) i = if ltb i slot_words then message_word g i else messages_word gs (i - slot_words)
+messages_word (g ∷ gs) i = if ltb i slot_words then message_word g i or_else messages_word gs (i - slot_words)
 
 unfoldable pub queue_word : List Tuple → ℕ → ℕ
-queue_word ms i = if eqb i 0 then length ms else messages_word ms (i - slots_in)
+queue_word ms i = if eqb i 0 then length ms or_else messages_word ms (i - slots_in)
 
 -- the queues with these messages in the queue of a name
 unfoldable pub with_messages : Queues → ℕ → List Tuple → Queues

@@ -2,7 +2,7 @@
 use Rattle.std.specs.Prelude.{ℕ, ◌+◌, Bool, true, not, ◌&&◌, ◌||◌, List, [], ◌∷◌, ◌++◌, eqb, ltb, length, replicate}
 use Rattle.base_words.specs.Blocks.{Block, Table, Element, Instances, Queues, Instance}
 use Rattle.base_words.specs.Each.{tab}
-use Rattle.base_words.specs.Pick.{if◌then◌else◌}
+use Rattle.base_words.specs.Pick.{if◌then◌or_else◌}
 use Rattle.base_words.specs.Words.{at}
 use Rattle.base_words.specs.Counts.{messages}
 use Rattle.meaning.specs.declared.Tuple.{Tuple}
@@ -43,7 +43,7 @@ shared_of s = tab (λ k. at s (shared_place + k)) shared_words
 
 -- what a step sees: the words of its instance, own, and behind them those that all share
 unfoldable pub before : Move → Instance → Block → Instance
-before m own shared = (if eqb m.also making then replicate instance_words 0 else own) ++ shared
+before m own shared = (if eqb m.also making then replicate instance_words 0 or_else own) ++ shared
 
 pub record Site : Type 0 where
   pub element : Element
@@ -109,10 +109,10 @@ message_named x = message_name x.element x.branch
 
 -- THE QUEUES enter here, and only here: the message consumed is there, the queue sent to holds fewer than 64.
 unfoldable pub queued : Site → Queues → Bool
-queued x q = if receives x then has x.given (messages_of q (message_named x)) else true
+queued x q = if receives x then has x.given (messages_of q (message_named x)) or_else true
 
 unfoldable pub space : Site → Queues → Bool
-space x q = if sends x then ltb (length (messages_of q (message_named x))) messages else true
+space x q = if sends x then ltb (length (messages_of q (message_named x))) messages or_else true
 
 -- THE REFUSALS, in the order they are looked at. "Checked in the order of the numbers", but "taskRcv looks for undefined assignments only when
 -- the values match: 14 goes before that 13, and that 13 before 15." (RULES: refusals)
@@ -137,7 +137,7 @@ unfoldable pub instance_after : Site → Instance
 instance_after x = moved x.element x.move x.branch (after_taking x)
 
 unfoldable pub made_after : Site → ℕ
-made_after x = if eqb x.move.also making then more x.made else x.made
+made_after x = if eqb x.move.also making then more x.made or_else x.made
 
 unfoldable pub instances_after : Table → Instances → Name → Instances
 instances_after t s n =
@@ -147,15 +147,15 @@ instances_after t s n =
 unfoldable pub queues_after : Site → Queues → Queues
 queues_after x q =
     if receives x then consuming q (message_named x) x.given
-    else if sends x then sending q (message_named x) (sent x).tuple
-    else q
+    or_else if sends x then sending q (message_named x) (sent x).tuple
+    or_else q
 
 -- what was consumed or sent
 unfoldable pub traffic : Site → Answer
 traffic x =
     if receives x then record { number = 0; traffic = Consumed; name = message_named x; tuple = (template x).tuple }
-    else if sends x then record { number = 0; traffic = Sent; name = message_named x; tuple = (sent x).tuple }
-    else record { number = 0; traffic = Nothing; name = 0; tuple = empty }
+    or_else if sends x then record { number = 0; traffic = Sent; name = message_named x; tuple = (sent x).tuple }
+    or_else record { number = 0; traffic = Nothing; name = 0; tuple = empty }
 
 pub record Outcome : Type 0 where
   pub answer : Answer
@@ -170,4 +170,4 @@ unfoldable pub step : Table → Instances → Queues → Name → Outcome
 step t s q n =
     if eqb (first_refusal (refusals t s q n)) 0 then
     record { answer = traffic (site_of t s n); instances = instances_after t s n; queues = queues_after (site_of t s n) q }
-    else refused (first_refusal (refusals t s q n)) s q
+    or_else refused (first_refusal (refusals t s q n)) s q

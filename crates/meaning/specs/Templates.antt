@@ -3,7 +3,7 @@
 use Rattle.std.specs.Prelude.{ℕ, ◌+◌, Bool, ◌&&◌, List, [], ◌∷◌, eqb, ltb, leb}
 use Rattle.base_words.specs.Blocks.{Element, Instance}
 use Rattle.base_words.specs.Iter.{iter}
-use Rattle.base_words.specs.Pick.{if◌then◌else◌}
+use Rattle.base_words.specs.Pick.{if◌then◌or_else◌}
 use Rattle.base_words.specs.Words.{at}
 use Rattle.base_words.specs.Counts.{values}
 use Rattle.meaning.specs.declared.Value.{Value}
@@ -24,8 +24,8 @@ binds el b j = ltb j (message_length el b) && eqb (at (item_at el b j) form_plac
 unfoldable pub item_value : Element → ℕ → Instance → Tuple → ℕ → Value
 item_value el b h g j =
     if leb (message_length el b) j then Number 0
-    else if binds el b j then Number (value_of g j)
-    else expression_of (item_at el b j) h
+    or_else if binds el b j then Number (value_of g j)
+    or_else expression_of (item_at el b j) h
 
 -- the message or template worked out: whether all of it is defined, and the tuple
 unfoldable pub gathered : ℕ → Value → Value → Value → Value → Evaluated
@@ -40,7 +40,7 @@ evaluated el b h g = gathered (message_length el b) (item_value el b h g 0) (ite
 
 -- the instance after the binds of branch b's template
 unfoldable pub bind_one : Element → ℕ → Tuple → ℕ → Instance → Instance
-bind_one el b g j h = if binds el b j then with_field h (at (item_at el b j) (left_place + operand_number)) (value_of g j) else h
+bind_one el b g j h = if binds el b j then with_field h (at (item_at el b j) (left_place + operand_number)) (value_of g j) or_else h
 
 unfoldable pub bound : Element → ℕ → Tuple → Instance → Instance
 bound el b g h = iter (bind_one el b g) h values

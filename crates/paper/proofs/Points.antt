@@ -7,7 +7,7 @@ use mathlib.Core.List.{List, [], ◌∷◌}
 use mathlib.Core.Logic.{inl, inr, ⊎_elim}
 use native.Mathlib.Omega.{arith}
 use lib.Dec.{eqb}
-use Rattle.base_words.specs.Pick.{if◌then◌else◌}
+use Rattle.base_words.specs.Pick.{if◌then◌or_else◌}
 use Rattle.meaning.specs.declared.Truth.{Truth}
 use Rattle.meaning.specs.declared.Truth.TheVariants.{True, False, Neither}
 use Rattle.meaning.specs.declared.Value.TheVariants.{Undefined, Number}
@@ -20,11 +20,11 @@ use Rattle.paper.specs.Collaborations.{Named, Seen, Steps, C-Internal}
 
 -- one token on edge 1; task 1 is ready once
 abbrev marked : Local
-marked = record { σe = λ e. if eqb e 1 then 1 else 0; σd = unset; active = unmarked; ready = λ n. if eqb n 1 then 1 else 0 }
+marked = record { σe = λ e. if eqb e 1 then 1 or_else 0; σd = unset; active = unmarked; ready = λ n. if eqb n 1 then 1 or_else 0 }
 
 -- start(1,2): the token is on edge 2 afterwards, and no longer on edge 1
 pub start_moves : {v : ℕ} {l : Label} {σ : Local} → Moves v (start 1 2) 0 0 marked l σ → (σ.σe 2 ≡ 1) × (σ.σe 1 ≡ 0)
-unfolding put if◌then◌else◌
+unfolding put if◌then◌or_else◌
 start_moves (P-Start t r) = (refl, refl)
 
 -- "xorSplit with one .. undefined and a default: no branch": d0 is undefined
@@ -65,12 +65,12 @@ later_shut (P-XorSplit2 s d t h r) = not_default (subst (λ (g : Choice). g.cond
 
 -- "na_nc needs both counts 0": task 1 is ready
 pub na_nc_shut : {v : ℕ} {l : Label} {σ : Local} → Moves v (task 1 1 na_nc always ε 2) 1 0 marked l σ → ⊥
-unfolding if◌then◌else◌
+unfolding if◌then◌or_else◌
 na_nc_shut (P-Task-N1 n t g i r) = let z : ◌≡◌ {A = ℕ} 1 0 = (i (inl refl)).1 in omega arith
 
 -- "under 10 an `na_c` task waits for both counts to be 0, as `na_nc` does"
 pub na_c_shut : {l : Label} {σ : Local} → Moves 10 (task 1 1 na_c always ε 2) 1 0 marked l σ → ⊥
-unfolding if◌then◌else◌
+unfolding if◌then◌or_else◌
 na_c_shut (P-Task-N1 n t g i r) = let z : ◌≡◌ {A = ℕ} 1 0 = (i (inr refl)).1 in omega arith
 
 -- the modes differ
@@ -89,7 +89,7 @@ not_atomic e = let z : ◌≡◌ {A = ℕ} 2 1 = ap mode_number e in omega arith
 
 -- under 20 it does not
 pub na_c_open : Moves 20 (task 1 1 na_c always ε 2) 1 0 marked (Label.τ Internal.ε) (marked edges: dec marked.σe 1 active: inc marked.active 1)
-unfolding if◌then◌else◌ truth
+unfolding if◌then◌or_else◌ truth
 na_c_open =
     let there : 0 < 1 = omega arith in
     let few : 0 < 255 = omega arith in
@@ -97,7 +97,7 @@ na_c_open =
 
 -- "Two equal messages, one consumed: one stays."
 pub one_stays : (record { times = λ vs. 2; size = 2 } without (7 ∷ [])).times (7 ∷ []) ≡ 1
-unfolding ◌without◌ same if◌then◌else◌
+unfolding ◌without◌ same if◌then◌or_else◌
 one_stays = refl
 
 -- "Instance 0 raises s0; instance 1's guard `s0<d0` turns false": pool 1 with task(1,1,a,true,{s0:=s0+1},2), one token in instance 0, d0 = 1 in
@@ -110,17 +110,17 @@ junction = record { mark = Mark.mi_pool; name = 1; process = raising ∷ []; lim
 
 abbrev held : Configuration
 held = record {
-  σi = λ p i. if eqb i 0 then marked else blank fields: (λ d. if eqb d 0 then Number 1 else Undefined);
+  σi = λ p i. if eqb i 0 then marked or_else blank fields: (λ d. if eqb d 0 then Number 1 or_else Undefined);
   made = λ p. 2;
   σm = λ m. record { times = λ vs. 0; size = 0 };
-  σds = λ d. if eqb d 0 then Number 0 else Undefined;
+  σds = λ d. if eqb d 0 then Number 0 or_else Undefined;
 }
 
 abbrev guarded : Configuration → Truth
 guarded κ = truth (seen κ 1 1).σd (less (field 16) (field 0))
 
 pub open_before : guarded held ≡ True
-unfolding truth operand if◌then◌else◌ less_of
+unfolding truth operand if◌then◌or_else◌ less_of
 open_before = refl
 
 abbrev raise : Named
@@ -132,7 +132,7 @@ raised =
     (seen held 1 0 edges: inc (dec (seen held 1 0).σe 1) 2 fields: put (seen held 1 0).σd 16 (Number 1))
 
 pub raises : Steps 20 junction raise held (Seen.τ Internal.ε) raised
-unfolding if◌then◌else◌ put truth worth operand sum_of
+unfolding if◌then◌or_else◌ put truth worth operand sum_of
 raises =
     let there : 0 < 1 = omega arith in
     let few : 0 < 2 = omega arith in
@@ -141,5 +141,5 @@ raises =
     (P-Task-A {e = 1} {n = 1} {e' = 2} {c = always} {A = 16 := sum (field 16) (number 1)} {σ = seen held 1 0} there refl (Updates.one refl) low)
 
 pub shut_after : guarded raised ≡ False
-unfolding truth operand if◌then◌else◌ less_of put upd_inst
+unfolding truth operand if◌then◌or_else◌ less_of put upd_inst
 shut_after = refl

@@ -1,6 +1,6 @@
 -- THE STATES of a process instance and of a collaboration, and the functions of figures 6 and 12 that update them.
 use Rattle.std.specs.Prelude.{ℕ, ◌+◌, ◌-◌, Bool, true, false, ◌&&◌, List, [], ◌∷◌, eqb, ltb}
-use Rattle.base_words.specs.Pick.{if◌then◌else◌}
+use Rattle.base_words.specs.Pick.{if◌then◌or_else◌}
 use Rattle.meaning.specs.declared.Value.{Value}
 use Rattle.meaning.specs.declared.Value.TheVariants.{Undefined}
 
@@ -39,7 +39,7 @@ abbrev pub ◌ready:◌ : Local → (ℕ → ℕ) → Local
 
 -- σ · [k ↦ v]
 unfoldable pub put : {A : Type 0} → (ℕ → A) → ℕ → A → ℕ → A
-put σ k v j = if eqb j k then v else σ j
+put σ k v j = if eqb j k then v or_else σ j
 
 -- inc(σe, e), dec(σe, e), and of σt the same; in figure 6 dec(σt, n, S) adds one, which is a misprint
 abbrev pub inc : (ℕ → ℕ) → ℕ → ℕ → ℕ
@@ -71,10 +71,10 @@ same (v ∷ vs) (w ∷ ws) = eqb v w && same vs ws
 -- M + {ṽ}, M - {ṽ}
 infixl 30 ◌joined◌ ◌without◌
 unfoldable pub ◌joined◌ : Multiset → List ℕ → Multiset
-M joined vs = record { times = λ ws. if same vs ws then M.times ws + 1 else M.times ws; size = M.size + 1 }
+M joined vs = record { times = λ ws. if same vs ws then M.times ws + 1 or_else M.times ws; size = M.size + 1 }
 
 unfoldable pub ◌without◌ : Multiset → List ℕ → Multiset
-M without vs = record { times = λ ws. if same vs ws then M.times ws - 1 else M.times ws; size = M.size - 1 }
+M without vs = record { times = λ ws. if same vs ws then M.times ws - 1 or_else M.times ws; size = M.size - 1 }
 
 -- ⟨σi, σm, σds⟩: for each pool its instances, counted from 0 in the order they were made, and how many are made; for each name its messages; the data
 -- stores, which the paper has at this level too: "permanent and shared among instances"
@@ -87,10 +87,10 @@ pub record Configuration : Type 0 where
 -- σd of an instance from its own fields, 0 to 15, and the stores, which stand behind them; and both again from σd
 infixl 20 ◌beside◌
 abbrev pub ◌beside◌ : Local → (ℕ → Value) → Local
-σ beside ds = σ fields: (λ d. if ltb d 16 then σ.σd d else ds (d - 16))
+σ beside ds = σ fields: (λ d. if ltb d 16 then σ.σd d or_else ds (d - 16))
 
 abbrev pub own_of : Local → Local
-own_of σ = σ fields: (λ d. if ltb d 16 then σ.σd d else Undefined)
+own_of σ = σ fields: (λ d. if ltb d 16 then σ.σd d or_else Undefined)
 
 abbrev pub stores_of : Local → ℕ → Value
 stores_of σ d = σ.σd (16 + d)

@@ -9,7 +9,7 @@ use lib.Dec.{eqb}
 use lib.ListN.{length, length-map}
 use lib.Seq.{take_all}
 use borrow.Author.Tests.{eqb-true, eq-eqb}
-use Rattle.base_words.specs.Pick.{if◌then◌else◌}
+use Rattle.base_words.specs.Pick.{if◌then◌or_else◌}
 use Rattle.base_words.proofs.AllLaws.{and_left, and_right}
 use Rattle.meaning.specs.declared.Tuple.{Tuple}
 use Rattle.write_lines.specs.Lines.{step_line}
@@ -58,7 +58,7 @@ lines_in_few : (n : ℕ) (text : List ℕ) (c : Cursor) → length (lines_in n t
 unfolding lines_in
 lines_in_few zero text c = omega arith
 lines_in_few (suc n) text c =
-    move_few (λ d. if closes_event c.level d.level then line_of text d ∷ lines_in n text d else lines_in n text d) (suc n)
+    move_few (λ d. if closes_event c.level d.level then line_of text d ∷ lines_in n text d or_else lines_in n text d) (suc n)
     (λ d. by_choice (λ (ws : List (List ℕ)). length ws ≤ suc n) (closes_event c.level d.level) (line_of text d ∷ lines_in n text d) (lines_in n text d)
     (λ e. let l = lines_in_few n text d in omega (arith, l)) (λ e. let l = lines_in_few n text d in omega (arith, l)))
     (advance text c)
@@ -124,31 +124,31 @@ module _ (t : List ℕ) (v : ℕ) (asked : asked_number t v ≡ 0) where
 
   line_says : (w z : List ℕ) → eqb (take_line w z).number 0 ≡ true → (take_line w z).right ≡ true
       → Says w (entry_by (stepped t) (posted_to t) (act_of w) z) × ((take_line w z).state ≡ state_by (stepped t) (posted_to t) (act_of w) z)
-  unfolding line_taken taken_by act_of if◌then◌else◌
+  unfolding line_taken taken_by act_of if◌then◌or_else◌
   line_says w z = go (entry_of w).posts refl
     where
       o : Bool → Taking
       o b =
           if b then
           record { number = (posted_to t z (entry_of w).name.pool (entry_of w).name.given).number; right = true; state = (posted_to t z (entry_of w).name.pool (entry_of w).name.given).state }
-          else
+          or_else
           record { number = (stepped t z (entry_of w).name).answer.number; right = same_bytes (step_line (entry_of w).name (stepped t z (entry_of w).name).answer) w; state = (stepped t z (entry_of w).name).state }
 
       a : Bool → Act
-      a b = if b then a_post (entry_of w).name.pool (entry_of w).name.given else a_step (entry_of w).name
+      a b = if b then a_post (entry_of w).name.pool (entry_of w).name.given or_else a_step (entry_of w).name
 
       go : (b : Bool) → (entry_of w).posts ≡ b → eqb (o b).number 0 ≡ true → (o b).right ≡ true → Says w (entry_by (stepped t) (posted_to t) (a b) z) × ((o b).state ≡ state_by (stepped t) (posted_to t) (a b) z)
       go true p k r = says_post w z p k
       go false p k r = says_step w z k r
 
   lines_say : (ws : List (List ℕ)) (k : ℕ) (z : List ℕ) → judged_by take_line ws k z ≡ lawful → AllSay ws (told_by (stepped t) (posted_to t) (map act_of ws) z)
-  unfolding judged_by told_by AllSay if◌then◌else◌
+  unfolding judged_by told_by AllSay if◌then◌or_else◌
   lines_say [] k z e = tt
   lines_say (w ∷ ws) k z e = go (eqb (take_line w z).number 0) refl (take_line w z).right refl (lines_say ws (k + 1) (take_line w z).state) e
     where
       go : (a : Bool) → eqb (take_line w z).number 0 ≡ a → (b : Bool) → (take_line w z).right ≡ b
           → (judged_by take_line ws (k + 1) (take_line w z).state ≡ lawful → AllSay ws (told_by (stepped t) (posted_to t) (map act_of ws) (take_line w z).state))
-          → (if a then if b then judged_by take_line ws (k + 1) (take_line w z).state else judgment 24 k 0 else judgment 24 k (take_line w z).number) ≡ lawful
+          → (if a then if b then judged_by take_line ws (k + 1) (take_line w z).state or_else judgment 24 k 0 or_else judgment 24 k (take_line w z).number) ≡ lawful
           → Says w (entry_by (stepped t) (posted_to t) (act_of w) z) × AllSay ws (told_by (stepped t) (posted_to t) (map act_of ws) (state_by (stepped t) (posted_to t) (act_of w) z))
       go true p true q later r =
           let l = line_says w z p q in

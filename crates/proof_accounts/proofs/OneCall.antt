@@ -9,7 +9,7 @@ use lib.Dec.{eqb, ltb}
 use lib.ListN.{length, get_or-eq_default}
 use borrow.Author.Tests.{eqb-true, eqb-false, eq-eqb, ne_eqb, ltb-true, ltb-false}
 use Rattle.base_words.specs.Sum.{one_if}
-use Rattle.base_words.specs.Pick.{if◌then◌else◌}
+use Rattle.base_words.specs.Pick.{if◌then◌or_else◌}
 use Rattle.base_words.specs.Counts.{names, messages}
 use Rattle.base_words.proofs.PickLaws.{and_false_left}
 use Rattle.base_state.specs.Places.{queue_words}
@@ -191,7 +191,7 @@ module _ (t z : List ℕ) (v : Valid t z) where
           omega (arith, none, one, ap (times g) (elsewhere there)))
 
       neither : receives x ≡ false → sendsAt x ≡ false → Moves (record { number = 0; traffic = Nothing; name = 0; tuple = empty }) (queues_after x q)
-      unfolding queues_after if◌then◌else◌
+      unfolding queues_after if◌then◌or_else◌
       neither e f = rw (e, f) (omega (arith, ap one_if (none_consumes m g n), ap one_if (none_sends m g n)))
 
       moves_so : Moves (traffic x) (queues_after x q)

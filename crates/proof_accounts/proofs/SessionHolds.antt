@@ -8,7 +8,7 @@ use Rattle.base_words.specs.Sum.{sum}
 use Rattle.base_words.specs.Each.{total, each, tab, joined, those}
 use Rattle.base_words.specs.Iter.{iter}
 use Rattle.base_words.specs.Seek.{seek}
-use Rattle.base_words.specs.Pick.{if◌then◌else◌}
+use Rattle.base_words.specs.Pick.{if◌then◌or_else◌}
 use Rattle.base_words.specs.Writes.{writes}
 use Rattle.base_kinds.specs.Kinds.{kind_of, used}
 use Rattle.base_kinds.specs.Moves.{mode_of, is_rule, rule_of, move_of}
@@ -59,17 +59,17 @@ use Rattle.proof_accounts.specs.Session.{model as session-model, table, step_on,
 use Rattle.proof_accounts.proofs.Histories.{accounted}
 
 read_well : (read_into session-model []).number ≡ 0
-unfolding all sum total each tab joined those iter if◌then◌else◌ seek writes kind_of used mode_of is_rule rule_of move_of has_number pool_of limit_of entry_count exit_count sum_of difference_of equal_of less_of is_true is_false is_defined number_in condition_count received_count sent_count of_kind as_exit as_entry as_first as_task as_received asSentThere is_default defaults default_once binds_field times_bound template_once bound_once check1 check2 check3 edge_right check4 check5 pool_receives pool_sends not_sent_there check6 check7 check8 lowest among between is_blank is_sign is_digit is_letter is_word past token_of token_here token_at if_word if_sign if_assign if_end value_from leading_zero number_of same_bytes as_number is_field_letter field_behind field_from fieldOf-of-numerals as_field operandOf-of-numerals if_value if_too_large if_number if_field if_out_of_range if_at onward ◌then◌ sign_at assign_at end_at keep_number number field keep_operand operand mode_named keep_mode mode is_spelled starts_number starts_field starts_sign joint expression bind template_item comparison condition assignment guarded starts one_too_many too_many countedThere item_of items_from items inside series message receiving receiving_branches one_edge task_part part_of is_keyword kind_named blank parts_from parts_of element_of element starts_element put_before barred element_alone elements_at pool_word opening closing closed inside_pool pool_of_word pool starts_pool pools_at model flat filled pool_table table_of is_end_snd times_in mentioned is_unused end_sends all_treated rewritten unused_count room_for hasRoom-of-ends checked judged read_into
+unfolding all sum total each tab joined those iter if◌then◌or_else◌ seek writes kind_of used mode_of is_rule rule_of move_of has_number pool_of limit_of entry_count exit_count sum_of difference_of equal_of less_of is_true is_false is_defined number_in condition_count received_count sent_count of_kind as_exit as_entry as_first as_task as_received asSentThere is_default defaults default_once binds_field times_bound template_once bound_once check1 check2 check3 edge_right check4 check5 pool_receives pool_sends not_sent_there check6 check7 check8 lowest among between is_blank is_sign is_digit is_letter is_word past token_of token_here token_at if_word if_sign if_assign if_end value_from leading_zero number_of same_bytes as_number is_field_letter field_behind field_from fieldOf-of-numerals as_field operandOf-of-numerals if_value if_too_large if_number if_field if_out_of_range if_at onward ◌then◌ sign_at assign_at end_at keep_number number field keep_operand operand mode_named keep_mode mode is_spelled starts_number starts_field starts_sign joint expression bind template_item comparison condition assignment guarded starts one_too_many too_many countedThere item_of items_from items inside series message receiving receiving_branches one_edge task_part part_of is_keyword kind_named blank parts_from parts_of element_of element starts_element put_before barred element_alone elements_at pool_word opening closing closed inside_pool pool_of_word pool starts_pool pools_at model flat filled pool_table table_of is_end_snd times_in mentioned is_unused end_sends all_treated rewritten unused_count room_for hasRoom-of-ends checked judged read_into
 read_well = refl
 
 -- what they tell
 told_is : told_by (step_on table) post_on calls (fresh table present) ≡ history
-unfolding all sum total each tab joined those iter if◌then◌else◌ seek writes kind_of used mode_of is_rule rule_of move_of has_number pool_of limit_of entry_count exit_count sum_of difference_of equal_of less_of is_true is_false is_defined number_in condition_count received_count sent_count of_kind as_exit as_entry as_first as_task as_received asSentThere is_default defaults default_once binds_field times_bound template_once bound_once check1 check2 check3 edge_right check4 check5 pool_receives pool_sends not_sent_there check6 check7 check8 lowest among between is_blank is_sign is_digit is_letter is_word past token_of token_here token_at if_word if_sign if_assign if_end value_from leading_zero number_of same_bytes as_number is_field_letter field_behind field_from fieldOf-of-numerals as_field operandOf-of-numerals if_value if_too_large if_number if_field if_out_of_range if_at onward ◌then◌ sign_at assign_at end_at keep_number number field keep_operand operand mode_named keep_mode mode is_spelled starts_number starts_field starts_sign joint expression bind template_item comparison condition assignment guarded starts one_too_many too_many countedThere item_of items_from items inside series message receiving receiving_branches one_edge task_part part_of is_keyword kind_named blank parts_from parts_of element_of element starts_element put_before barred element_alone elements_at pool_word opening closing closed inside_pool pool_of_word pool starts_pool pools_at model flat filled pool_table table_of is_end_snd times_in mentioned is_unused end_sends all_treated rewritten unused_count room_for hasRoom-of-ends checked judged read_into value_of same_tuple has without times messages_of message_word messages_word queue_word with_messages tidied field_of operand_of expression_of condition_of default_at left_out other_false holds binds item_value gathered evaluated bind_one bound assigned_value assign_one assigned touched first_touched branch_count instance_named has_token has_tokens can_lower waits is_alone counts_permit granted below_limit edge_has_room has_rooms can_raise roomy expected received worked message_sent take_one taken more count_changed active_changed ready_changed put_one puts cleared moved first_refusal post_refusals post element_named move_named instance_of shared_of before site_of exists template work sent defined matches after_taking queuedThere space refusals_at refusals instance_after made_after instances_after queues_after traffic step is_start start_place has_start start_edge pool_begun fresh told_by entry_by state_by leaving step_on post_on
+unfolding all sum total each tab joined those iter if◌then◌or_else◌ seek writes kind_of used mode_of is_rule rule_of move_of has_number pool_of limit_of entry_count exit_count sum_of difference_of equal_of less_of is_true is_false is_defined number_in condition_count received_count sent_count of_kind as_exit as_entry as_first as_task as_received asSentThere is_default defaults default_once binds_field times_bound template_once bound_once check1 check2 check3 edge_right check4 check5 pool_receives pool_sends not_sent_there check6 check7 check8 lowest among between is_blank is_sign is_digit is_letter is_word past token_of token_here token_at if_word if_sign if_assign if_end value_from leading_zero number_of same_bytes as_number is_field_letter field_behind field_from fieldOf-of-numerals as_field operandOf-of-numerals if_value if_too_large if_number if_field if_out_of_range if_at onward ◌then◌ sign_at assign_at end_at keep_number number field keep_operand operand mode_named keep_mode mode is_spelled starts_number starts_field starts_sign joint expression bind template_item comparison condition assignment guarded starts one_too_many too_many countedThere item_of items_from items inside series message receiving receiving_branches one_edge task_part part_of is_keyword kind_named blank parts_from parts_of element_of element starts_element put_before barred element_alone elements_at pool_word opening closing closed inside_pool pool_of_word pool starts_pool pools_at model flat filled pool_table table_of is_end_snd times_in mentioned is_unused end_sends all_treated rewritten unused_count room_for hasRoom-of-ends checked judged read_into value_of same_tuple has without times messages_of message_word messages_word queue_word with_messages tidied field_of operand_of expression_of condition_of default_at left_out other_false holds binds item_value gathered evaluated bind_one bound assigned_value assign_one assigned touched first_touched branch_count instance_named has_token has_tokens can_lower waits is_alone counts_permit granted below_limit edge_has_room has_rooms can_raise roomy expected received worked message_sent take_one taken more count_changed active_changed ready_changed put_one puts cleared moved first_refusal post_refusals post element_named move_named instance_of shared_of before site_of exists template work sent defined matches after_taking queuedThere space refusals_at refusals instance_after made_after instances_after queues_after traffic step is_start start_place has_start start_edge pool_begun fresh told_by entry_by state_by leaving step_on post_on
 told_is = refl
 
 -- and what is queued then
 waiting : messages_of (queues_of last) 3 ≡ sevens ∷ seven ∷ []
-unfolding all sum total each tab joined those iter if◌then◌else◌ seek writes kind_of used mode_of is_rule rule_of move_of has_number pool_of limit_of entry_count exit_count sum_of difference_of equal_of less_of is_true is_false is_defined number_in condition_count received_count sent_count of_kind as_exit as_entry as_first as_task as_received asSentThere is_default defaults default_once binds_field times_bound template_once bound_once check1 check2 check3 edge_right check4 check5 pool_receives pool_sends not_sent_there check6 check7 check8 lowest among between is_blank is_sign is_digit is_letter is_word past token_of token_here token_at if_word if_sign if_assign if_end value_from leading_zero number_of same_bytes as_number is_field_letter field_behind field_from fieldOf-of-numerals as_field operandOf-of-numerals if_value if_too_large if_number if_field if_out_of_range if_at onward ◌then◌ sign_at assign_at end_at keep_number number field keep_operand operand mode_named keep_mode mode is_spelled starts_number starts_field starts_sign joint expression bind template_item comparison condition assignment guarded starts one_too_many too_many countedThere item_of items_from items inside series message receiving receiving_branches one_edge task_part part_of is_keyword kind_named blank parts_from parts_of element_of element starts_element put_before barred element_alone elements_at pool_word opening closing closed inside_pool pool_of_word pool starts_pool pools_at model flat filled pool_table table_of is_end_snd times_in mentioned is_unused end_sends all_treated rewritten unused_count room_for hasRoom-of-ends checked judged read_into value_of same_tuple has without times messages_of message_word messages_word queue_word with_messages tidied field_of operand_of expression_of condition_of default_at left_out other_false holds binds item_value gathered evaluated bind_one bound assigned_value assign_one assigned touched first_touched branch_count instance_named has_token has_tokens can_lower waits is_alone counts_permit granted below_limit edge_has_room has_rooms can_raise roomy expected received worked message_sent take_one taken more count_changed active_changed ready_changed put_one puts cleared moved first_refusal post_refusals post element_named move_named instance_of shared_of before site_of exists template work sent defined matches after_taking queuedThere space refusals_at refusals instance_after made_after instances_after queues_after traffic step is_start start_place has_start start_edge pool_begun fresh leaving step_on post_on left_by state_by
+unfolding all sum total each tab joined those iter if◌then◌or_else◌ seek writes kind_of used mode_of is_rule rule_of move_of has_number pool_of limit_of entry_count exit_count sum_of difference_of equal_of less_of is_true is_false is_defined number_in condition_count received_count sent_count of_kind as_exit as_entry as_first as_task as_received asSentThere is_default defaults default_once binds_field times_bound template_once bound_once check1 check2 check3 edge_right check4 check5 pool_receives pool_sends not_sent_there check6 check7 check8 lowest among between is_blank is_sign is_digit is_letter is_word past token_of token_here token_at if_word if_sign if_assign if_end value_from leading_zero number_of same_bytes as_number is_field_letter field_behind field_from fieldOf-of-numerals as_field operandOf-of-numerals if_value if_too_large if_number if_field if_out_of_range if_at onward ◌then◌ sign_at assign_at end_at keep_number number field keep_operand operand mode_named keep_mode mode is_spelled starts_number starts_field starts_sign joint expression bind template_item comparison condition assignment guarded starts one_too_many too_many countedThere item_of items_from items inside series message receiving receiving_branches one_edge task_part part_of is_keyword kind_named blank parts_from parts_of element_of element starts_element put_before barred element_alone elements_at pool_word opening closing closed inside_pool pool_of_word pool starts_pool pools_at model flat filled pool_table table_of is_end_snd times_in mentioned is_unused end_sends all_treated rewritten unused_count room_for hasRoom-of-ends checked judged read_into value_of same_tuple has without times messages_of message_word messages_word queue_word with_messages tidied field_of operand_of expression_of condition_of default_at left_out other_false holds binds item_value gathered evaluated bind_one bound assigned_value assign_one assigned touched first_touched branch_count instance_named has_token has_tokens can_lower waits is_alone counts_permit granted below_limit edge_has_room has_rooms can_raise roomy expected received worked message_sent take_one taken more count_changed active_changed ready_changed put_one puts cleared moved first_refusal post_refusals post element_named move_named instance_of shared_of before site_of exists template work sent defined matches after_taking queuedThere space refusals_at refusals instance_after made_after instances_after queues_after traffic step is_start start_place has_start start_edge pool_begun fresh leaving step_on post_on left_by state_by
 waiting = refl
 
 queued-seven : queued 3 seven last ≡ 1

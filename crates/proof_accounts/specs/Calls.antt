@@ -1,6 +1,6 @@
 -- RUNS AND POLLS IN A HISTORY: "a batch stands in the history as its items given one by one up to the first refused one", a run as its steps. t is a table, z a state. (RULES: accounts)
 use Rattle.std.specs.Prelude.{ℕ, ◌+◌, List, [], ◌∷◌, ◌++◌, ltb, take}
-use Rattle.base_words.specs.Pick.{if◌then◌else◌}
+use Rattle.base_words.specs.Pick.{if◌then◌or_else◌}
 use Rattle.step_poll.specs.Items.{items_most, acts_in}
 use Rattle.step_history.specs.History.{Entry, told_by}
 use Rattle.engine.specs.Engine.{stepped, posted_to, ran_to}
@@ -23,7 +23,7 @@ state_after t (a_poll w count) z = (polled_to t z w count).state
 unfoldable pub acts_of : List ℕ → Call → List ℕ → List Act
 acts_of t (an_act a) z = a ∷ []
 acts_of t (a_run limit) z = run_steps t limit z
-acts_of t (a_poll w count) z = if ltb items_most count then [] else take ((polled_to t z w count).accepted + 1) (acts_in w count)
+acts_of t (a_poll w count) z = if ltb items_most count then [] or_else take ((polled_to t z w count).accepted + 1) (acts_in w count)
 
 -- of calls in turn: the history, and the last state
 unfoldable pub history_of : List ℕ → List Call → List ℕ → List Entry

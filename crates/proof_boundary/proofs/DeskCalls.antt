@@ -9,7 +9,7 @@ use prog.Memory.{Memory}
 use prog.Routine.{Routine}
 use types.Logic.{Logic}
 use contract.Monad.{Fun, fact}
-use denote.Ref.{Bor}
+use denote.Ref.{MutBor}
 use Rattle.meaning.specs.declared.Name.{Name}
 use Rattle.meaning.specs.declared.Answer.{Answer}
 use Rattle.state_records.specs.declared.Record.{Record}
@@ -23,13 +23,13 @@ use Rattle.desk.specs.contracts.run as run
 use Rattle.desk.specs.contracts.poll as poll
 use Rattle.desk.specs.contracts.figures as figures
 use Rattle.proof_demands.specs.Promises.{Steps, Runs, Polls, Figures}
-use Rattle.proof_demands.proofs.Promises.{Lent, Three, Four}
+use Rattle.proof_demands.proofs.Promises.{Lent, MutLent, Three, Four}
 
 abbrev pub Structs : Type 0
-Structs = Bor (List Record)
+Structs = MutBor (List Record)
 
 module _ {M : Type 1} {𝓤 : Ura M} (𝓛 : Logic 𝓤) (mem : Memory → SProp 𝓤) (run_of : Routine → Fun 𝓤) where
-  module _ (κ : Three) (t t₁ z z₁ : Lent) (rs rs₁ : Structs) where
+  module _ (κ : Three) (t t₁ : Lent) (z z₁ : MutLent) (rs rs₁ : Structs) where
     pub step_promise : (n n₁ : Name) (r : Answer)
         → (step.clauses 𝓛 mem run_of κ (t, (z, (rs, (n, tt))))).ensures tt r (t₁, (z₁, (rs₁, (n₁, tt)))) ≡ fact 𝓤 (Steps t.now z.now (triples rs.now) n r z₁.now (triples rs₁.now))
     step_promise n n₁ r = refl
@@ -38,10 +38,11 @@ module _ {M : Type 1} {𝓤 : Ura M} (𝓛 : Logic 𝓤) (mem : Memory → SProp
         → (run.clauses 𝓛 mem run_of κ (t, (z, (rs, (limit, tt))))).ensures tt r (t₁, (z₁, (rs₁, (limit₁, tt)))) ≡ fact 𝓤 (Runs t.now z.now (triples rs.now) limit r z₁.now (triples rs₁.now))
     run_promise limit limit₁ r = refl
 
+  module _ (κ : Three) (t t₁ z z₁ : Lent) (rs rs₁ : Structs) where
     pub figures_promise : (r : ℕ) → (figures.clauses 𝓛 mem run_of κ (t, (z, (rs, tt)))).ensures tt r (t₁, (z₁, (rs₁, tt))) ≡ fact 𝓤 (Figures t.now z.now (triples rs.now) r (triples rs₁.now))
     figures_promise r = refl
 
-  pub poll_promise : (κ : Four) (t t₁ z z₁ w w₁ : Lent) (rs rs₁ : Structs) (count count₁ : ℕ) (r : Polled)
+  pub poll_promise : (κ : Four) (t t₁ : Lent) (z z₁ : MutLent) (w w₁ : Lent) (rs rs₁ : Structs) (count count₁ : ℕ) (r : Polled)
       → (poll.clauses 𝓛 mem run_of κ (t, (z, (rs, (w, (count, tt)))))).ensures tt r (t₁, (z₁, (rs₁, (w₁, (count₁, tt))))) ≡ fact 𝓤 (Polls t.now z.now (triples rs.now) w.now count r z₁.now (triples rs₁.now))
   poll_promise κ t t₁ z z₁ w w₁ rs rs₁ count count₁ r = refl
 

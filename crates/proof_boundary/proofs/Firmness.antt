@@ -47,7 +47,7 @@ use Rattle.cuttingvale.proofs.cv_nested.Reads as nested
 use Rattle.cuttingvale.proofs.version.cv_version.Reads as version
 use Rattle.cuttingvale.proofs.version.cv_abi_4.Reads as abi
 use Rattle.proof_replay.proofs.Firm.{pieced}
-use Rattle.proof_demands.proofs.Promises.{Lent, Desk, None, One, Two, Three, Four}
+use Rattle.proof_demands.proofs.Promises.{Lent, MutLent, Desk, None, One, Two, Three, Four}
 
 -- A TABLE
 module _ (κ : One) (t t₁ t₂ : Lent) (n n₁ n₂ : ℕ) (r₁ r₂ : Verdict) where
@@ -58,7 +58,7 @@ module _ (κ : One) (t t₁ t₂ : Lent) (n n₁ n₂ : ℕ) (r₁ r₂ : Verdic
   nested_firm p₁ p₂ = p₁ ∙ sym p₂
 
 -- A TABLE, AND A TEXT, A BUFFER OR A LOG
-module _ (κ : Two) (t t₁ t₂ : Lent) (n n₁ n₂ : ℕ) (x x₁ x₂ : Lent) where
+module _ (κ : Two) (t t₁ t₂ : MutLent) (n n₁ n₂ : ℕ) (x x₁ x₂ : Lent) where
   pub read_firm : (r₁ r₂ : Reading) → read.Post κ (x, (t, (n, tt))) r₁ (x₁, (t₁, (n₁, tt))) → read.Post κ (x, (t, (n, tt))) r₂ (x₂, (t₂, (n₂, tt)))
       → (r₁ ≡ r₂) × (t₁.now ≡ t₂.now)
   read_firm r₁ r₂ p₁ p₂ = let p = p₁ ∙ sym p₂ in (ap (λ (o : ReadInto). record { number = o.number; beside = o.beside }) p, ap (λ (o : ReadInto). o.table) p)
@@ -67,14 +67,16 @@ module _ (κ : Two) (t t₁ t₂ : Lent) (n n₁ n₂ : ℕ) (x x₁ x₂ : Lent
       → (r₁ ≡ r₂) × (t₁.now ≡ t₂.now)
   draw_firm r₁ r₂ p₁ p₂ = let p = p₁ ∙ sym p₂ in (ap (λ (o : ReadInto). record { number = o.number; beside = o.beside }) p, ap (λ (o : ReadInto). o.table) p)
 
+module _ (κ : Two) (t t₁ t₂ : Lent) (n n₁ n₂ : ℕ) (x x₁ x₂ : MutLent) where
   pub write_firm : (r₁ r₂ : Written) → write.Post κ (t, (n, (x, tt))) r₁ (t₁, (n₁, (x₁, tt))) → write.Post κ (t, (n, (x, tt))) r₂ (t₂, (n₂, (x₂, tt)))
       → (r₁ ≡ r₂) × (x₁.now ≡ x₂.now)
   write_firm r₁ r₂ p₁ p₂ = let p = p₁ ∙ sym p₂ in (ap (λ (o : WrittenTo). record { number = o.number; length = o.length }) p, ap (λ (o : WrittenTo). o.buffer) p)
 
+module _ (κ : Two) (t t₁ t₂ : Lent) (n n₁ n₂ : ℕ) (x x₁ x₂ : Lent) where
   pub judge_firm : (v v₁ v₂ : ℕ) (r₁ r₂ : Judged) → judge.Post κ (t, (n, (v, (x, tt)))) r₁ (t₁, (n₁, (v₁, (x₁, tt)))) → judge.Post κ (t, (n, (v, (x, tt)))) r₂ (t₂, (n₂, (v₂, (x₂, tt)))) → r₁ ≡ r₂
   judge_firm v v₁ v₂ r₁ r₂ p₁ p₂ = p₁ ∙ sym p₂
 
-pub repair_firm : (κ : Two) (x out x₁ x₂ out₁ out₂ : Lent) (r₁ r₂ : Repaired) → repair.Post κ (x, (out, tt)) r₁ (x₁, (out₁, tt)) → repair.Post κ (x, (out, tt)) r₂ (x₂, (out₂, tt))
+pub repair_firm : (κ : Two) (x : Lent) (out : MutLent) (x₁ x₂ : Lent) (out₁ out₂ : MutLent) (r₁ r₂ : Repaired) → repair.Post κ (x, (out, tt)) r₁ (x₁, (out₁, tt)) → repair.Post κ (x, (out, tt)) r₂ (x₂, (out₂, tt))
     → (r₁ ≡ r₂) × (out₁.now ≡ out₂.now)
 repair_firm κ x out x₁ x₂ out₁ out₂ r₁ r₂ p₁ p₂ =
     let p = p₁ ∙ sym p₂ in (ap (λ (o : Repair). record { number = o.number; length = o.length; kept = o.kept; dropped = o.dropped }) p, ap (λ (o : Repair). o.buffer) p)
@@ -83,7 +85,7 @@ pub diagnose_firm : (κ : One) (x x₁ x₂ : Lent) (r₁ r₂ : Diagnosis) → 
 diagnose_firm κ x x₁ x₂ r₁ r₂ p₁ p₂ = p₁ ∙ sym p₂
 
 -- A TABLE AND A STATE
-module _ (κ : Two) (t t₁ t₂ z z₁ z₂ : Lent) (n n₁ n₂ m m₁ m₂ : ℕ) where
+module _ (κ : Two) (t t₁ t₂ : Lent) (z z₁ z₂ : MutLent) (n n₁ n₂ m m₁ m₂ : ℕ) where
   pub fresh_firm : (v v₁ v₂ r₁ r₂ : ℕ) → fresh.Post κ (t, (n, (v, (z, (m, tt))))) r₁ (t₁, (n₁, (v₁, (z₁, (m₁, tt))))) → fresh.Post κ (t, (n, (v, (z, (m, tt))))) r₂ (t₂, (n₂, (v₂, (z₂, (m₂, tt)))))
       → (r₁ ≡ r₂) × (z₁.now ≡ z₂.now)
   fresh_firm v v₁ v₂ r₁ r₂ p₁ p₂ = let p = p₁ ∙ sym p₂ in (ap (λ (o : Left). o.number) p, ap (λ (o : Left). o.state) p)
@@ -93,11 +95,12 @@ module _ (κ : Two) (t t₁ t₂ z z₁ z₂ : Lent) (n n₁ n₂ m m₁ m₂ : 
       → (r₁ ≡ r₂) × (z₁.now ≡ z₂.now)
   post_firm name name₁ name₂ g g₁ g₂ r₁ r₂ p₁ p₂ = let p = p₁ ∙ sym p₂ in (ap (λ (o : Left). o.number) p, ap (λ (o : Left). o.state) p)
 
+module _ (κ : Two) (t t₁ t₂ z z₁ z₂ : Lent) (n n₁ n₂ m m₁ m₂ : ℕ) where
   pub list_firm : (k k₁ k₂ : ℕ) (r₁ r₂ : Listed) → list.Post κ (t, (n, (z, (m, (k, tt))))) r₁ (t₁, (n₁, (z₁, (m₁, (k₁, tt))))) → list.Post κ (t, (n, (z, (m, (k, tt))))) r₂ (t₂, (n₂, (z₂, (m₂, (k₂, tt))))) → r₁ ≡ r₂
   list_firm k k₁ k₂ r₁ r₂ p₁ p₂ = p₁ ∙ sym p₂
 
 -- AND THE DESK'S RECORDS
-module _ (κ : Three) (t t₁ t₂ z z₁ z₂ : Lent) (rs rs₁ rs₂ : Desk) (n n₁ n₂ m m₁ m₂ : ℕ) where
+module _ (κ : Three) (t t₁ t₂ : Lent) (z z₁ z₂ : MutLent) (rs rs₁ rs₂ : Desk) (n n₁ n₂ m m₁ m₂ : ℕ) where
   pub step_firm : (s s₁ s₂ : Name) (r₁ r₂ : Taken) → step.Post κ (t, (n, (z, (m, (rs, (s, tt)))))) r₁ (t₁, (n₁, (z₁, (m₁, (rs₁, (s₁, tt))))))
       → step.Post κ (t, (n, (z, (m, (rs, (s, tt)))))) r₂ (t₂, (n₂, (z₂, (m₂, (rs₂, (s₂, tt))))))
       → (r₁ ≡ r₂) × (z₁.now ≡ z₂.now) × (rs₁.now ≡ rs₂.now)
@@ -114,12 +117,13 @@ module _ (κ : Three) (t t₁ t₂ z z₁ z₂ : Lent) (rs rs₁ rs₂ : Desk) (
         ap (λ (o : AtDesk RanTo). o.records) p,
       )
 
+module _ (κ : Three) (t t₁ t₂ z z₁ z₂ : Lent) (rs rs₁ rs₂ : Desk) (n n₁ n₂ m m₁ m₂ : ℕ) where
   pub figures_firm : (r₁ r₂ : ℕ) → figures.Post κ (t, (n, (z, (m, (rs, tt))))) r₁ (t₁, (n₁, (z₁, (m₁, (rs₁, tt))))) → figures.Post κ (t, (n, (z, (m, (rs, tt))))) r₂ (t₂, (n₂, (z₂, (m₂, (rs₂, tt)))))
       → (r₁ ≡ r₂) × (rs₁.now ≡ rs₂.now)
   figures_firm r₁ r₂ p₁ p₂ = let p = p₁ ∙ sym p₂ in (ap (λ (o : Figured). o.number) p, ap (λ (o : Figured). o.records) p)
 
 -- AND THE ITEMS OF A POLL
-pub poll_firm : (κ : Four) (t t₁ t₂ z z₁ z₂ w w₁ w₂ : Lent) (rs rs₁ rs₂ : Desk) (n n₁ n₂ m m₁ m₂ k k₁ k₂ count count₁ count₂ : ℕ) (r₁ r₂ : Polled)
+pub poll_firm : (κ : Four) (t t₁ t₂ : Lent) (z z₁ z₂ : MutLent) (w w₁ w₂ : Lent) (rs rs₁ rs₂ : Desk) (n n₁ n₂ m m₁ m₂ k k₁ k₂ count count₁ count₂ : ℕ) (r₁ r₂ : Polled)
     → poll.Post κ (t, (n, (z, (m, (rs, (w, (k, (count, tt)))))))) r₁ (t₁, (n₁, (z₁, (m₁, (rs₁, (w₁, (k₁, (count₁, tt))))))))
     → poll.Post κ (t, (n, (z, (m, (rs, (w, (k, (count, tt)))))))) r₂ (t₂, (n₂, (z₂, (m₂, (rs₂, (w₂, (k₂, (count₂, tt))))))))
     → (r₁ ≡ r₂) × (z₁.now ≡ z₂.now) × (rs₁.now ≡ rs₂.now)
@@ -131,7 +135,7 @@ poll_firm κ t t₁ t₂ z z₁ z₂ w w₁ w₂ rs rs₁ rs₂ n n₁ n₂ m m�
     )
 
 -- A TABLE, A LOG AND A STATE
-module _ (κ : Three) (t t₁ t₂ log log₁ log₂ z z₁ z₂ : Lent) (n n₁ n₂ m m₁ m₂ : ℕ) (r₁ r₂ : Judged) where
+module _ (κ : Three) (t t₁ t₂ log log₁ log₂ : Lent) (z z₁ z₂ : MutLent) (n n₁ n₂ m m₁ m₂ : ℕ) (r₁ r₂ : Judged) where
   pub replay_firm : (v v₁ v₂ : ℕ) → replay.Post κ (t, (n, (v, (log, (z, (m, tt)))))) r₁ (t₁, (n₁, (v₁, (log₁, (z₁, (m₁, tt))))))
       → replay.Post κ (t, (n, (v, (log, (z, (m, tt)))))) r₂ (t₂, (n₂, (v₂, (log₂, (z₂, (m₂, tt))))))
       → (r₁ ≡ r₂) × (z₁.now ≡ z₂.now)
@@ -142,7 +146,7 @@ module _ (κ : Three) (t t₁ t₂ log log₁ log₂ z z₁ z₂ : Lent) (n n₁
   resume_firm p₁ p₂ = let p = p₁ ∙ sym p₂ in (ap (λ (o : Replayed). o.answer) p, ap (λ (o : Replayed). o.state) p)
 
 -- A PIECE OF A LOG, in a buffer
-module _ (κ : One) (out out₁ out₂ : Lent) (r₁ r₂ : Piece) where
+module _ (κ : One) (out out₁ out₂ : MutLent) (r₁ r₂ : Piece) where
   pub log_begin_firm : log-begin.Post κ (out, tt) r₁ (out₁, tt) → log-begin.Post κ (out, tt) r₂ (out₂, tt) → (r₁ ≡ r₂) × (out₁.now ≡ out₂.now)
   log_begin_firm p₁ p₂ = pieced r₁ r₂ out₁.now out₂.now _ p₁ p₂
 

@@ -4,7 +4,7 @@ use Prim.Native.Nat.{ℕ}
 use mathlib.Core.Path.{◌≡◌, refl, ◌∙◌, ap}
 use mathlib.Core.Bool.{false}
 use lib.Dec.{eqb}
-use Rattle.base_words.specs.Pick.{if◌then◌else◌}
+use Rattle.base_words.specs.Pick.{if◌then◌or_else◌}
 use Rattle.base_table.specs.Places.{table_words}
 use Rattle.base_state.specs.Places.{state_words}
 use Rattle.meaning.specs.declared.Answer.{Answer}
@@ -47,16 +47,16 @@ use Rattle.cuttingvale.proofs.cv_replay.Reads as replay
 use Rattle.cuttingvale.proofs.cv_resume.Reads as resume
 use Rattle.cuttingvale.proofs.cv_nested.Reads as nested
 use Rattle.proof_demands.specs.Promises.{Checks, Freshens, Steps, Posts, Lists, Runs, Reads, Draws, Writes, Polls, Figures, Judges, Replays, Resumes, Nests}
-use Rattle.proof_demands.proofs.Promises.{Lent, Desk, One, Two, Three, Four}
+use Rattle.proof_demands.proofs.Promises.{Lent, MutLent, Desk, One, Two, Three, Four}
 
 -- A TABLE
 module _ (κ : One) (t t₁ : Lent) (n₁ : ℕ) (r : Verdict) where
   pub check_whole : check.Post κ (t, (table_words, tt)) r (t₁, (n₁, tt)) ≡ Checks t.now r
-  unfolding checked_by if◌then◌else◌
+  unfolding checked_by if◌then◌or_else◌
   check_whole = refl
 
   pub nested_whole : nested.Post κ (t, (table_words, tt)) r (t₁, (n₁, tt)) ≡ Nests t.now r
-  unfolding nested_by if◌then◌else◌
+  unfolding nested_by if◌then◌or_else◌
   nested_whole = refl
 
   module _ (n : ℕ) (wrong : eqb n table_words ≡ false) where
@@ -69,23 +69,26 @@ module _ (κ : One) (t t₁ : Lent) (n₁ : ℕ) (r : Verdict) where
     nested_wrong p = p ∙ passed (eqb n table_words) (nested_of t.now) (record { number = 10; beside = 0 }) wrong
 
 -- A TABLE, AND A TEXT, A BUFFER OR A LOG
-module _ (κ : Two) (t t₁ : Lent) (n₁ : ℕ) (x x₁ : Lent) where
+module _ (κ : Two) (t t₁ : MutLent) (n₁ : ℕ) (x x₁ : Lent) where
   pub read_whole : (r : Reading) → read.Post κ (x, (t, (table_words, tt))) r (x₁, (t₁, (n₁, tt))) ≡ Reads x.now t.now r t₁.now
-  unfolding read_by if◌then◌else◌
+  unfolding read_by if◌then◌or_else◌
   read_whole r = refl
 
   pub draw_whole : (r : Reading) → draw.Post κ (x, (t, (table_words, tt))) r (x₁, (t₁, (n₁, tt))) ≡ Draws x.now t.now r t₁.now
-  unfolding drawn_by if◌then◌else◌
+  unfolding drawn_by if◌then◌or_else◌
   draw_whole r = refl
 
+module _ (κ : Two) (t t₁ : Lent) (n₁ : ℕ) (x x₁ : MutLent) where
   pub write_whole : (r : Written) → write.Post κ (t, (table_words, (x, tt))) r (t₁, (n₁, (x₁, tt))) ≡ Writes t.now x.now r x₁.now
-  unfolding written_by if◌then◌else◌
+  unfolding written_by if◌then◌or_else◌
   write_whole r = refl
 
+module _ (κ : Two) (t t₁ : Lent) (n₁ : ℕ) (x x₁ : Lent) where
   pub judge_whole : (v v₁ : ℕ) (r : Judged) → judge.Post κ (t, (table_words, (v, (x, tt)))) r (t₁, (n₁, (v₁, (x₁, tt)))) ≡ Judges t.now v x.now r
-  unfolding judged_lent if◌then◌else◌
+  unfolding judged_lent if◌then◌or_else◌
   judge_whole v v₁ r = refl
 
+module _ (κ : Two) (t t₁ : MutLent) (n₁ : ℕ) (x x₁ : Lent) where
   module _ (n : ℕ) (wrong : eqb n table_words ≡ false) where
     pub read_wrong : (r : Reading) → read.Post κ (x, (t, (n, tt))) r (x₁, (t₁, (n₁, tt))) → (r.number ≡ 10) × (t₁.now ≡ t.now)
     unfolding read_by
@@ -99,30 +102,36 @@ module _ (κ : Two) (t t₁ : Lent) (n₁ : ℕ) (x x₁ : Lent) where
         let o = p ∙ passed {A = ReadInto} (eqb n table_words) (draw_into x.now t.now) (record { number = 10; beside = 0; table = t.now }) wrong in
         (ap (λ (d : ReadInto). d.number) o, ap (λ (d : ReadInto). d.table) o)
 
+module _ (κ : Two) (t t₁ : Lent) (n₁ : ℕ) (x x₁ : MutLent) where
+  module _ (n : ℕ) (wrong : eqb n table_words ≡ false) where
     pub write_wrong : (r : Written) → write.Post κ (t, (n, (x, tt))) r (t₁, (n₁, (x₁, tt))) → (r.number ≡ 10) × (x₁.now ≡ x.now)
     unfolding written_by
     write_wrong r p =
         let o = p ∙ passed {A = WrittenTo} (eqb n table_words) (written_to t.now x.now) (record { number = 10; length = 0; buffer = x.now }) wrong in
         (ap (λ (d : WrittenTo). d.number) o, ap (λ (d : WrittenTo). d.buffer) o)
 
+module _ (κ : Two) (t t₁ : Lent) (n₁ : ℕ) (x x₁ : Lent) where
+  module _ (n : ℕ) (wrong : eqb n table_words ≡ false) where
     pub judge_wrong : (v v₁ : ℕ) (r : Judged) → judge.Post κ (t, (n, (v, (x, tt)))) r (t₁, (n₁, (v₁, (x₁, tt)))) → r ≡ record { number = 10; beside = 0; own = 0 }
     unfolding judged_lent
     judge_wrong v v₁ r p = p ∙ passed (eqb n table_words) (judged_to t.now v x.now) (record { number = 10; beside = 0; own = 0 }) wrong
 
 -- A TABLE AND A STATE
-module _ (κ : Two) (t t₁ z z₁ : Lent) (n₁ m₁ : ℕ) where
+module _ (κ : Two) (t t₁ : Lent) (z z₁ : MutLent) (n₁ m₁ : ℕ) where
   pub fresh_whole : (v v₁ r : ℕ) → fresh.Post κ (t, (table_words, (v, (z, (state_words, tt))))) r (t₁, (n₁, (v₁, (z₁, (m₁, tt))))) ≡ Freshens t.now v z.now r z₁.now
-  unfolding freshened_by are_whole if◌then◌else◌
+  unfolding freshened_by are_whole if◌then◌or_else◌
   fresh_whole v v₁ r = refl
 
   pub post_whole : (name name₁ : ℕ) (g g₁ : Tuple) (r : ℕ) → post.Post κ (t, (table_words, (z, (state_words, (name, (g, tt)))))) r (t₁, (n₁, (z₁, (m₁, (name₁, (g₁, tt)))))) ≡ Posts t.now z.now name g r z₁.now
-  unfolding posted_by are_whole if◌then◌else◌
+  unfolding posted_by are_whole if◌then◌or_else◌
   post_whole name name₁ g g₁ r = refl
 
+module _ (κ : Two) (t t₁ z z₁ : Lent) (n₁ m₁ : ℕ) where
   pub list_whole : (k k₁ : ℕ) (r : Listed) → list.Post κ (t, (table_words, (z, (state_words, (k, tt))))) r (t₁, (n₁, (z₁, (m₁, (k₁, tt))))) ≡ Lists t.now z.now k r
-  unfolding listed_by are_whole if◌then◌else◌
+  unfolding listed_by are_whole if◌then◌or_else◌
   list_whole k k₁ r = refl
 
+module _ (κ : Two) (t t₁ : Lent) (z z₁ : MutLent) (n₁ m₁ : ℕ) where
   module _ (n m : ℕ) (wrong : are_whole n m ≡ false) where
     pub fresh_wrong : (v v₁ r : ℕ) → fresh.Post κ (t, (n, (v, (z, (m, tt))))) r (t₁, (n₁, (v₁, (z₁, (m₁, tt))))) → (r ≡ 10) × (z₁.now ≡ z.now)
     unfolding freshened_by
@@ -134,18 +143,20 @@ module _ (κ : Two) (t t₁ z z₁ : Lent) (n₁ m₁ : ℕ) where
     post_wrong name name₁ g g₁ r p =
         let o = p ∙ passed {A = Left} (are_whole n m) (posted_to t.now z.now name g) (record { number = 10; state = z.now }) wrong in (ap (λ (d : Left). d.number) o, ap (λ (d : Left). d.state) o)
 
+module _ (κ : Two) (t t₁ z z₁ : Lent) (n₁ m₁ : ℕ) where
+  module _ (n m : ℕ) (wrong : are_whole n m ≡ false) where
     pub list_wrong : (k k₁ : ℕ) (r : Listed) → list.Post κ (t, (n, (z, (m, (k, tt))))) r (t₁, (n₁, (z₁, (m₁, (k₁, tt))))) → r ≡ record { number = 10; name = blank_name }
     unfolding listed_by
     list_wrong k k₁ r p = p ∙ passed (are_whole n m) (listed_at t.now z.now k) (record { number = 10; name = blank_name }) wrong
 
 -- A TABLE, A LOG AND A STATE
-module _ (κ : Three) (t t₁ log log₁ z z₁ : Lent) (n₁ m₁ : ℕ) (r : Judged) where
+module _ (κ : Three) (t t₁ log log₁ : Lent) (z z₁ : MutLent) (n₁ m₁ : ℕ) (r : Judged) where
   pub replay_whole : (v v₁ : ℕ) → replay.Post κ (t, (table_words, (v, (log, (z, (state_words, tt)))))) r (t₁, (n₁, (v₁, (log₁, (z₁, (m₁, tt)))))) ≡ Replays t.now v log.now z.now r z₁.now
-  unfolding replayed_by are_whole if◌then◌else◌
+  unfolding replayed_by are_whole if◌then◌or_else◌
   replay_whole v v₁ = refl
 
   pub resume_whole : resume.Post κ (t, (table_words, (z, (state_words, (log, tt))))) r (t₁, (n₁, (z₁, (m₁, (log₁, tt))))) ≡ Resumes t.now z.now log.now r z₁.now
-  unfolding resumed_by are_whole if◌then◌else◌
+  unfolding resumed_by are_whole if◌then◌or_else◌
   resume_whole = refl
 
   module _ (n m : ℕ) (wrong : are_whole n m ≡ false) where
@@ -163,11 +174,11 @@ module _ (κ : Three) (t t₁ log log₁ z z₁ : Lent) (n₁ m₁ : ℕ) (r : J
         let o = p ∙ passed {A = Replayed} (are_whole n m) (resumed_to t.now z.now log.now) untold wrong in (ap (λ (d : Replayed). d.answer.number) o, ap (λ (d : Replayed). d.state) o)
 
 -- AND THE DESK'S RECORDS
-module _ (κ : Three) (t t₁ z z₁ : Lent) (rs rs₁ : Desk) (n₁ m₁ : ℕ) where
+module _ (κ : Three) (t t₁ : Lent) (z z₁ : MutLent) (rs rs₁ : Desk) (n₁ m₁ : ℕ) where
   -- the traffic is a number, and the rest of the answer that of the engine's call
   pub step_whole : (s s₁ : Name) (r : Taken) → step.Post κ (t, (table_words, (z, (state_words, (rs, (s, tt)))))) r (t₁, (n₁, (z₁, (m₁, (rs₁, (s₁, tt))))))
       → (a : Answer) × Steps t.now z.now rs.now s a z₁.now rs₁.now × (r ≡ record { number = a.number; traffic = traffic_number a.traffic; name = a.name; tuple = a.tuple })
-  unfolding stepped_by are_whole told_at told_to_c if◌then◌else◌
+  unfolding stepped_by are_whole told_at told_to_c if◌then◌or_else◌
   step_whole s s₁ r p =
       let d : AtDesk Stepped = stepped_at t.now z.now rs.now s in (
         d.done.answer,
@@ -176,13 +187,15 @@ module _ (κ : Three) (t t₁ z z₁ : Lent) (rs rs₁ : Desk) (n₁ m₁ : ℕ)
       )
 
   pub run_whole : (limit limit₁ : ℕ) (r : Ran) → run.Post κ (t, (table_words, (z, (state_words, (rs, (limit, tt)))))) r (t₁, (n₁, (z₁, (m₁, (rs₁, (limit₁, tt)))))) ≡ Runs t.now z.now rs.now limit r z₁.now rs₁.now
-  unfolding ran_lent are_whole if◌then◌else◌
+  unfolding ran_lent are_whole if◌then◌or_else◌
   run_whole limit limit₁ r = refl
 
+module _ (κ : Three) (t t₁ z z₁ : Lent) (rs rs₁ : Desk) (n₁ m₁ : ℕ) where
   pub figures_whole : (r : ℕ) → figures.Post κ (t, (table_words, (z, (state_words, (rs, tt))))) r (t₁, (n₁, (z₁, (m₁, (rs₁, tt))))) ≡ Figures t.now z.now rs.now r rs₁.now
-  unfolding figured_by are_whole if◌then◌else◌
+  unfolding figured_by are_whole if◌then◌or_else◌
   figures_whole r = refl
 
+module _ (κ : Three) (t t₁ : Lent) (z z₁ : MutLent) (rs rs₁ : Desk) (n₁ m₁ : ℕ) where
   module _ (n m : ℕ) (wrong : are_whole n m ≡ false) where
     pub step_wrong : (s s₁ : Name) (r : Taken) → step.Post κ (t, (n, (z, (m, (rs, (s, tt)))))) r (t₁, (n₁, (z₁, (m₁, (rs₁, (s₁, tt)))))) → (r.number ≡ 10) × (z₁.now ≡ z.now) × (rs₁.now ≡ rs.now)
     unfolding stepped_by
@@ -199,15 +212,17 @@ module _ (κ : Three) (t t₁ z z₁ : Lent) (rs rs₁ : Desk) (n₁ m₁ : ℕ)
         p ∙ passed {A = AtDesk RanTo} (are_whole n m) (ran_at t.now z.now rs.now limit) (record { done = record { number = 10; steps = 0; left = 0; state = z.now }; records = rs.now }) wrong in
         (ap (λ (d : AtDesk RanTo). d.done.number) o, ap (λ (d : AtDesk RanTo). d.done.state) o, ap (λ (d : AtDesk RanTo). d.records) o)
 
+module _ (κ : Three) (t t₁ z z₁ : Lent) (rs rs₁ : Desk) (n₁ m₁ : ℕ) where
+  module _ (n m : ℕ) (wrong : are_whole n m ≡ false) where
     pub figures_wrong : (r : ℕ) → figures.Post κ (t, (n, (z, (m, (rs, tt))))) r (t₁, (n₁, (z₁, (m₁, (rs₁, tt))))) → (r ≡ 10) × (rs₁.now ≡ rs.now)
     unfolding figured_by
     figures_wrong r p =
         let o = p ∙ passed {A = Figured} (are_whole n m) (figured_to t.now z.now rs.now) (record { number = 10; records = rs.now }) wrong in (ap (λ (d : Figured). d.number) o, ap (λ (d : Figured). d.records) o)
 
 -- AND THE ITEMS OF A POLL
-module _ (κ : Four) (t t₁ z z₁ w w₁ : Lent) (rs rs₁ : Desk) (n₁ m₁ k₁ count count₁ : ℕ) (r : Polled) where
+module _ (κ : Four) (t t₁ : Lent) (z z₁ : MutLent) (w w₁ : Lent) (rs rs₁ : Desk) (n₁ m₁ k₁ count count₁ : ℕ) (r : Polled) where
   pub poll_whole : poll.Post κ (t, (table_words, (z, (state_words, (rs, (w, (poll_words, (count, tt)))))))) r (t₁, (n₁, (z₁, (m₁, (rs₁, (w₁, (k₁, (count₁, tt)))))))) ≡ Polls t.now z.now rs.now w.now count r z₁.now rs₁.now
-  unfolding polled_lent are_lent are_whole if◌then◌else◌
+  unfolding polled_lent are_lent are_whole if◌then◌or_else◌
   poll_whole = refl
 
   pub poll_wrong : (n m k : ℕ) → are_lent n m k ≡ false → poll.Post κ (t, (n, (z, (m, (rs, (w, (k, (count, tt)))))))) r (t₁, (n₁, (z₁, (m₁, (rs₁, (w₁, (k₁, (count₁, tt))))))))

@@ -9,7 +9,7 @@ use borrow.Author.Tests.{eqb-true, eqb-false, eq-eqb, ne_eqb, ltb-true, ltb-fals
 use lib.Dec.{eqb, ltb}
 use lib.ListN.{length}
 use lib.Seq.{take_at}
-use Rattle.base_words.specs.Pick.{if◌then◌else◌}
+use Rattle.base_words.specs.Pick.{if◌then◌or_else◌}
 use Rattle.base_table.specs.Table.{pool_count}
 use Rattle.base_state.specs.Places.{instances_words}
 use Rattle.base_state.specs.Instances.{instances_of, queues_of}
@@ -64,19 +64,19 @@ module _ (t z : List ℕ) (rs : List (List ℕ)) where
   number_agrees h =
       by_test (agree rs t (instances_of z)) (λ e. e)
       (λ e.
-      absurd (omega (arith, sym h ∙ chosen (eqb (lent_number t z) 0) (if agree rs t (instances_of z) then 0 else 26) (lent_number t z) (eq-eqb (lent_number t z) 0 (number_lent (lent_number t z) rs t (instances_of z) h)) ∙ passed (agree rs t (instances_of z)) 0 26 e)))
+      absurd (omega (arith, sym h ∙ chosen (eqb (lent_number t z) 0) (if agree rs t (instances_of z) then 0 or_else 26) (lent_number t z) (eq-eqb (lent_number t z) 0 (number_lent (lent_number t z) rs t (instances_of z) h)) ∙ passed (agree rs t (instances_of z)) 0 26 e)))
 
   -- "26 .. they don't agree with the state at entry, after 10"
   pub number_other : fitting t z ≡ true → agree rs t (instances_of z) ≡ false → records_number t z rs ≡ 26
-  unfolding records_number desk_number if◌then◌else◌
+  unfolding records_number desk_number if◌then◌or_else◌
   number_other f e = rw (lent_zero t z f, e)
 
   pub number_bad : fitting t z ≡ false → records_number t z rs ≡ lent_number t z
   unfolding records_number desk_number fitting
-  number_bad f = passed (eqb (lent_number t z) 0) (if agree rs t (instances_of z) then 0 else 26) (lent_number t z) f
+  number_bad f = passed (eqb (lent_number t z) 0) (if agree rs t (instances_of z) then 0 or_else 26) (lent_number t z) f
 
   pub number_good : fitting t z ≡ true → agree rs t (instances_of z) ≡ true → records_number t z rs ≡ 0
-  unfolding records_number desk_number if◌then◌else◌
+  unfolding records_number desk_number if◌then◌or_else◌
   number_good f e = rw (lent_zero t z f, e)
 
   pub number_right : rs ≡ counted t (instances_of z) → records_number t z rs ≡ lent_number t z
@@ -86,7 +86,7 @@ module _ (t z : List ℕ) (rs : List (List ℕ)) where
   pub by_records : (P : ℕ → Type 0) → P 0 → P 25 → P 10 → P 26 → P (records_number t z rs)
   unfolding records_number desk_number
   by_records P right other bad wrong =
-      by_choice P (eqb (lent_number t z) 0) (if agree rs t (instances_of z) then 0 else 26) (lent_number t z)
+      by_choice P (eqb (lent_number t z) 0) (if agree rs t (instances_of z) then 0 or_else 26) (lent_number t z)
       (λ e. by_choice P (agree rs t (instances_of z)) 0 26 (λ d. right) (λ d. wrong)) (λ e. by_lent P t z right other bad)
 
 -- A STEP
@@ -227,7 +227,7 @@ module _ (t z : List ℕ) (rs : List (List ℕ)) where
 
   module _ (r : ℕ) (ys : List (List ℕ)) (promise : Figures t z rs r ys) where
     pub figures_number_is : is_one_of figures_numbers r ≡ true
-    unfolding is_one_of if◌then◌else◌
+    unfolding is_one_of if◌then◌or_else◌
     figures_number_is =
         ap (λ (o : Figured). is_one_of figures_numbers o.number) promise
         ∙ by_figured (λ (o : Figured). is_one_of figures_numbers o.number ≡ true) (λ f e. refl) (λ f e. refl) (λ f. by_lent (λ k. is_one_of figures_numbers k ≡ true) t z refl refl refl)

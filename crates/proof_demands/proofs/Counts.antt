@@ -6,7 +6,7 @@ use mathlib.Core.List.{List, [], ◌∷◌, ◌++◌}
 use native.Mathlib.Nat.{not-suc-le-zero}
 use native.Mathlib.Omega.{arith}
 use lib.ListN.{length, length-append}
-use Rattle.base_words.specs.Pick.{if◌then◌else◌}
+use Rattle.base_words.specs.Pick.{if◌then◌or_else◌}
 use Rattle.base_words.specs.Sum.{one_if}
 use Rattle.meaning.specs.declared.Tuple.{Tuple}
 use Rattle.meaning.specs.Tuples.{same_tuple}
@@ -15,20 +15,20 @@ use Rattle.step_values.proofs.TupleLaws.{same_refl}
 use Rattle.step_queues.proofs.MessageLaws.{length_without, times_append, times-without}
 
 pub has-times : (g : Tuple) (ms : List Tuple) → has g ms ≡ true → 0 < times g ms
-unfolding has times if◌then◌else◌
+unfolding has times if◌then◌or_else◌
 has-times g [] h = absurd (false≢true h)
 has-times g (x ∷ xs) h = go (same_tuple x g) h (has-times g xs)
   where
-    go : (b : Bool) → (if b then true else has g xs) ≡ true → (has g xs ≡ true → 0 < times g xs) → 0 < one_if b + times g xs
+    go : (b : Bool) → (if b then true or_else has g xs) ≡ true → (has g xs ≡ true → 0 < times g xs) → 0 < one_if b + times g xs
     go true e rest = omega arith
     go false e rest = omega (arith, rest e)
 
 pub times-has : (g : Tuple) (ms : List Tuple) → 0 < times g ms → has g ms ≡ true
-unfolding has times if◌then◌else◌
+unfolding has times if◌then◌or_else◌
 times-has g [] h = absurd (not-suc-le-zero h)
 times-has g (x ∷ xs) h = go (same_tuple x g) h (times-has g xs)
   where
-    go : (b : Bool) → 0 < one_if b + times g xs → (0 < times g xs → has g xs ≡ true) → (if b then true else has g xs) ≡ true
+    go : (b : Bool) → 0 < one_if b + times g xs → (0 < times g xs → has g xs ≡ true) → (if b then true or_else has g xs) ≡ true
     go true l rest = refl
     go false l rest = rest (omega arith)
 

@@ -8,7 +8,7 @@ use lib.Dec.{eqb, ltb}
 use lib.ListN.{take-append-drop}
 use borrow.Author.Tests.{eq-eqb, ne_eqb, ltb-true}
 use Rattle.base_words.specs.Each.{each}
-use Rattle.base_words.specs.Pick.{if◌then◌else◌}
+use Rattle.base_words.specs.Pick.{if◌then◌or_else◌}
 use Rattle.base_words.proofs.AllLaws.{and_left, and_right}
 use Rattle.base_state.specs.Places.{instances_words}
 use Rattle.base_state.specs.Instances.{instances_of, queues_of}
@@ -32,11 +32,11 @@ abbrev Numbered : List Refusal → Bool
 Numbered rs = each (λ (r : Refusal). ltb 0 r.number) rs
 
 none_exactly : (rs : List Refusal) → Numbered rs ≡ true → eqb (first_refusal rs) 0 ≡ all_hold rs
-unfolding each first_refusal all_hold if◌then◌else◌
+unfolding each first_refusal all_hold if◌then◌or_else◌
 none_exactly [] h = refl
 none_exactly (r ∷ rs) h = go r.holds (none_exactly rs (and_right (ltb 0 r.number) (Numbered rs) h))
   where
-    go : (b : Bool) → eqb (first_refusal rs) 0 ≡ all_hold rs → eqb (if b then first_refusal rs else r.number) 0 ≡ b && all_hold rs
+    go : (b : Bool) → eqb (first_refusal rs) 0 ≡ all_hold rs → eqb (if b then first_refusal rs or_else r.number) 0 ≡ b && all_hold rs
     go true rest = rest
     go false rest = ne_eqb r.number 0 (λ e. omega (arith, ltb-true 0 r.number (and_left (ltb 0 r.number) (Numbered rs) h)))
 
@@ -49,8 +49,8 @@ unfolding post_refusals each
 post_none q name g = none_exactly (post_refusals q name g) refl
 
 -- a number that is j where table or state are bad
-bad_exactly : (b c : Bool) (j k : ℕ) → (b ≡ false → j ≡ 0 → ⊥) → eqb k 0 ≡ c → eqb (if b then k else j) 0 ≡ b && c
-unfolding if◌then◌else◌
+bad_exactly : (b c : Bool) (j k : ℕ) → (b ≡ false → j ≡ 0 → ⊥) → eqb k 0 ≡ c → eqb (if b then k or_else j) 0 ≡ b && c
+unfolding if◌then◌or_else◌
 bad_exactly true c j k bad e = e
 bad_exactly false c j k bad e = ne_eqb j 0 (bad refl)
 
@@ -58,25 +58,25 @@ whole : (z : List ℕ) → instances_of z ++ queues_of z ≡ z
 whole z = take-append-drop instances_words z
 
 -- the state of a step and of a post
-step_state : (t s q : List ℕ) (n : Name) → (step t s q n).instances ++ (step t s q n).queues ≡ (if all_hold (refusals t s q n) then instances_after t s n ++ queues_after (site_of t s n) q else s ++ q)
-unfolding step if◌then◌else◌
+step_state : (t s q : List ℕ) (n : Name) → (step t s q n).instances ++ (step t s q n).queues ≡ (if all_hold (refusals t s q n) then instances_after t s n ++ queues_after (site_of t s n) q or_else s ++ q)
+unfolding step if◌then◌or_else◌
 step_state t s q n = rw (step_none t s q n) (go (all_hold (refusals t s q n)))
   where
     o : Bool → Outcome
-    o b = if b then record { answer = traffic (site_of t s n); instances = instances_after t s n; queues = queues_after (site_of t s n) q } else refused (first_refusal (refusals t s q n)) s q
+    o b = if b then record { answer = traffic (site_of t s n); instances = instances_after t s n; queues = queues_after (site_of t s n) q } or_else refused (first_refusal (refusals t s q n)) s q
 
-    go : (b : Bool) → (o b).instances ++ (o b).queues ≡ (if b then instances_after t s n ++ queues_after (site_of t s n) q else s ++ q)
+    go : (b : Bool) → (o b).instances ++ (o b).queues ≡ (if b then instances_after t s n ++ queues_after (site_of t s n) q or_else s ++ q)
     go true = refl
     go false = refl
 
-post_state : (s q : List ℕ) (name : ℕ) (g : Tuple) → s ++ (post q name g).queues ≡ (if all_hold (post_refusals q name g) then s ++ sending q name g else s ++ q)
-unfolding post if◌then◌else◌
+post_state : (s q : List ℕ) (name : ℕ) (g : Tuple) → s ++ (post q name g).queues ≡ (if all_hold (post_refusals q name g) then s ++ sending q name g or_else s ++ q)
+unfolding post if◌then◌or_else◌
 post_state s q name g = rw (post_none q name g) (go (all_hold (post_refusals q name g)))
   where
     o : Bool → Posted
-    o b = if b then record { number = 0; queues = sending q name g } else record { number = first_refusal (post_refusals q name g); queues = q }
+    o b = if b then record { number = 0; queues = sending q name g } or_else record { number = first_refusal (post_refusals q name g); queues = q }
 
-    go : (b : Bool) → s ++ (o b).queues ≡ (if b then s ++ sending q name g else s ++ q)
+    go : (b : Bool) → s ++ (o b).queues ≡ (if b then s ++ sending q name g or_else s ++ q)
     go true = refl
     go false = refl
 
@@ -93,26 +93,26 @@ module _ (t : List ℕ) where
 
   -- the state is the one that the rules give, and as it was where it is not permitted
   pub state_exactly : (a : Act) (z : List ℕ) → (did t a z).state ≡ state_given t a z
-  unfolding did state_given permitted after_act stepped leaving posted_to if◌then◌else◌
+  unfolding did state_given permitted after_act stepped leaving posted_to if◌then◌or_else◌
   state_exactly (a_step n) z = go (fitting t z)
     where
       o : Bool → Stepped
-      o b = if b then leaving (step t (instances_of z) (queues_of z) n) else record { answer = record { number = lent_number t z; traffic = Nothing; name = 0; tuple = empty }; state = z }
+      o b = if b then leaving (step t (instances_of z) (queues_of z) n) or_else record { answer = record { number = lent_number t z; traffic = Nothing; name = 0; tuple = empty }; state = z }
 
-      go : (b : Bool) → (o b).state ≡ (if b && all_hold (refusals t (instances_of z) (queues_of z) n) then instances_after t (instances_of z) n ++ queues_after (site_of t (instances_of z) n) (queues_of z) else z)
+      go : (b : Bool) → (o b).state ≡ (if b && all_hold (refusals t (instances_of z) (queues_of z) n) then instances_after t (instances_of z) n ++ queues_after (site_of t (instances_of z) n) (queues_of z) or_else z)
       go true =
           step_state t (instances_of z) (queues_of z) n
-          ∙ ap (λ (y : List ℕ). if all_hold (refusals t (instances_of z) (queues_of z) n) then instances_after t (instances_of z) n ++ queues_after (site_of t (instances_of z) n) (queues_of z) else y) (whole z)
+          ∙ ap (λ (y : List ℕ). if all_hold (refusals t (instances_of z) (queues_of z) n) then instances_after t (instances_of z) n ++ queues_after (site_of t (instances_of z) n) (queues_of z) or_else y) (whole z)
       go false = refl
   state_exactly (a_post name g) z = go (fitting t z)
     where
       o : Bool → Left
-      o b = if b then record { number = (post (queues_of z) name g).number; state = instances_of z ++ (post (queues_of z) name g).queues } else record { number = lent_number t z; state = z }
+      o b = if b then record { number = (post (queues_of z) name g).number; state = instances_of z ++ (post (queues_of z) name g).queues } or_else record { number = lent_number t z; state = z }
 
-      go : (b : Bool) → (o b).state ≡ (if b && all_hold (post_refusals (queues_of z) name g) then instances_of z ++ sending (queues_of z) name g else z)
+      go : (b : Bool) → (o b).state ≡ (if b && all_hold (post_refusals (queues_of z) name g) then instances_of z ++ sending (queues_of z) name g or_else z)
       go true =
           post_state (instances_of z) (queues_of z) name g
-          ∙ ap (λ (y : List ℕ). if all_hold (post_refusals (queues_of z) name g) then instances_of z ++ sending (queues_of z) name g else y) (whole z)
+          ∙ ap (λ (y : List ℕ). if all_hold (post_refusals (queues_of z) name g) then instances_of z ++ sending (queues_of z) name g or_else y) (whole z)
       go false = refl
 
   -- the number is the one given

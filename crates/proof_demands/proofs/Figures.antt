@@ -7,7 +7,7 @@ use mathlib.Core.List.{List}
 use native.Mathlib.Omega.{arith}
 use borrow.Author.Tests.{eqb-true, eqb-false}
 use lib.Dec.{eqb, ltb}
-use Rattle.base_words.specs.Pick.{if◌then◌else◌}
+use Rattle.base_words.specs.Pick.{if◌then◌or_else◌}
 use Rattle.base_table.specs.Table.{pool_count}
 use Rattle.base_state.specs.Instances.{instances_of, queues_of, made_count, instance_at}
 use Rattle.meaning.specs.declared.Name.{Name}
@@ -47,8 +47,8 @@ module _ (t z : List ℕ) (rs : List (List ℕ)) (n : Name) (r : Answer) (y : Li
   s = instances_of z
 
   -- "26 .. after 10", and after 25, then 11 to 18
-  pub step_number_at : (r.number ≡ (if eqb (records_number t z rs) 0 then first_refusal (refusals t s (queues_of z) n) else records_number t z rs)) × (is_one_of step_numbers r.number ≡ true)
-  unfolding is_one_of if◌then◌else◌
+  pub step_number_at : (r.number ≡ (if eqb (records_number t z rs) 0 then first_refusal (refusals t s (queues_of z) n) or_else records_number t z rs)) × (is_one_of step_numbers r.number ≡ true)
+  unfolding is_one_of if◌then◌or_else◌
   step_number_at =
       by_test (eqb (records_number t z rs) 0)
       (λ e.
@@ -125,7 +125,7 @@ module _ (t z : List ℕ) (rs : List (List ℕ)) (n : Name) (r : Answer) (y : Li
 -- A RUN
 module _ (t z : List ℕ) (rs : List (List ℕ)) (limit : ℕ) (r : Ran) (y : List ℕ) (ys : List (List ℕ)) (promise : Runs t z rs limit r y ys) where
   pub run_number_at : (r.number ≡ records_number t z rs) × (is_one_of run_numbers r.number ≡ true)
-  unfolding is_one_of if◌then◌else◌
+  unfolding is_one_of if◌then◌or_else◌
   run_number_at = (k, subst (λ j. is_one_of run_numbers j ≡ true) (sym k) (by_records t z rs (λ j. is_one_of run_numbers j ≡ true) refl refl refl refl))
     where
       k : r.number ≡ records_number t z rs
@@ -145,7 +145,7 @@ module _ (t z : List ℕ) (rs : List (List ℕ)) (limit : ℕ) (r : Ran) (y : Li
 -- A POLL: 22, 10, 25, 26, then its items, and the records are those of the accepted part
 module _ (t z : List ℕ) (rs : List (List ℕ)) (w : List ℕ) (count : ℕ) (r : Polled) (y : List ℕ) (ys : List (List ℕ)) (promise : Polls t z rs w count r y ys) where
   pub poll_number_at : is_one_of poll_numbers r.number ≡ true
-  unfolding is_one_of poll_number if◌then◌else◌
+  unfolding is_one_of poll_number if◌then◌or_else◌
   poll_number_at =
       by_test (eqb (poll_number t z rs count) 0)
       (λ e. ap (λ (p : Polling). is_one_of poll_numbers p.number) (poll_taken t z rs w count r y ys promise (eqb-true (poll_number t z rs count) 0 e)).0 ∙ poll_numbers_lem t z w count)

@@ -41,7 +41,7 @@ use Rattle.engine.proofs.repair.Reads as repair
 use Rattle.engine.proofs.figures.Reads as figures
 use Rattle.engine.proofs.nested.Reads as nested
 use Rattle.proof_demands.specs.Demands.{Agrees, Allowed, AllAllowed}
-use Rattle.proof_demands.proofs.Promises.{Lent, Desk, One, Two, Three, Four}
+use Rattle.proof_demands.proofs.Promises.{Lent, MutLent, Desk, One, Two, Three, Four}
 use Rattle.proof_demands.proofs.AtDesk.{step_agrees, post_agrees}
 
 -- each statement takes the promise of the code twice, for what was lent before
@@ -55,12 +55,12 @@ pub diagnose_firm : (κ : One) (text text₁ text₂ : Lent) (r₁ r₂ : Diagno
 diagnose_firm κ text text₁ text₂ r₁ r₂ p₁ p₂ = p₁ ∙ sym p₂
 
 module _ (κ : Two) where
-  pub fresh_firm : (t z t₁ t₂ z₁ z₂ : Lent) (v v₁ v₂ : ℕ) (r₁ r₂ : ℕ)
+  pub fresh_firm : (t : Lent) (z : MutLent) (t₁ t₂ : Lent) (z₁ z₂ : MutLent) (v v₁ v₂ : ℕ) (r₁ r₂ : ℕ)
       → fresh.Post κ (t, (v, (z, tt))) r₁ (t₁, (v₁, (z₁, tt))) → fresh.Post κ (t, (v, (z, tt))) r₂ (t₂, (v₂, (z₂, tt)))
       → (r₁ ≡ r₂) × (z₁.now ≡ z₂.now)
   fresh_firm t z t₁ t₂ z₁ z₂ v v₁ v₂ r₁ r₂ p₁ p₂ = let p = p₁ ∙ sym p₂ in (ap (λ (o : Left). o.number) p, ap (λ (o : Left). o.state) p)
 
-  pub post_firm : (t z t₁ t₂ z₁ z₂ : Lent) (name name₁ name₂ : ℕ) (g g₁ g₂ : Tuple) (r₁ r₂ : ℕ)
+  pub post_firm : (t : Lent) (z : MutLent) (t₁ t₂ : Lent) (z₁ z₂ : MutLent) (name name₁ name₂ : ℕ) (g g₁ g₂ : Tuple) (r₁ r₂ : ℕ)
       → post.Post κ (t, (z, (name, (g, tt)))) r₁ (t₁, (z₁, (name₁, (g₁, tt)))) → post.Post κ (t, (z, (name, (g, tt)))) r₂ (t₂, (z₂, (name₂, (g₂, tt))))
       → (r₁ ≡ r₂) × (z₁.now ≡ z₂.now)
   post_firm t z t₁ t₂ z₁ z₂ name name₁ name₂ g g₁ g₂ r₁ r₂ p₁ p₂ = let p = p₁ ∙ sym p₂ in (ap (λ (o : Left). o.number) p, ap (λ (o : Left). o.state) p)
@@ -70,19 +70,19 @@ module _ (κ : Two) where
       → r₁ ≡ r₂
   list_firm t z t₁ t₂ z₁ z₂ k k₁ k₂ r₁ r₂ p₁ p₂ = p₁ ∙ sym p₂
 
-  pub read_firm : (text t text₁ text₂ t₁ t₂ : Lent) (r₁ r₂ : Reading)
+  pub read_firm : (text : Lent) (t : MutLent) (text₁ text₂ : Lent) (t₁ t₂ : MutLent) (r₁ r₂ : Reading)
       → read.Post κ (text, (t, tt)) r₁ (text₁, (t₁, tt)) → read.Post κ (text, (t, tt)) r₂ (text₂, (t₂, tt))
       → (r₁ ≡ r₂) × (t₁.now ≡ t₂.now)
   read_firm text t text₁ text₂ t₁ t₂ r₁ r₂ p₁ p₂ =
       let p = p₁ ∙ sym p₂ in (ap (λ (o : ReadInto). record { number = o.number; beside = o.beside }) p, ap (λ (o : ReadInto). o.table) p)
 
-  pub draw_firm : (text t text₁ text₂ t₁ t₂ : Lent) (r₁ r₂ : Reading)
+  pub draw_firm : (text : Lent) (t : MutLent) (text₁ text₂ : Lent) (t₁ t₂ : MutLent) (r₁ r₂ : Reading)
       → draw.Post κ (text, (t, tt)) r₁ (text₁, (t₁, tt)) → draw.Post κ (text, (t, tt)) r₂ (text₂, (t₂, tt))
       → (r₁ ≡ r₂) × (t₁.now ≡ t₂.now)
   draw_firm text t text₁ text₂ t₁ t₂ r₁ r₂ p₁ p₂ =
       let p = p₁ ∙ sym p₂ in (ap (λ (o : ReadInto). record { number = o.number; beside = o.beside }) p, ap (λ (o : ReadInto). o.table) p)
 
-  pub write_firm : (t out t₁ t₂ out₁ out₂ : Lent) (r₁ r₂ : Written)
+  pub write_firm : (t : Lent) (out : MutLent) (t₁ t₂ : Lent) (out₁ out₂ : MutLent) (r₁ r₂ : Written)
       → write.Post κ (t, (out, tt)) r₁ (t₁, (out₁, tt)) → write.Post κ (t, (out, tt)) r₂ (t₂, (out₂, tt))
       → (r₁ ≡ r₂) × (out₁.now ≡ out₂.now)
   write_firm t out t₁ t₂ out₁ out₂ r₁ r₂ p₁ p₂ =
@@ -93,7 +93,7 @@ module _ (κ : Two) where
       → r₁ ≡ r₂
   judge_firm t log t₁ t₂ log₁ log₂ v v₁ v₂ r₁ r₂ p₁ p₂ = p₁ ∙ sym p₂
 
-  pub repair_firm : (text out text₁ text₂ out₁ out₂ : Lent) (r₁ r₂ : Repaired)
+  pub repair_firm : (text : Lent) (out : MutLent) (text₁ text₂ : Lent) (out₁ out₂ : MutLent) (r₁ r₂ : Repaired)
       → repair.Post κ (text, (out, tt)) r₁ (text₁, (out₁, tt)) → repair.Post κ (text, (out, tt)) r₂ (text₂, (out₂, tt))
       → (r₁ ≡ r₂) × (out₁.now ≡ out₂.now)
   repair_firm text out text₁ text₂ out₁ out₂ r₁ r₂ p₁ p₂ =
@@ -104,13 +104,13 @@ module _ (κ : Two) where
 
 -- a log, and a state that is lent with it
 module _ (κ : Three) where
-  pub replay_firm : (t log z t₁ t₂ log₁ log₂ z₁ z₂ : Lent) (v v₁ v₂ : ℕ) (r₁ r₂ : Judged)
+  pub replay_firm : (t log : Lent) (z : MutLent) (t₁ t₂ log₁ log₂ : Lent) (z₁ z₂ : MutLent) (v v₁ v₂ : ℕ) (r₁ r₂ : Judged)
       → replay.Post κ (t, (v, (log, (z, tt)))) r₁ (t₁, (v₁, (log₁, (z₁, tt)))) → replay.Post κ (t, (v, (log, (z, tt)))) r₂ (t₂, (v₂, (log₂, (z₂, tt))))
       → (r₁ ≡ r₂) × (z₁.now ≡ z₂.now)
   replay_firm t log z t₁ t₂ log₁ log₂ z₁ z₂ v v₁ v₂ r₁ r₂ p₁ p₂ =
       let p = p₁ ∙ sym p₂ in (ap (λ (o : Replayed). o.answer) p, ap (λ (o : Replayed). o.state) p)
 
-  pub resume_firm : (t z log t₁ t₂ z₁ z₂ log₁ log₂ : Lent) (r₁ r₂ : Judged)
+  pub resume_firm : (t : Lent) (z : MutLent) (log t₁ t₂ : Lent) (z₁ z₂ : MutLent) (log₁ log₂ : Lent) (r₁ r₂ : Judged)
       → resume.Post κ (t, (z, (log, tt))) r₁ (t₁, (z₁, (log₁, tt))) → resume.Post κ (t, (z, (log, tt))) r₂ (t₂, (z₂, (log₂, tt)))
       → (r₁ ≡ r₂) × (z₁.now ≡ z₂.now)
   resume_firm t z log t₁ t₂ z₁ z₂ log₁ log₂ r₁ r₂ p₁ p₂ =
@@ -118,13 +118,13 @@ module _ (κ : Three) where
 
 -- the calls with records
 module _ (κ : Three) where
-  pub step_firm : (t z t₁ t₂ z₁ z₂ : Lent) (rs rs₁ rs₂ : Desk) (n n₁ n₂ : Name) (r₁ r₂ : Answer)
+  pub step_firm : (t : Lent) (z : MutLent) (t₁ t₂ : Lent) (z₁ z₂ : MutLent) (rs rs₁ rs₂ : Desk) (n n₁ n₂ : Name) (r₁ r₂ : Answer)
       → step.Post κ (t, (z, (rs, (n, tt)))) r₁ (t₁, (z₁, (rs₁, (n₁, tt)))) → step.Post κ (t, (z, (rs, (n, tt)))) r₂ (t₂, (z₂, (rs₂, (n₂, tt))))
       → (r₁ ≡ r₂) × (z₁.now ≡ z₂.now) × (rs₁.now ≡ rs₂.now)
   step_firm t z t₁ t₂ z₁ z₂ rs rs₁ rs₂ n n₁ n₂ r₁ r₂ p₁ p₂ =
       let p = p₁ ∙ sym p₂ in (ap (λ (o : AtDesk Stepped). o.done.answer) p, ap (λ (o : AtDesk Stepped). o.done.state) p, ap (λ (o : AtDesk Stepped). o.records) p)
 
-  pub run_firm : (t z t₁ t₂ z₁ z₂ : Lent) (rs rs₁ rs₂ : Desk) (limit limit₁ limit₂ : ℕ) (r₁ r₂ : Ran)
+  pub run_firm : (t : Lent) (z : MutLent) (t₁ t₂ : Lent) (z₁ z₂ : MutLent) (rs rs₁ rs₂ : Desk) (limit limit₁ limit₂ : ℕ) (r₁ r₂ : Ran)
       → run.Post κ (t, (z, (rs, (limit, tt)))) r₁ (t₁, (z₁, (rs₁, (limit₁, tt)))) → run.Post κ (t, (z, (rs, (limit, tt)))) r₂ (t₂, (z₂, (rs₂, (limit₂, tt))))
       → (r₁ ≡ r₂) × (z₁.now ≡ z₂.now) × (rs₁.now ≡ rs₂.now)
   run_firm t z t₁ t₂ z₁ z₂ rs rs₁ rs₂ limit limit₁ limit₂ r₁ r₂ p₁ p₂ =
@@ -139,7 +139,7 @@ module _ (κ : Three) where
       → (r₁ ≡ r₂) × (rs₁.now ≡ rs₂.now)
   figures_firm t z t₁ t₂ z₁ z₂ rs rs₁ rs₂ r₁ r₂ p₁ p₂ = let p = p₁ ∙ sym p₂ in (ap (λ (o : Figured). o.number) p, ap (λ (o : Figured). o.records) p)
 
-pub poll_firm : (κ : Four) (t z w t₁ t₂ z₁ z₂ w₁ w₂ : Lent) (rs rs₁ rs₂ : Desk) (count count₁ count₂ : ℕ) (r₁ r₂ : Polled)
+pub poll_firm : (κ : Four) (t : Lent) (z : MutLent) (w t₁ t₂ : Lent) (z₁ z₂ : MutLent) (w₁ w₂ : Lent) (rs rs₁ rs₂ : Desk) (count count₁ count₂ : ℕ) (r₁ r₂ : Polled)
     → poll.Post κ (t, (z, (rs, (w, (count, tt))))) r₁ (t₁, (z₁, (rs₁, (w₁, (count₁, tt))))) → poll.Post κ (t, (z, (rs, (w, (count, tt))))) r₂ (t₂, (z₂, (rs₂, (w₂, (count₂, tt)))))
     → (r₁ ≡ r₂) × (z₁.now ≡ z₂.now) × (rs₁.now ≡ rs₂.now)
 poll_firm κ t z w t₁ t₂ z₁ z₂ w₁ w₂ rs rs₁ rs₂ count count₁ count₂ r₁ r₂ p₁ p₂ =

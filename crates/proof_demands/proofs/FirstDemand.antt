@@ -9,7 +9,7 @@ use mathlib.Core.List.{List}
 use native.Mathlib.Omega.{arith}
 use lib.Dec.{eqb}
 use borrow.Author.Tests.{eq-eqb, ne_eqb}
-use Rattle.base_words.specs.Pick.{if◌then◌else◌}
+use Rattle.base_words.specs.Pick.{if◌then◌or_else◌}
 use Rattle.base_state.specs.Instances.{instances_of, queues_of}
 use Rattle.base_state.specs.Versions.{is_version}
 use Rattle.meaning.specs.declared.Name.{Name}
@@ -49,11 +49,11 @@ module _ (t : List ℕ) where
   check_bad e = passed (table_fits t) _ (record { number = 10; beside = 0 }) e
 
   pub check_broken : table_fits t ≡ true → (lowest (model_of t) ≡ 0 → ⊥) → verdict_of t ≡ record { number = 4; beside = lowest (model_of t) }
-  unfolding verdict_of if◌then◌else◌
+  unfolding verdict_of if◌then◌or_else◌
   check_broken e n = rw (e, ne_eqb (lowest (model_of t)) 0 n)
 
   pub check_passed : table_fits t ≡ true → lowest (model_of t) ≡ 0 → verdict_of t ≡ record { number = 0; beside = 0 }
-  unfolding verdict_of if◌then◌else◌
+  unfolding verdict_of if◌then◌or_else◌
   check_passed e n = rw (e, eq-eqb (lowest (model_of t)) 0 n)
 
   pub check_number_is : is_one_of check_numbers (verdict_of t).number ≡ true
@@ -81,7 +81,7 @@ module _ (t : List ℕ) (v : ℕ) (z : List ℕ) (r : ℕ) (y : List ℕ) (promi
   fresh_bad h = fresh_number_is.0 ∙ sym (asked_invalid t v h)
 
   pub fresh_other : valid t ≡ true → is_version v ≡ false → r ≡ 25
-  unfolding asked_number version_number if◌then◌else◌
+  unfolding asked_number version_number if◌then◌or_else◌
   fresh_other h k = fresh_number_is.0 ∙ rw (h, k)
 
   pub fresh_refused : (r ≡ 0 → ⊥) → y ≡ z
@@ -105,7 +105,7 @@ module _ (t z : List ℕ) (n : Name) (r : Answer) (y : List ℕ) (promise : Step
   step_is : r.number ≡ (stepped t z n).answer.number
   step_is = ap (λ (o : Stepped). o.answer.number) promise
 
-  pub step_number_is : (r.number ≡ (if fitting t z then first_refusal (refusals t (instances_of z) (queues_of z) n) else lent_number t z)) × (is_one_of step_numbers r.number ≡ true)
+  pub step_number_is : (r.number ≡ (if fitting t z then first_refusal (refusals t (instances_of z) (queues_of z) n) or_else lent_number t z)) × (is_one_of step_numbers r.number ≡ true)
   step_number_is = (step_is ∙ stepped_number t z n, subst (λ (k : ℕ). is_one_of step_numbers k ≡ true) (sym step_is) (step_numbers_lem t z n))
 
   pub step_refused : (r.number ≡ 0 → ⊥) → (y ≡ z) × (r ≡ record { number = r.number; traffic = Nothing; name = 0; tuple = empty })
@@ -120,7 +120,7 @@ module _ (t z : List ℕ) (name : ℕ) (g : Tuple) (r : ℕ) (y : List ℕ) (pro
   post_is : r ≡ (posted_to t z name g).number
   post_is = ap (λ (o : Left). o.number) promise
 
-  pub post_number_is : (r ≡ (if fitting t z then first_refusal (post_refusals (queues_of z) name g) else lent_number t z)) × (is_one_of post_numbers r ≡ true)
+  pub post_number_is : (r ≡ (if fitting t z then first_refusal (post_refusals (queues_of z) name g) or_else lent_number t z)) × (is_one_of post_numbers r ≡ true)
   post_number_is = (post_is ∙ posted_number t z name g, subst (λ (k : ℕ). is_one_of post_numbers k ≡ true) (sym post_is) (post_numbers_lem t z name g))
 
   pub post_refused : (r ≡ 0 → ⊥) → y ≡ z

@@ -9,7 +9,7 @@ use lib.Dec.{eqb, leb}
 use lib.ListN.{length}
 use borrow.Author.Tests.{leb-true, le-leb, eq-eqb, ne_eqb}
 use Rattle.base_words.specs.Each.{each}
-use Rattle.base_words.specs.Pick.{if◌then◌else◌}
+use Rattle.base_words.specs.Pick.{if◌then◌or_else◌}
 use Rattle.base_words.specs.Sum.{one_if}
 use Rattle.base_words.specs.Counts.{names, values, messages}
 use Rattle.base_words.proofs.AllLaws.{all_of, and_left, and_right}
@@ -38,11 +38,11 @@ use Rattle.proof_demands.proofs.ThirdDemand.{more_messages}
 
 -- a message that is equal to one of short messages is short
 has_short : (g : Tuple) (ms : List Tuple) → Short ms → has g ms ≡ true → g.length ≤ values
-unfolding has each if◌then◌else◌
+unfolding has each if◌then◌or_else◌
 has_short g [] s h = absurd (false≢true h)
 has_short g (x ∷ xs) s h = go (same_tuple x g) refl h (has_short g xs (and_right (is_short x) (each is_short xs) s))
   where
-    go : (b : Bool) → same_tuple x g ≡ b → (if b then true else has g xs) ≡ true → (has g xs ≡ true → g.length ≤ values) → g.length ≤ values
+    go : (b : Bool) → same_tuple x g ≡ b → (if b then true or_else has g xs) ≡ true → (has g xs ≡ true → g.length ≤ values) → g.length ≤ values
     go true e k rest = omega (arith, same_length x g e, leb-true x.length values (and_left (is_short x) (each is_short xs) s))
     go false e k rest = rest k
 
@@ -65,7 +65,7 @@ module _ (t : List ℕ) (e : ℕ → List Tuple) (z₁ z₂ : List ℕ) (v : Val
 
 -- ONE MESSAGE under one name
 unfoldable pub only : ℕ → Tuple → ℕ → List Tuple
-only name g m = if eqb m name then g ∷ [] else []
+only name g m = if eqb m name then g ∷ [] or_else []
 
 only_here : (name : ℕ) (g v : Tuple) → times v (only name g name) ≡ one_if (same_tuple g v)
 unfolding only times

@@ -6,7 +6,7 @@ use mathlib.Core.List.{List, [], ◌∷◌}
 use lib.Dec.{eqb}
 use borrow.Author.Tests.{eqb-true, eqb-false, eq-eqb, ne_eqb}
 use Rattle.base_words.specs.Each.{each}
-use Rattle.base_words.specs.Pick.{if◌then◌else◌}
+use Rattle.base_words.specs.Pick.{if◌then◌or_else◌}
 use Rattle.base_state.specs.Instances.{instances_of, queues_of}
 use Rattle.meaning.specs.Post.{post_refusals}
 use Rattle.meaning.specs.Step.{refusals_at, refusals}
@@ -62,7 +62,7 @@ module _ (t : List ℕ) (v : ℕ) (log : List ℕ) where
 
   -- WHICH NUMBERS CAN COME
   pub judge_numbers_lem : is_one_of judge_numbers (judged_to t v log).number ≡ true
-  unfolding is_one_of if◌then◌else◌
+  unfolding is_one_of if◌then◌or_else◌
   judge_numbers_lem =
       by_test (eqb (asked_number t v) 0) (λ e. judged_among (is_one_of judge_numbers) refl refl refl (eqb-true (asked_number t v) 0 e))
       (λ e.
@@ -75,7 +75,7 @@ module _ (t : List ℕ) where
   Own j = is_one_of own_numbers j.own ≡ true
 
   act_own : (a : Act) (z : List ℕ) → Valid t z → is_one_of own_numbers (did t a z).number ≡ true
-  unfolding is_one_of refusals refusals_at post_refusals each if◌then◌else◌
+  unfolding is_one_of refusals refusals_at post_refusals each if◌then◌or_else◌
   act_own (a_step n) z v = rw (step_number t z v n) (first_among (is_one_of own_numbers) (refusals t (instances_of z) (queues_of z) n) refl refl)
   act_own (a_post name g) z v = rw (post_number t z v name g) (first_among (is_one_of own_numbers) (post_refusals (queues_of z) name g) refl refl)
 
@@ -90,7 +90,7 @@ module _ (t : List ℕ) where
       (λ e. (act_own step z v, did-valid t step z v))
 
   lines_own : (ws : List (List ℕ)) (k : ℕ) (z : List ℕ) → Valid t z → Own (judged_by (line_taken (stepped t) (posted_to t)) ws k z)
-  unfolding judged_by is_one_of if◌then◌else◌
+  unfolding judged_by is_one_of if◌then◌or_else◌
   lines_own [] k z v = refl
   lines_own (w ∷ ws) k z v =
       let x : Taking = line_taken (stepped t) (posted_to t) w z in
@@ -102,12 +102,12 @@ module _ (t : List ℕ) where
       (λ e. (line_own w z v).0)
 
   end_own : (s : Reached) (j : Judged) → Own j → Own (judged_end s j)
-  unfolding judged_end is_one_of if◌then◌else◌
+  unfolding judged_end is_one_of if◌then◌or_else◌
   end_own (Past q) j h = h
   end_own (Fault q) j h = refl
 
   pub judge_own : (v : ℕ) (log : List ℕ) → is_one_of own_numbers (judged_to t v log).own ≡ true
-  unfolding judged_to judged_from is_one_of if◌then◌else◌
+  unfolding judged_to judged_from is_one_of if◌then◌or_else◌
   judge_own v log =
       by_choice Own (eqb (asked_number t v) 0) (judged_end (scan log).end (judged_by (line_taken (stepped t) (posted_to t)) (lines_of log) 0 (fresh t v)))
       (judgment (asked_number t v) 0 0)

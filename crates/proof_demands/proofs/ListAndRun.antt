@@ -9,7 +9,7 @@ use native.Mathlib.Omega.{arith}
 use lib.Dec.{ltb}
 use lib.ListN.{length}
 use borrow.Author.Tests.{eq-eqb, lt-ltb, le-ltb, ltb-true, ltb-false}
-use Rattle.base_words.specs.Pick.{if◌then◌else◌}
+use Rattle.base_words.specs.Pick.{if◌then◌or_else◌}
 use Rattle.base_state.specs.Instances.{instances_of, queues_of}
 use Rattle.meaning.specs.declared.Name.{Name}
 use Rattle.meaning.specs.Queues.{tidied}
@@ -45,11 +45,11 @@ ltb_next k m =
     (λ e. e ∙ sym (lt-ltb (suc k) (suc m) (omega (arith, ltb-true k m e))))
     (λ e. e ∙ sym (le-ltb (suc k) (suc m) (omega (arith, ltb-false k m e))))
 
-chosen_number : (ns : List Name) (k : ℕ) → (chosen ns k).number ≡ (if ltb k (length ns) then 0 else 6)
-unfolding chosen if◌then◌else◌
+chosen_number : (ns : List Name) (k : ℕ) → (chosen ns k).number ≡ (if ltb k (length ns) then 0 or_else 6)
+unfolding chosen if◌then◌or_else◌
 chosen_number [] k = rw (le-ltb k 0 (omega arith))
 chosen_number (n ∷ ns) zero = rw (lt-ltb 0 (length (n ∷ ns)) (omega arith))
-chosen_number (n ∷ ns) (suc k) = chosen_number ns k ∙ ap (λ b. if b then 0 else 6) (ltb_next k (length ns))
+chosen_number (n ∷ ns) (suc k) = chosen_number ns k ∙ ap (λ b. if b then 0 or_else 6) (ltb_next k (length ns))
 
 -- LIST: refusals
 module _ (t z : List ℕ) (k : ℕ) where
@@ -62,7 +62,7 @@ module _ (t z : List ℕ) (k : ℕ) where
 
   module _ (r : Listed) (promise : Lists t z k r) where
     pub list_number_is : is_one_of list_numbers r.number ≡ true
-    unfolding is_one_of if◌then◌else◌
+    unfolding is_one_of if◌then◌or_else◌
     list_number_is = rw promise (by_listed (λ (y : Listed). is_one_of list_numbers y.number ≡ true) (λ n. refl) refl (by_lent (λ k. is_one_of list_numbers k ≡ true) t z refl refl refl))
 
     pub list_refused : (r.number ≡ 0 → ⊥) → r ≡ record { number = r.number; name = blank_name }
@@ -89,7 +89,7 @@ module _ (t z : List ℕ) (v : Valid t z) where
       (w.0, listed_is t z v w.0 ∙ w.1)
 
   -- 6 exactly from their number on,
-  pub list_number : (k : ℕ) → (listed_at t z k).number ≡ (if ltb k (accepted_steps t z) then 0 else 6)
+  pub list_number : (k : ℕ) → (listed_at t z k).number ≡ (if ltb k (accepted_steps t z) then 0 or_else 6)
   unfolding accepted_steps
   list_number k = ap (λ (y : Listed). y.number) (listed_is t z v k) ∙ chosen_number (listed t (instances_of z) (queues_of z)) k
 
@@ -108,7 +108,7 @@ module _ (t z : List ℕ) (limit : ℕ) (r : Ran) (y : List ℕ) (promise : Runs
   by_ran P f g = subst P (sym promise) (by_choice P (fitting t z) (ended (ran t limit (instances_of z) (queues_of z))) (record { number = lent_number t z; steps = 0; left = 0; state = z }) f g)
 
   pub run_number_is : (r.number ≡ lent_number t z) × (is_one_of run_numbers r.number ≡ true)
-  unfolding is_one_of if◌then◌else◌ ended
+  unfolding is_one_of if◌then◌or_else◌ ended
   run_number_is = by_ran (λ (o : RanTo). (o.number ≡ lent_number t z) × (is_one_of run_numbers o.number ≡ true)) (λ e. (sym (lent_zero t z e), refl))
       (λ e. (refl, by_lent (λ k. is_one_of run_numbers k ≡ true) t z refl refl refl))
 

@@ -9,7 +9,7 @@ use borrow.Author.Tests.{eqb-false}
 use lib.Dec.{eqb, ltb}
 use lib.ListN.{length}
 use Rattle.base_words.specs.Each.{each}
-use Rattle.base_words.specs.Pick.{if◌then◌else◌}
+use Rattle.base_words.specs.Pick.{if◌then◌or_else◌}
 use Rattle.base_table.specs.Table.{pool_count}
 use Rattle.base_state.specs.Instances.{instances_of, queues_of}
 use Rattle.base_state.specs.Versions.{is_version}
@@ -143,7 +143,7 @@ resume_other t z v log = other (resumed_to t z log).answer.number (resume_among 
 write_other : (t out : List ℕ) → valid t ≡ true → Right (written_to t out).number
 write_other t out v =
     other (written_to t out).number
-    (rw (written_number t out ∙ picked (valid t) (if ltb (length out) (length (shown_table t)) then 5 else 0) 10 v)
+    (rw (written_number t out ∙ picked (valid t) (if ltb (length out) (length (shown_table t)) then 5 or_else 0) 10 v)
     (by_choice (λ (j : ℕ). Other j ≡ true) (ltb (length out) (length (shown_table t))) 5 0 (λ b. refl) (λ b. refl)))
 
 nested_other : (t : List ℕ) → valid t ≡ true → Right (nested_of t).number

@@ -7,7 +7,7 @@ use native.Mathlib.Omega.{arith}
 use lib.Dec.{eqb}
 use borrow.Author.Tests.{eqb-true, eqb-false}
 use Rattle.base_words.specs.Each.{each}
-use Rattle.base_words.specs.Pick.{if◌then◌else◌}
+use Rattle.base_words.specs.Pick.{if◌then◌or_else◌}
 use Rattle.base_words.proofs.AllLaws.{and_left, and_right}
 use Rattle.base_state.specs.Instances.{instances_of, queues_of}
 use Rattle.meaning.specs.declared.Name.{Name}
@@ -94,7 +94,7 @@ first_among f (r ∷ rs) z h =
 
 -- WHICH NUMBERS CAN COME
 pub check_numbers_lem : (t : List ℕ) → is_one_of check_numbers (verdict_of t).number ≡ true
-unfolding verdict_of is_one_of if◌then◌else◌
+unfolding verdict_of is_one_of if◌then◌or_else◌
 check_numbers_lem t =
     by_choice (λ (v : Verdict). is_one_of check_numbers v.number ≡ true) (table_fits t) _ (record { number = 10; beside = 0 })
     (λ e.
@@ -103,15 +103,15 @@ check_numbers_lem t =
     (λ e. refl)
 
 pub nested_numbers_lem : (t : List ℕ) → is_one_of nested_numbers (nested_of t).number ≡ true
-unfolding is_one_of if◌then◌else◌
+unfolding is_one_of if◌then◌or_else◌
 nested_numbers_lem t = by_nested (λ (v : Verdict). is_one_of nested_numbers v.number ≡ true) t (λ v l. refl) (λ v l. refl) (λ v. refl)
 
 pub fresh_numbers_lem : (t : List ℕ) (v : ℕ) (z : List ℕ) → is_one_of fresh_numbers (freshened t v z).number ≡ true
-unfolding is_one_of if◌then◌else◌
+unfolding is_one_of if◌then◌or_else◌
 fresh_numbers_lem t v z = rw (fresh_number t v z) (by_asked (λ k. is_one_of fresh_numbers k ≡ true) t v refl refl refl)
 
 pub step_numbers_lem : (t z : List ℕ) (n : Name) → is_one_of step_numbers (stepped t z n).answer.number ≡ true
-unfolding is_one_of refusals refusals_at each if◌then◌else◌
+unfolding is_one_of refusals refusals_at each if◌then◌or_else◌
 step_numbers_lem t z n =
     rw (stepped_number t z n)
     (by_choice (λ (k : ℕ). is_one_of step_numbers k ≡ true) (fitting t z) (first_refusal (refusals t (instances_of z) (queues_of z) n)) (lent_number t z)
@@ -119,7 +119,7 @@ step_numbers_lem t z n =
     (λ e. by_lent (λ k. is_one_of step_numbers k ≡ true) t z refl refl refl))
 
 pub post_numbers_lem : (t z : List ℕ) (name : ℕ) (g : Tuple) → is_one_of post_numbers (posted_to t z name g).number ≡ true
-unfolding is_one_of post_refusals each if◌then◌else◌
+unfolding is_one_of post_refusals each if◌then◌or_else◌
 post_numbers_lem t z name g =
     rw (posted_number t z name g)
     (by_choice (λ (k : ℕ). is_one_of post_numbers k ≡ true) (fitting t z) (first_refusal (post_refusals (queues_of z) name g)) (lent_number t z)

@@ -9,7 +9,7 @@ use borrow.Author.Tests.{eqb-true, eqb-false, eq-eqb}
 use lib.Dec.{eqb, ltb}
 use lib.ListN.{length, take, drop}
 use lib.Seq.{drop-drop}
-use Rattle.base_words.specs.Pick.{if◌then◌else◌}
+use Rattle.base_words.specs.Pick.{if◌then◌or_else◌}
 use Rattle.base_words.specs.Words.{at}
 use Rattle.base_words.proofs.AllLaws.{and_left, and_right}
 use Rattle.base_words.proofs.PickLaws.{and_true}
@@ -40,7 +40,7 @@ module _ (t : List ℕ) where
       (λ e. stopping (eqb-false (did t a z).number 0 e))
 
   pub accepted_count : (acts : List Act) (z : List ℕ) → (polled_by (did t) acts z).accepted ≡ until_refused (numbers t acts z)
-  unfolding polled_by numbers until_refused one_before if◌then◌else◌
+  unfolding polled_by numbers until_refused one_before if◌then◌or_else◌
   accepted_count [] z = refl
   accepted_count (a ∷ rest) z = go (eqb (did t a z).number 0) (accepted_count rest (did t a z).state)
     where
@@ -48,9 +48,9 @@ module _ (t : List ℕ) where
       p = polled_by (did t) rest (did t a z).state
 
       o : Bool → Polling
-      o b = if b then record { number = p.number; accepted = p.accepted + 1; state = p.state } else record { number = (did t a z).number; accepted = 0; state = (did t a z).state }
+      o b = if b then record { number = p.number; accepted = p.accepted + 1; state = p.state } or_else record { number = (did t a z).number; accepted = 0; state = (did t a z).state }
 
-      go : (b : Bool) → p.accepted ≡ until_refused (numbers t rest (did t a z).state) → (o b).accepted ≡ (if b then until_refused (numbers t rest (did t a z).state) + 1 else 0)
+      go : (b : Bool) → p.accepted ≡ until_refused (numbers t rest (did t a z).state) → (o b).accepted ≡ (if b then until_refused (numbers t rest (did t a z).state) + 1 or_else 0)
       go true e = ap (λ (k : ℕ). k + 1) e
       go false e = refl
 
@@ -144,17 +144,17 @@ polled_valid t z v w count =
 
 -- TWO POLLS
 before_then : (p q : Polling) → one_before (then_poll p q) ≡ then_poll (one_before p) q
-unfolding one_before then_poll if◌then◌else◌
+unfolding one_before then_poll if◌then◌or_else◌
 before_then p q = go (eqb p.number 0)
   where
     e : q.accepted + p.accepted + 1 ≡ q.accepted + (p.accepted + 1)
     e = omega arith
 
     o : Bool → Polling
-    o b = if b then record { number = q.number; accepted = q.accepted + p.accepted; state = q.state } else p
+    o b = if b then record { number = q.number; accepted = q.accepted + p.accepted; state = q.state } or_else p
 
     n : Bool → Polling
-    n b = if b then record { number = q.number; accepted = q.accepted + (p.accepted + 1); state = q.state } else record { number = p.number; accepted = p.accepted + 1; state = p.state }
+    n b = if b then record { number = q.number; accepted = q.accepted + (p.accepted + 1); state = q.state } or_else record { number = p.number; accepted = p.accepted + 1; state = p.state }
 
     go : (b : Bool) → ◌≡◌ {A = Polling} (record { number = (o b).number; accepted = (o b).accepted + 1; state = (o b).state }) (n b)
     go true = λ i. record { number = q.number; accepted = e i; state = q.state }
@@ -165,7 +165,7 @@ module _ (give : Act → List ℕ → Left) (ys : List Act) where
   also p = then_poll p (polled_by give ys p.state)
 
   pub two_polls : (xs : List Act) (z : List ℕ) → polled_by give (xs ++ ys) z ≡ then_poll (polled_by give xs z) (polled_by give ys (polled_by give xs z).state)
-  unfolding polled_by then_poll one_before if◌then◌else◌
+  unfolding polled_by then_poll one_before if◌then◌or_else◌
   two_polls [] z =
       let q : Polling = polled_by give ys z in
       let e : q.accepted ≡ q.accepted + 0 = omega arith in
@@ -185,7 +185,7 @@ module _ (give : Act → List ℕ → Left) (ys : List Act) where
       accepted e = ap one_before e ∙ before_then p (polled_by give ys p.state)
 
       go : (b : Bool) → eqb (give a z).number 0 ≡ b → polled_by give (xs ++ ys) (give a z).state ≡ also p
-          → (if b then one_before (polled_by give (xs ++ ys) (give a z).state) else r) ≡ also (if b then one_before p else r)
+          → (if b then one_before (polled_by give (xs ++ ys) (give a z).state) or_else r) ≡ also (if b then one_before p or_else r)
       go true e d = accepted d
       go false e d = refused e
 

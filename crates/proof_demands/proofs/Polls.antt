@@ -8,7 +8,7 @@ use native.Mathlib.Omega.{arith}
 use lib.Dec.{eqb, ltb}
 use lib.ListN.{length, take, drop}
 use Rattle.base_words.specs.Each.{each}
-use Rattle.base_words.specs.Pick.{if◌then◌else◌}
+use Rattle.base_words.specs.Pick.{if◌then◌or_else◌}
 use Rattle.base_words.specs.Words.{at}
 use Rattle.proof_steps.proofs.Choices.{by_choice, chosen}
 use Rattle.base_state.specs.Instances.{instances_of, queues_of}
@@ -53,7 +53,7 @@ abbrev Known : ℕ → Type 0
 Known k = is_one_of poll_numbers k ≡ true
 
 act_known : (t : List ℕ) (a : Act) (z : List ℕ) → Known (did t a z).number
-unfolding did is_one_of refusals refusals_at post_refusals each if◌then◌else◌
+unfolding did is_one_of refusals refusals_at post_refusals each if◌then◌or_else◌
 act_known t (a_step n) z =
     rw (stepped_number t z n)
     (by_choice Known (fitting t z) (first_refusal (refusals t (instances_of z) (queues_of z) n)) (lent_number t z)
@@ -66,13 +66,13 @@ act_known t (a_post name g) z =
     (λ e. by_lent Known t z refl refl refl))
 
 polled_known : (t : List ℕ) (acts : List Act) (z : List ℕ) → Known (polled_by (did t) acts z).number
-unfolding polled_by one_before is_one_of if◌then◌else◌
+unfolding polled_by one_before is_one_of if◌then◌or_else◌
 polled_known t [] z = refl
 polled_known t (a ∷ rest) z =
     by_first t (λ (p : Polling). Known p.number) a rest z (λ e. polled_known t rest (did t a z).state) (λ e. act_known t a z)
 
 pub poll_numbers_lem : (t z w : List ℕ) (count : ℕ) → is_one_of poll_numbers (polled_to t z w count).number ≡ true
-unfolding polled_to polled_from is_one_of if◌then◌else◌
+unfolding polled_to polled_from is_one_of if◌then◌or_else◌
 poll_numbers_lem t z w count =
     by_choice (λ (p : Polling). Known p.number) (ltb items_most count) (record { number = 22; accepted = 0; state = z }) _ (λ b. refl)
     (λ b.

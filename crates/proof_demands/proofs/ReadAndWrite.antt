@@ -11,7 +11,7 @@ use lib.ListN.{length, drop}
 use borrow.Author.Tests.{eqb-true, eq-eqb, ne_eqb, lt-ltb, le-ltb}
 use Rattle.base_words.specs.Counts.{text_most}
 use Rattle.base_words.specs.Each.{each}
-use Rattle.base_words.specs.Pick.{if◌then◌else◌}
+use Rattle.base_words.specs.Pick.{if◌then◌or_else◌}
 use Rattle.text_readers.specs.declared.Read.{Read}
 use Rattle.text_readers.specs.declared.Read.TheVariants.{At, Refused}
 use Rattle.text_readers.specs.Reading.{misplaced, excessive}
@@ -43,22 +43,22 @@ abbrev pub Either : List ℕ → List ℕ → ReadInto → Type 0
 Either text t r = Whole text r ⊎ Stays t r
 
 two_or_three : (n p : ℕ) (t : List ℕ) → told (Refused n p) ≡ true → Stays t (record { number = n; beside = p; table = t })
-unfolding told is_one_of if◌then◌else◌
+unfolding told is_one_of if◌then◌or_else◌
 two_or_three n p t h = go (eqb n misplaced) (eqb n excessive) refl refl h
   where
     stays : (k : ℕ) → n ≡ k → (k ≡ 0 → ⊥) → is_one_of read_numbers k ≡ true → Stays t (record { number = n; beside = p; table = t })
     stays k e z m = record { refused = λ q. z (sym e ∙ q); among_them = subst (λ (k : ℕ). is_one_of read_numbers k ≡ true) (sym e) m; table = refl }
 
-    go : (a b : Bool) → eqb n misplaced ≡ a → eqb n excessive ≡ b → (if a then true else if b then true else false) ≡ true → Stays t (record { number = n; beside = p; table = t })
+    go : (a b : Bool) → eqb n misplaced ≡ a → eqb n excessive ≡ b → (if a then true or_else if b then true or_else false) ≡ true → Stays t (record { number = n; beside = p; table = t })
     go true b e f h = stays misplaced (eqb-true n misplaced e) (λ q. omega (arith, q)) refl
     go false true e f h = stays excessive (eqb-true n excessive f) (λ q. omega (arith, q)) refl
     go false false e f h = absurd (false≢true h)
 
 checked_either : (text t : List ℕ) (q : ℕ) → (model text).end ≡ At q → Either text t (checked (lowest (model text).value) (model text).value t)
-unfolding checked is_one_of if◌then◌else◌
+unfolding checked is_one_of if◌then◌or_else◌
 checked_either text t q e =
     by_choice (Either text t) (eqb (lowest (model text).value) 0)
-    (if each has_room (model text).value then record { number = 0; beside = 0; table = table_of (map rewritten (model text).value) } else record { number = 28; beside = 0; table = t })
+    (if each has_room (model text).value then record { number = 0; beside = 0; table = table_of (map rewritten (model text).value) } or_else record { number = 28; beside = 0; table = t })
     (record { number = 4; beside = lowest (model text).value; table = t })
     (λ z.
     by_choice (Either text t) (each has_room (model text).value) (record { number = 0; beside = 0; table = table_of (map rewritten (model text).value) }) (record { number = 28; beside = 0; table = t })
@@ -72,7 +72,7 @@ judged_either text t (At q) e h = checked_either text t q e
 judged_either text t (Refused n p) e h = inr (two_or_three n p t h)
 
 pub taken_either : (text t : List ℕ) → Either text t (read_into text t)
-unfolding read_into is_one_of if◌then◌else◌
+unfolding read_into is_one_of if◌then◌or_else◌
 taken_either text t =
     by_choice (Either text t) (ltb text_most (length text)) (record { number = 1; beside = 0; table = t }) (judged (model text).end (model text).value t)
     (λ z. inr (record { refused = λ k. omega (arith, k); among_them = refl; table = refl }))
@@ -103,12 +103,12 @@ module _ (text t : List ℕ) where
       read_broken n = to_check ∙ passed (eqb (lowest (model text).value) 0) _ (record { number = 4; beside = lowest (model text).value; table = t }) (ne_eqb (lowest (model text).value) 0 n)
 
       module _ (n : lowest (model text).value ≡ 0) where
-        to_room : read_into text t ≡ (if each has_room (model text).value then record { number = 0; beside = 0; table = table_of (map rewritten (model text).value) } else record { number = 28; beside = 0; table = t })
+        to_room : read_into text t ≡ (if each has_room (model text).value then record { number = 0; beside = 0; table = table_of (map rewritten (model text).value) } or_else record { number = 28; beside = 0; table = t })
         unfolding checked
         to_room =
             to_check
             ∙ chosen (eqb (lowest (model text).value) 0)
-            (if each has_room (model text).value then record { number = 0; beside = 0; table = table_of (map rewritten (model text).value) } else record { number = 28; beside = 0; table = t }) _
+            (if each has_room (model text).value then record { number = 0; beside = 0; table = table_of (map rewritten (model text).value) } or_else record { number = 28; beside = 0; table = t }) _
             (eq-eqb (lowest (model text).value) 0 n)
 
         pub read_full : each has_room (model text).value ≡ false → read_into text t ≡ record { number = 28; beside = 0; table = t }
@@ -126,7 +126,7 @@ module _ (text t : List ℕ) (r : Reading) (y : List ℕ) (promise : Reads text 
   read_left = ap (λ (o : ReadInto). o.table) promise
 
   pub read_number_is : is_one_of read_numbers r.number ≡ true
-  unfolding is_one_of if◌then◌else◌
+  unfolding is_one_of if◌then◌or_else◌
   read_number_is =
       subst (λ (k : ℕ). is_one_of read_numbers k ≡ true) (sym read_is)
       (⊎_elim (λ (w : Whole text (read_into text t)). subst (λ (o : ReadInto). is_one_of read_numbers o.number ≡ true) (sym w.is) refl)
@@ -150,7 +150,7 @@ pub record Kept (out : List ℕ) (w : WrittenTo) : Type 0 where
   pub stays : (w.number ≡ 0 → ⊥) → (w.length ≡ 0) × (w.buffer ≡ out)
 
 pub written_kept : (t out : List ℕ) → Kept out (written_to t out)
-unfolding written_to written is_one_of if◌then◌else◌
+unfolding written_to written is_one_of if◌then◌or_else◌
 written_kept t out =
     by_choice (Kept out) (valid t) (written (shown_table t) out) (record { number = 10; length = 0; buffer = out })
     (λ v.
@@ -160,14 +160,14 @@ written_kept t out =
     (λ e. record { among_them = refl; stays = λ n. absurd (n refl) }))
     (λ v. record { among_them = refl; stays = λ n. (refl, refl) })
 
-pub written_number : (t out : List ℕ) → (written_to t out).number ≡ (if valid t then if ltb (length out) (length (shown_table t)) then 5 else 0 else 10)
-unfolding written_to written if◌then◌else◌
+pub written_number : (t out : List ℕ) → (written_to t out).number ≡ (if valid t then if ltb (length out) (length (shown_table t)) then 5 or_else 0 or_else 10)
+unfolding written_to written if◌then◌or_else◌
 written_number t out = go (valid t) (ltb (length out) (length (shown_table t)))
   where
     text : Bool → WrittenTo
-    text b = if b then record { number = 5; length = 0; buffer = out } else record { number = 0; length = length (shown_table t); buffer = shown_table t ++ drop (length (shown_table t)) out }
+    text b = if b then record { number = 5; length = 0; buffer = out } or_else record { number = 0; length = length (shown_table t); buffer = shown_table t ++ drop (length (shown_table t)) out }
 
-    go : (a b : Bool) → (if a then text b else record { number = 10; length = 0; buffer = out }).number ≡ (if a then if b then 5 else 0 else 10)
+    go : (a b : Bool) → (if a then text b or_else record { number = 10; length = 0; buffer = out }).number ≡ (if a then if b then 5 or_else 0 or_else 10)
     go true true = refl
     go true false = refl
     go false b = refl
@@ -177,7 +177,7 @@ module _ (t out : List ℕ) (r : Written) (y : List ℕ) (promise : Writes t out
   write_is : r.number ≡ (written_to t out).number
   write_is = ap (λ (o : WrittenTo). o.number) promise
 
-  pub write_number_is : (r.number ≡ (if valid t then if ltb (length out) (length (shown_table t)) then 5 else 0 else 10)) × (is_one_of write_numbers r.number ≡ true)
+  pub write_number_is : (r.number ≡ (if valid t then if ltb (length out) (length (shown_table t)) then 5 or_else 0 or_else 10)) × (is_one_of write_numbers r.number ≡ true)
   write_number_is = (write_is ∙ written_number t out, subst (λ (k : ℕ). is_one_of write_numbers k ≡ true) (sym write_is) (written_kept t out).among_them)
 
   pub write_refused : (r.number ≡ 0 → ⊥) → (r.length ≡ 0) × (y ≡ out)

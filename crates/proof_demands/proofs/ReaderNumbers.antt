@@ -3,7 +3,7 @@ use Prim.Native.Nat.{ℕ}
 use mathlib.Core.Path.{◌≡◌, refl}
 use mathlib.Core.Bool.{Bool, true}
 use mathlib.Core.List.{List, [], ◌∷◌}
-use Rattle.base_words.specs.Pick.{if◌then◌else◌}
+use Rattle.base_words.specs.Pick.{if◌then◌or_else◌}
 use Rattle.text_readers.specs.declared.Read.{Read}
 use Rattle.text_readers.specs.declared.Read.TheVariants.{At, Refused}
 use Rattle.text_readers.specs.Reading.{misplaced, excessive}
@@ -17,5 +17,5 @@ told (At q) = true
 told (Refused n p) = is_one_of (misplaced ∷ excessive ∷ []) n
 
 pub model_told : (text : List ℕ) → told (model text).end ≡ true
-unfolding told is_one_of if◌then◌else◌
+unfolding told is_one_of if◌then◌or_else◌
 model_told = model_ends (λ r. told r ≡ true) (λ q. refl) (λ p. refl) (λ p. refl)

@@ -5,7 +5,7 @@ use mathlib.Core.Bool.{Bool, true, false}
 use mathlib.Core.List.{List, ◌++◌}
 use lib.Dec.{ltb, eqb}
 use lib.ListN.{length, drop}
-use Rattle.base_words.specs.Pick.{if◌then◌else◌}
+use Rattle.base_words.specs.Pick.{if◌then◌or_else◌}
 use Rattle.xml_skip.specs.declared.Reached.{Reached}
 use Rattle.xml_skip.specs.declared.Reached.TheVariants.{Past, Fault}
 use Rattle.log_text.specs.declared.Cursor.{Cursor}
@@ -22,7 +22,7 @@ pub record Kept (out : List ℕ) (r : Repair) : Type 0 where
 
 module _ (out : List ℕ) where
   given_kept : (w : List ℕ) (events dropped : ℕ) → Kept out (repair_given w events dropped out)
-  unfolding repair_given refused is_one_of if◌then◌else◌
+  unfolding repair_given refused is_one_of if◌then◌or_else◌
   given_kept w events dropped =
       by_choice (Kept out) (ltb log_most (length w)) _ _ (λ e. record { among_them = refl; stays = λ n. (refl, refl) })
       (λ e.
@@ -30,7 +30,7 @@ module _ (out : List ℕ) where
       (λ f. record { among_them = refl; stays = λ n. absurd (n refl) }))
 
   kept_by_lem : (s : Reached) (text : List ℕ) (c : Cursor) → Kept out (repaired_by s text c out)
-  unfolding repaired_by refused is_one_of if◌then◌else◌
+  unfolding repaired_by refused is_one_of if◌then◌or_else◌
   kept_by_lem (Past q) text c = given_kept text c.events 0
   kept_by_lem (Fault q) text c =
       by_choice (Kept out) (is_lost q text c) _ (repair_given (closed text c) c.events (length text - c.kept) out) (λ e. record { among_them = refl; stays = λ n. (refl, refl) })

@@ -5,7 +5,7 @@ use mathlib.Core.Bool.{Bool, true, false}
 use mathlib.Core.List.{List, [], ◌∷◌}
 use lib.Dec.{eqb}
 use borrow.Author.Tests.{eqb-true, eqb-false, eq-eqb}
-use Rattle.base_words.specs.Pick.{if◌then◌else◌}
+use Rattle.base_words.specs.Pick.{if◌then◌or_else◌}
 use Rattle.state_fits.specs.Fresh.{fresh}
 use Rattle.proof_steps.proofs.Choices.{by_test, by_choice, chosen, passed}
 use Rattle.log_text.specs.Logs.{scan, lines_of}
@@ -94,7 +94,7 @@ module _ (t : List ℕ) where
         (end_among f none event text (scan log).end (judged_by (line_taken (stepped t) (posted_to t)) (lines_of log) 0 z) (lines_among f none event (line_taken (stepped t) (posted_to t)) (lines_of log) 0 z))
 
     pub resume_numbers : (log : List ℕ) → is_one_of judge_numbers (resumed_to t z log).answer.number ≡ true
-    unfolding is_one_of if◌then◌else◌
+    unfolding is_one_of if◌then◌or_else◌
     resume_numbers log =
         by_test (fitting t z) (λ f. resume_among f log (is_one_of judge_numbers) refl refl refl)
         (λ f. ap (λ (r : Replayed). is_one_of judge_numbers r.answer.number) (resume_bad f log) ∙ by_lent (λ k. is_one_of judge_numbers k ≡ true) t z refl refl refl)

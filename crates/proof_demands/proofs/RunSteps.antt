@@ -7,7 +7,7 @@ use native.Mathlib.Omega.{arith}
 use lib.Dec.{eqb}
 use lib.ListN.{length, take-append-drop}
 use borrow.Author.Tests.{eq-eqb, eqb-true}
-use Rattle.base_words.specs.Pick.{if◌then◌else◌}
+use Rattle.base_words.specs.Pick.{if◌then◌or_else◌}
 use Rattle.base_words.specs.Sum.{one_if}
 use Rattle.base_words.proofs.PickLaws.{and_true}
 use Rattle.base_state.specs.Places.{instances_words}
@@ -72,7 +72,7 @@ module _ (t : List ℕ) where
       first = sym (step_number t z v n) ∙ e
 
       queues_is : (step t s q n).queues ≡ queues_after (site_of t s n) q
-      unfolding step if◌then◌else◌
+      unfolding step if◌then◌or_else◌
       queues_is = rw (eq-eqb (first_refusal (refusals t s q n)) 0 first)
 
       left_instances : instances_of (did t (a_step n) z).state ≡ (step t s q n).instances
@@ -104,14 +104,14 @@ module _ (t : List ℕ) where
   ended-step r = refl
 
   given_step : (limit : ℕ) (z : List ℕ) (n : Name) → listed_at t z 0 ≡ record { number = 0; name = n } → ran_given t (suc limit) z ≡ one_more (ran_given t limit (did t (a_step n) z).state)
-  unfolding ran_given run_steps one_more after if◌then◌else◌
+  unfolding ran_given run_steps one_more after if◌then◌or_else◌
   given_step limit z n e =
       let y : List ℕ = (did t (a_step n) z).state in
       let k : suc (length (run_steps t limit y)) ≡ length (run_steps t limit y) + 1 = omega arith in
       rw e (λ i. record { number = 0; steps = k i; left = run_left t (after t (run_steps t limit y) y); state = after t (run_steps t limit y) y })
 
   given_none : (limit : ℕ) (z : List ℕ) → listed_at t z 0 ≡ record { number = 6; name = blank_name } → record { number = 0; steps = 0; left = 0; state = z } ≡ ran_given t (suc limit) z
-  unfolding ran_given run_steps run_left after if◌then◌else◌
+  unfolding ran_given run_steps run_left after if◌then◌or_else◌
   given_none limit z e =
       let none : run_steps t (suc limit) z ≡ [] = rw e in
       let l : 0 ≡ run_left t z = rw e in

@@ -6,7 +6,7 @@ use mathlib.Core.Bool.{Bool, true, false, ◌&&◌}
 use mathlib.Core.List.{List, [], ◌∷◌, ◌++◌}
 use native.Mathlib.Omega.{arith}
 use lib.Dec.{eqb}
-use Rattle.base_words.specs.Pick.{if◌then◌else◌}
+use Rattle.base_words.specs.Pick.{if◌then◌or_else◌}
 use Rattle.base_state.specs.Instances.{instances_of, queues_of}
 use Rattle.meaning.specs.declared.Name.{Name}
 use Rattle.meaning.specs.declared.Answer.{Answer}
@@ -26,8 +26,8 @@ use Rattle.proof_demands.proofs.Numbers.{stepped-traffic, unfit_number}
 use Rattle.proof_demands.proofs.Exactly.{accepted_exactly, state_exactly, number_exactly, accepted_gives}
 use Rattle.proof_demands.proofs.Firmness.{all_allowed_is}
 
-number_fits : (b : Bool) (j k : ℕ) → (b ≡ false → j ≡ 0 → ⊥) → (if b then k else j) ≡ 0 → b ≡ true
-unfolding if◌then◌else◌
+number_fits : (b : Bool) (j k : ℕ) → (b ≡ false → j ≡ 0 → ⊥) → (if b then k or_else j) ≡ 0 → b ≡ true
+unfolding if◌then◌or_else◌
 number_fits true j k bad e = refl
 number_fits false j k bad e = absurd (bad refl e)
 

@@ -8,7 +8,7 @@ use native.Mathlib.Omega.{arith}
 use lib.Dec.{leb, ltb}
 use lib.ListN.{length}
 use borrow.Author.Tests.{ltb-true, leb-true, lt-ltb}
-use Rattle.base_words.specs.Pick.{if◌then◌else◌}
+use Rattle.base_words.specs.Pick.{if◌then◌or_else◌}
 use Rattle.base_words.specs.Counts.{names, values, messages}
 use Rattle.base_words.proofs.AllLaws.{and_left, and_right}
 use Rattle.check_limits.specs.Limits.{table_fits}
@@ -27,7 +27,7 @@ use Rattle.proof_steps.proofs.Traffic.{received_name, received_there, sent_alone
 use Rattle.proof_demands.proofs.QueuesMore.{QueuesFit, More, there_too, consumed_more, room_too, sent_more}
 
 after_neither : (x : Site) (q : List ℕ) → receives x ≡ false → sends x ≡ false → queues_after x q ≡ q
-unfolding queues_after if◌then◌else◌
+unfolding queues_after if◌then◌or_else◌
 after_neither x q e f = rw (e, f)
 
 -- what an accepted post knows
@@ -92,7 +92,7 @@ module _ (e : ℕ → List Tuple) (q₁ q₂ : List ℕ) (f₁ : QueuesFit q₁)
   -- A POST
   module _ (name : ℕ) (g : Tuple) (accepted : first_refusal (post_refusals q₁ name g) ≡ 0) (within : (m : ℕ) → m < names → length (messages_of (sending q₁ name g) m) + length (e m) ≤ messages) where
     pub post_accepted_too : first_refusal (post_refusals q₂ name g) ≡ 0
-    unfolding post_refusals first_refusal if◌then◌else◌
+    unfolding post_refusals first_refusal if◌then◌or_else◌
     post_accepted_too =
         let named = post_named q₁ name g accepted in
         let r : length (messages_of q₂ name) < messages = room_too e q₁ q₂ f₁ f₂ more name named g (post_short q₁ name g accepted) (post_room q₁ name g accepted) (within name named) in

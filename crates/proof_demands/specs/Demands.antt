@@ -3,7 +3,7 @@
 use Rattle.std.specs.Prelude.{ℕ, zero, suc, ◌+◌, ◌<◌, ◌≤◌, ◌≡◌, Bool, true, false, ◌&&◌, List, [], ◌∷◌, ◌++◌, eqb, leb, length, take}
 use Rattle.base_words.specs.All.{all}
 use Rattle.base_words.specs.Each.{each}
-use Rattle.base_words.specs.Pick.{if◌then◌else◌}
+use Rattle.base_words.specs.Pick.{if◌then◌or_else◌}
 use Rattle.base_words.specs.Sum.{one_if}
 use Rattle.base_words.specs.Counts.{names, messages}
 use Rattle.base_words.specs.Words.{at, greatest}
@@ -32,13 +32,13 @@ use Rattle.proof_demands.specs.Promises.{Steps, Posts}
 -- DEMAND 1. "Bad ones are refused with the number document 01 gives": 10 where table or state are bad, 25 for another version, else that of the first
 -- condition that does not hold (RULES: calls)
 unfoldable pub number_given : List ℕ → Act → List ℕ → ℕ
-number_given t (a_step n) z = if fitting t z then first_refusal (refusals t (instances_of z) (queues_of z) n) else lent_number t z
-number_given t (a_post name g) z = if fitting t z then first_refusal (post_refusals (queues_of z) name g) else lent_number t z
+number_given t (a_step n) z = if fitting t z then first_refusal (refusals t (instances_of z) (queues_of z) n) or_else lent_number t z
+number_given t (a_post name g) z = if fitting t z then first_refusal (post_refusals (queues_of z) name g) or_else lent_number t z
 
 -- the numbers that each call can give
 unfoldable pub is_one_of : List ℕ → ℕ → Bool
 is_one_of [] k = false
-is_one_of (n ∷ ns) k = if eqb k n then true else is_one_of ns k
+is_one_of (n ∷ ns) k = if eqb k n then true or_else is_one_of ns k
 
 abbrev pub check_numbers : List ℕ
 check_numbers = 0 ∷ 4 ∷ 10 ∷ []
@@ -95,7 +95,7 @@ after_act t (a_post name g) z = instances_of z ++ sending (queues_of z) name g
 
 -- permitted or not: "a refused call changes no byte it was lent"
 unfoldable pub state_given : List ℕ → Act → List ℕ → List ℕ
-state_given t a z = if permitted t a z then after_act t a z else z
+state_given t a z = if permitted t a z then after_act t a z or_else z
 
 -- the same of calls one after the other, by the rules alone: whether all are permitted, their numbers, the state after them
 unfoldable pub all_permitted : List ℕ → List Act → List ℕ → Bool
@@ -117,7 +117,7 @@ run_steps t zero z = []
 run_steps t (suc limit) z =
     if eqb (listed_at t z 0).number 0 then
     a_step (listed_at t z 0).name ∷ run_steps t limit (did t (a_step (listed_at t z 0).name) z).state
-    else []
+    or_else []
 
 unfoldable pub run_left : List ℕ → List ℕ → ℕ
 run_left t z = one_if (eqb (listed_at t z 0).number 0)

@@ -12,7 +12,7 @@ use lib.Seq.{get_or-set_same, get_or-set_other}
 use borrow.Author.Tests.{eq-eqb, eqb-true, lt-ltb}
 use Rattle.base_words.specs.Counts.{branches}
 use Rattle.base_words.specs.Iter.{iter}
-use Rattle.base_words.specs.Pick.{if◌then◌else◌}
+use Rattle.base_words.specs.Pick.{if◌then◌or_else◌}
 use Rattle.base_words.specs.Sum.{sum, hit, one_if}
 use Rattle.base_words.specs.Words.{at}
 use Rattle.base_words.proofs.AllLaws.{and_left, and_right}
@@ -35,7 +35,7 @@ use Rattle.proof_diagnose.proofs.Choices.{choice}
 use Rattle.proof_diagnose.proofs.Messages.{Long, set_long, head_long, entry_long, few_before, count_is, else_is, some_total, same_process, first_received}
 
 one_more_lem : (a : ℕ) → a < branches → one_more a ≡ a + 1
-unfolding one_more if◌then◌else◌
+unfolding one_more if◌then◌or_else◌
 one_more_lem a l = rw (lt-ltb a greatest_note (omega (arith, l))) refl
 
 record Held (c : ℕ) (x : List ℕ) : Type 0 where
@@ -129,15 +129,15 @@ module _ (t w : List ℕ) (n k : ℕ) (event : eqb (kind w k) kinds.event_based 
   entry_held c j x o = choice (Held c) _ _ _ (entered c x (edge_of w j) o) o
 
   exit_held : (c j : ℕ) (x : List ℕ) → Held c x → Held c (exit_by t w n k j x)
-  unfolding exit_by if◌then◌else◌
+  unfolding exit_by if◌then◌or_else◌
   exit_held c j x o = rw event (kept w n j x o.long c o)
 
   exit_long : (j : ℕ) (x : List ℕ) → Long x → Long (exit_by t w n k j x)
-  unfolding exit_by if◌then◌else◌
+  unfolding exit_by if◌then◌or_else◌
   exit_long j x o = rw event (more_long w n j x o)
 
   exit_new : (j : ℕ) (x : List ℕ) → Long x → Held (received_by w n (target w j)) (exit_by t w n k j x)
-  unfolding exit_by if◌then◌else◌
+  unfolding exit_by if◌then◌or_else◌
   exit_new j x o = rw event (added w n j x o)
 
   stays : (c j : ℕ) (x : List ℕ) → Held c x → Held c (by_flow t w n k j x)
@@ -150,7 +150,7 @@ module _ (t w : List ℕ) (n k : ℕ) (event : eqb (kind w k) kinds.event_based 
 
   module _ (f : ℕ) (flow : of_sort sequence_flow w f ≡ true) (from : eqb (source w f) k ≡ true) where
     begins : (x : List ℕ) → Long x → Held (received_by w n (target w f)) (by_flow t w n k f x)
-    unfolding by_flow leaving_by if◌then◌else◌
+    unfolding by_flow leaving_by if◌then◌or_else◌
     begins x o = rw (flow, from) (exit_new f (entering_by w k f x) (entry_long t w n k f x o))
 
     long_at : (m : ℕ) → Long (iter (by_flow t w n k) (head_of w n k) m)
@@ -170,7 +170,7 @@ module _ (t w : List ℕ) (n k : ℕ) (event : eqb (kind w k) kinds.event_based 
 
     pub gateway_receives : f < n → at (element_drawn t w n k) entries_place ≤ branches → at (element_drawn t w n k) exits_place ≤ branches
         → 0 < as_received (received_by w n (target w f)) (element_drawn t w n k)
-    unfolding element_drawn as_received received_count exit_count kinds.used kinds.kind_of if◌then◌else◌
+    unfolding element_drawn as_received received_count exit_count kinds.used kinds.kind_of if◌then◌or_else◌
     gateway_receives l p q =
         let h = (held n l).branch p q in
         rw (kind_drawn t w n k, eqb-true (kind w k) kinds.event_based event) (one_hit (message_name (element_drawn t w n k)) (received_by w n (target w f)) (at (element_drawn t w n k) exits_place) h.0 h.1 h.2)

@@ -7,7 +7,7 @@ use native.Mathlib.Omega.{arith}
 use lib.Dec.{leb, ltb}
 use borrow.Author.Tests.{ltb-true, ltb-false, leb-true, le-leb, le-ltb}
 use Rattle.base_words.specs.All.{all}
-use Rattle.base_words.specs.Pick.{if◌then◌else◌}
+use Rattle.base_words.specs.Pick.{if◌then◌or_else◌}
 use Rattle.base_words.specs.Seek.{seek}
 use Rattle.base_words.proofs.AllLaws.{all_at, all_of, and_left, and_right}
 use Rattle.base_words.proofs.PickLaws.{and_true}
@@ -27,11 +27,11 @@ place_of b = b.place
 
 -- the rules of a whole drawing stand behind those of things
 whole : (w : List ℕ) (n : ℕ) → 0 < (broken_by_all w n).rule → (broken_by_all w n).rule ≤ rules_of_things → ⊥
-unfolding broken_by_all if◌then◌else◌
+unfolding broken_by_all if◌then◌or_else◌
 whole w n = go (has_pool (has_participants w n) w n) (ltb room n)
   where
-    go : (a b : Bool) → 0 < rule_of (if a then (if b then record { rule = too_many; place = place w 0 } else record { rule = 0; place = 0 }) else record { rule = no_pool; place = place w 0 })
-        → rule_of (if a then (if b then record { rule = too_many; place = place w 0 } else record { rule = 0; place = 0 }) else record { rule = no_pool; place = place w 0 }) ≤ rules_of_things → ⊥
+    go : (a b : Bool) → 0 < rule_of (if a then (if b then record { rule = too_many; place = place w 0 } or_else record { rule = 0; place = 0 }) or_else record { rule = no_pool; place = place w 0 })
+        → rule_of (if a then (if b then record { rule = too_many; place = place w 0 } or_else record { rule = 0; place = 0 }) or_else record { rule = no_pool; place = place w 0 }) ≤ rules_of_things → ⊥
     go true true h l = omega (arith, l)
     go true false h l = omega (arith, h)
     go false b h l = omega (arith, l)
@@ -56,11 +56,11 @@ module _ (t w : List ℕ) (n : ℕ) where
       go true e = let b = amiss_breaks t w n k e in absurd (false≢true (sym (unbroken_at b.0 k (u b.0 b.1) l) ∙ b.2))
 
   right_by_all : ((k : ℕ) → k < n → is_right t w n k ≡ true) → (broken_by_all w n).rule ≡ 0 → is_drawing t w n ≡ true
-  unfolding broken_by_all is_drawing if◌then◌else◌
+  unfolding broken_by_all is_drawing if◌then◌or_else◌
   right_by_all right = go (has_pool (has_participants w n) w n) refl (ltb room n) refl
     where
       go : (a : Bool) → has_pool (has_participants w n) w n ≡ a → (b : Bool) → ltb room n ≡ b
-          → rule_of (if a then (if b then record { rule = too_many; place = place w 0 } else record { rule = 0; place = 0 }) else record { rule = no_pool; place = place w 0 }) ≡ 0
+          → rule_of (if a then (if b then record { rule = too_many; place = place w 0 } or_else record { rule = 0; place = 0 }) or_else record { rule = no_pool; place = place w 0 }) ≡ 0
           → leb n room && (has_pool (has_participants w n) w n && all (is_right t w n) n) ≡ true
       go true p true q h = absurd (omega (arith, h))
       go true p false q h = and_true _ _ (le-leb n room (ltb-false room n q)) (and_true _ _ p (all_of (is_right t w n) n right))
@@ -75,11 +75,11 @@ module _ (t w : List ℕ) (n : ℕ) where
   some_broken e = let s = sought (is_broken t w n) rules_of_things in s.1 (ltb-true (seek (is_broken t w n) rules_of_things) rules_of_things e)
 
   pub no_rule_drawn : (broken_in t w n).rule ≡ 0 → is_drawing t w n ≡ true
-  unfolding broken_in if◌then◌else◌
+  unfolding broken_in if◌then◌or_else◌
   no_rule_drawn = go (ltb (first_broken t w n) rules_of_things) refl
     where
       go : (b : Bool) → ltb (first_broken t w n) rules_of_things ≡ b
-          → rule_of (if b then record { rule = first_broken t w n + 1; place = place w (first_breaking (first_broken t w n + 1) t w n) } else broken_by_all w n) ≡ 0 → is_drawing t w n ≡ true
+          → rule_of (if b then record { rule = first_broken t w n + 1; place = place w (first_breaking (first_broken t w n + 1) t w n) } or_else broken_by_all w n) ≡ 0 → is_drawing t w n ≡ true
       go true e h = absurd (omega (arith, h))
       go false e h = right_by_all (all_right_lem (none_broken e)) h
 
@@ -101,11 +101,11 @@ module _ (t w : List ℕ) (n : ℕ) where
     not_amiss k l e = false≢true (ap not (sym e) ∙ all_at (is_right t w n) n right k l)
 
     pub drawn_no_rule : (broken_in t w n).rule ≡ 0
-    unfolding broken_in broken_by_all if◌then◌else◌
+    unfolding broken_in broken_by_all if◌then◌or_else◌
     drawn_no_rule = go (ltb (first_broken t w n) rules_of_things) refl
       where
         go : (b : Bool) → ltb (first_broken t w n) rules_of_things ≡ b
-            → rule_of (if b then record { rule = first_broken t w n + 1; place = place w (first_breaking (first_broken t w n + 1) t w n) } else broken_by_all w n) ≡ 0
+            → rule_of (if b then record { rule = first_broken t w n + 1; place = place w (first_breaking (first_broken t w n + 1) t w n) } or_else broken_by_all w n) ≡ 0
         go true e = let b = broken_at (first_broken t w n) (some_broken e) in absurd (not_amiss _ b.0 (breaks_amiss t w n _ (first_broken t w n + 1) b.1))
         go false e = rw (pooled, le-ltb room n (leb-true n room fits)) refl
 
@@ -119,7 +119,7 @@ module _ (t w : List ℕ) (n : ℕ) where
     pub earliest : (r : ℕ) → r + 1 < rule → (j : ℕ) → j < n → breaks (r + 1) t w n j ≡ false
 
   pub rule_named : 0 < (broken_in t w n).rule → (broken_in t w n).rule ≤ rules_of_things → First (broken_in t w n).rule (broken_in t w n).place
-  unfolding broken_in if◌then◌else◌
+  unfolding broken_in if◌then◌or_else◌
   rule_named = go (ltb (first_broken t w n) rules_of_things) refl
     where
       left : (j : ℕ) → j < first_breaking (first_broken t w n + 1) t w n → breaks (first_broken t w n + 1) t w n j ≡ false
@@ -129,9 +129,9 @@ module _ (t w : List ℕ) (n : ℕ) where
       early r l j m = unbroken_at r j (unfold first_broken in (sought (is_broken t w n) rules_of_things).2 r (omega (arith, l))) m
 
       go : (b : Bool) → ltb (first_broken t w n) rules_of_things ≡ b
-          → 0 < rule_of (if b then record { rule = first_broken t w n + 1; place = place w (first_breaking (first_broken t w n + 1) t w n) } else broken_by_all w n)
-          → rule_of (if b then record { rule = first_broken t w n + 1; place = place w (first_breaking (first_broken t w n + 1) t w n) } else broken_by_all w n) ≤ rules_of_things
-          → First (rule_of (if b then record { rule = first_broken t w n + 1; place = place w (first_breaking (first_broken t w n + 1) t w n) } else broken_by_all w n)) (place_of (if b then record { rule = first_broken t w n + 1; place = place w (first_breaking (first_broken t w n + 1) t w n) } else broken_by_all w n))
+          → 0 < rule_of (if b then record { rule = first_broken t w n + 1; place = place w (first_breaking (first_broken t w n + 1) t w n) } or_else broken_by_all w n)
+          → rule_of (if b then record { rule = first_broken t w n + 1; place = place w (first_breaking (first_broken t w n + 1) t w n) } or_else broken_by_all w n) ≤ rules_of_things
+          → First (rule_of (if b then record { rule = first_broken t w n + 1; place = place w (first_breaking (first_broken t w n + 1) t w n) } or_else broken_by_all w n)) (place_of (if b then record { rule = first_broken t w n + 1; place = place w (first_breaking (first_broken t w n + 1) t w n) } or_else broken_by_all w n))
       go true e z l =
           let b = broken_at (first_broken t w n) (some_broken e) in
           record { thing = first_breaking (first_broken t w n + 1) t w n; inside = b.0; there = refl; broken = b.1; leftmost = left; earliest = early }

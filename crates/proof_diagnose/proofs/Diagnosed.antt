@@ -9,7 +9,7 @@ use lib.Dec.{eqb, ltb}
 use lib.ListN.{length}
 use borrow.Author.Tests.{eq-eqb, ne_eqb}
 use Rattle.base_words.specs.Each.{each}
-use Rattle.base_words.specs.Pick.{if◌then◌else◌}
+use Rattle.base_words.specs.Pick.{if◌then◌or_else◌}
 use Rattle.base_words.proofs.PickLaws.{pick_yes}
 use Rattle.check_model.specs.Checks.{Pool, lowest}
 use Rattle.text_readers.specs.Reading.{excessive}
@@ -39,11 +39,11 @@ module _ (a : Reading) (t w : List ℕ) (n : ℕ) where
   same_number = choice Same _ _ _ refl (choice Same _ _ _ refl (choice Same _ _ _ refl refl))
 
   rule_of_21 : a.number ≡ not_run → (diagnosed_by a t w n).rule ≡ (broken_in t w n).rule
-  unfolding diagnosed_by if◌then◌else◌
+  unfolding diagnosed_by if◌then◌or_else◌
   rule_of_21 e = rw (eq-eqb a.number not_run e) refl
 
   rule_of_others : (a.number ≡ not_run → ⊥) → (a.number ≡ check_broken → ⊥) → (diagnosed_by a t w n).rule ≡ 0
-  unfolding diagnosed_by if◌then◌else◌
+  unfolding diagnosed_by if◌then◌or_else◌
   rule_of_others p q = rw (ne_eqb a.number not_run p, ne_eqb a.number check_broken q) (choice (λ (d : Diagnosis). d.rule ≡ 0) (eqb a.number none_free) _ _ refl refl)
 
 pub diagnosed_number : (text : List ℕ) → (diagnosed text).number ≡ (answered text).number
@@ -60,15 +60,15 @@ Another m = m ≡ not_run → ⊥
 model_other : (ps : List Pool) → Other (checked_as ps)
 unfolding checked_as answer_for
 model_other ps =
-    choice Another (eqb (lowest ps) 0) (if each has_room ps then 0 else 28) 4
+    choice Another (eqb (lowest ps) 0) (if each has_room ps then 0 or_else 28) 4
     (choice Another (each has_room ps) 0 28 (λ e. omega (arith, e)) (λ e. omega (arith, e))) (λ e. omega (arith, e))
 
 module _ (t w : List ℕ) (n : ℕ) where
   drawn_other : is_drawing t w n ≡ true → Other (meant_by t w n)
-  unfolding meant_by if◌then◌else◌
+  unfolding meant_by if◌then◌or_else◌
   drawn_other d = go (is_drawing t w n) d (ltb (first_beyond t w n) n)
     where
-      go : (a : Bool) → a ≡ true → (b : Bool) → Other (if not a then answer not_run 0 else if b then answer excessive (beyond_at t w (first_beyond t w n)) else checked_as (content t w n))
+      go : (a : Bool) → a ≡ true → (b : Bool) → Other (if not a then answer not_run 0 or_else if b then answer excessive (beyond_at t w (first_beyond t w n)) or_else checked_as (content t w n))
       go true d true = λ e. omega (arith, e)
       go true d false = model_other (content t w n)
       go false d b = absurd (false≢true d)

@@ -9,7 +9,7 @@ use lib.ListN.{length, get_or-eq_default}
 use borrow.Author.Tests.{eqb-true, ltb-true, ltb-false, leb-true, le-leb}
 use Rattle.base_words.specs.All.{all}
 use Rattle.base_words.specs.Each.{joined, each}
-use Rattle.base_words.specs.Pick.{if◌then◌else◌}
+use Rattle.base_words.specs.Pick.{if◌then◌or_else◌}
 use Rattle.base_words.specs.Sum.{sum, hit, one_if}
 use Rattle.base_words.proofs.AllLaws.{all_at}
 use Rattle.base_words.proofs.EachLaws.{each_append}
@@ -62,10 +62,10 @@ few_conditions c e = go (ltb c (length kinds.kinds)) refl
 
 module _ (t w : List ℕ) (n : ℕ) where
   few_used : (k : ℕ) → eqb (kind w k) kinds.xor_split ≡ false → condition_count (element_drawn t w n k) ≤ 1
-  unfolding condition_count kinds.used if◌then◌else◌
+  unfolding condition_count kinds.used if◌then◌or_else◌
   few_used k e = go (kinds.kind_of (kind_in (element_drawn t w n k))).conditions (rw (kind_drawn t w n k) (few_conditions (kind w k) e)) refl
     where
-      go : (h : ℕ) → h ≤ 1 → (kinds.kind_of (kind_in (element_drawn t w n k))).conditions ≡ h → (if eqb h kinds.many then exit_count (element_drawn t w n k) else h) ≤ 1
+      go : (h : ℕ) → h ≤ 1 → (kinds.kind_of (kind_in (element_drawn t w n k))).conditions ≡ h → (if eqb h kinds.many then exit_count (element_drawn t w n k) or_else h) ≤ 1
       go zero l q = omega arith
       go (suc zero) l q = omega arith
       go (suc (suc h)) l q = absurd (omega (arith, l))
@@ -85,7 +85,7 @@ module _ (t w : List ℕ) (n : ℕ) where
 
   module _ (p : ℕ) where
     at_node : (k : ℕ) → each default_once (element_if t w n p k) ≡ not (has_defaults t w n k && eqb (within w k) p)
-    unfolding element_if is_element has_defaults is_split is_of_kind each if◌then◌else◌
+    unfolding element_if is_element has_defaults is_split is_of_kind each if◌then◌or_else◌
     at_node k = go (is_node (sort w k)) (eqb (within w k) p) (eqb (kind w k) branch) refl (eqb (kind w k) kinds.xor_split) refl (default_once (element_drawn t w n k)) refl
       where
         none : (b : Bool) → true ≡ not (b && false)
@@ -93,7 +93,7 @@ module _ (t w : List ℕ) (n : ℕ) where
         none false = refl
 
         go : (a b d : Bool) → eqb (kind w k) branch ≡ d → (s : Bool) → eqb (kind w k) kinds.xor_split ≡ s → (o : Bool) → default_once (element_drawn t w n k) ≡ o
-            → each default_once (if a && (b && not d) then element_drawn t w n k ∷ [] else []) ≡ not (((a && s) && not o) && b)
+            → each default_once (if a && (b && not d) then element_drawn t w n k ∷ [] or_else []) ≡ not (((a && s) && not o) && b)
         go false b d i s j o h = refl
         go true false d i s j o h = none (s && not o)
         go true true true i true j o h = absurd (omega (arith, eqb-true (kind w k) branch i, eqb-true (kind w k) kinds.xor_split j))

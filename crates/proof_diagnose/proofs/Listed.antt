@@ -5,7 +5,7 @@ use mathlib.Core.Bool.{Bool, true, false, ◌&&◌, ◌||◌, false≢true}
 use mathlib.Core.List.{List}
 use native.Mathlib.Omega.{arith}
 use lib.Dec.{eqb}
-use Rattle.base_words.specs.Pick.{if◌then◌else◌}
+use Rattle.base_words.specs.Pick.{if◌then◌or_else◌}
 use Rattle.base_words.proofs.AllLaws.{and_left}
 use Rattle.draw_things.specs.Things.{source, target}
 use Rattle.draw_faults.specs.Amiss.{is_strange, is_repeated, is_second_collaboration, is_lost, is_unowned, is_second_multiplicity, is_loose, is_of_no_kind, has_wrong_default, is_wrong_message, is_unheard, is_untold, is_wrong_branch, is_second_condition, is_wrong_condition, amiss_as_flow, amiss_as_node, amiss_as_pool, is_amiss}
@@ -53,8 +53,8 @@ module _ (x a b c d : Bool) where
   five : {P : Type 0} → (x ≡ true → P) → (a ≡ true → P) → (b ≡ true → P) → (c ≡ true → P) → (d ≡ true → P) → x || any_of a b c d ≡ true → P
   five f g h i j = or_elim x (any_of a b c d) f (four a b c d g h i j)
 
-either : (P : Bool → Type 0) (b x y : Bool) → P x → P y → P (if b then x else y)
-unfolding if◌then◌else◌
+either : (P : Bool → Type 0) (b x y : Bool) → P x → P y → P (if b then x or_else y)
+unfolding if◌then◌or_else◌
 either P true x y p q = p
 either P false x y p q = q
 
@@ -138,25 +138,25 @@ module _ (t w : List ℕ) (n k : ℕ) where
   Breaks = (r : ℕ) × (r < rules_of_things) × (breaks (r + 1) t w n k ≡ true)
 
   by_flow_lem : amiss_as_flow t w k ≡ true → Breaks
-  unfolding amiss_as_flow breaks breaks_nodes breaks_flows if◌then◌else◌
+  unfolding amiss_as_flow breaks breaks_nodes breaks_flows if◌then◌or_else◌
   by_flow_lem =
       five (is_loose w k) (is_wrong_branch w k) (is_second_condition w k) (is_wrong_condition t w k) (is_wrong_message t w k)
       (λ e. (6, omega arith, e)) (λ e. (13, omega arith, e)) (λ e. (14, omega arith, e)) (λ e. (15, omega arith, e)) (λ e. (10, omega arith, e))
 
   by_node : amiss_as_node t w n k ≡ true → Breaks
-  unfolding amiss_as_node breaks breaks_nodes breaks_flows if◌then◌else◌
+  unfolding amiss_as_node breaks breaks_nodes breaks_flows if◌then◌or_else◌
   by_node =
       four (is_of_no_kind w k) (has_wrong_default t w n k) (is_unheard w n k) (is_untold w n k)
       (λ e. (8, omega arith, e)) (λ e. (9, omega arith, e)) (λ e. (11, omega arith, e)) (λ e. (12, omega arith, e))
 
   by_pool : amiss_as_pool t w n k ≡ true → Breaks
-  unfolding amiss_as_pool breaks breaks_pools if◌then◌else◌
+  unfolding amiss_as_pool breaks breaks_pools if◌then◌or_else◌
   by_pool =
       four (is_second_collaboration w k) (is_lost t w k) (is_unowned w n k) (is_second_multiplicity w k)
       (λ e. (2, omega arith, e)) (λ e. (3, omega arith, e)) (λ e. (4, omega arith, e)) (λ e. (5, omega arith, e))
 
   pub amiss_breaks : is_amiss t w n k ≡ true → (r : ℕ) × (r < rules_of_things) × (breaks (r + 1) t w n k ≡ true)
-  unfolding is_amiss breaks breaks_pools if◌then◌else◌
+  unfolding is_amiss breaks breaks_pools if◌then◌or_else◌
   amiss_breaks =
       five (is_strange w k) (amiss_as_flow t w k) (amiss_as_node t w n k) (amiss_as_pool t w n k) (is_repeated t w k)
       (λ e. (0, omega arith, e)) by_flow_lem by_node by_pool (λ e. (1, omega arith, e))

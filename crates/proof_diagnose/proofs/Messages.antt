@@ -12,7 +12,7 @@ use lib.Seq.{get_or-set_same, get_or-set_other}
 use borrow.Author.Tests.{eqb-true, eq-eqb, lt-ltb, ltb-true, ltb-false}
 use Rattle.base_words.specs.Counts.{branches, names}
 use Rattle.base_words.specs.Each.{joined, total}
-use Rattle.base_words.specs.Pick.{if◌then◌else◌}
+use Rattle.base_words.specs.Pick.{if◌then◌or_else◌}
 use Rattle.base_words.specs.Seek.{seek}
 use Rattle.base_words.specs.Sum.{sum, hit, one_if}
 use Rattle.base_words.specs.Words.{at}
@@ -44,10 +44,10 @@ pub set_long : (x : List ℕ) (i v : ℕ) → Long x → Long (set x i v)
 set_long x i v e = record { is = length-set x i v ∙ e.is }
 
 pub few_before : (a : ℕ) → one_more a ≤ branches → a < branches
-unfolding one_more if◌then◌else◌
+unfolding one_more if◌then◌or_else◌
 few_before a = go (ltb a greatest_note)
   where
-    go : (b : Bool) → (if b then a + 1 else greatest_note) ≤ branches → a < branches
+    go : (b : Bool) → (if b then a + 1 or_else greatest_note) ≤ branches → a < branches
     go true l = omega (arith, l)
     go false l = absurd (omega (arith, l))
 
@@ -126,7 +126,7 @@ module _ (t w : List ℕ) (n k : ℕ) where
     entered j x o = choice (Kept named) _ _ _ (entry named x (edge_of w j) o) o
 
     left : (j : ℕ) (x : List ℕ) → Kept named x → Kept named (exit_by t w n k j x)
-    unfolding exit_by if◌then◌else◌
+    unfolding exit_by if◌then◌or_else◌
     left j x o = rw (one, two) (exit named x (edge_of w j) o)
 
     by_flow_lem : (j : ℕ) (x : List ℕ) → Kept named x → Kept named (by_flow t w n k j x)
@@ -138,11 +138,11 @@ module _ (t w : List ℕ) (n k : ℕ) where
     message_kept = (iter_keeps (by_flow t w n k) (head_of w n k) (Kept named) n (λ j x h o. by_flow_lem j x o) (record { long = head_long; name = λ l m. refl })).name
 
   head_sent : is_receiver w k ≡ false → is_sender w k ≡ true → at (head_of w n k) (message_place 0) ≡ sent_by w n k
-  unfolding head_of with_message if◌then◌else◌
+  unfolding head_of with_message if◌then◌or_else◌
   head_sent p q = rw (p, q) (get_or-set_same (with_first w n k (set (replicate element_words 0) kind_place (kind w k))) (message_place 0) (sent_by w n k) 0 (omega (arith, bare_long.is)))
 
   head_received : is_receiver w k ≡ true → at (head_of w n k) (message_place 0) ≡ received_by w n k
-  unfolding head_of with_message if◌then◌else◌
+  unfolding head_of with_message if◌then◌or_else◌
   head_received p = rw p (get_or-set_same (with_first w n k (set (replicate element_words 0) kind_place (kind w k))) (message_place 0) (received_by w n k) 0 (omega (arith, bare_long.is)))
 
 -- the kinds that send, and those that receive and are elements: one message each
@@ -159,7 +159,7 @@ record OneReceived (c : ℕ) : Type 0 where
   pub no_split : eqb c kinds.xor_split ≡ false
 
 one_sent : (c : ℕ) → sends c ≡ true → OneSent c
-unfolding sends receives kinds.used kinds.kind_of if◌then◌else◌
+unfolding sends receives kinds.used kinds.kind_of if◌then◌or_else◌
 one_sent c = go (eqb c kinds.task_snd) refl (eqb c kinds.inter_snd) refl (eqb c kinds.end_snd) refl
   where
     go : (p : Bool) → eqb c kinds.task_snd ≡ p → (q : Bool) → eqb c kinds.inter_snd ≡ q → (r : Bool) → eqb c kinds.end_snd ≡ r → p || (q || r) ≡ true → OneSent c
@@ -169,7 +169,7 @@ one_sent c = go (eqb c kinds.task_snd) refl (eqb c kinds.inter_snd) refl (eqb c 
     go false e false f false g h = absurd (false≢true h)
 
 one_received : (c : ℕ) → receives c ≡ true → eqb c branch ≡ false → OneReceived c
-unfolding receives kinds.used kinds.kind_of if◌then◌else◌
+unfolding receives kinds.used kinds.kind_of if◌then◌or_else◌
 one_received c = go (eqb c kinds.task_rcv) refl (eqb c kinds.start_rcv) refl (eqb c kinds.inter_rcv) refl (eqb c branch)
   where
     go : (p : Bool) → eqb c kinds.task_rcv ≡ p → (q : Bool) → eqb c kinds.start_rcv ≡ q → (r : Bool) → eqb c kinds.inter_rcv ≡ r → (s : Bool) → p || (q || (r || s)) ≡ true → s ≡ false → OneReceived c
@@ -201,7 +201,7 @@ only_one f n k l h c = go (ltb (seek f n) k) refl (ltb k (seek f n)) refl
 module _ (t w : List ℕ) (n p : ℕ) (f : List ℕ → ℕ) where
   -- what an element adds to a pool's total
   at_least : (m a : ℕ) → a < m → is_element p w a ≡ true → f (element_drawn t w n a) ≤ total f (joined (element_if t w n p) m)
-  unfolding joined element_if total if◌then◌else◌
+  unfolding joined element_if total if◌then◌or_else◌
   at_least zero a l h = absurd (omega (arith, l))
   at_least (suc m) a l h =
       let s = total_append f (joined (element_if t w n p) m) (element_if t w n p m) in

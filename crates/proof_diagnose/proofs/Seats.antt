@@ -9,7 +9,7 @@ use lib.ListN.{length}
 use borrow.Author.Tests.{eqb-true, ltb-true, lt-leb}
 use Rattle.base_words.specs.Counts.{elements}
 use Rattle.base_words.specs.Each.{joined, total, each}
-use Rattle.base_words.specs.Pick.{if◌then◌else◌}
+use Rattle.base_words.specs.Pick.{if◌then◌or_else◌}
 use Rattle.base_words.specs.Sum.{sum, hit, one_if}
 use Rattle.base_words.proofs.EachLaws.{total_append}
 use Rattle.base_words.proofs.PickLaws.{and_false_right}
@@ -39,11 +39,11 @@ module _ (t w : List ℕ) (n p c : ℕ) (plain : c < branch) where
   is_kind k = ap (λ (v : ℕ). one_if (eqb v c)) (kind_drawn t w n k)
 
   one_kind : (k : ℕ) → total (of_kind c) (element_if t w n p k) ≡ one_if (is_kind_in c p w k)
-  unfolding element_if is_element is_kind_in is_of_kind total if◌then◌else◌
+  unfolding element_if is_element is_kind_in is_of_kind total if◌then◌or_else◌
   one_kind k = go (is_node (sort w k)) (eqb (within w k) p) (eqb (kind w k) c) refl (eqb (kind w k) branch) refl (is_kind k)
     where
       go : (a b e : Bool) → eqb (kind w k) c ≡ e → (d : Bool) → eqb (kind w k) branch ≡ d → of_kind c (element_drawn t w n k) ≡ one_if e
-          → total (of_kind c) (if a && (b && not d) then element_drawn t w n k ∷ [] else []) ≡ one_if ((a && e) && b)
+          → total (of_kind c) (if a && (b && not d) then element_drawn t w n k ∷ [] or_else []) ≡ one_if ((a && e) && b)
       go false b e q d r h = refl
       go true false e q d r h = as_none e
       go true true e q false r h = (let z : of_kind c (element_drawn t w n k) + 0 ≡ one_if (e && true) = with_true e h in z)
@@ -72,7 +72,7 @@ start_told owned t w n k =
 
 -- a pool whose model breaks check 3 is told for it
 pub many_told : (owned : Bool) (t w : List ℕ) (n k : ℕ) → check3 (pool_drawn owned t w n k) ≡ false → is_unasked w n (process_of owned w k) k ≡ true
-unfolding check3 pool_drawn limit_of is_unasked is_many if◌then◌else◌
+unfolding check3 pool_drawn limit_of is_unasked is_many if◌then◌or_else◌
 many_told owned t w n k = go (ltb (first_with participant_multiplicity within_in k w n) n) (eqb (maximum_of t w (first_with participant_multiplicity within_in k w n)) 0) refl
   where
     starts : total (of_kind kinds.start) (elements_of t w n (process_of owned w k)) ≡ count_kind kinds.start (process_of owned w k) w n
@@ -82,19 +82,19 @@ many_told owned t w n k = go (ltb (first_with participant_multiplicity within_in
     with_starts h = ap not (ap (λ (v : ℕ). eqb v 0) (sym starts) ∙ h)
 
     go : (b z : Bool) → eqb (maximum_of t w (first_with participant_multiplicity within_in k w n)) 0 ≡ z
-        → (if eqb (if b then maximum_of t w (first_with participant_multiplicity within_in k w n) else 0) 0 then true else eqb (total (of_kind kinds.start) (elements_of t w n (process_of owned w k))) 0) ≡ false
+        → (if eqb (if b then maximum_of t w (first_with participant_multiplicity within_in k w n) or_else 0) 0 then true or_else eqb (total (of_kind kinds.start) (elements_of t w n (process_of owned w k))) 0) ≡ false
         → b && not (eqb (count_kind kinds.start (process_of owned w k) w n) 0) ≡ true
     go false z e h = absurd (false≢true (sym h))
     go true z e h = by z (rw e at h)
       where
-        by : (z : Bool) → (if z then true else eqb (total (of_kind kinds.start) (elements_of t w n (process_of owned w k))) 0) ≡ false → not (eqb (count_kind kinds.start (process_of owned w k) w n) 0) ≡ true
+        by : (z : Bool) → (if z then true or_else eqb (total (of_kind kinds.start) (elements_of t w n (process_of owned w k))) 0) ≡ false → not (eqb (count_kind kinds.start (process_of owned w k) w n) 0) ≡ true
         by true h = absurd (false≢true (sym h))
         by false h = with_starts h
 
 -- a pool has too many elements for 28 exactly where its nodes and the ends of its message end events are more than 32; where it is told for that, its model has no room
 module _ (t w : List ℕ) (n p : ℕ) where
   elements_many : length (elements_of t w n p) ≡ count_before (is_of an_element p w) n
-  unfolding elements_of element_if is_of if◌then◌else◌
+  unfolding elements_of element_if is_of if◌then◌or_else◌
   elements_many = as_many (is_element p w) (element_drawn t w n) n
 
   ends_many : end_sends (elements_of t w n p) ≡ count_kind kinds.end_snd p w n

@@ -9,7 +9,7 @@ use lib.ListN.{length}
 use borrow.Author.Tests.{ltb-true, ltb-false, eq-eqb, ne_eqb}
 use Rattle.base_words.specs.All.{all}
 use Rattle.base_words.specs.Each.{each}
-use Rattle.base_words.specs.Pick.{if◌then◌else◌}
+use Rattle.base_words.specs.Pick.{if◌then◌or_else◌}
 use Rattle.base_words.specs.Seek.{seek}
 use Rattle.base_words.proofs.AllLaws.{and_left}
 use Rattle.base_words.proofs.PickLaws.{and_true}
@@ -52,13 +52,13 @@ not_false true e = refl
 not_false false e = absurd (false≢true (sym e))
 
 -- the lowest check broken is broken
-past : (b : Bool) (c rest x : ℕ) → (c ≡ x → ⊥) → (if not b then c else rest) ≡ x → rest ≡ x
-unfolding if◌then◌else◌
+past : (b : Bool) (c rest x : ℕ) → (c ≡ x → ⊥) → (if not b then c or_else rest) ≡ x → rest ≡ x
+unfolding if◌then◌or_else◌
 past true c rest x d e = e
 past false c rest x d e = absurd (d e)
 
-fails : (b : Bool) (x rest : ℕ) → (rest ≡ x → ⊥) → (if not b then x else rest) ≡ x → b ≡ false
-unfolding if◌then◌else◌
+fails : (b : Bool) (x rest : ℕ) → (rest ≡ x → ⊥) → (if not b then x or_else rest) ≡ x → b ≡ false
+unfolding if◌then◌or_else◌
 fails true x rest d e = absurd (d e)
 fails false x rest d e = refl
 
@@ -67,13 +67,13 @@ Never x m = m ≡ x → ⊥
 
 module _ (ps : List Pool) where
   abbrev from8 : ℕ
-  from8 = if not (each check8 ps) then 8 else 0
+  from8 = if not (each check8 ps) then 8 or_else 0
 
   abbrev from7 : ℕ
-  from7 = if not (each check7 ps) then 7 else from8
+  from7 = if not (each check7 ps) then 7 or_else from8
 
   abbrev from4 : ℕ
-  from4 = if not (each check4 ps) then 4 else if not (each check5 ps) then 5 else if not (check6 ps) then 6 else from7
+  from4 = if not (each check4 ps) then 4 or_else if not (each check5 ps) then 5 or_else if not (check6 ps) then 6 or_else from7
 
   never_8 : (x : ℕ) → Never x 8 → Never x 0 → Never x from8
   never_8 x a b = choice (Never x) _ 8 0 a b
@@ -121,13 +121,13 @@ module _ (t w : List ℕ) (n : ℕ) where
 
   -- where something breaks it, the first of them is told
   seated : (check k : ℕ) → k < n → is_seat check owned t w n k ≡ true → Seated check (seat_at check t w n)
-  unfolding seat_at first_seat if◌then◌else◌
+  unfolding seat_at first_seat if◌then◌or_else◌
   seated check k l e = go (ltb (seek (is_seat check owned t w n) n) n) refl
     where
       found : ltb (seek (is_seat check owned t w n) n) n ≡ false → ⊥
       found q = false≢true (sym ((sought (is_seat check owned t w n) n).2 k (omega (arith, ltb-false (seek (is_seat check owned t w n) n) n q, l))) ∙ e)
 
-      go : (b : Bool) → ltb (seek (is_seat check owned t w n) n) n ≡ b → Seated check (if b then place w (seek (is_seat check owned t w n) n) else 0)
+      go : (b : Bool) → ltb (seek (is_seat check owned t w n) n) n ≡ b → Seated check (if b then place w (seek (is_seat check owned t w n) n) or_else 0)
       go false q = absurd (found q)
       go true q =
           let s = sought (is_seat check owned t w n) n in
@@ -136,14 +136,14 @@ module _ (t w : List ℕ) (n : ℕ) where
 
   -- a pool of the model that fails a test
   one_pool : (f : Pool → Bool) (k : ℕ) → each f (pool_if owned t w n k) ≡ false → (is_pool owned w k ≡ true) × (f (pool_drawn owned t w n k) ≡ false)
-  unfolding pool_if each if◌then◌else◌
+  unfolding pool_if each if◌then◌or_else◌
   one_pool f k = go (is_pool owned w k) refl
     where
       alone : (b : Bool) → b && true ≡ false → b ≡ false
       alone true q = q
       alone false q = refl
 
-      go : (b : Bool) → is_pool owned w k ≡ b → each f (if b then pool_drawn owned t w n k ∷ [] else []) ≡ false → (is_pool owned w k ≡ true) × (f (pool_drawn owned t w n k) ≡ false)
+      go : (b : Bool) → is_pool owned w k ≡ b → each f (if b then pool_drawn owned t w n k ∷ [] or_else []) ≡ false → (is_pool owned w k ≡ true) × (f (pool_drawn owned t w n k) ≡ false)
       go true p q = (p, alone _ q)
       go false p q = absurd (false≢true (sym q))
 
@@ -154,7 +154,7 @@ module _ (t w : List ℕ) (n : ℕ) where
       let h = one_pool f r.0 r.2 in (r.0, r.1, h.0, h.1)
 
   start_seat : each check2 (content t w n) ≡ false → Seated one_start (seat_at one_start t w n)
-  unfolding is_seat is_pool_seat if◌then◌else◌
+  unfolding is_seat is_pool_seat if◌then◌or_else◌
   start_seat e =
       let r = some_pool check2 e in
       seated one_start r.0 r.1 (broken r.0 r.2 (not_false _ (sym (start_told owned t w n r.0) ∙ r.3)))
@@ -163,7 +163,7 @@ module _ (t w : List ℕ) (n : ℕ) where
       broken k p q = and_true _ _ p q
 
   many_seat : each check3 (content t w n) ≡ false → Seated start_receives (seat_at start_receives t w n)
-  unfolding is_seat is_pool_seat if◌then◌else◌
+  unfolding is_seat is_pool_seat if◌then◌or_else◌
   many_seat e =
       let r = some_pool check3 e in
       seated start_receives r.0 r.1 (broken r.0 r.2 (many_told owned t w n r.0 r.3))
@@ -172,7 +172,7 @@ module _ (t w : List ℕ) (n : ℕ) where
       broken k p q = and_true _ _ p q
 
   gateway_seat : each check7 (content t w n) ≡ false → Seated one_default (seat_at one_default t w n)
-  unfolding is_seat if◌then◌else◌
+  unfolding is_seat if◌then◌or_else◌
   gateway_seat e =
       let r = some_pool check7 e in
       let j = all_some _ n (sym (gateway_told owned t w n r.0) ∙ r.3) in
@@ -184,11 +184,11 @@ module _ (t w : List ℕ) (n : ℕ) where
 -- A TEXT: beside 4 is the lowest check that its model breaks
 module _ (a : Reading) (t w : List ℕ) (n : ℕ) (e : a.number ≡ check_broken) where
   rule_of_4 : (diagnosed_by a t w n).rule ≡ a.beside
-  unfolding diagnosed_by if◌then◌else◌
+  unfolding diagnosed_by if◌then◌or_else◌
   rule_of_4 = rw (ne_eqb a.number not_run (λ q. omega (arith, e, q)), eq-eqb a.number check_broken e) refl
 
   place_of_4 : (diagnosed_by a t w n).place ≡ seat_at a.beside t w n
-  unfolding diagnosed_by if◌then◌else◌
+  unfolding diagnosed_by if◌then◌or_else◌
   place_of_4 = rw (ne_eqb a.number not_run (λ q. omega (arith, e, q)), eq-eqb a.number check_broken e) refl
 
 module _ (text : List ℕ) where

@@ -8,7 +8,7 @@ use lib.Dec.{eqb, ltb}
 use lib.ListN.{length}
 use borrow.Author.Tests.{eqb-true, ne_eqb}
 use Rattle.base_words.specs.Each.{each}
-use Rattle.base_words.specs.Pick.{if◌then◌else◌}
+use Rattle.base_words.specs.Pick.{if◌then◌or_else◌}
 use Rattle.text_readers.specs.Reading.{excessive}
 use Rattle.check_model.specs.Checks.{Pool, lowest}
 use Rattle.text_read.specs.declared.Reading.{Reading}
@@ -34,28 +34,28 @@ told : (n p : ℕ) → is_one_of draw_numbers n ≡ true → Told (answer n p)
 told n p h = record { number = h }
 
 checked_told : (ps : List Pool) → Told (checked_as ps)
-unfolding checked_as answer_for is_one_of if◌then◌else◌
+unfolding checked_as answer_for is_one_of if◌then◌or_else◌
 checked_told ps = go (eqb (lowest ps) 0) (each has_room ps)
   where
-    go : (b c : Bool) → Told (answer (if b then (if c then 0 else 28) else 4) (lowest ps))
+    go : (b c : Bool) → Told (answer (if b then (if c then 0 or_else 28) or_else 4) (lowest ps))
     go true true = record { number = refl }
     go true false = record { number = refl }
     go false c = record { number = refl }
 
 too_long_lem : is_one_of draw_numbers too_long ≡ true
-unfolding is_one_of if◌then◌else◌
+unfolding is_one_of if◌then◌or_else◌
 too_long_lem = refl
 
 beyond_told : is_one_of draw_numbers excessive ≡ true
-unfolding is_one_of if◌then◌else◌
+unfolding is_one_of if◌then◌or_else◌
 beyond_told = refl
 
 xml_told : is_one_of draw_numbers not_xml ≡ true
-unfolding is_one_of if◌then◌else◌
+unfolding is_one_of if◌then◌or_else◌
 xml_told = refl
 
 run_told : is_one_of draw_numbers not_run ≡ true
-unfolding is_one_of if◌then◌else◌
+unfolding is_one_of if◌then◌or_else◌
 run_told = refl
 
 meant_told : (text w : List ℕ) (n : ℕ) → Told (meant_by text w n)
@@ -98,13 +98,13 @@ checked_zero : (ps : List Pool) → (checked_as ps).number ≡ 0 → (lowest ps 
 unfolding checked_as answer_for
 checked_zero ps = go (eqb (lowest ps) 0) (each has_room ps) refl
   where
-    go : (b c : Bool) → eqb (lowest ps) 0 ≡ b → ◌≡◌ {A = ℕ} (if b then (if c then 0 else 28) else 4) 0 → (lowest ps ≡ 0) × (c ≡ true)
+    go : (b c : Bool) → eqb (lowest ps) 0 ≡ b → ◌≡◌ {A = ℕ} (if b then (if c then 0 or_else 28) or_else 4) 0 → (lowest ps ≡ 0) × (c ≡ true)
     go true true q e = (eqb-true (lowest ps) 0 q, refl)
-    go true false q e = absurd (none_more 27 (unfold if◌then◌else◌ in e))
-    go false c q e = absurd (none_more 3 (unfold if◌then◌else◌ in e))
+    go true false q e = absurd (none_more 27 (unfold if◌then◌or_else◌ in e))
+    go false c q e = absurd (none_more 3 (unfold if◌then◌or_else◌ in e))
 
 checked_is : (ps : List Pool) → lowest ps ≡ 0 → each has_room ps ≡ true → checked_as ps ≡ answer 0 0
-unfolding checked_as answer_for if◌then◌else◌
+unfolding checked_as answer_for if◌then◌or_else◌
 checked_is ps e r = ap₂ answer_for e r
 
 module _ (text w : List ℕ) (n : ℕ) where
@@ -114,16 +114,16 @@ module _ (text w : List ℕ) (n : ℕ) where
       record { drawn = d; beyond = b; sound = s.0; room = s.1; is = checked_is (content text w n) s.0 s.1 }
 
   abbrev meaning : Bool → Bool → Reading
-  meaning a b = if not a then answer not_run 0 else if b then answer excessive (beyond_at text w (first_beyond text w n)) else checked_as (content text w n)
+  meaning a b = if not a then answer not_run 0 or_else if b then answer excessive (beyond_at text w (first_beyond text w n)) or_else checked_as (content text w n)
 
   meant_clear : (meant_by text w n).number ≡ 0 → Clear text w n (meant_by text w n)
   unfolding meant_by
   meant_clear = go (is_drawing text w n) (ltb (first_beyond text w n) n) refl refl
     where
       go : (a b : Bool) → is_drawing text w n ≡ a → ltb (first_beyond text w n) n ≡ b → (meaning a b).number ≡ 0 → Clear text w n (meaning a b)
-      go false b d q e = absurd (none_more 20 (unfold if◌then◌else◌ in e))
-      go true true d q e = absurd (none_more 2 (unfold if◌then◌else◌ in e))
-      go true false d q e = unfold if◌then◌else◌ in checked_clear d q e
+      go false b d q e = absurd (none_more 20 (unfold if◌then◌or_else◌ in e))
+      go true true d q e = absurd (none_more 2 (unfold if◌then◌or_else◌ in e))
+      go true false d q e = unfold if◌then◌or_else◌ in checked_clear d q e
 
 pub answered_clear : (text : List ℕ) → (answered text).number ≡ 0 → Clear text (things_of text) (walked_text text).count (answered text)
 unfolding answered
@@ -135,14 +135,14 @@ answered_clear text = go (ltb drawing_most (length text)) (walked_text text).end
     n : ℕ
     n = (walked_text text).count
 
-    go : (b : Bool) (e : Reached) → (if b then answer too_long 0 else unless_fault e (meant_by text w n)).number ≡ 0 → Clear text w n (if b then answer too_long 0 else unless_fault e (meant_by text w n))
-    go true e h = absurd (none_more 0 (unfold if◌then◌else◌ in h))
-    go false (Past q) h = unfold if◌then◌else◌ unless_fault in meant_clear text w n h
-    go false (Fault q) h = absurd (none_more 19 (unfold if◌then◌else◌ unless_fault in h))
+    go : (b : Bool) (e : Reached) → (if b then answer too_long 0 or_else unless_fault e (meant_by text w n)).number ≡ 0 → Clear text w n (if b then answer too_long 0 or_else unless_fault e (meant_by text w n))
+    go true e h = absurd (none_more 0 (unfold if◌then◌or_else◌ in h))
+    go false (Past q) h = unfold if◌then◌or_else◌ unless_fault in meant_clear text w n h
+    go false (Fault q) h = absurd (none_more 19 (unfold if◌then◌or_else◌ unless_fault in h))
 
 -- a table that was drawn is that of the content as it is rewritten
 pub drawn_is : (text t : List ℕ) → (draw_into text t).number ≡ 0 → draw_into text t ≡ record { number = 0; beside = 0; table = table_of (map rewritten (content text (things_of text) (walked_text text).count)) }
-unfolding draw_into filled_by if◌then◌else◌
+unfolding draw_into filled_by if◌then◌or_else◌
 drawn_is text t h = ap (λ (a : Reading). filled_by a (content text (things_of text) (walked_text text).count) t) (answered_clear text h).is
 
 pub drawn_clear : (text t : List ℕ) → (draw_into text t).number ≡ 0 → Clear text (things_of text) (walked_text text).count (answered text)

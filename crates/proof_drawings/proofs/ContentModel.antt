@@ -11,7 +11,7 @@ use borrow.Author.Tests.{eqb-true, leb-true, leb-false, ltb-true, ltb-false}
 use Rattle.base_words.specs.All.{all}
 use Rattle.base_words.specs.Counts.{pools, elements, pool_numbers, instances}
 use Rattle.base_words.specs.Each.{each, total, joined}
-use Rattle.base_words.specs.Pick.{if◌then◌else◌}
+use Rattle.base_words.specs.Pick.{if◌then◌or_else◌}
 use Rattle.base_words.specs.Seek.{seek}
 use Rattle.base_words.specs.Words.{greatest}
 use Rattle.base_words.proofs.AllLaws.{and_left, and_right}
@@ -49,8 +49,8 @@ unfolding joined
 every_joined P f zero h = omega arith
 every_joined P f (suc n) h = every_append P (joined f n) (f n) (every_joined P f n (λ k l. h k (omega (arith, l)))) (h n (omega arith))
 
-pub every_one : {A : Type 0} (P : A → Type 0) (b : Bool) (x : A) → (b ≡ true → P x) → Every P (if b then x ∷ [] else [])
-unfolding if◌then◌else◌
+pub every_one : {A : Type 0} (P : A → Type 0) (b : Bool) (x : A) → (b ≡ true → P x) → Every P (if b then x ∷ [] or_else [])
+unfolding if◌then◌or_else◌
 every_one P true x p = (p refl, omega arith)
 every_one P false x p = omega arith
 
@@ -66,10 +66,12 @@ every_each f (x ∷ xs) e = (and_left (f x) (each f xs) e, every_each f xs (and_
 most_every : {A : Type 0} (P : A → Type 0) (m : ℕ) (xs : List A) → AtMost P m xs → Every P xs
 most_every P m [] none = omega arith
 most_every P (suc m) (x ∷ xs) (some p d) = (p, most_every P m xs d)
+most_every P zero (x ∷ xs) x3 = elim x3 [ ]
 
 most_length : {A : Type 0} (P : A → Type 0) (m : ℕ) (xs : List A) → AtMost P m xs → length xs ≤ m
 most_length P m [] none = omega arith
 most_length P (suc m) (x ∷ xs) (some p d) = let l = most_length P m xs d in omega (arith, l)
+most_length P zero (x ∷ xs) x3 = elim x3 [ ]
 
 joined-some : {A : Type 0} (f : ℕ → List A) (n j : ℕ) → j < n → 0 < length (f j) → 0 < length (joined f n)
 unfolding joined
@@ -83,8 +85,8 @@ joined-some f (suc n) j l h = go (dec_lt j n) (joined-some f n j)
         let p : 0 < length (f n) = subst (λ (k : ℕ). 0 < length (f k)) e h in
         omega (arith, p, length-append (joined f n) (f n))
 
-one_some : {A : Type 0} (b : Bool) (x : A) → b ≡ true → 0 < length (if b then x ∷ [] else [])
-unfolding if◌then◌else◌
+one_some : {A : Type 0} (b : Bool) (x : A) → b ≡ true → 0 < length (if b then x ∷ [] or_else [])
+unfolding if◌then◌or_else◌
 one_some true x e = omega arith
 one_some false x e = absurd (false≢true e)
 
@@ -93,10 +95,10 @@ starts_hold : (ps : List Pool) → lowest ps ≡ 0 → each check2 ps ≡ true
 unfolding lowest
 starts_hold ps e = go (check1 ps) (each check2 ps) _ e
   where
-    go : (a b : Bool) (rest : ℕ) → (if not a then 1 else if not b then 2 else rest) ≡ 0 → b ≡ true
+    go : (a b : Bool) (rest : ℕ) → (if not a then 1 or_else if not b then 2 or_else rest) ≡ 0 → b ≡ true
     go true true rest e = refl
-    go true false rest e = absurd (none_more 1 (unfold if◌then◌else◌ in e))
-    go false b rest e = absurd (none_more 0 (unfold if◌then◌else◌ in e))
+    go true false rest e = absurd (none_more 1 (unfold if◌then◌or_else◌ in e))
+    go false b rest e = absurd (none_more 0 (unfold if◌then◌or_else◌ in e))
 
 none_less : 0 + 0 ≡ 1 → ⊥
 none_less e = omega (arith, e)
@@ -165,7 +167,7 @@ module _ (t w : List ℕ) (n : ℕ) (drawn : is_drawing t w n ≡ true) (beyond 
   elements_right : (p : ℕ) → Every Right (elements_of t w n p)
   unfolding elements_of element_if
   elements_right p =
-      every_joined Right (λ k. if is_element p w k then element_drawn t w n k ∷ [] else []) n
+      every_joined Right (λ k. if is_element p w k then element_drawn t w n k ∷ [] or_else []) n
       (λ k l. every_one Right (is_element p w k) (element_drawn t w n k) (λ e. element_right t w n few_things k (element_fits_lem p k l e)))
 
   -- the first multiplicity of a pool is within its limits
@@ -181,7 +183,7 @@ module _ (t w : List ℕ) (n : ℕ) (drawn : is_drawing t w n ≡ true) (beyond 
       not-not (is_limit (maximum_of t w m)) (and_then (not (eqb (source w (within w m)) 0)) _ h (and_then (of_sort participant_multiplicity w m) _ s (not_maximum m l)))
 
   has_process : (b : Bool) (k m : ℕ) → is_pool b w k ≡ true → sort w m ≡ participant_multiplicity → within w m ≡ k → not (eqb (source w k) 0) ≡ true
-  unfolding is_pool if◌then◌else◌ of_sort
+  unfolding is_pool if◌then◌or_else◌ of_sort
   has_process true k m h s e = and_right (eqb (sort w k) participant) (not (eqb (source w k) 0)) h
   has_process false k m h s e =
       let a : sort w k ≡ process = eqb-true (sort w k) process h in
@@ -217,9 +219,9 @@ module _ (t w : List ℕ) (n : ℕ) (drawn : is_drawing t w n ≡ true) (beyond 
     unfolding limit_of
     limit_most h = go (ltb its n) refl
       where
-        go : (b : Bool) → ltb its n ≡ b → (if b then maximum_of t w its else 0) ≤ instances
-        go true e = unfold if◌then◌else◌ in its_limit h (ltb-true its n e)
-        go false e = unfold if◌then◌else◌ in omega arith
+        go : (b : Bool) → ltb its n ≡ b → (if b then maximum_of t w its or_else 0) ≤ instances
+        go true e = unfold if◌then◌or_else◌ in its_limit h (ltb-true its n e)
+        go false e = unfold if◌then◌or_else◌ in omega arith
 
   not_fifth : (k : ℕ) → k < n → is_fifth_pool owned w k ≡ false
   unfolding is_beyond
@@ -243,7 +245,7 @@ module _ (t w : List ℕ) (n : ℕ) (drawn : is_drawing t w n ≡ true) (beyond 
   content_near : Every Near (content t w n)
   unfolding content pool_if
   content_near =
-      every_joined Near (λ k. if is_pool owned w k then pool_drawn owned t w n k ∷ [] else []) n
+      every_joined Near (λ k. if is_pool owned w k then pool_drawn owned t w n k ∷ [] or_else []) n
       (λ k l. every_one Near (is_pool owned w k) (pool_drawn owned t w n k) (λ h. pool_near k l h))
 
   pub content-some : 0 < length (content t w n)
@@ -251,7 +253,7 @@ module _ (t w : List ℕ) (n : ℕ) (drawn : is_drawing t w n ≡ true) (beyond 
   content-some =
       let l = ltb-true (seek (is_pool owned w) n) n some_pool in
       let j = seek (is_pool owned w) n in
-      joined-some (λ k. if is_pool owned w k then pool_drawn owned t w n k ∷ [] else []) n j l (one_some (is_pool owned w j) (pool_drawn owned t w n j) ((sought (is_pool owned w) n).1 l))
+      joined-some (λ k. if is_pool owned w k then pool_drawn owned t w n k ∷ [] or_else []) n j l (one_some (is_pool owned w j) (pool_drawn owned t w n j) ((sought (is_pool owned w) n).1 l))
 
   -- THE LAW
   pub content_model : lowest (content t w n) ≡ 0 → Model (content t w n)

@@ -12,7 +12,7 @@ use borrow.Author.Tests.{eqb-true, eqb-false, eq-eqb, ne_eqb, leb-true, leb-fals
 use Rattle.base_words.specs.All.{all}
 use Rattle.base_words.specs.Counts.{branches, edges, elements, names, tasks}
 use Rattle.base_words.specs.Iter.{iter}
-use Rattle.base_words.specs.Pick.{if◌then◌else◌}
+use Rattle.base_words.specs.Pick.{if◌then◌or_else◌}
 use Rattle.base_words.specs.Seek.{seek}
 use Rattle.base_words.specs.Sum.{sum, one_if}
 use Rattle.base_words.specs.Words.{at}
@@ -95,19 +95,19 @@ and_last true = refl
 and_last false = refl
 
 used_alike : (h x y : ℕ) → eqb h many ≡ false → used h x ≡ used h y
-unfolding used if◌then◌else◌
+unfolding used if◌then◌or_else◌
 used_alike h x y e = rw e
 
 used_each : (h x : ℕ) → h ≡ many → used h x ≡ x
-unfolding used if◌then◌else◌
+unfolding used if◌then◌or_else◌
 used_each h x e = rw e
 
 always_fits : (c : ℕ) → condition_fits c (always ∷ 0 ∷ 0 ∷ 0 ∷ 0 ∷ []) ≡ true
-unfolding condition_fits if◌then◌else◌ zeros all
+unfolding condition_fits if◌then◌or_else◌ zeros all
 always_fits c = refl
 
 default_fits : condition_fits many (default ∷ 0 ∷ 0 ∷ 0 ∷ 0 ∷ []) ≡ true
-unfolding condition_fits if◌then◌else◌ zeros all
+unfolding condition_fits if◌then◌or_else◌ zeros all
 default_fits = refl
 
 -- a drawing's things have room
@@ -195,7 +195,7 @@ module _ (t w : List ℕ) (n : ℕ) (drawn : is_drawing t w n ≡ true) (beyond 
         (or_right (leb branches (count_with sequence_flow source_in (source w j) w j)) (leb branches (count_with sequence_flow target_in (target w j) w j)) (or_right (is_one_too_many an_edge edges w j) _ flow_few))
 
     is_edge_lem : is_of_kind kinds.event_based w (source w j) ≡ false → is_of an_edge (things.within w j) w j ≡ true
-    unfolding is_of is_edge if◌then◌else◌
+    unfolding is_of is_edge if◌then◌or_else◌
     is_edge_lem e = and_true (of_sort sequence_flow w j) _ flow (and_true (eqb (things.within w j) (things.within w j)) _ (eq-eqb (things.within w j) (things.within w j) refl) (ap not e))
 
     edge_low : 1 ≤ edge_of w j
@@ -279,11 +279,11 @@ module _ (t w : List ℕ) (n : ℕ) (drawn : is_drawing t w n ≡ true) (beyond 
     row_letters = row (λ j. not (eqb (kind_of j).letters 0)) refl
 
     row_conditions : used C 0 ≡ one_if (eqb (kind_of c).task one)
-    unfolding all kind_of used if◌then◌else◌
+    unfolding all kind_of used if◌then◌or_else◌
     row_conditions = eqb-true (used C 0) _ (row (λ j. eqb (used (kind_of j).conditions 0) (one_if (eqb (kind_of j).task one))) refl)
 
     row_messages : used M 0 ≡ one_if (receives c || sends c)
-    unfolding all kind_of used receives sends if◌then◌else◌
+    unfolding all kind_of used receives sends if◌then◌or_else◌
     row_messages = eqb-true (used M 0) _ (row (λ j. eqb (used ((kind_of j).receives + (kind_of j).sends) 0) (one_if (receives j || sends j))) refl)
 
     row_start : eqb (kind_of c).task one && eqb c kinds.start ≡ false
@@ -367,16 +367,16 @@ module _ (t w : List ℕ) (n : ℕ) (drawn : is_drawing t w n ≡ true) (beyond 
         ∙ and_last (eqb c kinds.start)
 
     abbrev number : Bool → ℕ
-    number b = if b then task_of w k else 0
+    number b = if b then task_of w k or_else 0
 
     abbrev mode : Bool → ℕ
-    mode b = if b then a else 0
+    mode b = if b then a or_else 0
 
     task_high : eqb (kind_of c).task one ≡ true → task_of w k ≤ tasks
     unfolding is_node_beyond is_one_too_many task_of
     task_high e =
         let m = or_left (is_one_too_many a_task tasks w k) _ (or_right (is_one_too_many an_element elements w k) _ (node_within k l)) in
-        let h : is_of a_task (things.within w k) w k ≡ true = (unfold is_of if◌then◌else◌ in task_test ∙ e) in
+        let h : is_of a_task (things.within w k) w k ≡ true = (unfold is_of if◌then◌or_else◌ in task_test ∙ e) in
         let d = leb-false tasks (count_before (is_of a_task (things.within w k) w) k) (and_then (is_of a_task (things.within w k) w k) _ h m) in
         omega (arith, d, more_high (count_before (is_of a_task (things.within w k) w) k))
 
@@ -390,13 +390,13 @@ module _ (t w : List ℕ) (n : ℕ) (drawn : is_drawing t w n ≡ true) (beyond 
     unfolding first_edge_of
     first_low = more_low _
 
-    with_first_is : with_first w n k x₀ ≡ (if eqb (kind_of c).task one then with_task w k x₀ else if eqb c kinds.start then with_edge entries_place (first_edge_of w n k) x₀ else x₀)
+    with_first_is : with_first w n k x₀ ≡ (if eqb (kind_of c).task one then with_task w k x₀ or_else if eqb c kinds.start then with_edge entries_place (first_edge_of w n k) x₀ or_else x₀)
     unfolding with_first
-    with_first_is = ap₂ (λ x y. if x then with_task w k x₀ else if y then with_edge entries_place (first_edge_of w n k) x₀ else x₀) task_test start_test
+    with_first_is = ap₂ (λ x y. if x then with_task w k x₀ or_else if y then with_edge entries_place (first_edge_of w n k) x₀ or_else x₀) task_test start_test
 
     first_shape : (x y : Bool) → eqb (kind_of c).task one ≡ x → eqb c kinds.start ≡ y
-        → Shape c (number x) (mode x) (one_if y) 0 (one_if x) 0 (if x then with_task w k x₀ else if y then with_edge entries_place (first_edge_of w n k) x₀ else x₀)
-    unfolding if◌then◌else◌ with_task
+        → Shape c (number x) (mode x) (one_if y) 0 (one_if x) 0 (if x then with_task w k x₀ or_else if y then with_edge entries_place (first_edge_of w n k) x₀ or_else x₀)
+    unfolding if◌then◌or_else◌ with_task
     first_shape true true p q = absurd (false≢true (sym row_start ∙ ap₂ ◌&&◌ p q))
     first_shape true false p q = shape_form c (task_of w k) a 0 0 0 0 x₁ numbered (omega arith) always (always_fits C)
     first_shape false true p q = shape_entry c 0 0 0 0 0 0 x₀ base (first_edge_of w n k) (omega arith) first_low (first_high q)
@@ -409,8 +409,8 @@ module _ (t w : List ℕ) (n : ℕ) (drawn : is_drawing t w n ≡ true) (beyond 
     D = mode (eqb (kind_of c).task one)
 
     message_shape : (i g : ℕ) (x : List ℕ) → Shape c T D i 0 g 0 x → (p q : Bool) → is_receiver w k ≡ p → is_sender w k ≡ q
-        → Shape c T D i 0 g (one_if (p || q)) (if p then set x (message_place 0) (received_by w n k) else if q then set x (message_place 0) (sent_by w n k) else x)
-    unfolding if◌then◌else◌
+        → Shape c T D i 0 g (one_if (p || q)) (if p then set x (message_place 0) (received_by w n k) or_else if q then set x (message_place 0) (sent_by w n k) or_else x)
+    unfolding if◌then◌or_else◌
     message_shape i g x s true q e f = shape_name c T D i 0 g 0 x s (received_by w n k) (omega arith) (received_low k l e)
     message_shape i g x s false true e f = shape_name c T D i 0 g 0 x s (sent_by w n k) (omega arith) (sent_low k l f)
     message_shape i g x s false false e f = s
@@ -617,8 +617,8 @@ module _ (t w : List ℕ) (n : ℕ) (drawn : is_drawing t w n ≡ true) (beyond 
           omega (arith, z, f)
 
       entered : (i o g q : ℕ) (x : List ℕ) → i ≡ one_if (eqb c kinds.start) + count_with sequence_flow target_in k w j → Shape c T D i o g q x → (b : Bool) → into ≡ b
-          → Shape c T D (i + one_if b) o g q (if b then with_edge entries_place (edge_of w j) x else x)
-      unfolding if◌then◌else◌
+          → Shape c T D (i + one_if b) o g q (if b then with_edge entries_place (edge_of w j) x or_else x)
+      unfolding if◌then◌or_else◌
       entered i o g q x r s true e =
           let to = eqb-true (target w j) k e in
           let z = room_in to in
@@ -626,8 +626,8 @@ module _ (t w : List ℕ) (n : ℕ) (drawn : is_drawing t w n ≡ true) (beyond 
       entered i o g q x r s false e = subst (λ (v : ℕ). Shape c T D v o g q x) (let z : i ≡ i + 0 = omega arith in z) s
 
       left : (i o : ℕ) (x : List ℕ) → o ≡ count_with sequence_flow source_in k w j → Shape c T D i o (used C o) (used M o) x → (b : Bool) → out ≡ b
-          → Shape c T D i (o + one_if b) (used C (o + one_if b)) (used M (o + one_if b)) (if b then exit_by t w n k j x else x)
-      unfolding if◌then◌else◌
+          → Shape c T D i (o + one_if b) (used C (o + one_if b)) (used M (o + one_if b)) (if b then exit_by t w n k j x or_else x)
+      unfolding if◌then◌or_else◌
       left i o x r s true e = exit_shape j h flow (eqb-true (source w j) k e) i o x r s
       left i o x r s false e = subst (λ (v : ℕ). Shape c T D i v (used C v) (used M v) x) (let z : o ≡ o + 0 = omega arith in z) s
 
@@ -644,7 +644,7 @@ module _ (t w : List ℕ) (n : ℕ) (drawn : is_drawing t w n ≡ true) (beyond 
             ins_are = omega (arith, s.ins_are, p, u);
             outs_are = omega (arith, s.outs_are, q, v);
             shape =
-                left (s.ins + one_if into) s.outs (if into then with_edge entries_place (edge_of w j) x else x) s.outs_are
+                left (s.ins + one_if into) s.outs (if into then with_edge entries_place (edge_of w j) x or_else x) s.outs_are
                 (entered s.ins s.outs (used C s.outs) (used M s.outs) x s.ins_are s.shape into refl) out refl;
           }
 
@@ -674,8 +674,8 @@ module _ (t w : List ℕ) (n : ℕ) (drawn : is_drawing t w n ≡ true) (beyond 
     unfolding task_of
     task_low = more_low _
 
-    task_fits_lem : (b : Bool) → eqb (kind_of c).task one ≡ b → (if b then within 1 tasks (number b) && within a na_nc (mode b) else eqb (number b) 0 && eqb (mode b) 0) ≡ true
-    unfolding if◌then◌else◌
+    task_fits_lem : (b : Bool) → eqb (kind_of c).task one ≡ b → (if b then within 1 tasks (number b) && within a na_nc (mode b) or_else eqb (number b) 0 && eqb (mode b) 0) ≡ true
+    unfolding if◌then◌or_else◌
     task_fits_lem true e = and_true _ _ (and_true _ _ (le-leb 1 (task_of w k) task_low) (le-leb (task_of w k) tasks (task_high e))) refl
     task_fits_lem false e = refl
 

@@ -8,7 +8,7 @@ use native.Mathlib.Omega.{arith}
 use lib.Dec.{eqb, leb}
 use borrow.Author.Tests.{eqb-true, eqb-false, leb-true, le-leb}
 use Rattle.base_words.specs.Counts.{branches}
-use Rattle.base_words.specs.Pick.{if◌then◌else◌}
+use Rattle.base_words.specs.Pick.{if◌then◌or_else◌}
 use Rattle.base_words.specs.Sum.{one_if}
 use Rattle.base_words.proofs.AllLaws.{and_left, and_right}
 use Rattle.base_words.proofs.PickLaws.{and_true}
@@ -29,8 +29,8 @@ pub record Drawable (c s i o : ℕ) : Type 0 where
   pub tasks : eqb (kind_of c).task one ≡ (leb task s && leb s receive_task)
   pub first : eqb c kinds.start ≡ true → i ≡ 0
 
-pub by_test : {A : Type 0} (P : A → Type 0) (b : Bool) (x y : A) → (b ≡ true → P x) → (b ≡ false → P y) → P (if b then x else y)
-unfolding if◌then◌else◌
+pub by_test : {A : Type 0} (P : A → Type 0) (b : Bool) (x y : A) → (b ≡ true → P x) → (b ≡ false → P y) → P (if b then x or_else y)
+unfolding if◌then◌or_else◌
 by_test P true x y f g = f refl
 by_test P false x y f g = g refl
 
@@ -84,14 +84,14 @@ module _ (s : ℕ) (d : Shape) where
 
   -- the fifteen kinds but for gateways
   start_leaf : s ≡ start_event → flows 0 1 d ≡ true → Right kinds.start × Right kinds.start_rcv
-  unfolding kind_of count_fits if◌then◌else◌
+  unfolding kind_of count_fits if◌then◌or_else◌
   start_leaf e h = (
     fixed kinds.start 0 1 (omega arith) (omega arith) h refl refl (of_sort_lem start_event e) (λ r. refl),
     other kinds.start_rcv 0 1 (omega arith) (omega arith) h refl refl (of_sort_lem start_event e) refl,
   )
 
   end_leaf : s ≡ end_event → flows 1 0 d ≡ true → Right kinds.end × (Right kinds.end_snd × Right kinds.terminate)
-  unfolding kind_of count_fits if◌then◌else◌
+  unfolding kind_of count_fits if◌then◌or_else◌
   end_leaf e h = (
     other kinds.end 1 0 (omega arith) (omega arith) h refl refl (of_sort_lem end_event e) refl,
     (
@@ -101,7 +101,7 @@ module _ (s : ℕ) (d : Shape) where
   )
 
   catch_leaf : s ≡ intermediate_catch_event → flows 1 1 d ≡ true → Right kinds.inter_rcv
-  unfolding kind_of count_fits if◌then◌else◌
+  unfolding kind_of count_fits if◌then◌or_else◌
   catch_leaf e h = other kinds.inter_rcv 1 1 (omega arith) (omega arith) h refl refl (of_sort_lem intermediate_catch_event e) refl
 
   start_right : s ≡ start_event → Right (start_drawn d)
@@ -121,25 +121,25 @@ module _ (s : ℕ) (d : Shape) where
       go (inr q) f = subst Right (sym q) (catch_leaf e f)
 
   throw_right : s ≡ intermediate_throw_event → Right (intermediate kinds.inter_snd d)
-  unfolding intermediate kind_of count_fits if◌then◌else◌
+  unfolding intermediate kind_of count_fits if◌then◌or_else◌
   throw_right e = when_right (flows 1 1 d) _ (λ f. when_right _ _ (λ q. other kinds.inter_snd 1 1 (omega arith) (omega arith) f refl refl (of_sort_lem intermediate_throw_event e) refl))
 
   task_right : s ≡ task → Right (activity kinds.task d)
-  unfolding activity kind_of count_fits if◌then◌else◌
+  unfolding activity kind_of count_fits if◌then◌or_else◌
   task_right e = when_right (flows 1 1 d) _ (λ f. other kinds.task 1 1 (omega arith) (omega arith) f refl refl (of_sort_lem task e) refl)
 
   send_right : s ≡ send_task → Right (activity kinds.task_snd d)
-  unfolding activity kind_of count_fits if◌then◌else◌
+  unfolding activity kind_of count_fits if◌then◌or_else◌
   send_right e = when_right (flows 1 1 d) _ (λ f. other kinds.task_snd 1 1 (omega arith) (omega arith) f refl refl (of_sort_lem send_task e) refl)
 
   receive_right : s ≡ receive_task → Right (activity kinds.task_rcv d)
-  unfolding activity kind_of count_fits if◌then◌else◌
+  unfolding activity kind_of count_fits if◌then◌or_else◌
   receive_right e = when_right (flows 1 1 d) _ (λ f. other kinds.task_rcv 1 1 (omega arith) (omega arith) f refl refl (of_sort_lem receive_task e) refl)
 
   -- gateways
   module _ (untasked : Tasked false) where
     split_right : (c : ℕ) → 0 < c → c < 16 → splits d ≡ true → (kind_of c).entries ≡ one → (kind_of c).exits ≡ many → eqb (kind_of c).task one ≡ false → eqb c kinds.start ≡ false → Right c
-    unfolding splits count_fits if◌then◌else◌
+    unfolding splits count_fits if◌then◌or_else◌
     split_right c l u h ins outs t n a b =
         let e = eqb-true d.ins 1 (and_left (eqb d.ins 1) (leb 2 d.outs) h) in
         record {
@@ -152,7 +152,7 @@ module _ (s : ℕ) (d : Shape) where
         }
 
     join_right : (c : ℕ) → 0 < c → c < 16 → joins d ≡ true → (kind_of c).entries ≡ many → (kind_of c).exits ≡ one → eqb (kind_of c).task one ≡ false → eqb c kinds.start ≡ false → Right c
-    unfolding joins count_fits if◌then◌else◌
+    unfolding joins count_fits if◌then◌or_else◌
     join_right c l u h ins outs t n a b =
         let e = eqb-true d.outs 1 (and_right (leb 2 d.ins) (eqb d.outs 1) h) in
         record {

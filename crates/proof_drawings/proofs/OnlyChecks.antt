@@ -11,7 +11,7 @@ use borrow.Author.Tests.{eqb-true, eqb-false, eq-eqb, ne_eqb, le-leb, leb-true}
 use Rattle.base_words.specs.All.{all}
 use Rattle.base_words.specs.Counts.{branches, pool_numbers, tasks, fields_named}
 use Rattle.base_words.specs.Each.{each, total, joined}
-use Rattle.base_words.specs.Pick.{if◌then◌else◌}
+use Rattle.base_words.specs.Pick.{if◌then◌or_else◌}
 use Rattle.base_words.specs.Sum.{sum, one_if, hit}
 use Rattle.base_words.specs.Words.{at}
 use Rattle.base_words.proofs.AllLaws.{all_of, and_left, and_right}
@@ -44,8 +44,8 @@ unfolding joined sum total
 total-joined f g zero = refl
 total-joined f g (suc n) = total_append f (joined g n) (g n) ∙ ap (λ (v : ℕ). v + total f (g n)) (total-joined f g n)
 
-total_if : {A : Type 0} (f : A → ℕ) (b : Bool) (x : A) (m : ℕ) → (b ≡ true → f x ≤ m) → total f (if b then x ∷ [] else []) ≤ m
-unfolding total if◌then◌else◌
+total_if : {A : Type 0} (f : A → ℕ) (b : Bool) (x : A) (m : ℕ) → (b ≡ true → f x ≤ m) → total f (if b then x ∷ [] or_else []) ≤ m
+unfolding total if◌then◌or_else◌
 total_if f true x m h = let l = h refl in omega (arith, l)
 total_if f false x m h = omega arith
 
@@ -138,7 +138,7 @@ module _ (t w : List ℕ) (n : ℕ) (drawn : is_drawing t w n ≡ true) (beyond 
   drawn_number k l = number_is k l
 
   abbrev pool_or : ℕ → List Pool
-  pool_or k = if is_pool owned w k then pool_drawn owned t w n k ∷ [] else []
+  pool_or k = if is_pool owned w k then pool_drawn owned t w n k ∷ [] or_else []
 
   pools_counted : (v : ℕ) → total (λ (p : Pool). hit p.number v) (joined pool_or n) ≤ sum (given (is_pool owned w) v) n
   pools_counted v =
@@ -166,20 +166,20 @@ module _ (t w : List ℕ) (n : ℕ) (drawn : is_drawing t w n ≡ true) (beyond 
 
   -- 5. "Task numbers differ within a pool."
   task_is : (k : ℕ) → k < n → task_of w k ≡ count_before (is_task (within w k) w) k + 1
-  unfolding task_of is_of if◌then◌else◌
+  unfolding task_of is_of if◌then◌or_else◌
   task_is k l = more_is (count_before (is_task (within w k) w) k) (let c = count_low (is_task (within w k) w) k in omega (arith, c, l, few))
 
   task_once : (v k : ℕ) → k < n → is_element (within w k) w k ≡ true → as_task (v + 1) (element_drawn t w n k) ≤ given (is_task (within w k) w) (v + 1) k
   unfolding as_task
   task_once v k l e = go (eqb (kind_of (kind w k)).task one) refl (whole t w n drawn beyond settled k l e).shape.task
     where
-      go : (b : Bool) → eqb (kind_of (kind w k)).task one ≡ b → at (element_drawn t w n k) task_place ≡ (if b then task_of w k else 0) → hit (at (element_drawn t w n k) task_place) (v + 1) ≤ given (is_task (within w k) w) (v + 1) k
+      go : (b : Bool) → eqb (kind_of (kind w k)).task one ≡ b → at (element_drawn t w n k) task_place ≡ (if b then task_of w k or_else 0) → hit (at (element_drawn t w n k) task_place) (v + 1) ≤ given (is_task (within w k) w) (v + 1) k
       go true q s =
-          let y : at (element_drawn t w n k) task_place ≡ task_of w k = (unfold if◌then◌else◌ in s) in
+          let y : at (element_drawn t w n k) task_place ≡ task_of w k = (unfold if◌then◌or_else◌ in s) in
           subst (λ (m : ℕ). hit m (v + 1) ≤ given (is_task (within w k) w) (v + 1) k) (sym (y ∙ task_is k l))
           (one_of (is_task (within w k) w k) (count_before (is_task (within w k) w) k + 1) (v + 1) (task_test t w n drawn beyond settled k l e ∙ q))
       go false q s =
-          let y : at (element_drawn t w n k) task_place ≡ 0 = (unfold if◌then◌else◌ in s) in
+          let y : at (element_drawn t w n k) task_place ≡ 0 = (unfold if◌then◌or_else◌ in s) in
           let z : hit (at (element_drawn t w n k) task_place) (v + 1) ≡ 0 = ap (λ (m : ℕ). hit m (v + 1)) y ∙ ap one_if (ne_eqb 0 (v + 1) (λ y. omega (arith, y))) in
           omega (arith, z)
 
@@ -187,8 +187,8 @@ module _ (t w : List ℕ) (n : ℕ) (drawn : is_drawing t w n ≡ true) (beyond 
   unfolding elements_of element_if
   tasks_once p v =
       let o = (once (is_task p w) (v + 1) n).most in
-      let s : total (as_task (v + 1)) (joined (λ k. if is_element p w k then element_drawn t w n k ∷ [] else []) n) ≤ sum (given (is_task p w) (v + 1)) n =
-      subst (λ (m : ℕ). m ≤ sum (given (is_task p w) (v + 1)) n) (sym (total-joined (as_task (v + 1)) (λ k. if is_element p w k then element_drawn t w n k ∷ [] else []) n))
+      let s : total (as_task (v + 1)) (joined (λ k. if is_element p w k then element_drawn t w n k ∷ [] or_else []) n) ≤ sum (given (is_task p w) (v + 1)) n =
+      subst (λ (m : ℕ). m ≤ sum (given (is_task p w) (v + 1)) n) (sym (total-joined (as_task (v + 1)) (λ k. if is_element p w k then element_drawn t w n k ∷ [] or_else []) n))
       (sum_mono _ (given (is_task p w) (v + 1)) n
       (λ k l. total_if (as_task (v + 1)) (is_element p w k) (element_drawn t w n k) (given (is_task p w) (v + 1) k)
       (λ e. let q = its_own p k e in subst (λ (m : ℕ). as_task (v + 1) (element_drawn t w n k) ≤ given (is_task m w) (v + 1) k) q.0 (task_once v k l q.1)))) in
@@ -198,7 +198,7 @@ module _ (t w : List ℕ) (n : ℕ) (drawn : is_drawing t w n ≡ true) (beyond 
   unfolding content pool_if
   tasks_differ =
       every_each check5 _
-      (every_joined (λ p. check5 p ≡ true) (λ k. if is_pool owned w k then pool_drawn owned t w n k ∷ [] else []) n
+      (every_joined (λ p. check5 p ≡ true) (λ k. if is_pool owned w k then pool_drawn owned t w n k ∷ [] or_else []) n
       (λ k l. every_one (λ p. check5 p ≡ true) (is_pool owned w k) (pool_drawn owned t w n k) (λ e. right k)))
     where
       right : (k : ℕ) → check5 (pool_drawn owned t w n k) ≡ true
@@ -216,14 +216,14 @@ module _ (t w : List ℕ) (n : ℕ) (drawn : is_drawing t w n ≡ true) (beyond 
   unfolding elements_of element_if
   elements_bind p =
       every_each bound_once _
-      (every_joined (λ x. bound_once x ≡ true) (λ k. if is_element p w k then element_drawn t w n k ∷ [] else []) n
+      (every_joined (λ x. bound_once x ≡ true) (λ k. if is_element p w k then element_drawn t w n k ∷ [] or_else []) n
       (λ k l. every_one (λ x. bound_once x ≡ true) (is_element p w k) (element_drawn t w n k) (λ e. element_binds k l (its_own p k e).1)))
 
   pub binds_differ : each check8 (content t w n) ≡ true
   unfolding content pool_if
   binds_differ =
       every_each check8 _
-      (every_joined (λ p. check8 p ≡ true) (λ k. if is_pool owned w k then pool_drawn owned t w n k ∷ [] else []) n
+      (every_joined (λ p. check8 p ≡ true) (λ k. if is_pool owned w k then pool_drawn owned t w n k ∷ [] or_else []) n
       (λ k l. every_one (λ p. check8 p ≡ true) (is_pool owned w k) (pool_drawn owned t w n k) (λ e. right k)))
     where
       right : (k : ℕ) → check8 (pool_drawn owned t w n k) ≡ true

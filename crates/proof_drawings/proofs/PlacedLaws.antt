@@ -10,7 +10,7 @@ use lib.ListN.{length, get_or, set, replicate, length-set, length-replicate, get
 use lib.Seq.{get_or-set_same, get_or-set_other}
 use borrow.Author.Tests.{eqb-true, eq-eqb, ne_eqb, ltb-true, ltb-false}
 use Rattle.base_words.specs.Each.{each}
-use Rattle.base_words.specs.Pick.{if◌then◌else◌}
+use Rattle.base_words.specs.Pick.{if◌then◌or_else◌}
 use Rattle.base_words.specs.Text.{bytes}
 use Rattle.base_words.specs.Words.{at}
 use Rattle.base_words.proofs.AllLaws.{and_left, and_right}
@@ -61,18 +61,18 @@ module _ (x y : ℕ) (some : eqb nothing x ≡ false) (known : eqb stranger x �
   unfolding family
   family_is s = go (is_event s)
     where
-      go : (b : Bool) → (if b then 12 else s) ≡ y → s ≡ y
-      go true e = absurd (apart 12 y one (unfold if◌then◌else◌ in e))
-      go false e = unfold if◌then◌else◌ in e
+      go : (b : Bool) → (if b then 12 or_else s) ≡ y → s ≡ y
+      go true e = absurd (apart 12 y one (unfold if◌then◌or_else◌ in e))
+      go false e = unfold if◌then◌or_else◌ in e
 
   named_in_lem : (r : Row) (s : ℕ) → right_row x y r ≡ true → named_in r s ≡ x → s ≡ y
   unfolding named_in
   named_in_lem r s h = go (eqb r.sort nothing) (eqb r.parent (family s)) refl
     where
-      go : (a b : Bool) → eqb r.parent (family s) ≡ b → (if a then nothing else if not b then stranger else r.sort) ≡ x → s ≡ y
-      go true b q e = absurd (apart nothing x some (unfold if◌then◌else◌ in e))
-      go false false q e = absurd (apart stranger x known (unfold if◌then◌else◌ in e))
-      go false true q e = family_is s (sym (eqb-true r.parent (family s) q) ∙ row_parent r h (unfold if◌then◌else◌ in e))
+      go : (a b : Bool) → eqb r.parent (family s) ≡ b → (if a then nothing or_else if not b then stranger or_else r.sort) ≡ x → s ≡ y
+      go true b q e = absurd (apart nothing x some (unfold if◌then◌or_else◌ in e))
+      go false false q e = absurd (apart stranger x known (unfold if◌then◌or_else◌ in e))
+      go false true q e = family_is s (sym (eqb-true r.parent (family s) q) ∙ row_parent r h (unfold if◌then◌or_else◌ in e))
 
   named_at_lem : each (right_row x y) rows ≡ true → right_row x y unknown ≡ true → (s : ℕ) (t : List ℕ) (p : ℕ) → named_at s t p ≡ x → s ≡ y
   unfolding named_at row_of
@@ -93,14 +93,14 @@ drawn_as_lem s t p = go (eqb s process) (draws_another t p)
     named : named_at s t p ≡ participant_multiplicity → s ≡ participant
     named = named_at_lem participant_multiplicity participant refl refl refl rows_right refl s t p
 
-    go : (a b : Bool) → (if not a then named_at s t p else if b then stranger else named_at s t p) ≡ participant_multiplicity → s ≡ participant
-    go false b e = named (unfold if◌then◌else◌ in e)
-    go true false e = named (unfold if◌then◌else◌ in e)
-    go true true e = absurd (apart stranger participant_multiplicity refl (unfold if◌then◌else◌ in e))
+    go : (a b : Bool) → (if not a then named_at s t p or_else if b then stranger or_else named_at s t p) ≡ participant_multiplicity → s ≡ participant
+    go false b e = named (unfold if◌then◌or_else◌ in e)
+    go true false e = named (unfold if◌then◌or_else◌ in e)
+    go true true e = absurd (apart stranger participant_multiplicity refl (unfold if◌then◌or_else◌ in e))
 
 -- a participant stands in no process, and draws none but itself
 drawn_participant : (s : ℕ) (t : List ℕ) (p : ℕ) → named_at s t p ≡ participant → drawn_as (named_at s t p) s t p ≡ participant
-unfolding drawn_as if◌then◌else◌
+unfolding drawn_as if◌then◌or_else◌
 drawn_participant s t p e = rw (ne_eqb s process (λ q. apart collaboration process refl (sym (named_at_lem participant collaboration refl refl refl participants_right refl s t p e) ∙ q))) e
 
 -- THE THINGS SO FAR: n of them, in the words w
@@ -138,17 +138,17 @@ more_least : (n : ℕ) → n ≤ greatest_note → n ≤ one_more n
 unfolding one_more
 more_least n h = go (ltb n greatest_note)
   where
-    go : (b : Bool) → n ≤ (if b then n + 1 else greatest_note)
-    go true = unfold if◌then◌else◌ in omega arith
-    go false = unfold if◌then◌else◌ in h
+    go : (b : Bool) → n ≤ (if b then n + 1 or_else greatest_note)
+    go true = unfold if◌then◌or_else◌ in omega arith
+    go false = unfold if◌then◌or_else◌ in h
 
 more_most : (n : ℕ) → one_more n ≤ greatest_note
 unfolding one_more
 more_most n = go (ltb n greatest_note) refl
   where
-    go : (b : Bool) → ltb n greatest_note ≡ b → (if b then n + 1 else greatest_note) ≤ greatest_note
-    go true e = unfold if◌then◌else◌ in let l = ltb-true n greatest_note e in omega (arith, l)
-    go false e = unfold if◌then◌else◌ in omega arith
+    go : (b : Bool) → ltb n greatest_note ≡ b → (if b then n + 1 or_else greatest_note) ≤ greatest_note
+    go true e = unfold if◌then◌or_else◌ in let l = ltb-true n greatest_note e in omega (arith, l)
+    go false e = unfold if◌then◌or_else◌ in omega arith
 
 -- ONE MORE THING
 module _ (s p k : ℕ) (w : List ℕ) (n : ℕ) (sound : Sound w n) where
@@ -241,15 +241,15 @@ module _ (s p k : ℕ) (w : List ℕ) (n : ℕ) (sound : Sound w n) where
     unfolding noted counted
     noted_kept = go (eqb s nothing) refl
       where
-        go : (b : Bool) → eqb s nothing ≡ b → Noted (if b then w else added s p k w n) (if b then n else one_more n)
+        go : (b : Bool) → eqb s nothing ≡ b → Noted (if b then w or_else added s p k w n) (if b then n or_else one_more n)
         go true e =
-            unfold if◌then◌else◌ in
+            unfold if◌then◌or_else◌ in
             record {
               sound_now = sound;
               grown_now = record { more = omega arith; same = λ j l. refl };
               stands_now = λ q. absurd (apart participant nothing refl (sym q ∙ eqb-true s nothing e));
             }
-        go false e = unfold if◌then◌else◌ in record { sound_now = added_sound; grown_now = added_grown; stands_now = added_stands }
+        go false e = unfold if◌then◌or_else◌ in record { sound_now = added_sound; grown_now = added_grown; stands_now = added_stands }
 
 -- THE WALK, where what walks content keeps this
 module _ (t : List ℕ) (C : Content) (on : (o : Outer) (q : ℕ) (w : List ℕ) (n : ℕ) → Sound w n → (o.sort ≡ participant → Stands o.thing w n) → Kept w n (C o q w n)) where

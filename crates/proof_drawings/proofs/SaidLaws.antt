@@ -8,7 +8,7 @@ use lib.Dec.{eqb, leb, ltb}
 use borrow.Author.Tests.{ltb-true, lt-ltb}
 use Rattle.base_words.specs.All.{all}
 use Rattle.base_words.specs.Counts.{fields, stores, fields_named}
-use Rattle.base_words.specs.Pick.{if◌then◌else◌}
+use Rattle.base_words.specs.Pick.{if◌then◌or_else◌}
 use Rattle.base_words.proofs.PickLaws.{and_true}
 use Rattle.base_kinds.specs.Kinds.{many}
 use Rattle.base_table.specs.Places.{a_field, always, default, equals, below}
@@ -37,9 +37,9 @@ behind_low : (before count : ℕ) → before + count ≤ fields_named → (r : N
 unfolding field_behind
 behind_low before count h (Value v) = go (ltb v count) refl
   where
-    go : (b : Bool) → ltb v count ≡ b → Low (if b then Value (v + before) else TooLarge)
-    go true e = unfold if◌then◌else◌ in omega (arith, h, ltb-true v count e)
-    go false e = unfold if◌then◌else◌ in omega arith
+    go : (b : Bool) → ltb v count ≡ b → Low (if b then Value (v + before) or_else TooLarge)
+    go true e = unfold if◌then◌or_else◌ in omega (arith, h, ltb-true v count e)
+    go false e = unfold if◌then◌or_else◌ in omega arith
 behind_low before count h TooLarge = omega arith
 behind_low before count h NotANumber = omega arith
 
@@ -73,7 +73,7 @@ unfolding operand_of
 operand_held word = either Held _ _ _ (as_field_lem (field_of word) (field_low word)) (as_number_lem (number_of word))
 
 side_fits : (o : Operand) (place : ℕ) → Held o → TermFits (side_of o place).term
-unfolding side_of operand_fits if◌then◌else◌
+unfolding side_of operand_fits if◌then◌or_else◌
 side_fits (Constant v) place h = refl
 side_fits (Field f) place h = lt-ltb f fields_named h
 side_fits OutOfRange place h = refl
@@ -97,11 +97,11 @@ says_absent : Says (bare absent)
 says_absent = record { fits = λ a f. absurd (a refl) }
 
 says_always : Says (bare always)
-unfolding condition_fits if◌then◌else◌ zeros all
+unfolding condition_fits if◌then◌or_else◌ zeros all
 says_always = record { fits = λ a f. refl }
 
 says_default : Says (bare default)
-unfolding condition_fits if◌then◌else◌ zeros all
+unfolding condition_fits if◌then◌or_else◌ zeros all
 says_default = record { fits = λ a f. refl }
 
 alone_says : (form : ℕ) (s : List Said) → Says (bare form) → Says (alone form s)
@@ -110,7 +110,7 @@ alone_says form s h = either Says _ _ _ h says_foreign
 
 -- two operands joined
 compare : (l r : Term) (beyond : ℕ) → TermFits l → TermFits r → Says (record { form = equals; left = l; right = r; beyond = beyond }) × Says (record { form = below; left = l; right = r; beyond = beyond })
-unfolding condition_fits operand_fits if◌then◌else◌
+unfolding condition_fits operand_fits if◌then◌or_else◌
 compare l r beyond p q = (record { fits = λ a f. and_true _ _ p q }, record { fits = λ a f. and_true _ _ p q })
 
 module _ (l r : Side) (p : TermFits l.term) (q : TermFits r.term) where

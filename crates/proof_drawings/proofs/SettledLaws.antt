@@ -11,7 +11,7 @@ use lib.ListN.{length, set, length-set}
 use lib.Seq.{get_or-set_same, get_or-set_other}
 use borrow.Author.Tests.{eqb-true, eq-eqb, ltb-true}
 use Rattle.base_words.specs.Iter.{iter}
-use Rattle.base_words.specs.Pick.{if◌then◌else◌}
+use Rattle.base_words.specs.Pick.{if◌then◌or_else◌}
 use Rattle.base_words.specs.Seek.{seek}
 use Rattle.base_words.specs.Sum.{sum, one_if}
 use Rattle.base_words.specs.Text.{bytes}
@@ -110,15 +110,15 @@ module _ (w : List ℕ) (n : ℕ) (long : length w ≡ block_words) (few : n ≤
       again : is_node (sort w m) ≡ is_node (sort v m)
       again = ap is_node (sym (a.same.sorts m))
 
-      go : (b : Bool) → is_node (sort v m) ≡ b → After w (if b then set v (source_place m) (kind_drawn v n m) else v) n (suc m)
+      go : (b : Bool) → is_node (sort v m) ≡ b → After w (if b then set v (source_place m) (kind_drawn v n m) or_else v) n (suc m)
       go false e =
-          unfold if◌then◌else◌ in
+          unfold if◌then◌or_else◌ in
           record { long = a.long; same = a.same; done = λ k h s. let d = not_this k s in a.done k (omega (arith, h, d)) s }
         where
           not_this : (k : ℕ) → is_node (sort w k) ≡ true → k ≡ m → ⊥
           not_this k s q = false≢true (sym e ∙ sym again ∙ ap (λ (j : ℕ). is_node (sort w j)) (sym q) ∙ s)
       go true e =
-          unfold if◌then◌else◌ in
+          unfold if◌then◌or_else◌ in
           record {
             long = length-set v (source_place m) _ ∙ a.long;
             same =
@@ -169,9 +169,9 @@ named_low : (t w : List ℕ) (n k : ℕ) (name : List ℕ) → 0 < n → named t
 unfolding named
 named_low t w n k name h = go (attribute t (place w k) name)
   where
-    low : (j : ℕ) (b : Bool) → ltb j n ≡ b → (if b then j else 0) < n
-    low j true e = unfold if◌then◌else◌ in ltb-true j n e
-    low j false e = unfold if◌then◌else◌ in h
+    low : (j : ℕ) (b : Bool) → ltb j n ≡ b → (if b then j or_else 0) < n
+    low j true e = unfold if◌then◌or_else◌ in ltb-true j n e
+    low j false e = unfold if◌then◌or_else◌ in h
 
     go : (a : Attribute) → if_is a (λ from to. meant t w n k (local_of (part t from to))) 0 < n
     go (Is from to) = unfold if_is meant or_none in low _ _ refl
@@ -212,8 +212,8 @@ module _ (t : List ℕ) (n : ℕ) where
       joins : Linked (set (set w (source_place m) (named t w n m (bytes "sourceRef"))) (target_place m) (named t w n m (bytes "targetRef"))) n (suc m)
       joins = both _ _ (named_low t w n m _ (omega (arith, l)))
 
-      go : (b : Bool) → eqb (sort w m) sequence_flow ≡ b → Linked (if b || eqb (sort w m) message_flow then set (set w (source_place m) (named t w n m (bytes "sourceRef"))) (target_place m) (named t w n m (bytes "targetRef")) else if eqb (sort w m) participant then set w (source_place m) (named t w n m (bytes "processRef")) else w) n (suc m)
-      go true e = unfold if◌then◌else◌ in joins
+      go : (b : Bool) → eqb (sort w m) sequence_flow ≡ b → Linked (if b || eqb (sort w m) message_flow then set (set w (source_place m) (named t w n m (bytes "sourceRef"))) (target_place m) (named t w n m (bytes "targetRef")) or_else if eqb (sort w m) participant then set w (source_place m) (named t w n m (bytes "processRef")) or_else w) n (suc m)
+      go true e = unfold if◌then◌or_else◌ in joins
       go false e =
           let no_flow : sort w m ≡ sequence_flow → ⊥ = λ q. false≢true (sym e ∙ eq-eqb (sort w m) sequence_flow q) in
           either (λ v. Linked v n (suc m)) (eqb (sort w m) message_flow) _ _ joins (either (λ v. Linked v n (suc m)) _ _ _ (source_only _ no_flow) (none no_flow))

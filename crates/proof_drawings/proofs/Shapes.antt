@@ -10,7 +10,7 @@ use lib.ListN.{length, drop, set, length-set}
 use lib.Seq.{get_or-drop, get_or-set_same, get_or-set_other, drop-drop}
 use borrow.Author.Tests.{eq-eqb, lt-ltb, le-leb}
 use Rattle.base_words.specs.Counts.{branches, edges, names, tasks, values, assignments}
-use Rattle.base_words.specs.Pick.{if◌then◌else◌}
+use Rattle.base_words.specs.Pick.{if◌then◌or_else◌}
 use Rattle.base_words.specs.Words.{at}
 use Rattle.base_words.proofs.PickLaws.{and_true}
 use Rattle.base_kinds.specs.Kinds.{kind_of, used, one, many}
@@ -270,21 +270,21 @@ module _ (c t m i o g q : ℕ) (x : List ℕ) (s : Shape c t m i o g q x) where
       blank : (k : ℕ) → 0 < k → k < 22 → at x (message_place b + k) ≡ 0
       blank k h u = s.named.none (message_place b + k) (omega arith) (omega (arith, u, l, s.named.few)) (λ d r e. omega (arith, e, h, u))
 
-  task_right : (task : ℕ) → (if eqb task one then within 1 tasks t && within a na_nc m else eqb t 0 && eqb m 0) ≡ true → task_fits task x ≡ true
+  task_right : (task : ℕ) → (if eqb task one then within 1 tasks t && within a na_nc m or_else eqb t 0 && eqb m 0) ≡ true → task_fits task x ≡ true
   unfolding task_fits
   task_right task = go (eqb task one)
     where
       none : at x assignments_place ≡ 0
       none = s.tail assignments_place (omega arith)
 
-      go : (b : Bool) → (if b then within 1 tasks t && within a na_nc m else eqb t 0 && eqb m 0) ≡ true
+      go : (b : Bool) → (if b then within 1 tasks t && within a na_nc m or_else eqb t 0 && eqb m 0) ≡ true
           → (if b then within 1 tasks (at x task_place) && within a na_nc (at x mode_place) && leb (at x assignments_place) assignments
-          else eqb (at x task_place) 0 && eqb (at x mode_place) 0 && eqb (at x assignments_place) 0) ≡ true
-      go true h = unfold if◌then◌else◌ in and_true _ _ (ap₂ (λ u v. within 1 tasks u && within a na_nc v) s.task s.mode ∙ (unfold if◌then◌else◌ in h)) (le-leb (at x assignments_place) assignments (omega (arith, none)))
-      go false h = unfold if◌then◌else◌ in and_true _ _ (ap₂ (λ u v. eqb u 0 && eqb v 0) s.task s.mode ∙ (unfold if◌then◌else◌ in h)) (eq-eqb (at x assignments_place) 0 none)
+          or_else eqb (at x task_place) 0 && eqb (at x mode_place) 0 && eqb (at x assignments_place) 0) ≡ true
+      go true h = unfold if◌then◌or_else◌ in and_true _ _ (ap₂ (λ u v. within 1 tasks u && within a na_nc v) s.task s.mode ∙ (unfold if◌then◌or_else◌ in h)) (le-leb (at x assignments_place) assignments (omega (arith, none)))
+      go false h = unfold if◌then◌or_else◌ in and_true _ _ (ap₂ (λ u v. eqb u 0 && eqb v 0) s.task s.mode ∙ (unfold if◌then◌or_else◌ in h)) (eq-eqb (at x assignments_place) 0 none)
 
   pub shape_fits : not (eqb (kind_of c).letters 0) ≡ true
-      → (if eqb (kind_of c).task one then within 1 tasks t && within a na_nc m else eqb t 0 && eqb m 0) ≡ true
+      → (if eqb (kind_of c).task one then within 1 tasks t && within a na_nc m or_else eqb t 0 && eqb m 0) ≡ true
       → count_fits (kind_of c).entries i ≡ true → count_fits (kind_of c).exits o ≡ true
       → used (kind_of c).conditions o ≡ g → used ((kind_of c).receives + (kind_of c).sends) o ≡ q → element_fits x ≡ true
   unfolding element_fits parts_fit conditions_fit messages_fit assignments_fit

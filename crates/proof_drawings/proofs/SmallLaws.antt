@@ -8,7 +8,7 @@ use native.Mathlib.Omega.{arith}
 use lib.Dec.{ltb}
 use lib.ListN.{set, replicate}
 use borrow.Author.Tests.{ltb-true}
-use Rattle.base_words.specs.Pick.{if◌then◌else◌}
+use Rattle.base_words.specs.Pick.{if◌then◌or_else◌}
 use Rattle.base_words.specs.Seek.{seek}
 use Rattle.base_words.specs.Sum.{sum, one_if}
 use Rattle.base_words.specs.Words.{at, greatest}
@@ -58,9 +58,9 @@ more_small : (n : ℕ) → one_more n ≤ greatest
 unfolding one_more
 more_small n = go (ltb n greatest_note) refl
   where
-    go : (b : Bool) → ltb n greatest_note ≡ b → (if b then n + 1 else greatest_note) ≤ greatest
-    go true e = unfold if◌then◌else◌ in let l = ltb-true n greatest_note e in omega (arith, l)
-    go false e = unfold if◌then◌else◌ in omega arith
+    go : (b : Bool) → ltb n greatest_note ≡ b → (if b then n + 1 or_else greatest_note) ≤ greatest
+    go true e = unfold if◌then◌or_else◌ in let l = ltb-true n greatest_note e in omega (arith, l)
+    go false e = unfold if◌then◌or_else◌ in omega arith
 
 count_most_lem : (f : ℕ → Bool) (n : ℕ) → sum (λ j. one_if (f j)) n ≤ n
 unfolding sum

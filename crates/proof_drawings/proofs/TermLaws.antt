@@ -7,7 +7,7 @@ use native.Mathlib.Omega.{arith}
 use lib.Dec.{leb, ltb}
 use borrow.Author.Tests.{leb-true, ltb-true}
 use Rattle.base_words.specs.Counts.{fields, stores, fields_named}
-use Rattle.base_words.specs.Pick.{if◌then◌else◌}
+use Rattle.base_words.specs.Pick.{if◌then◌or_else◌}
 use Rattle.base_words.specs.Words.{greatest}
 use Rattle.base_table.specs.Places.{always, default}
 use Rattle.text_numerals.specs.declared.Number.{Number}
@@ -24,8 +24,8 @@ use Rattle.draw_conditions.specs.Words.{behind, letters, place_said, side_of, si
 use Rattle.draw_conditions.specs.Conditions.{absent, foreign, bare, alone, both, form_of, second, joined, compared, condition_of, condition_at}
 
 -- what both ways of a choice are, the choice is
-pub either : {A : Type 0} (P : A → Type 0) (b : Bool) (x y : A) → P x → P y → P (if b then x else y)
-unfolding if◌then◌else◌
+pub either : {A : Type 0} (P : A → Type 0) (b : Bool) (x y : A) → P x → P y → P (if b then x or_else y)
+unfolding if◌then◌or_else◌
 either P true x y p q = p
 either P false x y p q = q
 
@@ -39,9 +39,9 @@ value_bound : (word : List ℕ) (v : ℕ) → Bound (value_from v word)
 unfolding value_from
 value_bound [] v = go (leb v greatest) refl
   where
-    go : (b : Bool) → leb v greatest ≡ b → Bound (if b then Value v else TooLarge)
-    go true e = unfold if◌then◌else◌ in leb-true v greatest e
-    go false e = unfold if◌then◌else◌ in omega arith
+    go : (b : Bool) → leb v greatest ≡ b → Bound (if b then Value v or_else TooLarge)
+    go true e = unfold if◌then◌or_else◌ in leb-true v greatest e
+    go false e = unfold if◌then◌or_else◌ in omega arith
 value_bound (d ∷ word) v = either Bound _ _ NotANumber (value_bound word _) (omega arith)
 
 number_bound : (word : List ℕ) → Bound (number_of word)
@@ -71,9 +71,9 @@ behind_bound : (before count : ℕ) → before + count ≤ fields_named → (r :
 unfolding field_behind
 behind_bound before count h (Value v) = go (ltb v count) refl
   where
-    go : (b : Bool) → ltb v count ≡ b → Bound (if b then Value (v + before) else TooLarge)
-    go true e = unfold if◌then◌else◌ in omega (arith, h, ltb-true v count e)
-    go false e = unfold if◌then◌else◌ in omega arith
+    go : (b : Bool) → ltb v count ≡ b → Bound (if b then Value (v + before) or_else TooLarge)
+    go true e = unfold if◌then◌or_else◌ in omega (arith, h, ltb-true v count e)
+    go false e = unfold if◌then◌or_else◌ in omega arith
 behind_bound before count h TooLarge = omega arith
 behind_bound before count h NotANumber = omega arith
 

@@ -11,7 +11,7 @@ use lib.Seq.{get_or-set_other, get_or-take}
 use borrow.Author.Tests.{eqb-true}
 use Rattle.base_words.specs.Counts.{branches}
 use Rattle.base_words.specs.Each.{tab, joined}
-use Rattle.base_words.specs.Pick.{if◌then◌else◌}
+use Rattle.base_words.specs.Pick.{if◌then◌or_else◌}
 use Rattle.base_words.specs.Words.{at}
 use Rattle.base_words.proofs.AllLaws.{and_left, and_right}
 use Rattle.base_words.proofs.IterLaws.{iter_keeps}
@@ -69,13 +69,13 @@ module _ (t w : List ℕ) (n : ℕ) (drawn : is_drawing t w n ≡ true) (beyond 
   elements_silent : (p : ℕ) → Every Silent (elements_of t w n p)
   unfolding elements_of element_if
   elements_silent p =
-      every_joined Silent (λ k. if is_element p w k then element_drawn t w n k ∷ [] else []) n
+      every_joined Silent (λ k. if is_element p w k then element_drawn t w n k ∷ [] or_else []) n
       (λ k l. every_one Silent (is_element p w k) (element_drawn t w n k) (λ e. element_silent k l (its_process p k e)))
 
   content_silent : Every AllSilent (content t w n)
   unfolding content pool_if pool_drawn
   content_silent =
-      every_joined AllSilent (λ k. if is_pool (has_participants w n) w k then pool_drawn (has_participants w n) t w n k ∷ [] else []) n
+      every_joined AllSilent (λ k. if is_pool (has_participants w n) w k then pool_drawn (has_participants w n) t w n k ∷ [] or_else []) n
       (λ k l. every_one AllSilent (is_pool (has_participants w n) w k) (pool_drawn (has_participants w n) t w n k) (λ e. elements_silent (process_of (has_participants w n) w k)))
 
 -- AS IT IS REWRITTEN

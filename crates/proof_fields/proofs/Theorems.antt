@@ -10,7 +10,7 @@ use lib.Dec.{eqb, ltb}
 use borrow.Author.Tests.{eq-eqb, ltb-true, not-true}
 use Rattle.base_words.specs.All.{all}
 use Rattle.base_words.specs.Counts.{fields_named}
-use Rattle.base_words.specs.Pick.{if◌then◌else◌}
+use Rattle.base_words.specs.Pick.{if◌then◌or_else◌}
 use Rattle.base_words.specs.Words.{at}
 use Rattle.base_words.proofs.AllLaws.{and_left, and_right}
 use Rattle.base_words.proofs.ListLaws.{get_d_tab}

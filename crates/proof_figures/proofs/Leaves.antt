@@ -10,7 +10,7 @@ use lib.Seq.{get_or-drop, get_or-set_same}
 use borrow.Author.Tests.{eqb-true, eqb-false, ltb-true, ltb-false, eq-eqb, ne_eqb}
 use Rattle.base_words.specs.Each.{each}
 use Rattle.base_words.specs.Iter.{iter}
-use Rattle.base_words.specs.Pick.{if◌then◌else◌}
+use Rattle.base_words.specs.Pick.{if◌then◌or_else◌}
 use Rattle.base_words.specs.Words.{at}
 use Rattle.base_words.specs.Counts.{pools, instances, count_most}
 use Rattle.base_words.proofs.AllLaws.{all_at}
@@ -50,9 +50,9 @@ unfinished_by h k l some =
 
 -- what makes an instance puts a token on every exit
 making-puts : (k m p : ℕ) → (move_of k m p).also ≡ making → (move_of k m p).puts ≡ every
-unfolding move_of each if◌then◌else◌
+unfolding move_of each if◌then◌or_else◌
 making-puts k m p e =
-    let h = each_at (λ (r : Move). if eqb r.also making then eqb r.puts every else true) moves no_move refl refl (rule_of k m p) in
+    let h = each_at (λ (r : Move). if eqb r.also making then eqb r.puts every or_else true) moves no_move refl refl (rule_of k m p) in
     eqb-true _ every (chosen_true _ _ true h (eq-eqb _ making e))
 
 more_some : (n : ℕ) → 0 < more n
@@ -105,7 +105,7 @@ module _ (t s q : List ℕ) (n : Name) (fits : table_fits t ≡ true) (accepted 
     kind = sym (row_kind (kind_in el) (mode_in el) n.phase f.move) ∙ row_making (kind_in el) (mode_in el) n.phase o
 
     one_exit : exit_count el ≡ 1
-    unfolding exit_count used kind_of if◌then◌else◌
+    unfolding exit_count used kind_of if◌then◌or_else◌
     one_exit = rw kind
 
     every_exit : m.puts ≡ every

@@ -1,6 +1,6 @@
 -- WHAT A STEP DOES TO THE RECORD w OF ITS POOL, in the words of wish 9's reading: only two changes are possible. (RULES: figures)
 use Rattle.std.specs.Prelude.{ℕ, ◌+◌, ◌-◌, Bool, List, [], ◌∷◌, eqb}
-use Rattle.base_words.specs.Pick.{if◌then◌else◌}
+use Rattle.base_words.specs.Pick.{if◌then◌or_else◌}
 use Rattle.base_words.specs.Words.{at}
 use Rattle.base_kinds.specs.Kinds.{start_rcv}
 use Rattle.base_table.specs.Table.{kind_in}
@@ -24,5 +24,5 @@ leaves_nothing t s n = is_finished (instance_at (instances_after t s n) (pool_na
 unfoldable pub changed : List ℕ → List ℕ → Name → List ℕ → List ℕ
 changed t s n w =
     if eqb (kind_in (element_named t n)) start_rcv then one_made w
-    else if leaves_nothing t s n then one_finished w
-    else w
+    or_else if leaves_nothing t s n then one_finished w
+    or_else w

@@ -10,7 +10,7 @@ use lib.ListN.{length, get_or, length-append}
 use borrow.Author.Tests.{eqb-true, ltb-true}
 use Rattle.base_words.specs.All.{all}
 use Rattle.base_words.specs.Each.{each}
-use Rattle.base_words.specs.Pick.{if◌then◌else◌}
+use Rattle.base_words.specs.Pick.{if◌then◌or_else◌}
 use Rattle.base_words.specs.Sum.{sum}
 use Rattle.base_words.specs.Words.{at}
 use Rattle.base_words.specs.Counts.{branches, values, assignments}
@@ -50,39 +50,39 @@ receiving_most = message_most + 1 + 2
 unfoldable pub part_most : ℕ → ℕ → ℕ → ℕ → ℕ → ℕ → ℕ
 part_most c m n e x t =
     if eqb c (code "E") then e
-    else if eqb c (code "X") then x
-    else if eqb c (code "F") then m + 1 + e
-    else if eqb c (code "Y") then n + 1 + x
-    else if eqb c (code "N") then task_most + t
-    else if eqb c (code "T") then message_most
-    else if eqb c (code "S") then message_most
-    else if eqb c (code "G") then n * (guarded_most + 1) + 1 + x
-    else n * (receiving_most + 1) - 1 + x
+    or_else if eqb c (code "X") then x
+    or_else if eqb c (code "F") then m + 1 + e
+    or_else if eqb c (code "Y") then n + 1 + x
+    or_else if eqb c (code "N") then task_most + t
+    or_else if eqb c (code "T") then message_most
+    or_else if eqb c (code "S") then message_most
+    or_else if eqb c (code "G") then n * (guarded_most + 1) + 1 + x
+    or_else n * (receiving_most + 1) - 1 + x
 
 unfoldable pub parts_most : List ℕ → ℕ → ℕ → ℕ → ℕ → ℕ → ℕ
 parts_most [] m n e x t = 0
-parts_most (c ∷ cs) m n e x t = if eqb c (code " ") then 0 else 1 + part_most c m n e x t + parts_most cs m n e x t
+parts_most (c ∷ cs) m n e x t = if eqb c (code " ") then 0 or_else 1 + part_most c m n e x t + parts_most cs m n e x t
 
 -- what a part speaks of is there
 unfoldable in_use : Kind → ℕ → ℕ → ℕ → Bool
 in_use r c m n =
     if eqb c (code "E") then ltb 0 m
-    else if eqb c (code "X") then ltb 0 n
-    else if eqb c (code "F") then ltb 0 m
-    else if eqb c (code "Y") then ltb 0 n
-    else if eqb c (code "N") then ltb 0 (used r.conditions n)
-    else if eqb c (code "T") then ltb 0 (used (r.receives + r.sends) n)
-    else if eqb c (code "S") then ltb 0 (used (r.receives + r.sends) n)
-    else if eqb c (code "G") then eqb (used r.conditions n) n && ltb 0 n
-    else eqb (used (r.receives + r.sends) n) n && ltb 0 n
+    or_else if eqb c (code "X") then ltb 0 n
+    or_else if eqb c (code "F") then ltb 0 m
+    or_else if eqb c (code "Y") then ltb 0 n
+    or_else if eqb c (code "N") then ltb 0 (used r.conditions n)
+    or_else if eqb c (code "T") then ltb 0 (used (r.receives + r.sends) n)
+    or_else if eqb c (code "S") then ltb 0 (used (r.receives + r.sends) n)
+    or_else if eqb c (code "G") then eqb (used r.conditions n) n && ltb 0 n
+    or_else eqb (used (r.receives + r.sends) n) n && ltb 0 n
 
 unfoldable all_in_use : Kind → List ℕ → ℕ → ℕ → Bool
 all_in_use r [] m n = true
-all_in_use r (c ∷ cs) m n = if eqb c (code " ") then true else in_use r c m n && all_in_use r cs m n
+all_in_use r (c ∷ cs) m n = if eqb c (code " ") then true or_else in_use r c m n && all_in_use r cs m n
 
 -- a part by whether it is in use
-by-use : (b u v : Bool) (x y : List ℕ) (p q : ℕ) → (if b then u else v) ≡ true → (u ≡ true → length x ≤ p) → (v ≡ true → length y ≤ q) → length (if b then x else y) ≤ (if b then p else q)
-unfolding if◌then◌else◌
+by-use : (b u v : Bool) (x y : List ℕ) (p q : ℕ) → (if b then u or_else v) ≡ true → (u ≡ true → length x ≤ p) → (v ≡ true → length y ≤ q) → length (if b then x or_else y) ≤ (if b then p or_else q)
+unfolding if◌then◌or_else◌
 by-use true u v x y p q h f g = f h
 by-use false u v x y p q h f g = g h
 
@@ -92,15 +92,15 @@ plain_most k m n = (kind_of k).letters + parts_most (kind_of k).parts m n 0 0 0 
 
 -- computed for each kind: its parts are in use
 row_in_use : Kind → ℕ → ℕ → Bool
-row_in_use r m n = if count_fits r.entries m && count_fits r.exits n then all_in_use r r.parts m n else true
+row_in_use r m n = if count_fits r.entries m && count_fits r.exits n then all_in_use r r.parts m n or_else true
 
 rows-in-use : (k : ℕ) → all (λ m. all (row_in_use (kind_of k) m) (suc branches)) (suc branches) ≡ true
-unfolding row_in_use each all if◌then◌else◌ count_fits used in_use all_in_use
+unfolding row_in_use each all if◌then◌or_else◌ count_fits used in_use all_in_use
 rows-in-use k = every_kind (λ r. all (λ m. all (row_in_use r m) (suc branches)) (suc branches)) refl refl k
 
-all_in_use : (k m n : ℕ) → m ≤ branches → n ≤ branches → count_fits (kind_of k).entries m ≡ true → count_fits (kind_of k).exits n ≡ true → all_in_use (kind_of k) (kind_of k).parts m n ≡ true
+all_in_use_lem : (k m n : ℕ) → m ≤ branches → n ≤ branches → count_fits (kind_of k).entries m ≡ true → count_fits (kind_of k).exits n ≡ true → all_in_use (kind_of k) (kind_of k).parts m n ≡ true
 unfolding row_in_use
-all_in_use k m n i j e x =
+all_in_use_lem k m n i j e x =
     chosen_true _ _ true
     (all_at (row_in_use (kind_of k) m) (suc branches) (all_at (λ m. all (row_in_use (kind_of k) m) (suc branches)) (suc branches) (rows-in-use k) m (omega (arith, i))) n (omega (arith, j)))
     (both_true (count_fits (kind_of k).entries m) (count_fits (kind_of k).exits n) e x)
@@ -119,7 +119,7 @@ beside_at (r ∷ rs) h o zero = h.0
 beside_at (r ∷ rs) h o (suc k) = beside_at rs h.1 o k
 
 figures_beside : (k : ℕ) → Beside (kind_of k)
-unfolding kind_of part_most parts_most if◌then◌else◌
+unfolding kind_of part_most parts_most if◌then◌or_else◌
 figures_beside k = beside_at kinds (λ m n e x t. omega arith, (λ m n e x t. omega arith, (λ m n e x t. omega arith, (λ m n e x t. omega arith, (λ m n e x t. omega arith, (λ m n e x t. omega arith, (λ m n e x t. omega arith, (λ m n e x t. omega arith, (λ m n e x t. omega arith, (λ m n e x t. omega arith, (λ m n e x t. omega arith, (λ m n e x t. omega arith, (λ m n e x t. omega arith, (λ m n e x t. omega arith, (λ m n e x t. omega arith, (λ m n e x t. omega arith, tt)))))))))))))))) (λ m n e x t. omega arith) k
 
 -- the figures of an element's entries, of its exits, and of its task's number
@@ -260,6 +260,6 @@ module _ (el : List ℕ) (fits : element_fits el ≡ true) where
         length-append (keyword_of k) (inside ++ (code ")" ∷ [])),
         length-append inside (code ")" ∷ []),
         take_short r.letters r.keyword,
-        parts_short (code "(") r.parts (all_in_use k m n (entries_few el fits) (exits_few el fits) (entries_fit el fits) (exits_fit el fits)),
+        parts_short (code "(") r.parts (all_in_use_lem k m n (entries_few el fits) (exits_few el fits) (entries_fit el fits) (exits_fit el fits)),
         figures_beside k m n (entry_figures el) (exit_figures el) (task_figures el),
       )

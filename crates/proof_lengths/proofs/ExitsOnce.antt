@@ -7,7 +7,7 @@ use native.Mathlib.Omega.{arith}
 use lib.Dec.{eqb, leb}
 use borrow.Author.Tests.{eqb-true, eqb-false, leb-true}
 use Rattle.base_words.specs.Each.{total}
-use Rattle.base_words.specs.Pick.{if◌then◌else◌}
+use Rattle.base_words.specs.Pick.{if◌then◌or_else◌}
 use Rattle.base_words.specs.Sum.{sum, hit}
 use Rattle.base_words.specs.Counts.{edges, tasks}
 use Rattle.base_words.proofs.AllLaws.{all_at, and_left, and_right}
@@ -31,10 +31,10 @@ edge_once x n f h =
     by_test (eqb (x + n) 0)
     (λ e. let z = eqb-true (x + n) 0 e in (omega arith, omega arith, omega arith))
     (λ e.
-    let r = passed_true (eqb (x + n) 0) true (eqb n 1 && eqb x (if eqb f 0 then 1 else 0)) h e in
-    let i = eqb-true n 1 (and_left (eqb n 1) (eqb x (if eqb f 0 then 1 else 0)) r) in
-    let o = eqb-true x (if eqb f 0 then 1 else 0) (and_right (eqb n 1) (eqb x (if eqb f 0 then 1 else 0)) r) in
-    let w : (if eqb f 0 then 1 else 0) ≤ 1 = by_choice (λ (y : ℕ). y ≤ 1) (eqb f 0) 1 0 (λ q. omega arith) (λ q. omega arith) in
+    let r = passed_true (eqb (x + n) 0) true (eqb n 1 && eqb x (if eqb f 0 then 1 or_else 0)) h e in
+    let i = eqb-true n 1 (and_left (eqb n 1) (eqb x (if eqb f 0 then 1 or_else 0)) r) in
+    let o = eqb-true x (if eqb f 0 then 1 or_else 0) (and_right (eqb n 1) (eqb x (if eqb f 0 then 1 or_else 0)) r) in
+    let w : (if eqb f 0 then 1 or_else 0) ≤ 1 = by_choice (λ (y : ℕ). y ≤ 1) (eqb f 0) 1 0 (λ q. omega arith) (λ q. omega arith) in
     (omega arith, omega arith, omega arith))
 
 -- EDGES MET AT MOST ONCE: c rows, row e has n e places, g e j is the edge at place j of row e

@@ -8,7 +8,7 @@ use lib.Dec.{eqb, leb, ltb}
 use lib.ListN.{length, get_or-eq_default}
 use borrow.Author.Tests.{leb-true, ltb-true, ltb-false}
 use Rattle.base_words.specs.All.{all}
-use Rattle.base_words.specs.Pick.{if◌then◌else◌}
+use Rattle.base_words.specs.Pick.{if◌then◌or_else◌}
 use Rattle.base_words.specs.Sum.{sum, hit}
 use Rattle.base_words.specs.Words.{at}
 use Rattle.base_words.specs.Counts.{branches}
@@ -51,10 +51,10 @@ many_both k m n = leb (weight k m n + 185 * joins k + 89 * splits k + 93 * start
 
 -- computed for each kind, and for each number of entries and exits that it may have
 weighed : ℕ → ℕ → ℕ → Bool
-weighed k m n = if count_fits (kind_of k).entries m && count_fits (kind_of k).exits n then few_splits k m n && (few_joins k m n && many_both k m n) else true
+weighed k m n = if count_fits (kind_of k).entries m && count_fits (kind_of k).exits n then few_splits k m n && (few_joins k m n && many_both k m n) or_else true
 
 all_weighed : all (λ k. all (λ m. all (weighed k m) (suc branches)) (suc branches)) 16 ≡ true
-unfolding weighed few_splits few_joins many_both kind_of all if◌then◌else◌ count_fits part_most parts_most
+unfolding weighed few_splits few_joins many_both kind_of all if◌then◌or_else◌ count_fits part_most parts_most
 all_weighed = refl
 
 -- AN ELEMENT

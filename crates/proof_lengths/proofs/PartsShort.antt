@@ -8,7 +8,7 @@ use native.Mathlib.Omega.{arith}
 use lib.Dec.{eqb, ltb}
 use lib.ListN.{length, drop, length-append}
 use borrow.Author.Tests.{eqb-true, ne_eqb, ltb-true}
-use Rattle.base_words.specs.Pick.{if◌then◌else◌}
+use Rattle.base_words.specs.Pick.{if◌then◌or_else◌}
 use Rattle.base_words.specs.Sum.{sum}
 use Rattle.base_words.specs.Text.{bytes}
 use Rattle.base_words.specs.Words.{at, digits}
@@ -108,7 +108,7 @@ module _ (x : List ℕ) (fits : expression_fits x ≡ true) where
 pub item_short : (receives : ℕ) (x : List ℕ) → item_fits receives x ≡ true → length (shown_item x) ≤ pair_most
 unfolding shown_item item_fits bind_fits
 item_short receives x fits =
-    let bound : Bool = if eqb receives none then false else bind_fits x in
+    let bound : Bool = if eqb receives none then false or_else bind_fits x in
     by_choice (λ (w : List ℕ). length w ≤ pair_most) (eqb (at x form_place) binding) (code "?" ∷ shown_field (at x (left_place + operand_number))) (shown_expression x)
     (λ e.
     let h : bound ≡ true = chosen_true (eqb (at x form_place) binding) bound (expression_fits x) fits e in
@@ -129,7 +129,7 @@ condition_short conditions x fits =
     let left : Bool = operand_fits (drop left_place x) in
     let right : Bool = operand_fits (drop right_place x) in
     let compared : Bool = formed && left && right in
-    let others : Bool = if eqb (at x form_place) default then eqb conditions many && blank else compared in
+    let others : Bool = if eqb (at x form_place) default then eqb conditions many && blank or_else compared in
     by_choice (λ (w : List ℕ). length w ≤ pair_most) (eqb (at x form_place) always) (bytes "true") _ (λ e. omega arith)
     (λ o.
     let h : others ≡ true = passed_true (eqb (at x form_place) always) blank others fits o in

@@ -7,14 +7,14 @@ use native.Mathlib.Omega.{arith}
 use lib.Dec.{eqb}
 use lib.ListN.{length, take, length-append}
 use Rattle.base_words.specs.Each.{joined}
-use Rattle.base_words.specs.Pick.{if◌then◌else◌}
+use Rattle.base_words.specs.Pick.{if◌then◌or_else◌}
 use Rattle.base_words.specs.Sum.{sum}
 use Rattle.base_words.proofs.SumLaws.{sum_le}
 use Rattle.write_shown.specs.Shown.{lead, separated, enclosed_by}
 
 -- a choice
-pub both_short : (b : Bool) (x y : List ℕ) (most : ℕ) → length x ≤ most → length y ≤ most → length (if b then x else y) ≤ most
-unfolding if◌then◌else◌
+pub both_short : (b : Bool) (x y : List ℕ) (most : ℕ) → length x ≤ most → length y ≤ most → length (if b then x or_else y) ≤ most
+unfolding if◌then◌or_else◌
 both_short true x y most h l = h
 both_short false x y most h l = l
 
@@ -41,7 +41,7 @@ unfolding lead
 lead_short s k = both_short (eqb k 0) [] (s ∷ []) 1 (omega arith) (omega arith)
 
 lead_none : (s : ℕ) → length (lead s 0) ≡ 0
-unfolding lead if◌then◌else◌
+unfolding lead if◌then◌or_else◌
 lead_none s = refl
 
 signed_sum : (s : ℕ) (f : ℕ → List ℕ) (most : ℕ → ℕ) (n : ℕ) → ((k : ℕ) → k < suc n → length (f k) + 1 ≤ most k) → length (joined (λ k. lead s k ++ f k) (suc n)) + 1 ≤ sum most (suc n)

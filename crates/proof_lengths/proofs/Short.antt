@@ -10,7 +10,7 @@ use lib.ListN.{length, length-append}
 use borrow.Author.Tests.{ltb-true, ltb-false, lt-ltb, leb-true}
 use Rattle.base_words.specs.All.{all}
 use Rattle.base_words.specs.Each.{each}
-use Rattle.base_words.specs.Pick.{if◌then◌else◌}
+use Rattle.base_words.specs.Pick.{if◌then◌or_else◌}
 use Rattle.base_words.specs.Sum.{sum, hit, one_if}
 use Rattle.base_words.specs.Text.{bytes}
 use Rattle.base_words.specs.Words.{at}
@@ -210,7 +210,7 @@ module _ (t : List ℕ) (fits : table_fits t ≡ true) (sound : lowest (model_of
     unfolding shown_pool
     pool_short =
         let limit = at t (limit_place p) in
-        let word : List ℕ = if eqb limit 0 then bytes "pool" else bytes "miPool" in
+        let word : List ℕ = if eqb limit 0 then bytes "pool" or_else bytes "miPool" in
         let behind : List ℕ = shown_elements t p ++ shown_limit limit in
         let inside : List ℕ = shown (at t (pool_place p)) ++ (code "," ∷ behind) in
         omega (
@@ -226,15 +226,15 @@ module _ (t : List ℕ) (fits : table_fits t ≡ true) (sound : lowest (model_of
         )
 
   -- the first has no bar before it
-  piece_short : (p : ℕ) → p < pools → length (if ltb p (pool_count t) then lead (code "|") p ++ shown_pool t p else []) ≤ length (lead (code "|") p) + pool_most
+  piece_short : (p : ℕ) → p < pools → length (if ltb p (pool_count t) then lead (code "|") p ++ shown_pool t p or_else []) ≤ length (lead (code "|") p) + pool_most
   piece_short p l =
       by_choice (λ (w : List ℕ). length w ≤ length (lead (code "|") p) + pool_most) (ltb p (pool_count t)) (lead (code "|") p ++ shown_pool t p) []
       (λ e. omega (arith, length-append (lead (code "|") p) (shown_pool t p), pool_short p (ltb-true p (pool_count t) e)))
       (λ e. omega arith)
 
   pools_short : length (shown_pools t) ≤ pools * (pool_most + 1) - 1
-  unfolding shown_pools lead if◌then◌else◌ sum
-  pools_short = omega (arith, joined_short (λ p. if ltb p (pool_count t) then lead (code "|") p ++ shown_pool t p else []) (λ p. length (lead (code "|") p) + pool_most) pools piece_short)
+  unfolding shown_pools lead if◌then◌or_else◌ sum
+  pools_short = omega (arith, joined_short (λ p. if ltb p (pool_count t) then lead (code "|") p ++ shown_pool t p or_else []) (λ p. length (lead (code "|") p) + pool_most) pools piece_short)
 
   -- AT MOST 31,256 BYTES
   pub at_most : length (shown_table t) ≤ longest

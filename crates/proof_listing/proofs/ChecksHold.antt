@@ -6,7 +6,7 @@ use mathlib.Core.List.{List}
 use native.Mathlib.Omega.{arith}
 use Rattle.base_words.specs.All.{all}
 use Rattle.base_words.specs.Each.{each}
-use Rattle.base_words.specs.Pick.{if◌then◌else◌}
+use Rattle.base_words.specs.Pick.{if◌then◌or_else◌}
 use Rattle.base_words.specs.Counts.{names}
 use Rattle.base_words.proofs.AllLaws.{and_right}
 use Rattle.base_table.specs.Table.{pool_count}
@@ -26,8 +26,8 @@ pub record Checked (ps : List Pool) : Type 0 where
   pub eighth : each check8 ps ≡ true
 
 -- one link of the chain: the check holds, and the chain goes on
-link : (b : Bool) (k n : ℕ) → (k ≡ 0 → ⊥) → (if not b then k else n) ≡ 0 → (b ≡ true) × (n ≡ 0)
-unfolding if◌then◌else◌
+link : (b : Bool) (k n : ℕ) → (k ≡ 0 → ⊥) → (if not b then k or_else n) ≡ 0 → (b ≡ true) × (n ≡ 0)
+unfolding if◌then◌or_else◌
 link true k n z e = (refl, e)
 link false k n z e = absurd (z e)
 

@@ -9,7 +9,7 @@ use lib.Dec.{eqb, leb, ltb}
 use borrow.Author.Tests.{eqb-true, eq-eqb, ltb-true}
 use Rattle.base_words.specs.All.{all}
 use Rattle.base_words.specs.Each.{tab}
-use Rattle.base_words.specs.Pick.{if◌then◌else◌}
+use Rattle.base_words.specs.Pick.{if◌then◌or_else◌}
 use Rattle.base_words.specs.Words.{at}
 use Rattle.base_words.specs.Counts.{values, messages}
 use Rattle.base_words.proofs.AllLaws.{and_left, and_right, all_at}
@@ -53,7 +53,7 @@ tidied_equal g k e =
     λ i. record { length = same_length g k e i; values = v 0 i ∷ v 1 i ∷ v 2 i ∷ v 3 i ∷ [] }
 
 pub tidied-empty : tidied empty ≡ empty
-unfolding tidied value_of if◌then◌else◌
+unfolding tidied value_of if◌then◌or_else◌
 tidied-empty = refl
 
 pub message_tidy : (q : List ℕ) (m : ℕ) → queue_fits q m ≡ true → (k : ℕ) → k < message_count q m → tidied (message_at q m k) ≡ message_at q m k

@@ -7,7 +7,7 @@ use mathlib.Core.Logic.{◌⊎◌, inl, inr, ⊎_elim}
 use native.Mathlib.Nat.{not-suc-le-zero, le_of_suc-le-suc, eq-or-lt_of_le}
 use native.Mathlib.Omega.{arith}
 use Rattle.base_words.specs.Each.{joined, those}
-use Rattle.base_words.specs.Pick.{if◌then◌else◌}
+use Rattle.base_words.specs.Pick.{if◌then◌or_else◌}
 use Rattle.meaning.specs.declared.Name.{Name}
 use Rattle.step_list.specs.declared.Listed.{Listed}
 use Rattle.step_list.specs.Listing.{chosen}
@@ -76,29 +76,29 @@ module _ {A : Type 0} where
   -- WHAT PASSES A TEST
   module _ (f : A → Bool) where
     pub member_those : (x : A) (xs : List A) → f x ≡ true → member x xs → member x (those f xs)
-    unfolding those member if◌then◌else◌
+    unfolding those member if◌then◌or_else◌
     member_those x [] e h = absurd h
     member_those x (y ∷ ys) e h = go (f y) refl (λ r. member_those x ys e r) h
       where
-        go : (b : Bool) → f y ≡ b → (member x ys → member x (those f ys)) → (x ≡ y) ⊎ member x ys → member x (if b then y ∷ those f ys else those f ys)
+        go : (b : Bool) → f y ≡ b → (member x ys → member x (those f ys)) → (x ≡ y) ⊎ member x ys → member x (if b then y ∷ those f ys or_else those f ys)
         go true o ih h = ⊎_elim (λ p. inl p) (λ r. inr (ih r)) h
         go false o ih h = ⊎_elim (λ p. absurd (false≢true (sym o ∙ sym (ap f p) ∙ e))) (λ r. ih r) h
 
     pub those_member : (x : A) (xs : List A) → member x (those f xs) → (f x ≡ true) × member x xs
-    unfolding those member if◌then◌else◌
+    unfolding those member if◌then◌or_else◌
     those_member x [] h = absurd h
     those_member x (y ∷ ys) h = go (f y) refl (λ r. those_member x ys r) h
       where
-        go : (b : Bool) → f y ≡ b → (member x (those f ys) → (f x ≡ true) × member x ys) → member x (if b then y ∷ those f ys else those f ys) → (f x ≡ true) × ((x ≡ y) ⊎ member x ys)
+        go : (b : Bool) → f y ≡ b → (member x (those f ys) → (f x ≡ true) × member x ys) → member x (if b then y ∷ those f ys or_else those f ys) → (f x ≡ true) × ((x ≡ y) ⊎ member x ys)
         go true o ih h = ⊎_elim (λ p. (ap f p ∙ o, inl p)) (λ r. ((ih r).0, inr (ih r).1)) h
         go false o ih h = ((ih h).0, inr (ih h).1)
 
     pub once_those : (xs : List A) → once xs → once (those f xs)
-    unfolding those once if◌then◌else◌
+    unfolding those once if◌then◌or_else◌
     once_those [] h = h
     once_those (y ∷ ys) h = go (f y) (once_those ys h.1)
       where
-        go : (b : Bool) → once (those f ys) → once (if b then y ∷ those f ys else those f ys)
+        go : (b : Bool) → once (those f ys) → once (if b then y ∷ those f ys or_else those f ys)
         go true ih = ((λ r. h.0 (those_member y ys r).1), ih)
         go false ih = ih
 

@@ -9,7 +9,7 @@ use lib.Dec.{eqb, ltb}
 use lib.ListN.{get_or}
 use borrow.Author.Tests.{eqb-true, ltb-true, eq-eqb, ne_eqb}
 use Rattle.base_words.specs.Each.{each}
-use Rattle.base_words.specs.Pick.{if◌then◌else◌}
+use Rattle.base_words.specs.Pick.{if◌then◌or_else◌}
 use Rattle.base_words.proofs.AllLaws.{and_right}
 use Rattle.base_words.proofs.ListLaws.{each_at}
 use Rattle.base_words.proofs.SeekLaws.{sought}
@@ -38,32 +38,32 @@ module _ (k m p : ℕ) where
 
   -- a startRcv makes one
   pub start_rcv_makes : (move_of k m p).kind ≡ start_rcv → (move_of k m p).also ≡ making
-  unfolding each if◌then◌else◌
+  unfolding each if◌then◌or_else◌
   start_rcv_makes e =
-      let h = every_row (λ r. if eqb r.kind start_rcv then eqb r.also making else true) refl refl in
+      let h = every_row (λ r. if eqb r.kind start_rcv then eqb r.also making or_else true) refl refl in
       eqb-true _ making (chosen_true _ _ true h (eq-eqb _ start_rcv e))
 
   -- an xorSplit asks its branch's condition, puts there, receives nothing and has no phases
-  of_split : (cell : Move → ℕ) (x : ℕ) → each (λ r. if eqb r.kind xor_split then eqb (cell r) x else true) moves ≡ true
-      → (if eqb no_move.kind xor_split then eqb (cell no_move) x else true) ≡ true → (move_of k m p).kind ≡ xor_split → cell (move_of k m p) ≡ x
-  of_split cell x e o s = eqb-true _ x (chosen_true _ _ true (every_row (λ r. if eqb r.kind xor_split then eqb (cell r) x else true) e o) (eq-eqb _ xor_split s))
+  of_split : (cell : Move → ℕ) (x : ℕ) → each (λ r. if eqb r.kind xor_split then eqb (cell r) x or_else true) moves ≡ true
+      → (if eqb no_move.kind xor_split then eqb (cell no_move) x or_else true) ≡ true → (move_of k m p).kind ≡ xor_split → cell (move_of k m p) ≡ x
+  of_split cell x e o s = eqb-true _ x (chosen_true _ _ true (every_row (λ r. if eqb r.kind xor_split then eqb (cell r) x or_else true) e o) (eq-eqb _ xor_split s))
 
   pub split_row : (move_of k m p).kind ≡ xor_split → ((move_of k m p).puts ≡ branch) × ((move_of k m p).asks ≡ on) × ((move_of k m p).receives ≡ 0) × ((move_of k m p).phase ≡ 0)
-  unfolding each if◌then◌else◌
+  unfolding each if◌then◌or_else◌
   split_row s = (of_split (λ r. r.puts) branch refl refl s, of_split (λ r. r.asks) on refl refl s, of_split (λ r. r.receives) 0 refl refl s, of_split (λ r. r.phase) 0 refl refl s)
 
   -- what takes from every entry is of a kind that has entries
   pub takes_entries : (move_of k m p).takes ≡ every → 0 < (kind_of (move_of k m p).kind).entries
-  unfolding each if◌then◌else◌ kind_of
+  unfolding each if◌then◌or_else◌ kind_of
   takes_entries e =
-      let h = every_row (λ r. if eqb r.takes every then ltb 0 (kind_of r.kind).entries else true) refl refl in
+      let h = every_row (λ r. if eqb r.takes every then ltb 0 (kind_of r.kind).entries or_else true) refl refl in
       ltb-true 0 _ (chosen_true _ _ true h (eq-eqb _ every e))
 
   -- what makes no instance takes from an entry, or else lowers a count
   pub takes_or_lowers : ((move_of k m p).kind ≡ 0 → ⊥) → ((move_of k m p).also ≡ making → ⊥) → ((move_of k m p).takes ≡ every → ⊥) → ((move_of k m p).takes ≡ branch → ⊥) → ((move_of k m p).active ≡ down → ⊥) → (move_of k m p).ready ≡ down
-  unfolding each if◌then◌else◌
+  unfolding each if◌then◌or_else◌
   takes_or_lowers there o e b a =
-      let h = every_row (λ r. if eqb r.kind 0 then true else if eqb r.also making then true else if eqb r.takes every then true else if eqb r.takes branch then true else if eqb r.active down then true else eqb r.ready down) refl refl in
+      let h = every_row (λ r. if eqb r.kind 0 then true or_else if eqb r.also making then true or_else if eqb r.takes every then true or_else if eqb r.takes branch then true or_else if eqb r.active down then true or_else eqb r.ready down) refl refl in
       let h1 = passed_true _ true _ h (ne_eqb _ 0 there) in
       let h2 = passed_true _ true _ h1 (ne_eqb _ making o) in
       let h3 = passed_true _ true _ h2 (ne_eqb _ every e) in

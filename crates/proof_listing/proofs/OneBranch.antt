@@ -7,7 +7,7 @@ use native.Mathlib.Omega.{arith}
 use lib.Dec.{eqb, ltb}
 use borrow.Author.Tests.{eqb-true, eqb-false, eq-eqb, ne_eqb, ltb-true, ltb-false}
 use Rattle.base_words.specs.All.{all}
-use Rattle.base_words.specs.Pick.{if◌then◌else◌}
+use Rattle.base_words.specs.Pick.{if◌then◌or_else◌}
 use Rattle.base_words.specs.Words.{at}
 use Rattle.base_words.proofs.AllLaws.{and_left, and_right, all_at}
 use Rattle.base_kinds.specs.declared.moves.Move.{Move}
@@ -53,7 +53,7 @@ module _ (el h : List ℕ) where
   is b = condition_of (condition_at el b) h
 
   default_neither : (b : ℕ) → default_at el b ≡ true → is_false (is b) ≡ true → ⊥
-  unfolding default_at condition_of is_false if◌then◌else◌
+  unfolding default_at condition_of is_false if◌then◌or_else◌
   default_neither b d f = let e = eqb-true (at (condition_at el b) form_place) default d in false≢true (rw e at f)
 
   own_true : (b : ℕ) → holds el h b ≡ true → default_at el b ≡ false → is_true (is b) ≡ true

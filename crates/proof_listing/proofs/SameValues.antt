@@ -5,7 +5,7 @@ use mathlib.Core.Bool.{Bool, true, ◌||◌}
 use mathlib.Core.List.{List, [], ◌∷◌}
 use lib.Dec.{leb}
 use Rattle.base_words.specs.Iter.{iter}
-use Rattle.base_words.specs.Pick.{if◌then◌else◌}
+use Rattle.base_words.specs.Pick.{if◌then◌or_else◌}
 use Rattle.base_words.specs.Words.{at}
 use Rattle.base_words.specs.Counts.{values}
 use Rattle.base_table.specs.Places.{operand_number, left_place}
@@ -34,7 +34,7 @@ module _ (g k : Tuple) (same : same_tuple g k ≡ true) where
   item_same : (el : List ℕ) (b : ℕ) (h : List ℕ) (j : ℕ) → item_value el b h g j ≡ item_value el b h k j
   unfolding item_value
   item_same el b h j =
-      ap (λ v. if leb (message_length el b) j then Number 0 else if binds el b j then Number v else expression_of (item_at el b j) h) (same_value g k same j)
+      ap (λ v. if leb (message_length el b) j then Number 0 or_else if binds el b j then Number v or_else expression_of (item_at el b j) h) (same_value g k same j)
 
   evaluated_same : (el : List ℕ) (b : ℕ) (h : List ℕ) → evaluated el b h g ≡ evaluated el b h k
   unfolding evaluated
@@ -42,7 +42,7 @@ module _ (g k : Tuple) (same : same_tuple g k ≡ true) where
 
   bind_same : (el : List ℕ) (b j : ℕ) (h : List ℕ) → bind_one el b g j h ≡ bind_one el b k j h
   unfolding bind_one
-  bind_same el b j h = ap (λ v. if binds el b j then with_field h (at (item_at el b j) (left_place + operand_number)) v else h) (same_value g k same j)
+  bind_same el b j h = ap (λ v. if binds el b j then with_field h (at (item_at el b j) (left_place + operand_number)) v or_else h) (same_value g k same j)
 
   bound_same : (el : List ℕ) (b : ℕ) (h : List ℕ) → bound el b g h ≡ bound el b k h
   unfolding bound
@@ -52,7 +52,7 @@ module _ (g k : Tuple) (same : same_tuple g k ≡ true) where
   unfolding has
   has_same [] = refl
   has_same (x ∷ xs) =
-      ap₂ (λ (b c : Bool). if b then true else c) (same_sym x g ∙ same_both g k x same ∙ same_sym k x) (has_same xs)
+      ap₂ (λ (b c : Bool). if b then true or_else c) (same_sym x g ∙ same_both g k x same ∙ same_sym k x) (has_same xs)
 
 -- THE SAME SITE with equal values
 module _ (x : Site) (g : Tuple) (same : same_tuple x.given g ≡ true) where
@@ -90,7 +90,7 @@ module _ (x : Site) (g : Tuple) (same : same_tuple x.given g ≡ true) where
         matched = same_trans (template y).tuple x.given g (sym (ap (λ (v : Evaluated). same_tuple v.tuple x.given) template_same) ∙ a.matched) same;
         worked_out = sym defined_same ∙ a.worked_out;
         waiting =
-            ap (λ (b : Bool). if receives x then b else true) (sym (has_same x.given g same (messages_of q (message_named x)))) ∙ a.waiting;
+            ap (λ (b : Bool). if receives x then b or_else true) (sym (has_same x.given g same (messages_of q (message_named x)))) ∙ a.waiting;
         limited = a.limited;
         spacious = a.spacious;
         roomed = sym (ap (λ (h : List ℕ). roomy x.element h x.move x.branch) taking_same) ∙ a.roomed;

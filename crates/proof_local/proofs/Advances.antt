@@ -6,7 +6,7 @@ use Prim.Native.Nat.{ℕ, ◌+◌, ◌-◌, ◌<◌, ◌≤◌}
 use native.Mathlib.Omega.{arith}
 use lib.Dec.{eqb}
 use lib.ListN.{length, take}
-use Rattle.base_words.specs.Pick.{if◌then◌else◌}
+use Rattle.base_words.specs.Pick.{if◌then◌or_else◌}
 use Rattle.base_words.specs.Text.{bytes}
 use Rattle.base_words.specs.Words.{at, part}
 use Rattle.base_bytes.proofs.PieceLaws.{by_order}
@@ -57,13 +57,13 @@ pub data Cut (n : ℕ) (x y : Move) : Type 0 where
   same : y ≡ x → Early n x → Cut n x y
   broken : y ≡ Fault n → Late n x → Cut n x y
 
-cut_if : (n : ℕ) (b : Bool) (x y z w : Move) → Cut n x y → Cut n z w → Cut n (if b then x else z) (if b then y else w)
-unfolding if◌then◌else◌
+cut_if : (n : ℕ) (b : Bool) (x y z w : Move) → Cut n x y → Cut n z w → Cut n (if b then x or_else z) (if b then y or_else w)
+unfolding if◌then◌or_else◌
 cut_if n true x y z w h k = h
 cut_if n false x y z w h k = k
 
-late_if : (n : ℕ) (b : Bool) (x y : Move) → Late n x → Late n y → Late n (if b then x else y)
-unfolding if◌then◌else◌
+late_if : (n : ℕ) (b : Bool) (x y : Move) → Late n x → Late n y → Late n (if b then x or_else y)
+unfolding if◌then◌or_else◌
 late_if n true x y h k = h
 late_if n false x y h k = k
 

@@ -8,7 +8,7 @@ use native.Mathlib.Omega.{arith}
 use lib.Dec.{leb}
 use lib.ListN.{length, take}
 use borrow.Author.Tests.{le-leb}
-use Rattle.base_words.specs.Pick.{if◌then◌else◌}
+use Rattle.base_words.specs.Pick.{if◌then◌or_else◌}
 use Rattle.base_bytes.proofs.PieceLaws.{by_order}
 use denote.Enum.Declared.{tag_of as kind_of}
 use Rattle.xml_document.specs.contracts.Outside.{the_type}
@@ -36,6 +36,12 @@ is_element (On q) = false
 is_element Nothing = false
 is_element (Fault q) = false
 
+abbrev is_on : Outside → Bool
+is_on (Element p) = false
+is_on (On q) = true
+is_on Nothing = false
+is_on (Fault q) = false
+
 abbrev is_nothing : Outside → Bool
 is_nothing (Element p) = false
 is_nothing (On q) = false
@@ -58,10 +64,10 @@ not_before t zero p r h e = absurd (false≢true (ap is_element (sym (outside_en
 not_before t (suc k) p r h e = go (outside_at t (run Blanks t p)) refl (λ q l. not_before t k q r (omega (arith, h, l)))
   where
     go : (g : Outside) → g ≡ outside_at t (run Blanks t p) → ((q : ℕ) → p < q → outside t q ≡ Element r → q ≤ r) → p ≤ r
-    go (Element q) eg f = let z : q ≡ r = ap place_of (sym (outside_stops t p (run Blanks t p) refl (Element q) eg (hit (0 ∷ 2 ∷ 3 ∷ []) 0 tt)) ∙ e) in omega (arith, z, subst (Beyond (run Blanks t p)) (sym eg) (at_beyond t (run Blanks t p)), ran t p)
+    go (Element q) eg f = let z : q ≡ r = ap place_of (sym (outside_stops t p (run Blanks t p) refl (Element q) eg (λ v d. absurd (false≢true (ap is_on d)))) ∙ e) in omega (arith, z, subst (Beyond (run Blanks t p)) (sym eg) (at_beyond t (run Blanks t p)), ran t p)
     go (On q) eg f = let l : p < q = outside_past t p (run Blanks t p) refl (On q) eg q refl in omega (arith, l, f q l (sym (outside_on t p (run Blanks t p) refl (On q) eg q refl) ∙ e))
-    go Nothing eg f = absurd (false≢true (ap is_element (sym (outside_stops t p (run Blanks t p) refl Nothing eg (hit (0 ∷ 2 ∷ 3 ∷ []) 2 tt)) ∙ e)))
-    go (Fault q) eg f = absurd (false≢true (ap is_element (sym (outside_stops t p (run Blanks t p) refl (Fault q) eg (hit (0 ∷ 2 ∷ 3 ∷ []) 3 tt)) ∙ e)))
+    go Nothing eg f = absurd (false≢true (ap is_element (sym (outside_stops t p (run Blanks t p) refl Nothing eg (λ v d. absurd (false≢true (ap is_on d)))) ∙ e)))
+    go (Fault q) eg f = absurd (false≢true (ap is_element (sym (outside_stops t p (run Blanks t p) refl (Fault q) eg (λ v d. absurd (false≢true (ap is_on d)))) ∙ e)))
 
 -- and it is a start tag
 pub starts_there : (t : List ℕ) (k p r : ℕ) → length t ≤ p + k → outside t p ≡ Element r → opener t r ≡ Start
@@ -69,10 +75,10 @@ starts_there t zero p r h e = absurd (false≢true (ap is_element (sym (outside_
 starts_there t (suc k) p r h e = go (outside_at t (run Blanks t p)) refl (λ q l. starts_there t k q r (omega (arith, h, l)))
   where
     go : (g : Outside) → g ≡ outside_at t (run Blanks t p) → ((q : ℕ) → p < q → outside t q ≡ Element r → opener t r ≡ Start) → opener t r ≡ Start
-    go (Element q) eg f = subst (Begins t) (sym eg ∙ sym (outside_stops t p (run Blanks t p) refl (Element q) eg (hit (0 ∷ 2 ∷ 3 ∷ []) 0 tt)) ∙ e) (outside_begins t (run Blanks t p))
+    go (Element q) eg f = subst (Begins t) (sym eg ∙ sym (outside_stops t p (run Blanks t p) refl (Element q) eg (λ v d. absurd (false≢true (ap is_on d)))) ∙ e) (outside_begins t (run Blanks t p))
     go (On q) eg f = f q (outside_past t p (run Blanks t p) refl (On q) eg q refl) (sym (outside_on t p (run Blanks t p) refl (On q) eg q refl) ∙ e)
-    go Nothing eg f = absurd (false≢true (ap is_element (sym (outside_stops t p (run Blanks t p) refl Nothing eg (hit (0 ∷ 2 ∷ 3 ∷ []) 2 tt)) ∙ e)))
-    go (Fault q) eg f = absurd (false≢true (ap is_element (sym (outside_stops t p (run Blanks t p) refl (Fault q) eg (hit (0 ∷ 2 ∷ 3 ∷ []) 3 tt)) ∙ e)))
+    go Nothing eg f = absurd (false≢true (ap is_element (sym (outside_stops t p (run Blanks t p) refl Nothing eg (λ v d. absurd (false≢true (ap is_on d)))) ∙ e)))
+    go (Fault q) eg f = absurd (false≢true (ap is_element (sym (outside_stops t p (run Blanks t p) refl (Fault q) eg (λ v d. absurd (false≢true (ap is_on d)))) ∙ e)))
 
 -- an element from n on, if any
 abbrev pub From : ℕ → Outside → Type 0
@@ -101,36 +107,36 @@ module _ (t : List ℕ) (n : ℕ) (inside : n ≤ length t) where
     stopped u e x g a ex k = outside_stops u p s e g (sym a ∙ ex) k
 
     step : (x y : Outside) → x ≡ outside_at t s → y ≡ outside_at (take n t) s → CutOutside t n s x y → CutAround t n (outside t p) (outside (take n t) p)
-    step x y ex ey (element ax ay o v) = whole_element s h (stopped t es x (Element s) ax ex (hit (0 ∷ 2 ∷ 3 ∷ []) 0 tt)) (stopped (take n t) eu y (Element s) ay ey (hit (0 ∷ 2 ∷ 3 ∷ []) 0 tt)) o v
-    step x y ex ey (no_element ax ay o l) = cut_element s h (stopped t es x (Element s) ax ex (hit (0 ∷ 2 ∷ 3 ∷ []) 0 tt)) (stopped (take n t) eu y (Fault n) ay ey (hit (0 ∷ 2 ∷ 3 ∷ []) 3 tt)) o (tag_late t n s l)
+    step x y ex ey (element ax ay o v) = whole_element s h (stopped t es x (Element s) ax ex (λ v d. absurd (false≢true (ap is_on d)))) (stopped (take n t) eu y (Element s) ay ey (λ v d. absurd (false≢true (ap is_on d)))) o v
+    step x y ex ey (no_element ax ay o l) = cut_element s h (stopped t es x (Element s) ax ex (λ v d. absurd (false≢true (ap is_on d)))) (stopped (take n t) eu y (Fault n) ay ey (λ v d. absurd (false≢true (ap is_on d)))) o (tag_late t n s l)
     step (Element q) y ex ey (same k l) = absurd l
     step (On q) y ex ey (same k l) = rw (outside_on t p s es (On q) ex q refl, outside_on (take n t) p s eu (On q) (sym k ∙ ey) q refl) (IH q (outside_past t p s es (On q) ex q refl) l)
     step Nothing y ex ey (same k l) = absurd l
-    step (Fault q) y ex ey (same k l) = at_fault q (stopped t es (Fault q) (Fault q) refl ex (hit (0 ∷ 2 ∷ 3 ∷ []) 3 tt)) (stopped (take n t) eu y (Fault q) k ey (hit (0 ∷ 2 ∷ 3 ∷ []) 3 tt))
+    step (Fault q) y ex ey (same k l) = at_fault q (stopped t es (Fault q) (Fault q) refl ex (λ v d. absurd (false≢true (ap is_on d)))) (stopped (take n t) eu y (Fault q) k ey (λ v d. absurd (false≢true (ap is_on d))))
     step (Element q) y ex ey (broken k l) = absurd l
-    step (On q) y ex ey (broken k l) = cut_off (stopped (take n t) eu y (Fault n) k ey (hit (0 ∷ 2 ∷ 3 ∷ []) 3 tt)) (rw (outside_on t p s es (On q) ex q refl) (from_is n (outside t q) (λ r e. omega (arith, l, not_before t (length t) q r (omega arith) e))))
+    step (On q) y ex ey (broken k l) = cut_off (stopped (take n t) eu y (Fault n) k ey (λ v d. absurd (false≢true (ap is_on d)))) (rw (outside_on t p s es (On q) ex q refl) (from_is n (outside t q) (λ r e. omega (arith, l, not_before t (length t) q r (omega arith) e))))
     step Nothing y ex ey (broken k l) = absurd l
-    step (Fault q) y ex ey (broken k l) = cut_off (stopped (take n t) eu y (Fault n) k ey (hit (0 ∷ 2 ∷ 3 ∷ []) 3 tt)) (rw (stopped t es (Fault q) (Fault q) refl ex (hit (0 ∷ 2 ∷ 3 ∷ []) 3 tt)) tt)
+    step (Fault q) y ex ey (broken k l) = cut_off (stopped (take n t) eu y (Fault n) k ey (λ v d. absurd (false≢true (ap is_on d)))) (rw (stopped t es (Fault q) (Fault q) refl ex (λ v d. absurd (false≢true (ap is_on d)))) tt)
 
   -- the blanks before an element end before it
   blanks_before : (p r : ℕ) → outside t p ≡ Element r → run Blanks t p ≤ r
   blanks_before p r e = go (outside_at t (run Blanks t p)) refl
     where
       go : (g : Outside) → g ≡ outside_at t (run Blanks t p) → run Blanks t p ≤ r
-      go (Element q) eg = let z : q ≡ r = ap place_of (sym (outside_stops t p (run Blanks t p) refl (Element q) eg (hit (0 ∷ 2 ∷ 3 ∷ []) 0 tt)) ∙ e) in omega (arith, z, subst (Beyond (run Blanks t p)) (sym eg) (at_beyond t (run Blanks t p)))
+      go (Element q) eg = let z : q ≡ r = ap place_of (sym (outside_stops t p (run Blanks t p) refl (Element q) eg (λ v d. absurd (false≢true (ap is_on d)))) ∙ e) in omega (arith, z, subst (Beyond (run Blanks t p)) (sym eg) (at_beyond t (run Blanks t p)))
       go (On q) eg = omega (arith, subst (Beyond (run Blanks t p)) (sym eg) (at_beyond t (run Blanks t p)), not_before t (length t) q r (omega arith) (sym (outside_on t p (run Blanks t p) refl (On q) eg q refl) ∙ e))
-      go Nothing eg = absurd (false≢true (ap is_element (sym (outside_stops t p (run Blanks t p) refl Nothing eg (hit (0 ∷ 2 ∷ 3 ∷ []) 2 tt)) ∙ e)))
-      go (Fault q) eg = absurd (false≢true (ap is_element (sym (outside_stops t p (run Blanks t p) refl (Fault q) eg (hit (0 ∷ 2 ∷ 3 ∷ []) 3 tt)) ∙ e)))
+      go Nothing eg = absurd (false≢true (ap is_element (sym (outside_stops t p (run Blanks t p) refl Nothing eg (λ v d. absurd (false≢true (ap is_on d)))) ∙ e)))
+      go (Fault q) eg = absurd (false≢true (ap is_element (sym (outside_stops t p (run Blanks t p) refl (Fault q) eg (λ v d. absurd (false≢true (ap is_on d)))) ∙ e)))
 
   nothing_there : Nothing ≡ outside_at (take n t) n
-  unfolding outside_at if◌then◌else◌
+  unfolding outside_at if◌then◌or_else◌
   nothing_there = rw (le-leb (length (take n t)) n (omega (arith, long t n inside))) refl
 
   cut_from : (k p : ℕ) → n ≤ p + k → p ≤ n → CutAround t n (outside t p) (outside (take n t) p)
   cut_from zero p m l = ended (outside_end (take n t) p (omega (arith, m, long t n inside))) (from_is n (outside t p) (λ r e. omega (arith, m, not_before t (length t) p r (omega arith) e)))
   cut_from (suc k) p m l =
       by_order n (run Blanks t p)
-      (λ h. ended (outside_stops (take n t) p n (sym ((run-cut t n inside Blanks p l).cut h)) Nothing nothing_there (hit (0 ∷ 2 ∷ 3 ∷ []) 2 tt)) (from_is n (outside t p) (λ r e. omega (arith, h, blanks_before p r e))))
+      (λ h. ended (outside_stops (take n t) p n (sym ((run-cut t n inside Blanks p l).cut h)) Nothing nothing_there (λ v d. absurd (false≢true (ap is_on d)))) (from_is n (outside t p) (λ r e. omega (arith, h, blanks_before p r e))))
       (λ h.
       step p (λ q a b. cut_from k q (omega (arith, m, a)) b) (run Blanks t p) h refl (sym ((run-cut t n inside Blanks p l).same (omega (arith, h))))
       (outside_at t (run Blanks t p)) (outside_at (take n t) (run Blanks t p)) refl refl (outside_cut t n inside (run Blanks t p) h))

@@ -7,7 +7,7 @@ use native.Mathlib.Numerals.{add-one}
 use native.Mathlib.Omega.{arith}
 use lib.ListN.{length, take, drop, length-drop, get_or}
 use lib.Seq.{drop-drop}
-use Rattle.base_words.specs.Pick.{if◌then◌else◌}
+use Rattle.base_words.specs.Pick.{if◌then◌or_else◌}
 use Rattle.base_words.specs.Words.{at, part}
 use Rattle.base_bytes.specs.Bytes.{same_bytes}
 use Rattle.xml_characters.specs.Names.{is_name}
@@ -48,12 +48,12 @@ pub record Shows (s : State) (b : ℕ) : Type 0 where
 
 module _ (x : Bool) where
   not_ended : {A : Type 0} (w : Whole) (q : Bool) → if_attribute w x false ≡ false → if_attribute (end_of w q) x false ≡ true → A
-  unfolding end_of if_attribute if◌then◌else◌
+  unfolding end_of if_attribute if◌then◌or_else◌
   not_ended w true e f = absurd (false≢true (sym e ∙ f))
   not_ended w false e f = absurd (false≢true f)
 
   shown : (b : ℕ) (n : Bool) → is_name b ≡ n → if_attribute (end_of AnAttribute (not n)) x false ≡ true → Shows (Tag InAttribute) b
-  unfolding end_of if_attribute if◌then◌else◌
+  unfolding end_of if_attribute if◌then◌or_else◌
   shown b true e f = absurd (false≢true f)
   shown b false e f = record { state = refl; ended = e }
 
@@ -112,11 +112,11 @@ module _ (t : List ℕ) (n : ℕ) (inside : n ≤ length t) (start : ℕ) (name 
       rw (named_same c i (omega arith), byte t n inside i (omega arith))
       (go (is_named t name c i) (moved c (at t i) i (i + 1)) (ends_moved t n start c b s i g) (λ next f. found_from_lem s next (i + 1) k (omega arith) (omega arith) f))
     where
-      go : (x : Bool) (r : Scan) → Ends n (if_on r (λ next. scan_from t start next s (i + 1)) r) → ((next : Cursor) → Ends n (scan_from t start next s (i + 1)) → found_from (take n t) name next (take k s) (i + 1) ≡ found_from t name next s (i + 1)) → (if x then Behind i else if_on r (λ next. found_from (take n t) name next (take k s) (i + 1)) Nowhere) ≡ (if x then Behind i else if_on r (λ next. found_from t name next s (i + 1)) Nowhere)
-      go true r f q = unfold if◌then◌else◌ in refl
-      go false (On next) f q = unfold if◌then◌else◌ if_on in q next (unfold if_on in f)
-      go false (Past sort j) f q = unfold if◌then◌else◌ if_on in refl
-      go false (Fault j) f q = unfold if◌then◌else◌ if_on in refl
+      go : (x : Bool) (r : Scan) → Ends n (if_on r (λ next. scan_from t start next s (i + 1)) r) → ((next : Cursor) → Ends n (scan_from t start next s (i + 1)) → found_from (take n t) name next (take k s) (i + 1) ≡ found_from t name next s (i + 1)) → (if x then Behind i or_else if_on r (λ next. found_from (take n t) name next (take k s) (i + 1)) Nowhere) ≡ (if x then Behind i or_else if_on r (λ next. found_from t name next s (i + 1)) Nowhere)
+      go true r f q = unfold if◌then◌or_else◌ in refl
+      go false (On next) f q = unfold if◌then◌or_else◌ if_on in q next (unfold if_on in f)
+      go false (Past sort j) f q = unfold if◌then◌or_else◌ if_on in refl
+      go false (Fault j) f q = unfold if◌then◌or_else◌ if_on in refl
 
   -- ITS VALUE is the same
   at_quote : (j : ℕ) → j < n → run (NotByte (at t j)) t (j + 1) < n → Alike n (value_at t j) (value_at (take n t) j)
@@ -154,11 +154,11 @@ module _ (t : List ℕ) (n : ℕ) (inside : n ≤ length t) (start : ℕ) (name 
   value_from [] c i e g = record { same = refl; short = tt }
   value_from (b ∷ s) c i e g = go (is_named t name c i) refl (moved c (at t i) i (i + 1)) (ends_moved t n start c b s i g) (λ next f. value_from s next (i + 1) (ap (drop 1) e ∙ drop-drop 1 i t) f)
     where
-      go : (x : Bool) → is_named t name c i ≡ x → (r : Scan) → Ends n (if_on r (λ next. scan_from t start next s (i + 1)) r) → ((next : Cursor) → Ends n (scan_from t start next s (i + 1)) → Alike n (value_of t (found_from t name next s (i + 1))) (value_of (take n t) (found_from t name next s (i + 1)))) → Alike n (value_of t (if x then Behind i else if_on r (λ next. found_from t name next s (i + 1)) Nowhere)) (value_of (take n t) (if x then Behind i else if_on r (λ next. found_from t name next s (i + 1)) Nowhere))
-      go true ex r f q = unfold if◌then◌else◌ value_of in shown_value c i (subst (λ (l : List ℕ). Ends n (scan_from t start c l i)) e g) ex
-      go false ex (On next) f q = unfold if◌then◌else◌ if_on in q next (unfold if_on in f)
-      go false ex (Past sort j) f q = unfold if◌then◌else◌ if_on value_of in record { same = refl; short = tt }
-      go false ex (Fault j) f q = unfold if◌then◌else◌ if_on value_of in record { same = refl; short = tt }
+      go : (x : Bool) → is_named t name c i ≡ x → (r : Scan) → Ends n (if_on r (λ next. scan_from t start next s (i + 1)) r) → ((next : Cursor) → Ends n (scan_from t start next s (i + 1)) → Alike n (value_of t (found_from t name next s (i + 1))) (value_of (take n t) (found_from t name next s (i + 1)))) → Alike n (value_of t (if x then Behind i or_else if_on r (λ next. found_from t name next s (i + 1)) Nowhere)) (value_of (take n t) (if x then Behind i or_else if_on r (λ next. found_from t name next s (i + 1)) Nowhere))
+      go true ex r f q = unfold if◌then◌or_else◌ value_of in shown_value c i (subst (λ (l : List ℕ). Ends n (scan_from t start c l i)) e g) ex
+      go false ex (On next) f q = unfold if◌then◌or_else◌ if_on in q next (unfold if_on in f)
+      go false ex (Past sort j) f q = unfold if◌then◌or_else◌ if_on value_of in record { same = refl; short = tt }
+      go false ex (Fault j) f q = unfold if◌then◌or_else◌ if_on value_of in record { same = refl; short = tt }
 
 -- THE LAW: in a tag that is whole
 abbrev pub WholeTag : ℕ → TagAnswer → Type 0

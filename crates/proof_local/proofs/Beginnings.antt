@@ -7,7 +7,7 @@ use native.Mathlib.Omega.{arith}
 use lib.ListN.{length, take, drop, length-drop}
 use lib.Seq.{get_or-take, take-take, take-add, drop_at, length-take-le}
 use borrow.Author.Tests.{lt-ltb}
-use Rattle.base_words.specs.Pick.{if◌then◌else◌}
+use Rattle.base_words.specs.Pick.{if◌then◌or_else◌}
 use Rattle.base_words.specs.Words.{at, part}
 use Rattle.base_bytes.specs.Bytes.{past}
 use Rattle.base_bytes.proofs.PastLaws.{past_from, past_within}
@@ -29,9 +29,9 @@ passed f s i zero e h l = record { same = λ q. omega (arith, q, h, past_from f 
 passed f [] i (suc k) e h l = absurd (omega (arith, l))
 passed f (b ∷ s) i (suc k) e h l = go (f b) (passed f s (i + 1) k e (omega arith) (omega arith))
   where
-    go : (x : Bool) → Passed (past f s (i + 1)) (past f (take k s) (i + 1)) e → Passed (if x then past f s (i + 1) else i) (if x then past f (take k s) (i + 1) else i) e
-    go true r = unfold if◌then◌else◌ in r
-    go false r = unfold if◌then◌else◌ in record { same = λ q. refl; cut = λ q. absurd (omega (arith, q, h)) }
+    go : (x : Bool) → Passed (past f s (i + 1)) (past f (take k s) (i + 1)) e → Passed (if x then past f s (i + 1) or_else i) (if x then past f (take k s) (i + 1) or_else i) e
+    go true r = unfold if◌then◌or_else◌ in r
+    go false r = unfold if◌then◌or_else◌ in record { same = λ q. refl; cut = λ q. absurd (omega (arith, q, h)) }
 
 module _ (t : List ℕ) (n : ℕ) (inside : n ≤ length t) where
   pub long : length (take n t) ≡ n
@@ -53,11 +53,11 @@ module _ (t : List ℕ) (n : ℕ) (inside : n ≤ length t) where
       (λ l. none (b - a) (drop a (take n t)) (omega arith) ∙ sym (none (b - a) (drop a t) (omega arith)))
 
   pub next_is : (i : ℕ) → i < length t → after t i ≡ i + 1
-  unfolding after if◌then◌else◌
+  unfolding after if◌then◌or_else◌
   next_is i h = rw (lt-ltb i (length t) h)
 
   pub next_in : (i : ℕ) → i < n → after (take n t) i ≡ i + 1
-  unfolding after if◌then◌else◌
+  unfolding after if◌then◌or_else◌
   next_in i h = rw (lt-ltb i (length (take n t)) (omega (arith, h, long)))
 
   pub ran : (c : Class) (p : ℕ) → p ≤ n → Passed (run c t p) (run c (take n t) p) n

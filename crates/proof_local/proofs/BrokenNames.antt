@@ -8,7 +8,7 @@ use native.Mathlib.Omega.{arith}
 use lib.Dec.{leb, eqb}
 use lib.ListN.{length, take, drop, length-drop}
 use borrow.Author.Tests.{lt-leb, eqb-true, leb-false}
-use Rattle.base_words.specs.Pick.{if◌then◌else◌}
+use Rattle.base_words.specs.Pick.{if◌then◌or_else◌}
 use Rattle.base_words.specs.Words.{at}
 use Rattle.base_bytes.specs.Bytes.{past, is_letter, between}
 use Rattle.base_bytes.proofs.PastLaws.{past_more, past_from, past_within}
@@ -46,7 +46,7 @@ here s m = record { state = s; mark = m }
 
 -- one byte that is no control byte and ends no token
 moves : (u : List ℕ) (start mark i : ℕ) (s : State) (v : State) → i < length u → whole s (at u i) ≡ Nothing → is_control (at u i) ≡ false → step s (at u i) ≡ Onward v → On (here v mark) ≡ advance u start (here s mark) i
-unfolding advance is_faulty moved move_to if◌then◌else◌
+unfolding advance is_faulty moved move_to if◌then◌or_else◌
 moves u start mark i s v h w c m = rw (lt-leb (length u) i h, w, c, m) refl
 
 pub goes : (u : List ℕ) (start mark i : ℕ) (s : State) (v : State) → i < length u → whole s (at u i) ≡ Nothing → is_control (at u i) ≡ false → step s (at u i) ≡ Onward v → scan_from u start (here s mark) (drop i u) i ≡ scan_from u start (here v mark) (drop (i + 1) u) (i + 1)
@@ -64,11 +64,11 @@ plain : (b : ℕ) → begins_name b ≡ true → is_control b ≡ false
 plain b e = (in_state 0 b 0 0 (Tag Name) (unfold stays stays_in_tag in of_name b e)).plain
 
 tag_step : (b : ℕ) → begins_name b ≡ true → step (Opening Less) b ≡ Onward (Tag Name)
-unfolding step in_opening behind_less if◌then◌else◌ is_letter between begins_name
+unfolding step in_opening behind_less if◌then◌or_else◌ is_letter between begins_name
 tag_step b e = rw (other_byte b 47 e refl, other_byte b 33 e refl, other_byte b 63 e refl, e) refl
 
 end_step : (b : ℕ) → begins_name b ≡ true → step (EndTag Opened) b ≡ Onward (EndTag EndName)
-unfolding step in_end if◌then◌else◌
+unfolding step in_end if◌then◌or_else◌
 end_step b e = rw e refl
 
 alike : (f g : ℕ → Bool) → ((b : ℕ) → f b ≡ g b) → (w : List ℕ) (j : ℕ) → past f w j ≡ past g w j
@@ -120,10 +120,10 @@ opens : (t : List ℕ) (p : ℕ) → opens_name t p ≡ true → Opens t p
 unfolding opens_name name_at
 opens t p e = go (eqb (at t p) 60) refl (leb (length t) (run NameBytes t (name_from t p))) refl e
   where
-    go : (a : Bool) → eqb (at t p) 60 ≡ a → (b : Bool) → leb (length t) (run NameBytes t (name_from t p)) ≡ b → (if a then if b then false else begins_name (at t (name_from t p)) else false) ≡ true → Opens t p
-    go true ea true eb h = absurd (false≢true (unfold if◌then◌else◌ in h))
-    go true ea false eb h = record { less = eqb-true (at t p) 60 ea; ends = unfold name_at in leb-false (length t) (run NameBytes t (name_from t p)) eb; name = unfold if◌then◌else◌ in h }
-    go false ea b eb h = absurd (false≢true (unfold if◌then◌else◌ in h))
+    go : (a : Bool) → eqb (at t p) 60 ≡ a → (b : Bool) → leb (length t) (run NameBytes t (name_from t p)) ≡ b → (if a then if b then false or_else begins_name (at t (name_from t p)) or_else false) ≡ true → Opens t p
+    go true ea true eb h = absurd (false≢true (unfold if◌then◌or_else◌ in h))
+    go true ea false eb h = record { less = eqb-true (at t p) 60 ea; ends = unfold name_at in leb-false (length t) (run NameBytes t (name_from t p)) eb; name = unfold if◌then◌or_else◌ in h }
+    go false ea b eb h = absurd (false≢true (unfold if◌then◌or_else◌ in h))
 
 -- a tag's: whole `<`name or `</`name, and whether there is a `/`
 pub record Tagged (t : List ℕ) (p : ℕ) (slash : Bool) : Type 0 where
@@ -135,20 +135,20 @@ pub tagged : (t : List ℕ) (p : ℕ) → is_other (opener t p) ≡ false → Ta
 unfolding opener
 tagged t p = go (opens_name t p) refl (eqb (second t p) 47) refl (eqb (second t p) 63) refl
   where
-    go : (o : Bool) → opens_name t p ≡ o → (a : Bool) → eqb (second t p) 47 ≡ a → (b : Bool) → eqb (second t p) 63 ≡ b → is_other (if not o then Other else if a then End else if b then Other else Start) ≡ false → Tagged t p (is_end (if not o then Other else if a then End else if b then Other else Start))
-    go false eo a ea b eb h = absurd (false≢true (sym (unfold if◌then◌else◌ in h)))
-    go true eo true ea b eb h = unfold if◌then◌else◌ in record { opens = opens t p eo; second_is = ea; no_mark = rw (eqb-true (second t p) 47 ea) refl }
-    go true eo false ea true eb h = absurd (false≢true (sym (unfold if◌then◌else◌ in h)))
-    go true eo false ea false eb h = unfold if◌then◌else◌ in record { opens = opens t p eo; second_is = ea; no_mark = eb }
+    go : (o : Bool) → opens_name t p ≡ o → (a : Bool) → eqb (second t p) 47 ≡ a → (b : Bool) → eqb (second t p) 63 ≡ b → is_other (if not o then Other or_else if a then End or_else if b then Other or_else Start) ≡ false → Tagged t p (is_end (if not o then Other or_else if a then End or_else if b then Other or_else Start))
+    go false eo a ea b eb h = absurd (false≢true (sym (unfold if◌then◌or_else◌ in h)))
+    go true eo true ea b eb h = unfold if◌then◌or_else◌ in record { opens = opens t p eo; second_is = ea; no_mark = rw (eqb-true (second t p) 47 ea) refl }
+    go true eo false ea true eb h = absurd (false≢true (sym (unfold if◌then◌or_else◌ in h)))
+    go true eo false ea false eb h = unfold if◌then◌or_else◌ in record { opens = opens t p eo; second_is = ea; no_mark = eb }
 
 module _ (t : List ℕ) (n : ℕ) (inside : n ≤ length t) (p : ℕ) (h : p < n) (cut : n ≤ (name_at t p).to) where
   -- the bytes of the beginning
   from_plain : has_second (at (take n t) (p + 1)) ≡ false → name_from (take n t) p ≡ p + 1
-  unfolding name_from if◌then◌else◌
+  unfolding name_from if◌then◌or_else◌
   from_plain e = rw (next_in t n inside p h, e) refl
 
   from_slash : p + 1 < n → has_second (at (take n t) (p + 1)) ≡ true → name_from (take n t) p ≡ p + 2
-  unfolding name_from if◌then◌else◌
+  unfolding name_from if◌then◌or_else◌
   from_slash k e = rw (next_in t n inside p h, e, next_in t n inside (p + 1) k) (omega arith)
 
   name_ends : n ≤ run NameBytes (take n t) (name_from (take n t) p)
@@ -156,7 +156,7 @@ module _ (t : List ℕ) (n : ℕ) (inside : n ≤ length t) (p : ℕ) (h : p < n
 
   first_step : at t p ≡ 60 → scan (take n t) p ≡ scan_from (take n t) p (here (Opening Less) p) (drop (p + 1) (take n t)) (p + 1)
   unfolding scan
-  first_step e = goes (take n t) p p p Begin (Opening Less) (omega (arith, h, long t n inside)) (unfold whole in refl) (rw (byte t n inside p h, e) (unfold is_control in refl)) (rw (byte t n inside p h, e) (unfold step at_begin if◌then◌else◌ in refl))
+  first_step e = goes (take n t) p p p Begin (Opening Less) (omega (arith, h, long t n inside)) (unfold whole in refl) (rw (byte t n inside p h, e) (unfold is_control in refl)) (rw (byte t n inside p h, e) (unfold step at_begin if◌then◌or_else◌ in refl))
 
   second-byte : second t p ≡ at t (p + 1)
   unfolding second
@@ -187,7 +187,7 @@ module _ (t : List ℕ) (n : ℕ) (inside : n ≤ length t) (p : ℕ) (h : p < n
   end_scan : Tagged t p true → p + 1 < n → scan (take n t) p ≡ Fault n
   end_scan g k =
       first_step g.opens.less
-      ∙ goes (take n t) p p (p + 1) (Opening Less) (EndTag Opened) (omega (arith, k, length_is)) (unfold whole in refl) (rw slash (unfold is_control in refl)) (rw slash (unfold step in_opening behind_less if◌then◌else◌ in refl))
+      ∙ goes (take n t) p p (p + 1) (Opening Less) (EndTag Opened) (omega (arith, k, length_is)) (unfold whole in refl) (rw slash (unfold is_control in refl)) (rw slash (unfold step in_opening behind_less if◌then◌or_else◌ in refl))
       ∙ ap (λ (i : ℕ). scan_from (take n t) p (here (EndTag Opened) p) (drop i (take n t)) i) (let e : p + 1 + 1 ≡ p + 2 = omega arith in e)
       ∙ from_name (take n t) p p (EndTag Opened) (EndTag EndName) (p + 2) end_step (λ b. unfold whole in refl) (λ b. unfold stays stays_in_end in refl) (omega (arith, k, length_is)) (omega (arith, length_is, reaches)) (λ l. ap begins_name (byte t n inside (p + 2) (omega (arith, l, length_is)) ∙ ap (at t) (sym from)) ∙ g.opens.name)
       ∙ ap Fault length_is
@@ -209,7 +209,7 @@ module _ (t : List ℕ) (n : ℕ) (inside : n ≤ length t) (p : ℕ) (h : p < n
   broken_scan false g = by_order n (p + 1) (only_less g.opens.less) (start_scan g)
 
   is_scan : at t p ≡ 60 → markup (take n t) p ≡ placed (scan (take n t) p)
-  unfolding markup opens_markup if◌then◌else◌
+  unfolding markup opens_markup if◌then◌or_else◌
   is_scan e = rw (lt-leb (length (take n t)) p (omega (arith, h, length_is)), byte t n inside p h, e) refl
 
   -- THE LAW

@@ -6,7 +6,7 @@ use Prim.Native.Nat.{ℕ, ◌+◌, ◌<◌, ◌≤◌}
 use native.Mathlib.Omega.{arith}
 use lib.Dec.{eqb}
 use lib.ListN.{length, drop, length-drop}
-use Rattle.base_words.specs.Pick.{if◌then◌else◌}
+use Rattle.base_words.specs.Pick.{if◌then◌or_else◌}
 use Rattle.xml_markup.specs.declared.Opener.TheVariants.{Start}
 use Rattle.xml_markup.specs.Spans.{name_at, bytes_of, opener}
 use Rattle.xml_skip.specs.declared.Reached.TheVariants.{Past}
@@ -120,8 +120,8 @@ module _ (u : List ℕ) (c : Cursor) (level : c.level ≡ Trace) (traced : eqb c
   goes : scan_from u c ≡ scan_from u (behind_trace c r)
   goes = scan_on u c (advance u c) refl (behind_trace c r) trace_left
 
-  no_line : (l : Level) → l ≡ Trace → (x y : List (List ℕ)) → (if closes_event l Log then x else y) ≡ y
-  unfolding closes_event if◌then◌else◌
+  no_line : (l : Level) → l ≡ Trace → (x y : List (List ℕ)) → (if closes_event l Log then x or_else y) ≡ y
+  unfolding closes_event if◌then◌or_else◌
   no_line l e x y = rw e refl
 
   pub trace_closes : Closes u c

@@ -8,7 +8,7 @@ use native.Mathlib.Omega.{arith}
 use lib.Dec.{leb}
 use lib.ListN.{length, drop, drop_of_length-le}
 use lib.Seq.{drop-cons}
-use Rattle.base_words.specs.Pick.{if◌then◌else◌}
+use Rattle.base_words.specs.Pick.{if◌then◌or_else◌}
 use Rattle.base_words.specs.Words.{at, part}
 use Rattle.base_bytes.proofs.PieceLaws.{by_order}
 use Rattle.xml_characters.specs.Names.{is_control}
@@ -38,8 +38,8 @@ ends_before n i (Past sort q) l e = omega (arith, l, e)
 ends_before n i (Fault q) l e = absurd e
 
 -- then the byte is at no fault
-ends_move : (n i m : ℕ) (f : Cursor → Scan) (a b c : Bool) (r : Scan) → Ends n (if_on (if a then Fault i else if b then Fault m else if c then Fault i else r) f (if a then Fault i else if b then Fault m else if c then Fault i else r)) → Ends n (if_on r f r)
-unfolding if◌then◌else◌ if_on
+ends_move : (n i m : ℕ) (f : Cursor → Scan) (a b c : Bool) (r : Scan) → Ends n (if_on (if a then Fault i or_else if b then Fault m or_else if c then Fault i or_else r) f (if a then Fault i or_else if b then Fault m or_else if c then Fault i or_else r)) → Ends n (if_on r f r)
+unfolding if◌then◌or_else◌ if_on
 ends_move n i m f true b c r e = absurd e
 ends_move n i m f false true c r e = absurd e
 ends_move n i m f false false true r e = absurd e

@@ -8,7 +8,7 @@ use lib.Dec.{eqb}
 use lib.ListN.{length, drop, length-drop}
 use lib.Seq.{drop-length}
 use borrow.Author.Tests.{lt-leb, le-leb, eq-eqb}
-use Rattle.base_words.specs.Pick.{if◌then◌else◌}
+use Rattle.base_words.specs.Pick.{if◌then◌or_else◌}
 use Rattle.base_words.specs.Text.{bytes}
 use Rattle.base_words.specs.Each.{each}
 use Rattle.base_words.proofs.PickLaws.{and_true}
@@ -76,16 +76,16 @@ end_at_lem t name x p c s n =
 
 -- the blanks before it: none, or a newline
 pub no_blank : (t s : List ℕ) (q : ℕ) → drop q t ≡ 60 ∷ s → run Blanks t q ≡ q
-unfolding run past is_of is_blank if◌then◌else◌
+unfolding run past is_of is_blank if◌then◌or_else◌
 no_blank t s q e = rw e refl
 
 pub newline : (t s : List ℕ) (q : ℕ) → drop q t ≡ 10 ∷ (60 ∷ s) → run Blanks t q ≡ q + 1
-unfolding run past is_of is_blank if◌then◌else◌
+unfolding run past is_of is_blank if◌then◌or_else◌
 newline t s q e = rw e refl
 
 -- A START TAG
 element_in : (t s name : List ℕ) (p outer : ℕ) (l : Bool) → drop p t ≡ 60 ∷ s → StartAt t name p → inside_at l t outer p ≡ Element p
-unfolding inside_at ends_at between outside_at tag_at tag_for if◌then◌else◌
+unfolding inside_at ends_at between outside_at tag_at tag_for if◌then◌or_else◌
 element_in t s name p outer l e k = rw (k.opens, lt-leb (length t) p (within t s 60 p e), first t s 60 p e) refl
 
 pub at_element : (t s name : List ℕ) (c : Cursor) (p : ℕ) → run Blanks t c.at ≡ p → drop p t ≡ 60 ∷ s → StartAt t name p → advance t c ≡ entered_by c.level t c p
@@ -93,20 +93,20 @@ unfolding advance by_inside
 at_element t s name c p b e k = rw (b, element_in t s name p (openTag c.level c) (lacks_by c.level c) e k) refl
 
 pub skipped_empty : (t : List ℕ) (p q : ℕ) → markup t p ≡ marked EmptyTag q → skipped t p ≡ Past q
-unfolding skipped element_at element_by by_tag tag_of tag_by if◌then◌else◌
+unfolding skipped element_at element_by by_tag tag_of tag_by if◌then◌or_else◌
 skipped_empty t p q e = rw e refl
 
 -- an element that is skipped in the log, in the trace, and in an event
 pub passed_in_log : (t name : List ℕ) (c : Cursor) (p q : ℕ) → StartAt t name p → same_bytes (local_of name) (bytes "log") ≡ false → same_bytes (local_of name) (bytes "trace") ≡ false → same_bytes (local_of name) (bytes "event") ≡ false → skipped t p ≡ Past q → entered_by Log t c p ≡ On (reached c q)
-unfolding entered_by other_at is_of_log over if◌then◌else◌
+unfolding entered_by other_at is_of_log over if◌then◌or_else◌
 passed_in_log t name c p q k a b d e = rw (k.called (bytes "trace"), k.called (bytes "log"), k.called (bytes "event"), a, b, d, e) refl
 
 pub passed_in_trace : (t name : List ℕ) (c : Cursor) (p q : ℕ) → StartAt t name p → same_bytes (local_of name) (bytes "log") ≡ false → same_bytes (local_of name) (bytes "trace") ≡ false → same_bytes (local_of name) (bytes "event") ≡ false → skipped t p ≡ Past q → entered_by Trace t c p ≡ On (reached c q)
-unfolding entered_by other_at is_of_log over if◌then◌else◌
+unfolding entered_by other_at is_of_log over if◌then◌or_else◌
 passed_in_trace t name c p q k a b d e = rw (k.called (bytes "trace"), k.called (bytes "log"), k.called (bytes "event"), a, b, d, e) refl
 
 pub passed_in_event : (t name : List ℕ) (c : Cursor) (p q : ℕ) → StartAt t name p → same_bytes (local_of name) (bytes "string") ≡ false → same_bytes (local_of name) (bytes "log") ≡ false → same_bytes (local_of name) (bytes "trace") ≡ false → same_bytes (local_of name) (bytes "event") ≡ false → skipped t p ≡ Past q → entered_by Event t c p ≡ On (reached c q)
-unfolding entered_by other_at is_of_log over if◌then◌else◌
+unfolding entered_by other_at is_of_log over if◌then◌or_else◌
 passed_in_event t name c p q k s a b d e = rw (k.called (bytes "string"), k.called (bytes "trace"), k.called (bytes "log"), k.called (bytes "event"), s, a, b, d, e) refl
 
 -- AN END TAG
@@ -116,11 +116,11 @@ same_bytes_lem [] = refl
 same_bytes_lem (b ∷ w) = and_true (eqb b b) (same_bytes w w) (eq-eqb b b refl) (same_bytes_lem w)
 
 pub part_in : (t name x : List ℕ) (p outer : ℕ) → EndAt t name x p → bytes_of t (name_at t outer) ≡ name → part_at t outer p ≡ PartClose (p + 3 + length name)
-unfolding part_at part_for same_name part_of part_by if◌then◌else◌
+unfolding part_at part_for same_name part_of part_by if◌then◌or_else◌
 part_in t name x p outer k n = rw (k.opens, n, k.named, same_bytes_lem name, k.tag) refl
 
 end_in : (t name x : List ℕ) (p outer : ℕ) → EndAt t name x p → bytes_of t (name_at t outer) ≡ name → inside_at false t outer p ≡ Close (p + 3 + length name)
-unfolding inside_at ends_at closing if◌then◌else◌
+unfolding inside_at ends_at closing if◌then◌or_else◌
 end_in t name x p outer k n = rw (part_in t name x p outer k n, k.opens) refl
 
 pub at_end : (t name x : List ℕ) (c : Cursor) (p : ℕ) → run Blanks t c.at ≡ p → lacks_by c.level c ≡ false → EndAt t name x p → bytes_of t (name_at t (openTag c.level c)) ≡ name → advance t c ≡ left_by c.level t c (p + 3 + length name)
@@ -133,19 +133,19 @@ module _ (t : List ℕ) (q : ℕ) (stands : drop q t ≡ 10 ∷ []) where
   long = omega (arith, length-drop q t, ap length stands)
 
   blank : run Blanks t q ≡ q + 1
-  unfolding run past is_of is_blank if◌then◌else◌
+  unfolding run past is_of is_blank if◌then◌or_else◌
   blank = rw stands refl
 
   at_last : (n : ℕ) → n ≡ q + 1 → outside_in n t q ≡ outside_in (suc q) t q
   at_last n e = ap (λ (m : ℕ). outside_in m t q) (e ∙ (let z : q + 1 ≡ suc q = omega arith in z))
 
   pub ends_there : last_from t q ≡ Past (length t)
-  unfolding last_from outside outside_in outside_at further last_by if◌then◌else◌
+  unfolding last_from outside outside_in outside_at further last_by if◌then◌or_else◌
   ends_there = ap (λ (o : _). last_by o t) (at_last (length t) long) ∙ rw (blank, le-leb (length t) (q + 1) (omega (arith, long))) refl
 
 -- or nothing at all
 nothing_left : (t : List ℕ) (n : ℕ) → outside_in n t (length t) ≡ Nothing
-unfolding outside_in outside_at further run past if◌then◌else◌
+unfolding outside_in outside_at further run past if◌then◌or_else◌
 nothing_left t zero = refl
 nothing_left t (suc n) = rw (drop-length t, le-leb (length t) (length t) (omega arith)) refl
 

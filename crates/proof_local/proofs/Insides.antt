@@ -6,7 +6,7 @@ use Prim.Native.Nat.{ℕ, ◌+◌, ◌<◌, ◌≤◌}
 use native.Mathlib.Omega.{arith}
 use lib.ListN.{length, take, get_or-eq_default}
 use borrow.Author.Tests.{le-leb}
-use Rattle.base_words.specs.Pick.{if◌then◌else◌}
+use Rattle.base_words.specs.Pick.{if◌then◌or_else◌}
 use Rattle.base_words.specs.Words.{at}
 use Rattle.base_bytes.proofs.PieceLaws.{by_order}
 use Rattle.xml_scanner.specs.declared.Sort.{Sort}
@@ -101,43 +101,43 @@ module _ (t : List ℕ) (n : ℕ) (inside : n ≤ length t) (p : ℕ) (h : p < n
   between-at = between_cut t n p (length t) (length (take n t)) (outside_at t p) (outside_at (take n t) p) (outside_cut t n inside p h)
 
   -- the end tag with a whole name
-  end_at_lem : opener t p ≡ EndOpener → Whole t n p → (b : Bool) → CutInside t n p (if b then Fault p else closing (part_for EndOpener t outer p) p) (if b then Fault p else closing (part_for EndOpener (take n t) outer p) p)
-  unfolding if◌then◌else◌ part_for
+  end_at_lem : opener t p ≡ EndOpener → Whole t n p → (b : Bool) → CutInside t n p (if b then Fault p or_else closing (part_for EndOpener t outer p) p) (if b then Fault p or_else closing (part_for EndOpener (take n t) outer p) p)
+  unfolding if◌then◌or_else◌ part_for
   end_at_lem e v true = same refl tt
   end_at_lem e v false = rw (same_names t n inside outer p k h w v) (go (same_name t outer p))
     where
-      go : (b : Bool) → CutInside t n p (closing (if b then part_of (markup t p) else PartFault p) p) (closing (if b then part_of (markup (take n t) p) else PartFault p) p)
-      go true = unfold if◌then◌else◌ in closing_by t n p (markup t p) (markup (take n t) p) (next_within t n inside p h) (opened_cut t n inside p h (end_opens t p e))
-      go false = unfold if◌then◌else◌ closing in same refl tt
+      go : (b : Bool) → CutInside t n p (closing (if b then part_of (markup t p) or_else PartFault p) p) (closing (if b then part_of (markup (take n t) p) or_else PartFault p) p)
+      go true = unfold if◌then◌or_else◌ in closing_by t n p (markup t p) (markup (take n t) p) (next_within t n inside p h) (opened_cut t n inside p h (end_opens t p e))
+      go false = unfold if◌then◌or_else◌ closing in same refl tt
 
-  whole_name : Whole t n p → (o : Opener) → opener t p ≡ o → CutInside t n p (if ends_at o then (if lacking then Fault p else closing (part_for o t outer p) p) else between (outside_at t p) (length t)) (if ends_at o then (if lacking then Fault p else closing (part_for o (take n t) outer p) p) else between (outside_at (take n t) p) (length (take n t)))
-  whole_name v Start e = unfold ends_at if◌then◌else◌ in between-at
-  whole_name v EndOpener e = unfold ends_at if◌then◌else◌ in end_at_lem e v lacking
-  whole_name v Other e = unfold ends_at if◌then◌else◌ in between-at
+  whole_name : Whole t n p → (o : Opener) → opener t p ≡ o → CutInside t n p (if ends_at o then (if lacking then Fault p or_else closing (part_for o t outer p) p) or_else between (outside_at t p) (length t)) (if ends_at o then (if lacking then Fault p or_else closing (part_for o (take n t) outer p) p) or_else between (outside_at (take n t) p) (length (take n t)))
+  whole_name v Start e = unfold ends_at if◌then◌or_else◌ in between-at
+  whole_name v EndOpener e = unfold ends_at if◌then◌or_else◌ in end_at_lem e v lacking
+  whole_name v Other e = unfold ends_at if◌then◌or_else◌ in between-at
 
   -- the name is cut off: a fault at the end
-  late_end : markup (take n t) p ≡ marked AFault n → (b c : Bool) → LateInside n (if b then Fault p else closing (if c then part_of (markup t p) else PartFault p) p)
-  unfolding if◌then◌else◌ part_of
+  late_end : markup (take n t) p ≡ marked AFault n → (b c : Bool) → LateInside n (if b then Fault p or_else closing (if c then part_of (markup t p) or_else PartFault p) p)
+  unfolding if◌then◌or_else◌ part_of
   late_end m true c = tt
   late_end m false true = late_by n p (markup t p).sort (markup t p).next (late_of n (markup t p) (markup (take n t) p) (markup_cut t n inside p h) m)
   late_end m false false = unfold closing in tt
 
-  cut_name : n ≤ (name_at t p).to → (o : Opener) → opener t p ≡ o → CutInside t n p (if ends_at o then (if lacking then Fault p else closing (part_for o t outer p) p) else between (outside_at t p) (length t)) (between (outside_at (take n t) p) (length (take n t)))
-  cut_name c Start e = unfold ends_at if◌then◌else◌ in between-at
-  cut_name c EndOpener e = broken (unfold between in rw (other_fault t n inside p h c e) refl) (unfold ends_at if◌then◌else◌ part_for in late_end (broken_name t n inside p h c (rw e refl)) lacking (same_name t outer p))
-  cut_name c Other e = unfold ends_at if◌then◌else◌ in between-at
+  cut_name : n ≤ (name_at t p).to → (o : Opener) → opener t p ≡ o → CutInside t n p (if ends_at o then (if lacking then Fault p or_else closing (part_for o t outer p) p) or_else between (outside_at t p) (length t)) (between (outside_at (take n t) p) (length (take n t)))
+  cut_name c Start e = unfold ends_at if◌then◌or_else◌ in between-at
+  cut_name c EndOpener e = broken (unfold between in rw (other_fault t n inside p h c e) refl) (unfold ends_at if◌then◌or_else◌ part_for in late_end (broken_name t n inside p h c (rw e refl)) lacking (same_name t outer p))
+  cut_name c Other e = unfold ends_at if◌then◌or_else◌ in between-at
 
   -- THE LAW
   pub inside_cut : CutInside t n p (inside_at lacking t outer p) (inside_at lacking (take n t) outer p)
   unfolding inside_at part_at
   inside_cut =
       by_order n (name_at t p).to
-      (λ c. rw (opener_cut t n inside p h c) (unfold ends_at if◌then◌else◌ in cut_name c (opener t p) refl))
+      (λ c. rw (opener_cut t n inside p h c) (unfold ends_at if◌then◌or_else◌ in cut_name c (opener t p) refl))
       (λ v. rw (opener_same t n inside p h v) (whole_name v (opener t p) refl))
 
 -- at the end of the beginning, or behind it
 pub inside_end : (t : List ℕ) (n : ℕ) (inside : n ≤ length t) (lacking : Bool) (outer : ℕ) → inside_at lacking (take n t) outer n ≡ Fault n
-unfolding inside_at ends_at opener opens_name between outside_at if◌then◌else◌
+unfolding inside_at ends_at opener opens_name between outside_at if◌then◌or_else◌
 inside_end t n inside lacking outer =
     let short : length (take n t) ≤ n = omega (arith, long t n inside) in
     rw (get_or-eq_default (take n t) 0 short, le-leb (length (take n t)) n short, long t n inside) refl

@@ -7,7 +7,7 @@ use native.Mathlib.Omega.{arith}
 use lib.Dec.{eqb, leb}
 use lib.ListN.{length, take}
 use borrow.Author.Tests.{lt-ltb, le-ltb}
-use Rattle.base_words.specs.Pick.{if◌then◌else◌}
+use Rattle.base_words.specs.Pick.{if◌then◌or_else◌}
 use Rattle.base_words.specs.Text.{bytes}
 use Rattle.base_words.specs.Words.{at, part}
 use Rattle.base_bytes.proofs.PieceLaws.{by_order}
@@ -162,13 +162,13 @@ Starts t (Close q) = Unit {0}
 Starts t (Onward q) = Unit {0}
 Starts t (InsideFault q) = Unit {0}
 
-begins_if : (t : List ℕ) (b : Bool) (x y : Outside) → Begins t x → Begins t y → Begins t (if b then x else y)
-unfolding if◌then◌else◌
+begins_if : (t : List ℕ) (b : Bool) (x y : Outside) → Begins t x → Begins t y → Begins t (if b then x or_else y)
+unfolding if◌then◌or_else◌
 begins_if t true x y h k = h
 begins_if t false x y h k = k
 
-starts_if : (t : List ℕ) (b : Bool) (x y : Inside) → Starts t x → Starts t y → Starts t (if b then x else y)
-unfolding if◌then◌else◌
+starts_if : (t : List ℕ) (b : Bool) (x y : Inside) → Starts t x → Starts t y → Starts t (if b then x or_else y)
+unfolding if◌then◌or_else◌
 starts_if t true x y h k = h
 starts_if t false x y h k = k
 
@@ -228,8 +228,8 @@ Keeps t c (On d) = c.at < d.at → Kept t d
 Keeps t c (Done d) = Unit {0}
 Keeps t c (Fault q) = Unit {0}
 
-keeps_if : (t : List ℕ) (c : Cursor) (b : Bool) (x y : Move) → Keeps t c x → Keeps t c y → Keeps t c (if b then x else y)
-unfolding if◌then◌else◌
+keeps_if : (t : List ℕ) (c : Cursor) (b : Bool) (x y : Move) → Keeps t c x → Keeps t c y → Keeps t c (if b then x or_else y)
+unfolding if◌then◌or_else◌
 keeps_if t c true x y h k = h
 keeps_if t c false x y h k = k
 
@@ -254,7 +254,7 @@ line_tags t c from to r Trace q k = k
 line_tags t c from to r Event q k = k
 
 after_most : (t : List ℕ) (i : ℕ) → after t i ≤ i + 1
-unfolding after if◌then◌else◌
+unfolding after if◌then◌or_else◌
 after_most t i = by_order (length t) i (λ h. rw (le-ltb i (length t) h) (omega arith)) (λ h. rw (lt-ltb i (length t) h) (omega arith))
 
 module _ (t : List ℕ) (c : Cursor) (k : Kept t c) where

@@ -8,7 +8,7 @@ use native.Mathlib.Omega.{arith}
 use lib.Dec.{eqb}
 use lib.ListN.{length}
 use borrow.Author.Tests.{eqb-true, ne_eqb}
-use Rattle.base_words.specs.Pick.{if◌then◌else◌}
+use Rattle.base_words.specs.Pick.{if◌then◌or_else◌}
 use Rattle.base_words.specs.Text.{bytes}
 use Rattle.base_words.specs.Words.{part}
 use Rattle.base_bytes.specs.Bytes.{same_bytes}
@@ -80,19 +80,19 @@ between_none (OutsideOn q) e = refl
 between_none Nothing e = refl
 between_none (OutsideFault q) e = refl
 
-lacking_none : (t : List ℕ) (p : ℕ) (b : Bool) → is_close (if b then InsideFault p else between (outside_at t p) (length t)) ≡ false
-unfolding if◌then◌else◌
+lacking_none : (t : List ℕ) (p : ℕ) (b : Bool) → is_close (if b then InsideFault p or_else between (outside_at t p) (length t)) ≡ false
+unfolding if◌then◌or_else◌
 lacking_none t p true = refl
 lacking_none t p false = between_none (outside_at t p) (length t)
 
 not_lacking : (t : List ℕ) (outer p : ℕ) (b : Bool) (q : ℕ) → inside_at b t outer p ≡ Close q → b ≡ false
-unfolding inside_at if◌then◌else◌
+unfolding inside_at if◌then◌or_else◌
 not_lacking t outer p true q e = absurd (false≢true (sym (lacking_none t p (ends_at (opener t p))) ∙ ap is_close e))
 not_lacking t outer p false q e = refl
 
 module _ (t : List ℕ) (c : Cursor) where
-  goes_if : (b : Bool) (x y : Move) → (b ≡ true → GoesBy t c x) → GoesBy t c y → GoesBy t c (if b then x else y)
-  unfolding if◌then◌else◌
+  goes_if : (b : Bool) (x y : Move) → (b ≡ true → GoesBy t c x) → GoesBy t c y → GoesBy t c (if b then x or_else y)
+  unfolding if◌then◌or_else◌
   goes_if true x y h k = h refl
   goes_if false x y h k = k
 

@@ -6,7 +6,7 @@ use Prim.Native.Nat.{ℕ, ◌+◌, ◌<◌, ◌≤◌}
 use native.Mathlib.Omega.{arith}
 use lib.ListN.{length, take, drop}
 use borrow.Author.Tests.{lt-leb}
-use Rattle.base_words.specs.Pick.{if◌then◌else◌}
+use Rattle.base_words.specs.Pick.{if◌then◌or_else◌}
 use Rattle.base_words.specs.Words.{at}
 use Rattle.xml_scanner.specs.declared.Sort.{Sort}
 use Rattle.xml_scanner.specs.declared.Sort.TheVariants.{StartTag, EmptyTag, EndTag, Text, Reference, Comment, Data, Instruction, End, Fault as AFault}
@@ -87,17 +87,17 @@ module _ (t : List ℕ) (n : ℕ) (inside : n ≤ length t) (p : ℕ) (h : p < n
   unfolding markup
   markup_cut = rw (lt-leb (length t) p (omega arith), lt-leb (length (take n t)) p (omega (arith, h, long t n inside)), byte t n inside p h) (go (opens_markup (at t p)))
     where
-      go : (o : Bool) → Cut n (if false then marked End (length t) else if o then placed (scan t p) else placed (text_from t (drop p t) p)) (if false then marked End (length (take n t)) else if o then placed (scan (take n t) p) else placed (text_from (take n t) (drop p (take n t)) p))
-      go true = unfold if◌then◌else◌ in scan-placed n _ _ (scan_cut t n inside p (omega arith))
-      go false = unfold if◌then◌else◌ in text_placed n _ _ (text_cut t n inside p (omega arith))
+      go : (o : Bool) → Cut n (if false then marked End (length t) or_else if o then placed (scan t p) or_else placed (text_from t (drop p t) p)) (if false then marked End (length (take n t)) or_else if o then placed (scan (take n t) p) or_else placed (text_from (take n t) (drop p (take n t)) p))
+      go true = unfold if◌then◌or_else◌ in scan-placed n _ _ (scan_cut t n inside p (omega arith))
+      go false = unfold if◌then◌or_else◌ in text_placed n _ _ (text_cut t n inside p (omega arith))
 
   -- what opens a markup is read as one in both
   pub opened_is : opens_markup (at t p) ≡ true → markup t p ≡ placed (scan t p)
-  unfolding markup if◌then◌else◌
+  unfolding markup if◌then◌or_else◌
   opened_is o = rw (lt-leb (length t) p (omega arith), o) refl
 
   pub opened_in : opens_markup (at t p) ≡ true → markup (take n t) p ≡ placed (scan (take n t) p)
-  unfolding markup if◌then◌else◌
+  unfolding markup if◌then◌or_else◌
   opened_in o = rw (lt-leb (length (take n t)) p (omega (arith, h, long t n inside)), byte t n inside p h, o) refl
 
 -- where the beginning is at fault at its end, the text's markup is late

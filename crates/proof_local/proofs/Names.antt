@@ -7,7 +7,7 @@ use native.Mathlib.Omega.{arith}
 use lib.Dec.{eqb}
 use lib.ListN.{length, take}
 use borrow.Author.Tests.{le-leb, lt-leb, le-ltb, lt-ltb}
-use Rattle.base_words.specs.Pick.{if◌then◌else◌}
+use Rattle.base_words.specs.Pick.{if◌then◌or_else◌}
 use Rattle.base_words.specs.Words.{at}
 use Rattle.base_bytes.proofs.PieceLaws.{by_order}
 use Rattle.base_bytes.proofs.PastLaws.{past_from}
@@ -23,16 +23,16 @@ Whole t n p = (name_at t p).to < n
 
 module _ (t : List ℕ) (p : ℕ) (h : p < length t) where
   after_from : p + 1 ≤ after t (p + 1)
-  unfolding after if◌then◌else◌
+  unfolding after if◌then◌or_else◌
   after_from = by_order (length t) (p + 1) (λ k. rw (le-ltb (p + 1) (length t) k) (omega (arith, h))) (λ k. rw (lt-ltb (p + 1) (length t) k) (omega arith))
 
   pub name_after : p + 1 ≤ name_from t p
   unfolding name_from
   name_after = rw (next_is t (length t) (omega arith) p h) (go (has_second (at t (p + 1))))
     where
-      go : (b : Bool) → p + 1 ≤ (if b then after t (p + 1) else p + 1)
-      go true = unfold if◌then◌else◌ in after_from
-      go false = unfold if◌then◌else◌ in omega arith
+      go : (b : Bool) → p + 1 ≤ (if b then after t (p + 1) or_else p + 1)
+      go true = unfold if◌then◌or_else◌ in after_from
+      go false = unfold if◌then◌or_else◌ in omega arith
 
 pub name_behind : (t : List ℕ) (p : ℕ) → name_from t p ≤ (name_at t p).to
 unfolding name_at run
@@ -48,9 +48,9 @@ module _ (t : List ℕ) (n : ℕ) (inside : n ≤ length t) (p : ℕ) (h : p < n
   unfolding name_from
   from_in k = rw (next_is t n inside p (omega arith), next_is t n inside (p + 1) (omega arith)) (go (has_second (at t (p + 1))))
     where
-      go : (b : Bool) → (if b then p + 1 + 1 else p + 1) ≤ n
-      go true = unfold if◌then◌else◌ in omega (arith, k)
-      go false = unfold if◌then◌else◌ in omega (arith, k)
+      go : (b : Bool) → (if b then p + 1 + 1 or_else p + 1) ≤ n
+      go true = unfold if◌then◌or_else◌ in omega (arith, k)
+      go false = unfold if◌then◌or_else◌ in omega (arith, k)
 
   starts : Whole t n p → p + 1 < n
   starts w = omega (arith, w, name_behind t p, name_after t p (omega (arith, h, inside)))
@@ -87,12 +87,12 @@ module _ (t : List ℕ) (n : ℕ) (inside : n ≤ length t) (p : ℕ) (h : p < n
   unfolding opens_name
   opens_none e = rw (le-leb (length (take n t)) (name_at (take n t) p).to (omega (arith, cut_name e, long t n inside))) (go _ (eqb (at (take n t) p) 60))
     where
-      go : (x b : Bool) → (if b then if true then false else x else false) ≡ false
-      go x true = unfold if◌then◌else◌ in refl
-      go x false = unfold if◌then◌else◌ in refl
+      go : (x b : Bool) → (if b then if true then false or_else x or_else false) ≡ false
+      go x true = unfold if◌then◌or_else◌ in refl
+      go x false = unfold if◌then◌or_else◌ in refl
 
   pub opener_cut : n ≤ (name_at t p).to → opener (take n t) p ≡ Other
-  unfolding opener if◌then◌else◌
+  unfolding opener if◌then◌or_else◌
   opener_cut e = rw (opens_none e) refl
 
   pub bytes_same : Whole t n p → bytes_of (take n t) (name_at (take n t) p) ≡ bytes_of t (name_at t p)

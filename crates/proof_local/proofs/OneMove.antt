@@ -6,7 +6,7 @@ use mathlib.Core.List.{List}
 use Prim.Native.Nat.{ℕ, ◌+◌, ◌<◌, ◌≤◌}
 use native.Mathlib.Omega.{arith}
 use lib.ListN.{length, take}
-use Rattle.base_words.specs.Pick.{if◌then◌else◌}
+use Rattle.base_words.specs.Pick.{if◌then◌or_else◌}
 use Rattle.base_bytes.proofs.PieceLaws.{by_order}
 use Rattle.xml_markup.specs.declared.Class.TheVariants.{Blanks}
 use Rattle.xml_markup.specs.Markup.{markup}
@@ -46,8 +46,8 @@ From n (Close q) = n < q
 From n (Onward q) = n < q
 From n (InsideFault q) = Unit {0}
 
-from_if : (n : ℕ) (b : Bool) (x y : Inside) → From n x → From n y → From n (if b then x else y)
-unfolding if◌then◌else◌
+from_if : (n : ℕ) (b : Bool) (x y : Inside) → From n x → From n y → From n (if b then x or_else y)
+unfolding if◌then◌or_else◌
 from_if n true x y h k = h
 from_if n false x y h k = k
 

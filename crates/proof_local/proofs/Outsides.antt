@@ -8,7 +8,7 @@ use native.Mathlib.Omega.{arith}
 use lib.Dec.{eqb}
 use lib.ListN.{length, take}
 use borrow.Author.Tests.{lt-leb, eqb-true}
-use Rattle.base_words.specs.Pick.{if◌then◌else◌}
+use Rattle.base_words.specs.Pick.{if◌then◌or_else◌}
 use Rattle.base_words.specs.Text.{bytes}
 use Rattle.base_words.specs.Words.{at}
 use Rattle.base_bytes.proofs.PieceLaws.{by_order}
@@ -101,13 +101,13 @@ module _ (t : List ℕ) (n : ℕ) (inside : n ≤ length t) (p : ℕ) (h : p < n
   unfolding tag_for
   no_tag o = by_order (p + 9) n (λ k. rw (data_same k) (go (opens_data t p))) (λ k. rw (data_not k) (cut k (opens_data t p) refl))
     where
-      go : (b : Bool) → CutOutside t n p (if b then Fault p else other_of (markup t p) p) (if b then Fault p else other_of (markup (take n t) p) p)
-      go true = unfold if◌then◌else◌ in same refl tt
-      go false = unfold if◌then◌else◌ in other o
+      go : (b : Bool) → CutOutside t n p (if b then Fault p or_else other_of (markup t p) p) (if b then Fault p or_else other_of (markup (take n t) p) p)
+      go true = unfold if◌then◌or_else◌ in same refl tt
+      go false = unfold if◌then◌or_else◌ in other o
 
-      cut : n < p + 9 → (b : Bool) → opens_data t p ≡ b → CutOutside t n p (if b then Fault p else other_of (markup t p) p) (if false then Fault p else other_of (markup (take n t) p) p)
-      cut k true e = unfold if◌then◌else◌ in broken (fault_is (broken_data t n inside p h e k)) tt
-      cut k false e = unfold if◌then◌else◌ in other o
+      cut : n < p + 9 → (b : Bool) → opens_data t p ≡ b → CutOutside t n p (if b then Fault p or_else other_of (markup t p) p) (if false then Fault p or_else other_of (markup (take n t) p) p)
+      cut k true e = unfold if◌then◌or_else◌ in broken (fault_is (broken_data t n inside p h e k)) tt
+      cut k false e = unfold if◌then◌or_else◌ in other o
 
   -- a whole name
   named : opens_markup (at t p) ≡ true → Whole t n p → (g : Opener) → opener t p ≡ g → CutOutside t n p (tag_for g t p) (tag_for g (take n t) p)
@@ -131,7 +131,7 @@ module _ (t : List ℕ) (n : ℕ) (inside : n ≤ length t) (p : ℕ) (h : p < n
     broken_end e = broken_name t n inside p h c (rw e refl)
 
     is_other : tag_for Other (take n t) p ≡ other_of (markup (take n t) p) p
-    unfolding tag_for if◌then◌else◌
+    unfolding tag_for if◌then◌or_else◌
     is_other = rw no_data refl
 
     cut_named : opens_markup (at t p) ≡ true → (g : Opener) → opener t p ≡ g → CutOutside t n p (tag_for g t p) (tag_for Other (take n t) p)
@@ -151,14 +151,14 @@ module _ (t : List ℕ) (n : ℕ) (inside : n ≤ length t) (p : ℕ) (h : p < n
   unfolding outside_at
   outside_cut = rw (lt-leb (length t) p (omega arith), lt-leb (length (take n t)) p (omega (arith, h, long t n inside)), byte t n inside p h) (go (eqb (at t p) 60) refl (eqb (at t p) 38) refl)
     where
-      go : (a : Bool) → eqb (at t p) 60 ≡ a → (b : Bool) → eqb (at t p) 38 ≡ b → CutOutside t n p (if false then Nothing else if a then tag_at t p else if b then other_of (markup t p) p else Fault p) (if false then Nothing else if a then tag_at (take n t) p else if b then other_of (markup (take n t) p) p else Fault p)
-      go true ea b eb = unfold if◌then◌else◌ in tag_at_lem (unfold opens_markup in rw ea refl)
-      go false ea true eb = unfold if◌then◌else◌ in other (unfold opens_markup in rw (ea, eb) refl)
-      go false ea false eb = unfold if◌then◌else◌ in same refl tt
+      go : (a : Bool) → eqb (at t p) 60 ≡ a → (b : Bool) → eqb (at t p) 38 ≡ b → CutOutside t n p (if false then Nothing or_else if a then tag_at t p or_else if b then other_of (markup t p) p or_else Fault p) (if false then Nothing or_else if a then tag_at (take n t) p or_else if b then other_of (markup (take n t) p) p or_else Fault p)
+      go true ea b eb = unfold if◌then◌or_else◌ in tag_at_lem (unfold opens_markup in rw ea refl)
+      go false ea true eb = unfold if◌then◌or_else◌ in other (unfold opens_markup in rw (ea, eb) refl)
+      go false ea false eb = unfold if◌then◌or_else◌ in same refl tt
 
   -- behind a `</` whose name is cut off
   pub other_fault : n ≤ (name_at t p).to → opener t p ≡ EndOpener → outside_at (take n t) p ≡ Fault n
-  unfolding outside_at tag_at if◌then◌else◌
+  unfolding outside_at tag_at if◌then◌or_else◌
   other_fault c e =
       rw (lt-leb (length (take n t)) p (omega (arith, h, long t n inside)), byte t n inside p h, tag_less t p (rw e refl), opener_cut t n inside p h c)
       (is_other c ∙ fault_is (broken_end c e))

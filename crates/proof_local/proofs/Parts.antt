@@ -5,7 +5,7 @@ use mathlib.Core.List.{List}
 use Prim.Native.Nat.{ℕ, ◌+◌, ◌<◌, ◌≤◌}
 use native.Mathlib.Omega.{arith}
 use lib.ListN.{length, take}
-use Rattle.base_words.specs.Pick.{if◌then◌else◌}
+use Rattle.base_words.specs.Pick.{if◌then◌or_else◌}
 use Rattle.base_words.specs.Words.{at}
 use Rattle.base_bytes.proofs.PieceLaws.{by_order}
 use Rattle.xml_scanner.specs.declared.Sort.{Sort}
@@ -114,9 +114,9 @@ module _ (t : List ℕ) (n : ℕ) (inside : n ≤ length t) (p : ℕ) (h : p < n
     named_part v Start e = element refl refl e v
     named_part v EndOpener e = rw (same_names t n inside outer p k h w v) (go (same_name t outer p))
       where
-        go : (b : Bool) → CutPart t n p (if b then part_of (markup t p) else PartFault p) (if b then part_of (markup (take n t) p) else PartFault p)
-        go true = unfold if◌then◌else◌ in other
-        go false = unfold if◌then◌else◌ in same refl tt
+        go : (b : Bool) → CutPart t n p (if b then part_of (markup t p) or_else PartFault p) (if b then part_of (markup (take n t) p) or_else PartFault p)
+        go true = unfold if◌then◌or_else◌ in other
+        go false = unfold if◌then◌or_else◌ in same refl tt
     named_part v Other e = other
 
     -- one that is cut off
@@ -131,9 +131,9 @@ module _ (t : List ℕ) (n : ℕ) (inside : n ≤ length t) (p : ℕ) (h : p < n
         m : markup (take n t) p ≡ marked AFault n
         m = broken_name t n inside p h c (rw e refl)
 
-        go : (b : Bool) → LatePart n (if b then part_of (markup t p) else PartFault p)
-        go true = unfold if◌then◌else◌ part_of in late_by n _ _ (late_of n _ _ (markup_cut t n inside p h) m)
-        go false = unfold if◌then◌else◌ in tt
+        go : (b : Bool) → LatePart n (if b then part_of (markup t p) or_else PartFault p)
+        go true = unfold if◌then◌or_else◌ part_of in late_by n _ _ (late_of n _ _ (markup_cut t n inside p h) m)
+        go false = unfold if◌then◌or_else◌ in tt
     cut_part c Other e = other
 
     pub part_cut : CutPart t n p (part_at t outer p) (part_at (take n t) outer p)

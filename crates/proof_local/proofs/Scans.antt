@@ -6,7 +6,7 @@ use Prim.Native.Nat.{ℕ, zero, suc, ◌+◌, ◌-◌, ◌<◌, ◌≤◌}
 use native.Mathlib.Omega.{arith}
 use lib.ListN.{length, take, drop, length-drop}
 use borrow.Author.Tests.{lt-leb}
-use Rattle.base_words.specs.Pick.{if◌then◌else◌}
+use Rattle.base_words.specs.Pick.{if◌then◌or_else◌}
 use Rattle.base_words.specs.Words.{at, part}
 use Rattle.xml_characters.specs.Names.{is_control}
 use Rattle.xml_scanner.specs.declared.Move.{Move}
@@ -30,8 +30,8 @@ pub data Cut (n : ℕ) (x y : Scan) : Type 0 where
   same : y ≡ x → Cut n x y
   broken : y ≡ Fault n → Late n x → Cut n x y
 
-late_if : (i : ℕ) (b : Bool) (x y : Scan) → Late i x → Late i y → Late i (if b then x else y)
-unfolding if◌then◌else◌
+late_if : (i : ℕ) (b : Bool) (x y : Scan) → Late i x → Late i y → Late i (if b then x or_else y)
+unfolding if◌then◌or_else◌
 late_if i true x y h k = h
 late_if i false x y h k = k
 

@@ -7,7 +7,7 @@ use native.Mathlib.Omega.{arith}
 use lib.ListN.{length, take, drop}
 use lib.Seq.{get_or-take, get_or-drop}
 use borrow.Author.Tests.{lt-leb, lt-ltb}
-use Rattle.base_words.specs.Pick.{if◌then◌else◌}
+use Rattle.base_words.specs.Pick.{if◌then◌or_else◌}
 use Rattle.base_words.specs.Text.{bytes}
 use Rattle.base_words.specs.Words.{at, part}
 use Rattle.base_bytes.specs.Bytes.{is_letter, is_digit, between}
@@ -58,7 +58,7 @@ record Steps (j : ℕ) : Type 0 where
   nothing : whole (state j) (at word j) ≡ Nothing
 
 steps : (j : ℕ) → j < 8 → Steps j
-unfolding step at_begin in_opening behind_less behind_bracket is_control whole if◌then◌else◌
+unfolding step at_begin in_opening behind_less behind_bracket is_control whole if◌then◌or_else◌
 steps zero h = record { moves = refl; plain = refl; nothing = refl }
 steps (suc zero) h = record { moves = refl; plain = refl; nothing = refl }
 steps (suc (suc zero)) h = record { moves = refl; plain = refl; nothing = refl }
@@ -100,5 +100,5 @@ module _ (t : List ℕ) (n : ℕ) (inside : n ≤ length t) (p : ℕ) (h : p < n
   bang k = data_byte t p 1 (omega arith) (omega arith) opened
 
   pub no_name : p + 1 < n → (name_at t p).to ≡ p + 1
-  unfolding name_at name_from run is_of is_name begins_name is_letter is_digit between has_second if◌then◌else◌
+  unfolding name_at name_from run is_of is_name begins_name is_letter is_digit between has_second if◌then◌or_else◌
   no_name k = rw (next_is t n inside p (omega arith), bang k) (past_stop (is_of NameBytes) t (p + 1) (omega arith) (rw (bang k) refl))

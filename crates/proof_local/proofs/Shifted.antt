@@ -9,7 +9,7 @@ use lib.Dec.{leb}
 use lib.ListN.{length, take, drop, length-drop, length-append}
 use lib.Seq.{drop-drop, drop_at, take-add, take-append-le, length-take-le}
 use borrow.Author.Tests.{lt-leb}
-use Rattle.base_words.specs.Pick.{if◌then◌else◌}
+use Rattle.base_words.specs.Pick.{if◌then◌or_else◌}
 use Rattle.base_words.specs.Words.{at, part}
 use Rattle.xml_characters.specs.Names.{is_control}
 use Rattle.xml_characters.specs.References.{character_of, is_character}
@@ -65,14 +65,14 @@ module _ (t w x : List ℕ) (p : ℕ) (stands : drop p t ≡ w ++ x) (name : Lis
   found_shifted [] c i h = refl
   found_shifted (b ∷ s) c i h =
       rw (named_shifted c i (omega arith), byte t w x p stands i (omega arith))
-      (ap (λ (m : Scan). if is_named w name c i then Behind (p + i) else if_on m (λ next. found_from t name next s (p + i + 1)) Nowhere) (moved_shifted p (at w i) i c)
+      (ap (λ (m : Scan). if is_named w name c i then Behind (p + i) or_else if_on m (λ next. found_from t name next s (p + i + 1)) Nowhere) (moved_shifted p (at w i) i c)
       ∙ go (is_named w name c i) (moved c (at w i) i (i + 1)) (λ next. ap (found_from t name (shifted p next) s) (omega arith) ∙ found_shifted s next (i + 1) (omega arith)))
     where
-      go : (n : Bool) (m : Scan) → ((next : Cursor) → found_from t name (shifted p next) s (p + i + 1) ≡ shifted_found p (found_from w name next s (i + 1))) → (if n then Behind (p + i) else if_on (shifted_scan p m) (λ next. found_from t name next s (p + i + 1)) Nowhere) ≡ shifted_found p (if n then Behind i else if_on m (λ next. found_from w name next s (i + 1)) Nowhere)
-      go true m k = unfold if◌then◌else◌ in refl
-      go false (On next) k = unfold if◌then◌else◌ if_on in k next
-      go false (Past sort q) k = unfold if◌then◌else◌ if_on in refl
-      go false (Fault q) k = unfold if◌then◌else◌ if_on in refl
+      go : (n : Bool) (m : Scan) → ((next : Cursor) → found_from t name (shifted p next) s (p + i + 1) ≡ shifted_found p (found_from w name next s (i + 1))) → (if n then Behind (p + i) or_else if_on (shifted_scan p m) (λ next. found_from t name next s (p + i + 1)) Nowhere) ≡ shifted_found p (if n then Behind i or_else if_on m (λ next. found_from w name next s (i + 1)) Nowhere)
+      go true m k = unfold if◌then◌or_else◌ in refl
+      go false (On next) k = unfold if◌then◌or_else◌ if_on in k next
+      go false (Past sort q) k = unfold if◌then◌or_else◌ if_on in refl
+      go false (Fault q) k = unfold if◌then◌or_else◌ if_on in refl
 
 nowhere : (j : ℕ) → Nowhere ≡ Behind j → ⊥
 unfolding is_found
@@ -84,11 +84,11 @@ unfolding found_from
 found_further t name x j [] c i e = absurd (nowhere j e)
 found_further t name x j (b ∷ s) c i e = go (is_named t name c i) (moved c (at t i) i (i + 1)) e (λ next. found_further t name x j s next (i + 1))
   where
-    go : (n : Bool) (m : Scan) → (if n then Behind i else if_on m (λ next. found_from t name next s (i + 1)) Nowhere) ≡ Behind j → ((next : Cursor) → found_from t name next s (i + 1) ≡ Behind j → found_from t name next (s ++ x) (i + 1) ≡ Behind j) → (if n then Behind i else if_on m (λ next. found_from t name next (s ++ x) (i + 1)) Nowhere) ≡ Behind j
-    go true m q k = unfold if◌then◌else◌ in q
-    go false (On next) q k = unfold if◌then◌else◌ if_on in k next q
-    go false (Past sort r) q k = unfold if◌then◌else◌ if_on in q
-    go false (Fault r) q k = unfold if◌then◌else◌ if_on in q
+    go : (n : Bool) (m : Scan) → (if n then Behind i or_else if_on m (λ next. found_from t name next s (i + 1)) Nowhere) ≡ Behind j → ((next : Cursor) → found_from t name next s (i + 1) ≡ Behind j → found_from t name next (s ++ x) (i + 1) ≡ Behind j) → (if n then Behind i or_else if_on m (λ next. found_from t name next (s ++ x) (i + 1)) Nowhere) ≡ Behind j
+    go true m q k = unfold if◌then◌or_else◌ in q
+    go false (On next) q k = unfold if◌then◌or_else◌ if_on in k next q
+    go false (Past sort r) q k = unfold if◌then◌or_else◌ if_on in q
+    go false (Fault r) q k = unfold if◌then◌or_else◌ if_on in q
 
 begun_at : (p : ℕ) → begun p ≡ shifted p (begun 0)
 begun_at p = ap (λ (n : ℕ). record { state = Begin; mark = n }) (sym (add-zero p))
@@ -171,14 +171,14 @@ module _ (t w x : List ℕ) (p : ℕ) (stands : drop p t ≡ w ++ x) where
     faulty_shifted m Target e = absurd (false≢true (sym e))
     faulty_shifted m Reference e = ap (λ (l : List ℕ). not (is_character (character_of l))) (ending (part t 0 (p + i)) (part w 0 i) p as_long left m)
 
-    choice_shifted : (f c : Bool) (m : ℕ) (r s : Scan) → r ≡ shifted_scan p s → (if f then Fault (p + m) else if c then Fault (p + i) else r) ≡ shifted_scan p (if f then Fault m else if c then Fault i else s)
-    unfolding if◌then◌else◌
+    choice_shifted : (f c : Bool) (m : ℕ) (r s : Scan) → r ≡ shifted_scan p s → (if f then Fault (p + m) or_else if c then Fault (p + i) or_else r) ≡ shifted_scan p (if f then Fault m or_else if c then Fault i or_else s)
+    unfolding if◌then◌or_else◌
     choice_shifted true c m r s e = refl
     choice_shifted false true m r s e = refl
     choice_shifted false false m r s e = e
 
-    no_end : {r : Scan} (b : Bool) (q : ℕ) → b ≡ false → (if b then Fault q else r) ≡ r
-    unfolding if◌then◌else◌
+    no_end : {r : Scan} (b : Bool) (q : ℕ) → b ≡ false → (if b then Fault q or_else r) ≡ r
+    unfolding if◌then◌or_else◌
     no_end b q e = rw e refl
 
     pub advance_shifted : (c : Cursor) → is_target (whole c.state (at w i)) ≡ false → advance t p (shifted p c) (p + i) ≡ shifted_scan p (advance w 0 c i)
@@ -192,7 +192,7 @@ module _ (t w x : List ℕ) (p : ℕ) (stands : drop p t ≡ w ++ x) where
 -- bytes read from their start on: what holds behind them, or the markup that they are; an instruction is not read
 unfoldable pub read_to : List ℕ → Cursor → List ℕ → ℕ → Scan
 read_to w c [] i = On c
-read_to w c (b ∷ s) i = if is_target (whole c.state (at w i)) then Fault i else if_on (advance w 0 c i) (λ next. read_to w next s (i + 1)) (advance w 0 c i)
+read_to w c (b ∷ s) i = if is_target (whole c.state (at w i)) then Fault i or_else if_on (advance w 0 c i) (λ next. read_to w next s (i + 1)) (advance w 0 c i)
 
 module _ (t w x : List ℕ) (p : ℕ) (stands : drop p t ≡ w ++ x) where
   abbrev As : Scan → Scan → Type 0
@@ -208,15 +208,15 @@ module _ (t w x : List ℕ) (p : ℕ) (stands : drop p t ≡ w ++ x) where
       one : is_target (whole c.state (at w i)) ≡ false → scan_from t p (shifted p c) (b ∷ (s ++ x)) (p + i) ≡ if_on (shifted_scan p (advance w 0 c i)) (λ next. scan_from t p next (s ++ x) (p + i + 1)) (shifted_scan p (advance w 0 c i))
       one e = unfold scan_from in ap (λ (a : Scan). if_on a (λ next. scan_from t p next (s ++ x) (p + i + 1)) a) (advance_shifted t w x p stands i (omega arith) c e)
 
-      go : (g : Bool) → is_target (whole c.state (at w i)) ≡ g → (a : Scan) → advance w 0 c i ≡ a → ((next : Cursor) → As (scan_from t p (shifted p next) (s ++ x) (p + (i + 1))) (read_to w next s (i + 1))) → As (scan_from t p (shifted p c) (b ∷ (s ++ x)) (p + i)) (if g then Fault i else if_on a (λ next. read_to w next s (i + 1)) a)
-      go true eg a ea k = unfold if◌then◌else◌ in tt
+      go : (g : Bool) → is_target (whole c.state (at w i)) ≡ g → (a : Scan) → advance w 0 c i ≡ a → ((next : Cursor) → As (scan_from t p (shifted p next) (s ++ x) (p + (i + 1))) (read_to w next s (i + 1))) → As (scan_from t p (shifted p c) (b ∷ (s ++ x)) (p + i)) (if g then Fault i or_else if_on a (λ next. read_to w next s (i + 1)) a)
+      go true eg a ea k = unfold if◌then◌or_else◌ in tt
       go false eg (On next) ea k =
-          unfold if◌then◌else◌ if_on in
+          unfold if◌then◌or_else◌ if_on in
           subst (λ (y : Scan). As y (read_to w next s (i + 1)))
           (sym (one eg ∙ ap (λ (a : Scan). if_on (shifted_scan p a) (λ next. scan_from t p next (s ++ x) (p + i + 1)) (shifted_scan p a)) ea ∙ ap (scan_from t p (shifted p next) (s ++ x)) (omega arith)))
           (k next)
-      go false eg (Past sort q) ea k = unfold if◌then◌else◌ if_on in one eg ∙ ap (λ (a : Scan). if_on (shifted_scan p a) (λ next. scan_from t p next (s ++ x) (p + i + 1)) (shifted_scan p a)) ea
-      go false eg (Fault q) ea k = unfold if◌then◌else◌ if_on in tt
+      go false eg (Past sort q) ea k = unfold if◌then◌or_else◌ if_on in one eg ∙ ap (λ (a : Scan). if_on (shifted_scan p a) (λ next. scan_from t p next (s ++ x) (p + i + 1)) (shifted_scan p a)) ea
+      go false eg (Fault q) ea k = unfold if◌then◌or_else◌ if_on in tt
 
   started : scan t p ≡ scan_from t p (shifted p (begun 0)) (w ++ x) (p + 0)
   unfolding scan
@@ -233,7 +233,7 @@ module _ (t w x : List ℕ) (p : ℕ) (stands : drop p t ≡ w ++ x) where
 
 -- what opens a markup is read as one
 pub markup_opened : (t s : List ℕ) (b p : ℕ) → drop p t ≡ b ∷ s → opens_markup b ≡ true → markup t p ≡ placed (scan t p)
-unfolding markup if◌then◌else◌
+unfolding markup if◌then◌or_else◌
 markup_opened t s b p e o = rw (lt-leb (length t) p (within t s b p e), first t s b p e, o) refl
 
 pub markup_past : (t w x : List ℕ) (b p : ℕ) (sort : Sort) (q : ℕ) → drop p t ≡ (b ∷ w) ++ x → opens_markup b ≡ true → read_to (b ∷ w) (begun 0) (b ∷ w) 0 ≡ Past sort q → markup t p ≡ marked sort (p + q)

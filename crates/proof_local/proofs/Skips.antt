@@ -7,7 +7,7 @@ use native.Mathlib.Omega.{arith}
 use lib.Dec.{eqb}
 use lib.ListN.{length, take}
 use borrow.Author.Tests.{lt-leb}
-use Rattle.base_words.specs.Pick.{if◌then◌else◌}
+use Rattle.base_words.specs.Pick.{if◌then◌or_else◌}
 use Rattle.base_words.specs.Words.{at}
 use Rattle.base_bytes.proofs.PieceLaws.{by_order}
 use Rattle.xml_markup.specs.declared.Opener.TheVariants.{Start}
@@ -51,7 +51,7 @@ further_on p q (Fault x) h k = tt
 
 -- CONTENT, as a step and then content
 pub content_step : (t : List ℕ) (outer p d : ℕ) → p < length t → content_at t outer p d ≡ by_part (part_at t outer p) (element_at t p d) (λ q. content_at t outer q d)
-unfolding content_by element_at if◌then◌else◌
+unfolding content_by element_at if◌then◌or_else◌
 content_step t outer p d h = content_is t outer p d ∙ rw (lt-leb (length t) p h) refl
 
 further_step : (t : List ℕ) (outer p d : ℕ) → ((q : ℕ) → p < q → Further q (content_at t outer q d)) → (g : Part) → Onward p g → (r : Reached) → r ≡ element_at t p d → Further p (by_part g r (λ q. content_at t outer q d))
@@ -99,8 +99,8 @@ module _ (t : List ℕ) (n : ℕ) (inside : n ≤ length t) where
   onto_part outer d r (PartFault q) l = tt
 
   -- a choice by the depth
-  late_deep : (p : ℕ) (b : Bool) (r : Reached) → Late n r → Late n (if b then Fault p else r)
-  unfolding if◌then◌else◌
+  late_deep : (p : ℕ) (b : Bool) (r : Reached) → Late n r → Late n (if b then Fault p or_else r)
+  unfolding if◌then◌or_else◌
   late_deep p true r l = tt
   late_deep p false r l = l
 
@@ -110,8 +110,8 @@ module _ (t : List ℕ) (n : ℕ) (inside : n ≤ length t) where
 
   -- where content behind p is read alike
   module _ (p : ℕ) (h : p < n) (IH : (outer q d : ℕ) → p < q → q ≤ n → outer < n → Whole t n outer → Cut n (content_at t outer q d) (content_at (take n t) outer q d)) where
-    deep : (b : Bool) (x y : Reached) → Cut n x y → Cut n (if b then Fault p else x) (if b then Fault p else y)
-    unfolding if◌then◌else◌
+    deep : (b : Bool) (x y : Reached) → Cut n x y → Cut n (if b then Fault p or_else x) (if b then Fault p or_else y)
+    unfolding if◌then◌or_else◌
     deep true x y c = same refl tt
     deep false x y c = c
 

@@ -7,7 +7,7 @@ use native.Mathlib.Nat.{add-zero}
 use lib.ListN.{length, take, drop, length-drop, length-append, get_or-append}
 use lib.Seq.{get_or-drop, drop-drop, drop-append-le, take-append-le, drop-append_seam, take-append_seam}
 use borrow.Author.Tests.{lt-ltb}
-use Rattle.base_words.specs.Pick.{if◌then◌else◌}
+use Rattle.base_words.specs.Pick.{if◌then◌or_else◌}
 use Rattle.base_words.specs.Words.{at, part}
 use Rattle.base_bytes.proofs.PieceLaws.{by_order}
 use Rattle.xml_markup.specs.Spans.{after}
@@ -51,5 +51,5 @@ module _ (t s : List ℕ) (b p : ℕ) (stands : drop p t ≡ b ∷ s) where
   rest = sym (drop-drop 1 p t) ∙ ap (drop 1) stands
 
   pub after_is : after t p ≡ p + 1
-  unfolding after if◌then◌else◌
+  unfolding after if◌then◌or_else◌
   after_is = rw (lt-ltb p (length t) within)

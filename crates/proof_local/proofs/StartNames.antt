@@ -7,7 +7,7 @@ use native.Mathlib.Omega.{arith}
 use lib.ListN.{length, take, drop}
 use lib.Seq.{drop-cons}
 use Rattle.base_words.specs.Each.{each}
-use Rattle.base_words.specs.Pick.{if◌then◌else◌}
+use Rattle.base_words.specs.Pick.{if◌then◌or_else◌}
 use Rattle.base_words.specs.Words.{at}
 use Rattle.base_words.proofs.PickLaws.{and_true}
 use Rattle.base_bytes.specs.Bytes.{past}
@@ -21,12 +21,12 @@ use Rattle.proof_local.proofs.Elements.{Names}
 
 -- bytes that are passed are of the class
 all_of : (f : ℕ → Bool) (s : List ℕ) (i k : ℕ) → past f s i ≡ i + k → each f (take k s) ≡ true
-unfolding past each if◌then◌else◌
+unfolding past each if◌then◌or_else◌
 all_of f s i zero e = refl
 all_of f [] i (suc k) e = absurd (omega (arith, e))
 all_of f (b ∷ s) i (suc k) e = go (f b) refl e (all_of f s (i + 1) k)
   where
-    go : (x : Bool) → f b ≡ x → (if x then past f s (i + 1) else i) ≡ i + suc k → (past f s (i + 1) ≡ i + 1 + k → each f (take k s) ≡ true) → each f (take (suc k) (b ∷ s)) ≡ true
+    go : (x : Bool) → f b ≡ x → (if x then past f s (i + 1) or_else i) ≡ i + suc k → (past f s (i + 1) ≡ i + 1 + k → each f (take k s) ≡ true) → each f (take (suc k) (b ∷ s)) ≡ true
     go true ef q r = and_true (f b) (each f (take k s)) ef (r (omega (arith, q)))
     go false ef q r = absurd (omega (arith, q))
 

@@ -8,7 +8,7 @@ use lib.Dec.{eqb, ltb}
 use lib.ListN.{length, take, length-take}
 use lib.Seq.{take_all, take-take}
 use borrow.Author.Tests.{le-ltb, eqb-true, ltb-true, ltb-false}
-use Rattle.base_words.specs.Pick.{if◌then◌else◌}
+use Rattle.base_words.specs.Pick.{if◌then◌or_else◌}
 use Rattle.base_words.specs.Text.{bytes}
 use Rattle.base_words.specs.Words.{part}
 use Rattle.base_words.proofs.AllLaws.{and_left, and_right}
@@ -65,8 +65,8 @@ late_behind n p (Empty q) h b = omega (arith, h, b)
 late_behind n p (TagFault q) h b = tt
 
 module _ (t : List ℕ) (n : ℕ) (inside : n ≤ length t) where
-  late_root : (r : ℕ) → LateTag n (tag_of (markup t r) r) → (b : Bool) → Late n (begin (if b then Past r else SkipFault r) t)
-  unfolding begin if◌then◌else◌
+  late_root : (r : ℕ) → LateTag n (tag_of (markup t r) r) → (b : Bool) → Late n (begin (if b then Past r or_else SkipFault r) t)
+  unfolding begin if◌then◌or_else◌
   late_root r l true = late_begin n (tag_of (markup t r) r) r l
   late_root r l false = tt
 
@@ -82,9 +82,9 @@ module _ (t : List ℕ) (n : ℕ) (inside : n ≤ length t) where
   root_by_lem x y (at_fault q ex ey) = rw (ex, ey) (unfold begin in same refl tt)
   root_by_lem x y (whole_element r h ex ey o v) = rw (ex, ey, called_same t n inside r h v (bytes "log")) (go (is_called t r (bytes "log")))
     where
-      go : (b : Bool) → Cut n (begin (if b then Past r else SkipFault r) t) (begin (if b then Past r else SkipFault r) (take n t))
-      go true = unfold if◌then◌else◌ begin in begin_cut n (tag_of (markup t r) r) (tag_of (markup (take n t) r) r) r (tag_cut t n inside r h (start_opens t r o))
-      go false = unfold if◌then◌else◌ begin in same refl tt
+      go : (b : Bool) → Cut n (begin (if b then Past r or_else SkipFault r) t) (begin (if b then Past r or_else SkipFault r) (take n t))
+      go true = unfold if◌then◌or_else◌ begin in begin_cut n (tag_of (markup t r) r) (tag_of (markup (take n t) r) r) r (tag_cut t n inside r h (start_opens t r o))
+      go false = unfold if◌then◌or_else◌ begin in same refl tt
   root_by_lem x y (cut_element r h ex ey o l) = rw (ex, ey) (broken (unfold begin in refl) (late_root r l (is_called t r (bytes "log"))))
   root_by_lem x y (cut_off ey f) = rw ey (broken (unfold begin in refl) (late_from x f))
   root_by_lem x y (ended ey f) = rw ey (broken (unfold begin in ap Fault (long t n inside)) (late_from x f))
@@ -130,10 +130,10 @@ done_begin t c (Past p) e = done_tag c (tag_of (markup t p) p) p e
 done_begin t c (SkipFault q) e = false≢true (ap is_done e)
 
 pub never_done : (t : List ℕ) (c : Cursor) → start t ≡ Done c → ⊥
-unfolding start if◌then◌else◌
+unfolding start if◌then◌or_else◌
 never_done t c e = go (ltb log_most (length t)) e
   where
-    go : (b : Bool) → (if b then Fault 0 else begin (root_at (bytes "log") t) t) ≡ Done c → ⊥
+    go : (b : Bool) → (if b then Fault 0 or_else begin (root_at (bytes "log") t) t) ≡ Done c → ⊥
     go true m = false≢true (ap is_done m)
     go false m = done_begin t c (root_at (bytes "log") t) m
 
@@ -144,8 +144,8 @@ module _ (t : List ℕ) (c : Cursor) where
   by_tag_lem h r o (Empty q) e m = absurd (false≢true (ap is_on m))
   by_tag_lem h r o (TagFault q) e m = absurd (false≢true (ap is_on m))
 
-  by_name : length t ≤ log_most → (r : ℕ) → opener t r ≡ Start → (b : Bool) → begin (if b then Past r else SkipFault r) t ≡ On c → Started t c
-  unfolding begin if◌then◌else◌
+  by_name : length t ≤ log_most → (r : ℕ) → opener t r ≡ Start → (b : Bool) → begin (if b then Past r or_else SkipFault r) t ≡ On c → Started t c
+  unfolding begin if◌then◌or_else◌
   by_name h r o true m = by_tag_lem h r o (tag_of (markup t r) r) refl m
   by_name h r o false m = absurd (false≢true (ap is_on m))
 
@@ -157,10 +157,10 @@ module _ (t : List ℕ) (c : Cursor) where
   by_root h (OutsideFault q) e m = absurd (false≢true (ap is_on m))
 
   pub started : start t ≡ On c → Started t c
-  unfolding start root_at if◌then◌else◌
+  unfolding start root_at if◌then◌or_else◌
   started m = go (ltb log_most (length t)) refl m
     where
-      go : (b : Bool) → ltb log_most (length t) ≡ b → (if b then Fault 0 else begin (root_by (outside t (first t)) (bytes "log") t) t) ≡ On c → Started t c
+      go : (b : Bool) → ltb log_most (length t) ≡ b → (if b then Fault 0 or_else begin (root_by (outside t (first t)) (bytes "log") t) t) ≡ On c → Started t c
       go true e m = absurd (false≢true (ap is_on m))
       go false e m = by_root (ltb-false log_most (length t) e) (outside t (first t)) refl m
 
@@ -194,9 +194,9 @@ first_most : (t : List ℕ) → first t ≤ 3
 unfolding first
 first_most t = go (same_bytes (part t 0 3) (part byte_order_mark 0 (length t)))
   where
-    go : (b : Bool) → (if b then length (part t 0 3) else 0) ≤ 3
-    go true = unfold if◌then◌else◌ in omega (arith, length-take 3 t)
-    go false = unfold if◌then◌else◌ in omega arith
+    go : (b : Bool) → (if b then length (part t 0 3) or_else 0) ≤ 3
+    go true = unfold if◌then◌or_else◌ in omega (arith, length-take 3 t)
+    go false = unfold if◌then◌or_else◌ in omega arith
 
 module _ (t : List ℕ) (n : ℕ) (inside : n ≤ length t) (few : n ≤ 3) where
   shorter : part (take n t) 0 3 ≡ take n t
@@ -216,20 +216,20 @@ module _ (t : List ℕ) (n : ℕ) (inside : n ≤ length t) (few : n ≤ 3) wher
           ∙ take-take n (length t) byte_order_mark inside
 
   first_end_lem : same_bytes (part (take n t) 0 3) (part byte_order_mark 0 (length (take n t))) ≡ true → first (take n t) ≡ n
-  unfolding first if◌then◌else◌
+  unfolding first if◌then◌or_else◌
   first_end_lem e = rw e (ap length shorter ∙ long t n inside)
 
   first_none : same_bytes (part (take n t) 0 3) (part byte_order_mark 0 (length (take n t))) ≡ false → first (take n t) ≡ 0
-  unfolding first if◌then◌else◌
+  unfolding first if◌then◌or_else◌
   first_none e = rw e refl
 
   no_first : same_bytes (part (take n t) 0 3) (part byte_order_mark 0 (length (take n t))) ≡ false → first t ≡ 0
   unfolding first
   no_first e = go (same_bytes (part t 0 3) (part byte_order_mark 0 (length t))) refl
     where
-      go : (b : Bool) → same_bytes (part t 0 3) (part byte_order_mark 0 (length t)) ≡ b → (if b then length (part t 0 3) else 0) ≡ 0
+      go : (b : Bool) → same_bytes (part t 0 3) (part byte_order_mark 0 (length t)) ≡ b → (if b then length (part t 0 3) or_else 0) ≡ 0
       go true k = absurd (false≢true (sym e ∙ mark_cut k))
-      go false k = unfold if◌then◌else◌ in refl
+      go false k = unfold if◌then◌or_else◌ in refl
 
 -- THE LAW
 late_start : (t : List ℕ) (n : ℕ) → n < 3 → (m : Move) → start t ≡ m → Late n m
@@ -239,11 +239,11 @@ late_start t n h (Fault q) e = tt
 
 module _ (t : List ℕ) (n : ℕ) (inside : n ≤ length t) (short : length t ≤ log_most) where
   start_is : start t ≡ begin (root_at (bytes "log") t) t
-  unfolding start if◌then◌else◌
+  unfolding start if◌then◌or_else◌
   start_is = rw (le-ltb log_most (length t) short) refl
 
   start_in : start (take n t) ≡ begin (root_at (bytes "log") (take n t)) (take n t)
-  unfolding start if◌then◌else◌
+  unfolding start if◌then◌or_else◌
   start_in = rw (le-ltb log_most (length (take n t)) (omega (arith, short, inside, long t n inside))) refl
 
   behind_mark : first (take n t) ≡ n → begin (root_at (bytes "log") (take n t)) (take n t) ≡ Fault n

@@ -8,7 +8,7 @@ use native.Mathlib.Omega.{arith}
 use lib.Dec.{eqb}
 use lib.ListN.{length, drop}
 use borrow.Author.Tests.{lt-leb, eqb-true}
-use Rattle.base_words.specs.Pick.{if◌then◌else◌}
+use Rattle.base_words.specs.Pick.{if◌then◌or_else◌}
 use Rattle.base_words.specs.Words.{at, part}
 use Rattle.base_words.specs.Each.{each}
 use Rattle.base_words.specs.Text.{bytes}
@@ -64,7 +64,7 @@ module _ (t name x : List ℕ) (p f b : ℕ) (from_is : name_from t p ≡ f) (st
   behind_in = within t x b (f + length name) (stands-behind t name (b ∷ x) f stands)
 
   pub opens_name_lem : (s : List ℕ) → drop p t ≡ 60 ∷ s → begins_name (at t f) ≡ true → opens_name t p ≡ true
-  unfolding opens_name if◌then◌else◌
+  unfolding opens_name if◌then◌or_else◌
   opens_name_lem s e n = rw (first t s 60 p e, name_is, lt-leb (length t) (f + length name) behind_in) n
 
 -- behind `<` alone, or with a second byte
@@ -73,15 +73,15 @@ module _ (t s : List ℕ) (p c : ℕ) (stands : drop p t ≡ 60 ∷ (c ∷ s)) w
   second_is = ap (at t) (after_is t (c ∷ s) 60 p stands) ∙ first t s c (p + 1) (rest t (c ∷ s) 60 p stands)
 
   pub from_first : has_second c ≡ false → name_from t p ≡ p + 1
-  unfolding name_from if◌then◌else◌
+  unfolding name_from if◌then◌or_else◌
   from_first e = rw (second_is, e) (after_is t (c ∷ s) 60 p stands)
 
   pub from_second : has_second c ≡ true → name_from t p ≡ p + 2
-  unfolding name_from if◌then◌else◌
+  unfolding name_from if◌then◌or_else◌
   from_second e = rw (second_is, e) (ap (after t) (after_is t (c ∷ s) 60 p stands) ∙ after_is t s c (p + 1) (rest t (c ∷ s) 60 p stands) ∙ (let z : p + 1 + 1 ≡ p + 2 = omega arith in z))
 
-  pub opener_by : opens_name t p ≡ true → opener t p ≡ (if eqb c (code "/") then End else if eqb c (code "?") then Other else Start)
-  unfolding opener second if◌then◌else◌
+  pub opener_by : opens_name t p ≡ true → opener t p ≡ (if eqb c (code "/") then End or_else if eqb c (code "?") then Other or_else Start)
+  unfolding opener second if◌then◌or_else◌
   opener_by e = rw (e, second_is) refl
 
 -- a start tag
@@ -118,7 +118,7 @@ module _ (t name x : List ℕ) (p c b : ℕ) (stands : drop p t ≡ 60 ∷ ((c �
   start_called = called_so t (c ∷ name) x p (p + 1) b from_is name_begun named ends
 
   pub start_opens : opener t p ≡ Start
-  unfolding if◌then◌else◌
+  unfolding if◌then◌or_else◌
   start_opens =
       opener_by t (name ++ (b ∷ x)) p c stands (opens_name_lem t (c ∷ name) x p (p + 1) b from_is name_begun named ends ((c ∷ name) ++ (b ∷ x)) stands (ap begins_name (first t (name ++ (b ∷ x)) c (p + 1) name_begun) ∙ begins))
       ∙ rw (no_slash, no_question) refl
@@ -132,7 +132,7 @@ module _ (t v x : List ℕ) (i : ℕ) (stands : drop i t ≡ 61 ∷ (34 ∷ (v +
   valued = ap (λ (n : ℕ). drop n t) (let z : i + 2 ≡ i + 1 + 1 = omega arith in z) ∙ rest t (v ++ (34 ∷ x)) 34 (i + 1) quoted
 
   quote_is : quote_at t i ≡ i + 1
-  unfolding quote_at run past is_of is_blank if◌then◌else◌
+  unfolding quote_at run past is_of is_blank if◌then◌or_else◌
   quote_is = rw (stands, after_is t (34 ∷ (v ++ (34 ∷ x))) 61 i stands, quoted) refl
 
   value_from : after t (i + 1) ≡ i + 2
@@ -151,7 +151,7 @@ module _ (t v x : List ℕ) (i : ℕ) (stands : drop i t ≡ 61 ∷ (34 ∷ (v +
 -- ONE BYTE that shows no token to be whole
 module _ (t : List ℕ) (start : ℕ) (c : Cursor) (s : List ℕ) (b i : ℕ) (stands : drop i t ≡ b ∷ s) (nothing : whole c.state b ≡ Nothing) (free : is_control b ≡ false) where
   one_byte : advance t start c i ≡ moved c b i (i + 1)
-  unfolding advance is_faulty if◌then◌else◌
+  unfolding advance is_faulty if◌then◌or_else◌
   one_byte = rw (lt-leb (length t) i (within t s b i stands), first t s b i stands, nothing, free) refl
 
   pub goes : (a : Scan) → moved c b i (i + 1) ≡ a → scan_from t start c (b ∷ s) i ≡ if_on a (λ next. scan_from t start next s (i + 1)) a
@@ -180,7 +180,7 @@ module _ (t name x : List ℕ) (p c : ℕ) (stands : drop p t ≡ 60 ∷ (47 ∷
   end_named = named_so t (c ∷ name) x p (p + 2) 62 end_from begun_end named stops_name
 
   pub end_opens : opener t p ≡ End
-  unfolding if◌then◌else◌
+  unfolding if◌then◌or_else◌
   end_opens =
       opener_by t ((c ∷ name) ++ (62 ∷ x)) p 47 stands (opens_name_lem t (c ∷ name) x p (p + 2) 62 end_from begun_end named stops_name (47 ∷ ((c ∷ name) ++ (62 ∷ x))) stands (ap begins_name (first t (name ++ (62 ∷ x)) c (p + 2) begun_end) ∙ begins))
 
@@ -196,7 +196,7 @@ module _ (t name x : List ℕ) (p c : ℕ) (stands : drop p t ≡ 60 ∷ (47 ∷
   in_name = record { state = EndTag EndName; mark = p }
 
   opened_on : scan_from t p (begun p) (60 ∷ (47 ∷ ((c ∷ name) ++ (62 ∷ x)))) p ≡ scan_from t p in_name (name ++ (62 ∷ x)) (p + 1 + 1 + 1)
-  unfolding whole is_control is_blank moved move_to step at_begin in_opening behind_less in_end if_on if◌then◌else◌
+  unfolding whole is_control is_blank moved move_to step at_begin in_opening behind_less in_end if_on if◌then◌or_else◌
   opened_on =
       goes t p (begun p) (47 ∷ ((c ∷ name) ++ (62 ∷ x))) 60 p stands refl refl (On (record { state = Opening Less; mark = p })) refl
       ∙ goes t p (record { state = Opening Less; mark = p }) ((c ∷ name) ++ (62 ∷ x)) 47 (p + 1) slash_stands refl refl (On (record { state = EndTag EndOpened; mark = p })) refl
@@ -223,7 +223,7 @@ module _ (t name x : List ℕ) (p c : ℕ) (stands : drop p t ≡ 60 ∷ (47 ∷
   end_behind = ap (λ (n : ℕ). drop n t) (let z : p + 4 + length name ≡ close + 1 = omega arith in z) ∙ rest t x 62 close close_stands
 
   closed_on : scan_from t p in_name (62 ∷ x) close ≡ Past anEndTag (close + 1)
-  unfolding whole is_control is_blank moved move_to step in_end behind_end is_name begins_name is_letter is_digit between if_on if◌then◌else◌
+  unfolding whole is_control is_blank moved move_to step in_end behind_end is_name begins_name is_letter is_digit between if_on if◌then◌or_else◌
   closed_on = goes t p in_name x 62 close close_stands refl refl (Past anEndTag (close + 1)) refl
 
   end_scanned : scan t p ≡ Past anEndTag (p + 4 + length name)
@@ -263,7 +263,7 @@ module _ (t v x : List ℕ) (start m i : ℕ) (stands : drop i t ≡ v ++ (34 �
   last = rest t (62 ∷ x) 47 (j + 1) slash
 
   stops : is_plain 34 34 ≡ false
-  unfolding is_plain if◌then◌else◌
+  unfolding is_plain if◌then◌or_else◌
   stops = refl
 
   passed : j ≡ past (stays (Tag (InValue 34))) (drop i t) i
@@ -271,7 +271,7 @@ module _ (t v x : List ℕ) (start m i : ℕ) (stands : drop i t ≡ v ++ (34 �
   passed = sym (ap (λ (l : List ℕ). past (is_plain 34) l i) stands ∙ past_run (is_plain 34) v (34 ∷ (47 ∷ (62 ∷ x))) i plain stops)
 
   closing_on : scan_from t start in_line (34 ∷ (47 ∷ (62 ∷ x))) j ≡ Past EmptyTag (j + 1 + 1 + 1)
-  unfolding whole whole_in_tag is_control is_blank moved move_to step in_tag in_value behind closing if_on if◌then◌else◌
+  unfolding whole whole_in_tag is_control is_blank moved move_to step in_tag in_value behind closing if_on if◌then◌or_else◌
   closing_on =
       goes t start in_line (47 ∷ (62 ∷ x)) 34 j here refl refl (On (record { state = Tag InBehind; mark = m })) refl
       ∙ goes t start (record { state = Tag InBehind; mark = m }) (62 ∷ x) 47 (j + 1) slash refl refl (On (record { state = Tag Slash; mark = j + 1 })) refl

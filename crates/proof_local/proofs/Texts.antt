@@ -8,7 +8,7 @@ use lib.Dec.{eqb}
 use lib.ListN.{length, take, drop, length-drop, length-take}
 use lib.Seq.{get_or-take, get_or-drop, take-take}
 use borrow.Author.Tests.{eqb-true}
-use Rattle.base_words.specs.Pick.{if◌then◌else◌}
+use Rattle.base_words.specs.Pick.{if◌then◌or_else◌}
 use Rattle.base_words.specs.Text.{bytes}
 use Rattle.base_words.specs.Words.{at, part}
 use Rattle.base_words.proofs.AllLaws.{and_left, and_right}
@@ -78,11 +78,11 @@ unfolding text_from
 text_least t [] i = (refl, omega arith)
 text_least t (b ∷ s) i = go (opens_markup (at t i)) (is_control (at t i)) (closes_data t i) (text_least t s (i + 1))
   where
-    go : (o c d : Bool) → AtLeast (i + 1) (text_from t s (i + 1)) → AtLeast i (if o then Past Text i else if c then Fault i else if d then Fault i else text_from t s (i + 1))
-    go true c d k = unfold if◌then◌else◌ in (refl, omega arith)
-    go false true d k = unfold if◌then◌else◌ in tt
-    go false false true k = unfold if◌then◌else◌ in tt
-    go false false false k = unfold if◌then◌else◌ in least_on i (text_from t s (i + 1)) k
+    go : (o c d : Bool) → AtLeast (i + 1) (text_from t s (i + 1)) → AtLeast i (if o then Past Text i or_else if c then Fault i or_else if d then Fault i or_else text_from t s (i + 1))
+    go true c d k = unfold if◌then◌or_else◌ in (refl, omega arith)
+    go false true d k = unfold if◌then◌or_else◌ in tt
+    go false false true k = unfold if◌then◌or_else◌ in tt
+    go false false false k = unfold if◌then◌or_else◌ in least_on i (text_from t s (i + 1)) k
 
 module _ (t : List ℕ) (n : ℕ) (inside : n ≤ length t) where
   closes_same : (i : ℕ) → i + 3 ≤ n → closes_data (take n t) i ≡ closes_data t i
@@ -108,7 +108,7 @@ module _ (t : List ℕ) (n : ℕ) (inside : n ≤ length t) where
   last_bracket s i zero e l m d = ap (Past Text) (omega (arith, e))
   last_bracket [] i (suc k) e l m d = absurd (omega (arith, m))
   last_bracket (b ∷ s) i (suc zero) e l m d =
-      unfold if◌then◌else◌ opens_markup is_control in
+      unfold if◌then◌or_else◌ opens_markup is_control in
       rw (byte t n inside (i + 1) (omega arith), bracket i (omega arith) d, closes_not (i + 1) (omega arith) (omega arith))
       (ap (Past Text) (omega (arith, e)))
   last_bracket (b ∷ s) i (suc (suc k)) e l m d = absurd (omega (arith, l))
@@ -126,17 +126,17 @@ module _ (t : List ℕ) (n : ℕ) (inside : n ≤ length t) where
       Rest : Type 0
       Rest = CutText n (text_from t s (i + 1)) (text_from (take n t) (take k s) (i + 1))
 
-      go : (o c d : Bool) → Rest → CutText n (if o then Past Text i else if c then Fault i else if d then Fault i else text_from t s (i + 1)) (if o then Past Text i else if c then Fault i else if d then Fault i else text_from (take n t) (take k s) (i + 1))
-      go true c d k = unfold if◌then◌else◌ in same refl
-      go false true d k = unfold if◌then◌else◌ in same refl
-      go false false true k = unfold if◌then◌else◌ in same refl
-      go false false false k = unfold if◌then◌else◌ in k
+      go : (o c d : Bool) → Rest → CutText n (if o then Past Text i or_else if c then Fault i or_else if d then Fault i or_else text_from t s (i + 1)) (if o then Past Text i or_else if c then Fault i or_else if d then Fault i or_else text_from (take n t) (take k s) (i + 1))
+      go true c d k = unfold if◌then◌or_else◌ in same refl
+      go false true d k = unfold if◌then◌or_else◌ in same refl
+      go false false true k = unfold if◌then◌or_else◌ in same refl
+      go false false false k = unfold if◌then◌or_else◌ in k
 
-      cut : (o c d : Bool) → (d ≡ true → text_from (take n t) (take k s) (i + 1) ≡ Past Text n) → Rest → CutText n (if o then Past Text i else if c then Fault i else if d then Fault i else text_from t s (i + 1)) (if o then Past Text i else if c then Fault i else if false then Fault i else text_from (take n t) (take k s) (i + 1))
-      cut true c d f k = unfold if◌then◌else◌ in same refl
-      cut false true d f k = unfold if◌then◌else◌ in same refl
-      cut false false true f k = unfold if◌then◌else◌ in onward (f refl) tt
-      cut false false false f k = unfold if◌then◌else◌ in k
+      cut : (o c d : Bool) → (d ≡ true → text_from (take n t) (take k s) (i + 1) ≡ Past Text n) → Rest → CutText n (if o then Past Text i or_else if c then Fault i or_else if d then Fault i or_else text_from t s (i + 1)) (if o then Past Text i or_else if c then Fault i or_else if false then Fault i or_else text_from (take n t) (take k s) (i + 1))
+      cut true c d f k = unfold if◌then◌or_else◌ in same refl
+      cut false true d f k = unfold if◌then◌or_else◌ in same refl
+      cut false false true f k = unfold if◌then◌or_else◌ in onward (f refl) tt
+      cut false false false f k = unfold if◌then◌or_else◌ in k
 
   pub text_cut : (p : ℕ) → p ≤ n → CutText n (text_from t (drop p t) p) (text_from (take n t) (drop p (take n t)) p)
   text_cut p h = rw (rest t n inside p h) (cut_text (drop p t) p (n - p) (omega arith) (omega (arith, length-drop p t)))

@@ -5,7 +5,7 @@ use mathlib.Core.List.{List, [], ◌∷◌, ◌++◌}
 use Prim.Native.Nat.{ℕ, zero, suc, ◌<◌, ◌≤◌}
 use native.Mathlib.Omega.{arith}
 use lib.ListN.{length, take}
-use Rattle.base_words.specs.Pick.{if◌then◌else◌}
+use Rattle.base_words.specs.Pick.{if◌then◌or_else◌}
 use Rattle.base_words.specs.Words.{part}
 use Rattle.log_text.specs.declared.Cursor.{Cursor}
 use Rattle.log_text.specs.declared.Move.TheVariants.{On}
@@ -33,8 +33,8 @@ module _ (t u : List ℕ) (n : ℕ) (inside : n ≤ length t) (within : n ≤ le
   one_more_lem : (c e d : Cursor) → e.to ≤ n → advance t c ≡ On e → advance u c ≡ On e → Told t u e d → Told t u c d
   one_more_lem c e d h mt mu k = go (closes_event c.level e.level) refl
     where
-      as_line : (v : List ℕ) → advance v c ≡ On e → (b : Bool) → closes_event c.level e.level ≡ b → lines_from v c ≡ (if b then line_of v e ∷ lines_from v e else lines_from v e)
-      as_line v m b z = lines_on v c e m ∙ (unfold with_line in ap (λ (x : Bool). if x then line_of v e ∷ lines_from v e else lines_from v e) z)
+      as_line : (v : List ℕ) → advance v c ≡ On e → (b : Bool) → closes_event c.level e.level ≡ b → lines_from v c ≡ (if b then line_of v e ∷ lines_from v e or_else lines_from v e)
+      as_line v m b z = lines_on v c e m ∙ (unfold with_line in ap (λ (x : Bool). if x then line_of v e ∷ lines_from v e or_else lines_from v e) z)
 
       same_line : line_of u e ≡ line_of t e
       same_line = unfold line_of in part_alike e.from e.to h
@@ -43,10 +43,10 @@ module _ (t u : List ℕ) (n : ℕ) (inside : n ≤ length t) (within : n ≤ le
       go true z =
           record {
             lines = line_of t e ∷ k.lines;
-            in_t = as_line t mt true z ∙ (unfold if◌then◌else◌ in ap (λ (l : List (List ℕ)). line_of t e ∷ l) k.in_t);
-            in_u = as_line u mu true z ∙ (unfold if◌then◌else◌ in ap (λ (x : List ℕ). x ∷ lines_from u e) same_line ∙ ap (λ (l : List (List ℕ)). line_of t e ∷ l) k.in_u);
+            in_t = as_line t mt true z ∙ (unfold if◌then◌or_else◌ in ap (λ (l : List (List ℕ)). line_of t e ∷ l) k.in_t);
+            in_u = as_line u mu true z ∙ (unfold if◌then◌or_else◌ in ap (λ (x : List ℕ). x ∷ lines_from u e) same_line ∙ ap (λ (l : List (List ℕ)). line_of t e ∷ l) k.in_u);
           }
-      go false z = record { lines = k.lines; in_t = as_line t mt false z ∙ (unfold if◌then◌else◌ in k.in_t); in_u = as_line u mu false z ∙ (unfold if◌then◌else◌ in k.in_u) }
+      go false z = record { lines = k.lines; in_t = as_line t mt false z ∙ (unfold if◌then◌or_else◌ in k.in_t); in_u = as_line u mu false z ∙ (unfold if◌then◌or_else◌ in k.in_u) }
 
   module _ (d : Cursor) (before : d.at ≤ n) where
     -- THE LAW

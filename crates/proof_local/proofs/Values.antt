@@ -6,7 +6,7 @@ use Prim.Native.Nat.{ℕ, zero, suc, ◌+◌, ◌<◌, ◌≤◌}
 use native.Mathlib.Omega.{arith}
 use lib.Dec.{eqb}
 use lib.ListN.{length, drop}
-use Rattle.base_words.specs.Pick.{if◌then◌else◌}
+use Rattle.base_words.specs.Pick.{if◌then◌or_else◌}
 use Rattle.base_words.specs.Words.{at}
 use Rattle.base_bytes.proofs.PastLaws.{past_more, past_stop}
 use Rattle.xml_characters.specs.Names.{is_blank, is_name}
@@ -49,19 +49,19 @@ module _ (t : List ℕ) (n start : ℕ) (inside : n ≤ length t) where
   in_value_on : (q i : ℕ) → Goes t n start (Tag (Value q)) i → eqb (at t i) q ≡ false → InValue q (i + 1)
   in_value_on q i g e = go (eqb (at t i) q) e (eqb (at t i) 38) (eqb (at t i) 60) (unfold step in_tag in_value in goes t n start (Tag (Value q)) i g)
     where
-      go : (a : Bool) → a ≡ false → (b c : Bool) → After t n start (if a then Onward (Tag Behind) else if b then Next (Tag (Reference q)) else if c then Here else Onward (Tag (Value q))) i → InValue q (i + 1)
+      go : (a : Bool) → a ≡ false → (b c : Bool) → After t n start (if a then Onward (Tag Behind) or_else if b then Next (Tag (Reference q)) or_else if c then Here or_else Onward (Tag (Value q))) i → InValue q (i + 1)
       go true f b c k = absurd (false≢true (sym f))
-      go false f true c k = in_reference (unfold if◌then◌else◌ in k)
-      go false f false true k = absurd (unfold if◌then◌else◌ in k)
-      go false f false false k = in_value_lem (unfold if◌then◌else◌ in k)
+      go false f true c k = in_reference (unfold if◌then◌or_else◌ in k)
+      go false f false true k = absurd (unfold if◌then◌or_else◌ in k)
+      go false f false false k = in_value_lem (unfold if◌then◌or_else◌ in k)
 
   in_reference_on : (q i : ℕ) → Goes t n start (Tag (Reference q)) i → InValue q (i + 1)
   in_reference_on q i g = go (eqb (at t i) 59) (is_reference (at t i)) (unfold step in_tag in_value_reference in goes t n start (Tag (Reference q)) i g)
     where
-      go : (a b : Bool) → After t n start (if a then Onward (Tag (Value q)) else if b then Onward (Tag (Reference q)) else Back) i → InValue q (i + 1)
-      go true b k = in_value_lem (unfold if◌then◌else◌ in k)
-      go false true k = in_reference (unfold if◌then◌else◌ in k)
-      go false false k = absurd (unfold if◌then◌else◌ in k)
+      go : (a b : Bool) → After t n start (if a then Onward (Tag (Value q)) or_else if b then Onward (Tag (Reference q)) or_else Back) i → InValue q (i + 1)
+      go true b k = in_value_lem (unfold if◌then◌or_else◌ in k)
+      go false true k = in_reference (unfold if◌then◌or_else◌ in k)
+      go false false k = absurd (unfold if◌then◌or_else◌ in k)
 
   value_on : (q i : ℕ) → InValue q i → eqb (at t i) q ≡ false → InValue q (i + 1)
   value_on q i (in_value_lem g) e = in_value_on q i g e
@@ -80,8 +80,8 @@ module _ (t : List ℕ) (n start : ℕ) (inside : n ≤ length t) where
     pub quote_in : run Blanks t i < n
     pub value_in_lem : run (NotByte (at t (run Blanks t i))) t (run Blanks t i + 1) < n
 
-  equals-step : (i : ℕ) (a b : Bool) → is_blank (at t i) ≡ a → After t n start (if a then Onward (Tag Equals) else if b then Onward (Tag (Value (at t i))) else Here) i → i < n → (Goes t n start (Tag Equals) (i + 1) → Quoted (i + 1)) → Quoted i
-  unfolding if◌then◌else◌
+  equals-step : (i : ℕ) (a b : Bool) → is_blank (at t i) ≡ a → After t n start (if a then Onward (Tag Equals) or_else if b then Onward (Tag (Value (at t i))) or_else Here) i → i < n → (Goes t n start (Tag Equals) (i + 1) → Quoted (i + 1)) → Quoted i
+  unfolding if◌then◌or_else◌
   equals-step i true b e k h f = let z = f k in record { quote_in = rw (blank_more i h e) z.quote_in; value_in_lem = rw (blank_more i h e) z.value_in_lem }
   equals-step i false true e k h f = record { quote_in = rw (blank_stop i h e) h; value_in_lem = rw (blank_stop i h e) (value_ends n (at t i) (i + 1) (omega arith) (in_value_lem k)) }
   equals-step i false false e k h f = absurd k
@@ -96,8 +96,8 @@ module _ (t : List ℕ) (n start : ℕ) (inside : n ≤ length t) where
     pub equals_in : run Blanks t i < n
     pub quoted_in : Quoted (run Blanks t i + 1)
 
-  named_step : (i : ℕ) (a b : Bool) → is_blank (at t i) ≡ a → After t n start (if a then Onward (Tag Named) else if b then Onward (Tag Equals) else Here) i → i < n → (Goes t n start (Tag Named) (i + 1) → Valued (i + 1)) → Valued i
-  unfolding if◌then◌else◌
+  named_step : (i : ℕ) (a b : Bool) → is_blank (at t i) ≡ a → After t n start (if a then Onward (Tag Named) or_else if b then Onward (Tag Equals) or_else Here) i → i < n → (Goes t n start (Tag Named) (i + 1) → Valued (i + 1)) → Valued i
+  unfolding if◌then◌or_else◌
   named_step i true b e k h f = let z = f k in record { equals_in = rw (blank_more i h e) z.equals_in; quoted_in = rw (blank_more i h e) z.quoted_in }
   named_step i false true e k h f = record { equals_in = rw (blank_stop i h e) h; quoted_in = rw (blank_stop i h e) (quoted n (i + 1) (omega arith) k) }
   named_step i false false e k h f = absurd k
@@ -108,8 +108,8 @@ module _ (t : List ℕ) (n start : ℕ) (inside : n ≤ length t) where
       named_step i (is_blank (at t i)) (eqb (at t i) 61) refl (unfold step in_tag named in goes t n start (Tag Named) i g) (before t n start (Tag Named) i g) (λ v. valued k (i + 1) (omega (arith, h)) v)
 
   -- at the byte that ends the name
-  no_more : (i : ℕ) (b : Bool) (m v : Move) → b ≡ false → After t n start (if b then v else m) i → After t n start m i
-  unfolding if◌then◌else◌
+  no_more : (i : ℕ) (b : Bool) (m v : Move) → b ≡ false → After t n start (if b then v or_else m) i → After t n start m i
+  unfolding if◌then◌or_else◌
   no_more i true m v e k = absurd (false≢true (sym e))
   no_more i false m v e k = k
 

@@ -7,7 +7,7 @@ use native.Mathlib.Omega.{arith}
 use lib.Dec.{ltb, eqb}
 use lib.ListN.{length, drop}
 use lib.Seq.{drop-drop}
-use Rattle.base_words.specs.Pick.{if◌then◌else◌}
+use Rattle.base_words.specs.Pick.{if◌then◌or_else◌}
 use Rattle.base_words.specs.Text.{bytes}
 use Rattle.base_words.specs.Words.{part}
 use Rattle.base_words.specs.Each.{each}
@@ -43,10 +43,10 @@ abbrev pub Plain : List ℕ → Type 0
 Plain line = each (is_plain 34) line ≡ true
 
 plain_byte : (b : ℕ) → is_plain 34 b ≡ true → is_of (Value 34) b ≡ true
-unfolding is_plain is_of if◌then◌else◌
+unfolding is_plain is_of if◌then◌or_else◌
 plain_byte b = go (ltb b 32) (eqb b 34)
   where
-    go : (x y : Bool) → (if x then false else if y then false else if eqb b 38 then false else not (eqb b 60)) ≡ true → not y ≡ true
+    go : (x y : Bool) → (if x then false or_else if y then false or_else if eqb b 38 then false or_else not (eqb b 60)) ≡ true → not y ≡ true
     go true y e = absurd (false≢true e)
     go false true e = absurd (false≢true e)
     go false false e = refl
@@ -58,7 +58,7 @@ plain_value (b ∷ v) e = and_true _ _ (plain_byte b (and_left (is_plain 34 b) (
 
 -- THE EVENT'S TAG
 pub event_begun : (t x : List ℕ) (c : Cursor) → c.level ≡ Trace → drop c.at t ≡ 10 ∷ (bytes "<event>" ++ x) → advance t c ≡ On (in_event c (c.at + 1) (c.at + 1 + 7))
-unfolding entered_by event_by tag_of tag_by same_bytes local_of local_from behind_colon if◌then◌else◌
+unfolding entered_by event_by tag_of tag_by same_bytes local_of local_from behind_colon if◌then◌or_else◌
 event_begun t x c l e =
     at_element t (bytes "event>" ++ x) (bytes "event") c (c.at + 1) (newline t (bytes "event>" ++ x) c.at e) (rest t (bytes "<event>" ++ x) 10 c.at e) is_event
     ∙ rw (l, is_event.called (bytes "event"), event_markup t x (c.at + 1) (rest t (bytes "<event>" ++ x) 10 c.at e)) refl
@@ -128,12 +128,12 @@ module _ (t line x : List ℕ) (p : ℕ) (stands : drop p t ≡ string_opening +
   same_key = refl
 
   pub string_read : (c : Cursor) → c.to ≡ 0 → (entry_of line).right ≡ true → string_at t c p ≡ On (named c (p + 32 + 2) (p + 32 + 2 + length line) (p + 34 + length line + 3))
-  unfolding string_at string_by tag_of tag_by name_by line_by over_named if◌then◌else◌
+  unfolding string_at string_by tag_of tag_by name_by line_by over_named if◌then◌or_else◌
   string_read c z r =
       rw (string_markup, key_is, key_says, same_key, z, line_is, line_says, r, skipped_empty t p (p + 34 + length line + 3) string_markup) refl
 
   string_entered : (c : Cursor) → c.to ≡ 0 → (entry_of line).right ≡ true → entered_by Event t c p ≡ On (named c (p + 32 + 2) (p + 32 + 2 + length line) (p + 34 + length line + 3))
-  unfolding entered_by same_bytes local_of local_from behind_colon if◌then◌else◌
+  unfolding entered_by same_bytes local_of local_from behind_colon if◌then◌or_else◌
   string_entered c z r = rw (is_string.called (bytes "string")) (string_read c z r)
 
   pub string_passed : (c : Cursor) → c.level ≡ Event → c.at ≡ p → c.to ≡ 0 → (entry_of line).right ≡ true → advance t c ≡ On (named c (p + 32 + 2) (p + 32 + 2 + length line) (p + 34 + length line + 3))
@@ -154,7 +154,7 @@ module _ (t v x : List ℕ) (p : ℕ) (stands : drop p t ≡ date_tag ++ (v ++ (
   date_markup = single_markup t (bytes "date key=\"time:timestamp\" value=\"") v x p 27 stands date_opened plain
 
   pub date_passed : (c : Cursor) → c.level ≡ Event → c.at ≡ p → advance t c ≡ On (reached c (p + 34 + length v + 3))
-  unfolding same_bytes local_of local_from behind_colon if◌then◌else◌
+  unfolding same_bytes local_of local_from behind_colon if◌then◌or_else◌
   date_passed c l a =
       at_element t (bytes "date key=\"time:timestamp\" value=\"" ++ (v ++ (bytes "\"/>" ++ x))) (bytes "date") c p (rw a (no_blank t (bytes "date key=\"time:timestamp\" value=\"" ++ (v ++ (bytes "\"/>" ++ x))) p stands)) stands is_date
       ∙ ap (λ (k : Level). entered_by k t c p) l

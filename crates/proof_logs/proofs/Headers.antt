@@ -8,7 +8,7 @@ use native.Mathlib.Omega.{arith}
 use lib.ListN.{length, take, drop, length-append}
 use lib.Seq.{take-length}
 use borrow.Author.Tests.{lt-leb, le-ltb, ne_eqb}
-use Rattle.base_words.specs.Pick.{if◌then◌else◌}
+use Rattle.base_words.specs.Pick.{if◌then◌or_else◌}
 use Rattle.base_words.specs.Text.{bytes}
 use Rattle.base_words.specs.Words.{at, part}
 use Rattle.base_words.specs.Each.{each}
@@ -71,7 +71,7 @@ run_tag = bytes "<string key=\"concept:name\" value=\"run\"/>"
 
 -- THE DECLARATION
 declared : markup declaration 0 ≡ marked Instruction 38
-unfolding if◌then◌else◌ each between is_letter is_digit past same_bytes is_blank is_control begins_name is_name digit base more number_from numbered character_of is_character behind_less behind_bracket in_opening in_comment in_data in_target in_instruction closing behind named behind_blank is_quote equals is_reference in_value in_value_reference in_tag behind_end in_end in_reference at_begin step end_of whole_in_tag whole_in_instruction whole move_to moved if_on if_attribute is_named found_from found is_found twice is_faulty advance scan_from scan opens_markup placed is_of has_second first lower says_xml is_declaration reserved markup
+unfolding if◌then◌or_else◌ each between is_letter is_digit past same_bytes is_blank is_control begins_name is_name digit base more number_from numbered character_of is_character behind_less behind_bracket in_opening in_comment in_data in_target in_instruction closing behind named behind_blank is_quote equals is_reference in_value in_value_reference in_tag behind_end in_end in_reference at_begin step end_of whole_in_tag whole_in_instruction whole move_to moved if_on if_attribute is_named found_from found is_found twice is_faulty advance scan_from scan opens_markup placed is_of has_second first lower says_xml is_declaration reserved markup
 declared = refl
 
 whole_of : (l : List ℕ) → part l 0 (length l) ≡ l
@@ -96,7 +96,7 @@ module _ (y : List ℕ) where
       (cut_off t 39 0 (omega arith) (omega (arith, length-append declaration (log_tag ++ y))) refl)
 
   declaration_opens : opener t 0 ≡ Other
-  unfolding each is_of is_name begins_name is_letter is_digit between has_second if◌then◌else◌
+  unfolding each is_of is_name begins_name is_letter is_digit between has_second if◌then◌or_else◌
   declaration_opens = opener_by t (bytes "xml version=\"1.0\" encoding=\"UTF-8\"?>\n" ++ (log_tag ++ y)) 0 63 refl (opens_name_lem t (bytes "xml") (bytes "version=\"1.0\" encoding=\"UTF-8\"?>\n" ++ (log_tag ++ y)) 0 2 32 (from_second t (bytes "xml version=\"1.0\" encoding=\"UTF-8\"?>\n" ++ (log_tag ++ y)) 0 63 refl refl) refl refl refl (bytes "?xml version=\"1.0\" encoding=\"UTF-8\"?>\n" ++ (log_tag ++ y)) refl refl)
 
   no_data : opens_data t 0 ≡ false
@@ -104,14 +104,14 @@ module _ (y : List ℕ) where
   no_data = ap (λ (l : List ℕ). same_bytes (part l 0 9) (bytes "<![CDATA[")) (whole_of t)
 
   declaration_passed : outside_at t (run Blanks t 0) ≡ Onward 38
-  unfolding outside_at tag_at tag_for other_of other_by if◌then◌else◌
+  unfolding outside_at tag_at tag_for other_of other_by if◌then◌or_else◌
   declaration_passed = rw (no_blank t (bytes "?xml version=\"1.0\" encoding=\"UTF-8\"?>\n" ++ (log_tag ++ y)) 0 refl, lt-leb (length t) 0 (omega (arith, length-append declaration (log_tag ++ y))), declaration_opens, no_data, declaration_markup) refl
 
   is_log : StartAt t (bytes "log") 39
   is_log = log_start t (bytes "xes.version=\"1849-2016\" xes.features=\"\" xmlns=\"http://www.xes-standard.org/\">" ++ y) 39 refl
 
   log_next : outside_at t (run Blanks t 38) ≡ Element 39
-  unfolding outside_at tag_at tag_for if◌then◌else◌
+  unfolding outside_at tag_at tag_for if◌then◌or_else◌
   log_next = rw (newline t (bytes "log xes.version=\"1849-2016\" xes.features=\"\" xmlns=\"http://www.xes-standard.org/\">" ++ y) 38 refl, lt-leb (length t) 39 (omega (arith, length-append declaration (log_tag ++ y), length-append log_tag y)), is_log.opens) refl
 
   root_in : (n : ℕ) → outside_in (suc (suc n)) t 0 ≡ Element 39
@@ -125,14 +125,14 @@ module _ (y : List ℕ) where
       (other_mark (63 ∷ 120 ∷ []) (length t - 0) (omega (arith, length-append declaration (log_tag ++ y))))
 
   root_is : root_at (bytes "log") t ≡ Past 39
-  unfolding root_at root_by outside same_bytes local_of local_from behind_colon if◌then◌else◌
+  unfolding root_at root_by outside same_bytes local_of local_from behind_colon if◌then◌or_else◌
   root_is = rw (no_mark, root_in (length (drop 2 t)), is_log.called (bytes "log")) refl
 
   pub log_named : bytes_of t (name_at t 39) ≡ bytes "log"
   log_named = is_log.named
 
   pub started : length t ≤ log_most → start t ≡ On (in_log 39 121)
-  unfolding start begin begin_by tag_of tag_by if◌then◌else◌
+  unfolding start begin begin_by tag_of tag_by if◌then◌or_else◌
   started h = rw (le-ltb log_most (length t) h, root_is, log_markup t y 39 refl) refl
 
 -- WHAT IS SKIPPED: an element with an empty one in it
@@ -172,13 +172,13 @@ module _ (t x : List ℕ) (p : ℕ) (stands : drop p t ≡ global_text ++ x) whe
   last_in_lem = within t (bytes "/global>" ++ x) 60 last last_stands
 
   content_passed : (n : ℕ) → 2 ≤ n → content_in n t p inner 15 ≡ Past (last + 3 + 6)
-  unfolding content_in content_by by_part onward element_by by_tag tag_of tag_by if◌then◌else◌
+  unfolding content_in content_by by_part onward element_by by_tag tag_of tag_by if◌then◌or_else◌
   content_passed zero h = absurd (omega arith)
   content_passed (suc zero) h = absurd (omega arith)
   content_passed (suc (suc n)) h = rw (lt-leb (length t) inner inner_in, inner_part, inner_tag, lt-leb (length t) last last_in_lem, last_part) refl
 
   pub global_skipped : skipped t p ≡ Past (last + 3 + 6)
-  unfolding skipped element_at element_by by_tag tag_of tag_by content_at if◌then◌else◌
+  unfolding skipped element_at element_by by_tag tag_of tag_by content_at if◌then◌or_else◌
   global_skipped = rw (global_markup t (bytes "<string key=\"concept:name\" value=\"UNKNOWN\"/></global>" ++ x) p stands) (content_passed (length t) (omega (arith, inner_in)))
 
 -- an extension, y behind its name
@@ -190,7 +190,7 @@ module _ (t y z : List ℕ) (c : Cursor) (level_is : c.level ≡ Log) (stands : 
   is_extension = extension_start t (y ++ z) (c.at + 1) tag_stands
 
   extension_passed : advanced t c ≡ On (reached c (c.at + 1 + n))
-  unfolding same_bytes local_of local_from behind_colon if◌then◌else◌
+  unfolding same_bytes local_of local_from behind_colon if◌then◌or_else◌
   extension_passed =
       at_element t (bytes "extension " ++ (y ++ z)) (bytes "extension") c (c.at + 1) (newline t _ c.at stands) tag_stands is_extension
       ∙ ap (λ (l : Level). entered_by l t c (c.at + 1)) level_is
@@ -254,7 +254,7 @@ module _ (t x : List ℕ) (p q : ℕ) (log_is : bytes_of t (name_at t p) ≡ byt
   global_stands = rest t _ 10 past_time.at behind_time
 
   global_passed : advanced t past_time ≡ On past_global
-  unfolding same_bytes local_of local_from behind_colon if◌then◌else◌
+  unfolding same_bytes local_of local_from behind_colon if◌then◌or_else◌
   global_passed =
       at_element t (bytes "global scope=\"event\"><string key=\"concept:name\" value=\"UNKNOWN\"/></global>" ++ (10 ∷ (classifier_tag ++ on_trace x))) (bytes "global") past_time (past_time.at + 1) (newline t _ past_time.at behind_time) global_stands (is_global t (10 ∷ (classifier_tag ++ on_trace x)) (past_time.at + 1) global_stands)
       ∙ passed_in_log t (bytes "global") past_time (past_time.at + 1) past_global.at (is_global t (10 ∷ (classifier_tag ++ on_trace x)) (past_time.at + 1) global_stands) refl refl refl (global_skipped t (10 ∷ (classifier_tag ++ on_trace x)) (past_time.at + 1) global_stands)
@@ -269,7 +269,7 @@ module _ (t x : List ℕ) (p q : ℕ) (log_is : bytes_of t (name_at t p) ≡ byt
   is_classifier = classifier_start t (bytes "name=\"Event-Name\" keys=\"concept:name\"/>" ++ on_trace x) (past_global.at + 1) classifier_stands
 
   classifier_passed : advanced t past_global ≡ On past_classifier
-  unfolding same_bytes local_of local_from behind_colon if◌then◌else◌
+  unfolding same_bytes local_of local_from behind_colon if◌then◌or_else◌
   classifier_passed =
       at_element t (bytes "classifier name=\"Event-Name\" keys=\"concept:name\"/>" ++ on_trace x) (bytes "classifier") past_global (past_global.at + 1) (newline t _ past_global.at behind_global) classifier_stands is_classifier
       ∙ passed_in_log t (bytes "classifier") past_global (past_global.at + 1) past_classifier.at is_classifier refl refl refl (skipped_empty t (past_global.at + 1) past_classifier.at (classifier_markup t (on_trace x) (past_global.at + 1) classifier_stands))
@@ -284,7 +284,7 @@ module _ (t x : List ℕ) (p q : ℕ) (log_is : bytes_of t (name_at t p) ≡ byt
   is_trace = trace_start t (run_tag ++ x) (past_classifier.at + 1) trace_stands
 
   trace_entered : advanced t past_classifier ≡ On at_trace
-  unfolding entered_by trace_by tag_of tag_by same_bytes local_of local_from behind_colon if◌then◌else◌
+  unfolding entered_by trace_by tag_of tag_by same_bytes local_of local_from behind_colon if◌then◌or_else◌
   trace_entered =
       at_element t (bytes "trace>" ++ (run_tag ++ x)) (bytes "trace") past_classifier (past_classifier.at + 1) (newline t _ past_classifier.at behind_classifier) trace_stands is_trace
       ∙ rw (is_trace.called (bytes "trace"), trace_markup t (run_tag ++ x) (past_classifier.at + 1) trace_stands) refl
@@ -296,7 +296,7 @@ module _ (t x : List ℕ) (p q : ℕ) (log_is : bytes_of t (name_at t p) ≡ byt
   is_run = string_start t (bytes "key=\"concept:name\" value=\"run\"/>" ++ x) at_trace.at behind_trace
 
   name_passed : advanced t at_trace ≡ On past_name
-  unfolding same_bytes local_of local_from behind_colon if◌then◌else◌
+  unfolding same_bytes local_of local_from behind_colon if◌then◌or_else◌
   name_passed =
       at_element t (bytes "string key=\"concept:name\" value=\"run\"/>" ++ x) (bytes "string") at_trace at_trace.at (no_blank t _ at_trace.at behind_trace) behind_trace is_run
       ∙ passed_in_trace t (bytes "string") at_trace at_trace.at past_name.at is_run refl refl refl (skipped_empty t at_trace.at past_name.at (run_markup t x at_trace.at behind_trace))

@@ -7,7 +7,7 @@ use native.Mathlib.Omega.{arith}
 use lib.ListN.{length, take, drop}
 use borrow.Author.Tests.{eq-eqb, ne_eqb}
 use Rattle.base_words.specs.Each.{each}
-use Rattle.base_words.specs.Pick.{if◌then◌else◌}
+use Rattle.base_words.specs.Pick.{if◌then◌or_else◌}
 use Rattle.base_words.specs.Text.{bytes}
 use Rattle.base_words.specs.Words.{part}
 use Rattle.base_words.proofs.AllLaws.{and_left}
@@ -74,5 +74,5 @@ module _ (m : ℕ) (g : Tuple) where
   behind_first = refl
 
   pub post_entry_lem : m ≤ number_most → Sound g → entry_of (post_line m g) ≡ record { right = true; posts = true; name = post_name (record { right = true; name = m; tuple = tidied g }) }
-  unfolding entry_of post_entry if◌then◌else◌
+  unfolding entry_of post_entry if◌then◌or_else◌
   post_entry_lem few s = rw (post_first, message_read (post_line m g) 5 m g few s behind_first) refl

@@ -7,7 +7,7 @@ use native.Mathlib.Omega.{arith}
 use lib.Dec.{eqb}
 use borrow.Author.Tests.{eqb-true, eqb-false}
 use lib.ListN.{length, take, drop, take-append-drop}
-use Rattle.base_words.specs.Pick.{if◌then◌else◌}
+use Rattle.base_words.specs.Pick.{if◌then◌or_else◌}
 use Rattle.state_fits.specs.Fresh.{fresh}
 use Rattle.xml_skip.specs.declared.Reached.{Reached}
 use Rattle.xml_skip.specs.declared.Reached.TheVariants.{Past, Fault}
@@ -32,14 +32,14 @@ module _ (t : List ℕ) (v : ℕ) (a : List ℕ) where
 
   pub by_lines : (number beside own : ℕ) → (number ≡ 10 → ⊥) → (number ≡ 25 → ⊥) → (number ≡ 23 → ⊥) → judged_to t v a ≡ judgment number beside own
       → (asked_number t v ≡ 0) × (judged (lines_of a) ≡ judgment number beside own)
-  unfolding judged_to judged_from if◌then◌else◌
+  unfolding judged_to judged_from if◌then◌or_else◌
   by_lines number beside own bad version other e = go (eqb (asked_number t v) 0) refl e
     where
       asked : number ≡ asked_number t v → (asked_number t v ≡ 0 → ⊥) → ⊥
       asked d = by_asked (λ k. number ≡ k → (k ≡ 0 → ⊥) → ⊥) t v (λ h f. f refl) (λ h f. version h) (λ h f. bad h) d
 
       go : (r : Bool) → eqb (asked_number t v) 0 ≡ r
-          → (if r then judged_end (scan a).end (judged (lines_of a)) else judgment (asked_number t v) 0 0) ≡ judgment number beside own
+          → (if r then judged_end (scan a).end (judged (lines_of a)) or_else judgment (asked_number t v) 0 0) ≡ judgment number beside own
           → (asked_number t v ≡ 0) × (judged (lines_of a) ≡ judgment number beside own)
       go true f d = (eqb-true (asked_number t v) 0 f, end_lines (scan a).end (judged (lines_of a)) number beside own other d)
       go false f d = absurd (asked (sym (ap (λ (j : Judged). j.number) d)) (eqb-false (asked_number t v) 0 f))

@@ -9,7 +9,7 @@ use lib.ListN.{length, length-append, length-drop, take, drop}
 use lib.Seq.{take-append_seam, drop-append_seam, drop-drop}
 use borrow.Author.Tests.{le-leb, lt-ltb, eq-eqb, eqb-true}
 use Rattle.base_words.specs.Each.{each}
-use Rattle.base_words.specs.Pick.{if◌then◌else◌}
+use Rattle.base_words.specs.Pick.{if◌then◌or_else◌}
 use Rattle.base_words.specs.Words.{greatest}
 use Rattle.base_words.proofs.AllLaws.{and_left, and_right}
 use Rattle.base_words.proofs.PickLaws.{and_true}
@@ -74,7 +74,7 @@ module _ (c : ℕ) (m : is_word c ≡ false) (w : List ℕ) (p v : ℕ) (small :
 
   -- THE LAW for a number with its mark
   pub number_read : v ≤ number_most → (rest : List ℕ) → drop p w ≡ shown v ++ c ∷ rest → number_before c w p ≡ record { right = true; value = v; next = p + length (shown v) + 1 }
-  unfolding number_before is_small value_in after if◌then◌else◌
+  unfolding number_before is_small value_in after if◌then◌or_else◌
   number_read few rest e =
       rw (piece (c ∷ rest) e (run_marked rest e), run_marked rest e, le-leb v number_most few, lt-ltb (p + length (shown v)) (length w) (inside rest e)) refl
 

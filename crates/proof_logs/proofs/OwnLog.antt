@@ -5,7 +5,7 @@ use mathlib.Core.Bool.{true}
 use mathlib.Core.List.{List, [], ◌∷◌, ◌++◌}
 use lib.Dec.{eqb}
 use Rattle.base_words.specs.Words.{at, greatest}
-use Rattle.base_words.specs.Pick.{if◌then◌else◌}
+use Rattle.base_words.specs.Pick.{if◌then◌or_else◌}
 use Rattle.base_words.proofs.AllLaws.{and_left, and_right}
 use Rattle.base_words.proofs.PickLaws.{and_true}
 use Rattle.state_fits.specs.Fresh.{fresh}
@@ -49,7 +49,7 @@ module _ (t : List ℕ) where
 
   -- a text that is a log is judged by its lines
   pub log_judged : (v : ℕ) → asked_number t v ≡ 0 → (b : List ℕ) (q : ℕ) → (scan b).end ≡ Past q → judged_to t v b ≡ judged_by (line_taken (stepped t) (posted_to t)) (lines_of b) 0 (fresh t v)
-  unfolding judged_to judged_from judged_end if◌then◌else◌
+  unfolding judged_to judged_from judged_end if◌then◌or_else◌
   log_judged v asked b q e = rw (asked, e) refl
 
   -- the table is valid and v a version that there is; small is what the type of a lent table says

@@ -6,7 +6,7 @@ use Prim.Native.Nat.{ℕ, zero, suc, ◌+◌, ◌≤◌}
 use native.Mathlib.Omega.{arith}
 use lib.Dec.{leb, eqb}
 use borrow.Author.Tests.{leb-true, le-ltb, ne_eqb}
-use Rattle.base_words.specs.Pick.{if◌then◌else◌}
+use Rattle.base_words.specs.Pick.{if◌then◌or_else◌}
 use Rattle.base_words.specs.Text.{bytes}
 use Rattle.base_words.specs.Words.{at}
 use Rattle.base_words.specs.Each.{each, joined}
@@ -29,7 +29,7 @@ pub plain_append : (v w : List ℕ) → Plain v → Plain w → Plain (v ++ w)
 plain_append v w a b = each_append (is_plain 34) v w ∙ and_true (each (is_plain 34) v) (each (is_plain 34) w) a b
 
 digit_plain : (b : ℕ) → is_digit b ≡ true → is_plain 34 b ≡ true
-unfolding is_plain if◌then◌else◌
+unfolding is_plain if◌then◌or_else◌
 digit_plain b e = rw (le-ltb b 32 (omega (arith, low)), ne_eqb b 34 (λ q. omega (arith, low, q)), ne_eqb b 38 (λ q. omega (arith, low, q)), ne_eqb b 60 (λ q. omega (arith, high, q))) refl
   where
     low : 48 ≤ b
@@ -51,9 +51,9 @@ module _ (mark : List ℕ) (plain : Plain mark) where
   unfolding marked_off
   marked_plain j x = go (eqb j 0)
     where
-      go : (b : Bool) → Plain (if b then shown x else mark ++ shown x)
-      go true = unfold if◌then◌else◌ in number_plain x
-      go false = unfold if◌then◌else◌ in plain_append mark (shown x) plain (number_plain x)
+      go : (b : Bool) → Plain (if b then shown x or_else mark ++ shown x)
+      go true = unfold if◌then◌or_else◌ in number_plain x
+      go false = unfold if◌then◌or_else◌ in plain_append mark (shown x) plain (number_plain x)
 
   joined_plain : (s : List ℕ) (n : ℕ) → Plain (joined (λ j. marked_off mark j (at s j)) n)
   unfolding joined each
@@ -65,7 +65,7 @@ module _ (mark : List ℕ) (plain : Plain mark) where
   row_plain s n = joined_plain s n
 
 pub values_plain : (g : Tuple) → Plain (values_line g)
-unfolding values_line each is_plain if◌then◌else◌
+unfolding values_line each is_plain if◌then◌or_else◌
 values_plain g = row_plain (bytes ",") refl _ _
 
 -- one byte between
@@ -74,26 +74,26 @@ unfolding each
 between_plain v w b a p c = plain_append (v ++ (b ∷ [])) w (plain_append v (b ∷ []) a (rw p refl)) c
 
 pub message_plain : (a : Answer) → Plain (message_line a)
-unfolding message_line is_plain if◌then◌else◌
+unfolding message_line is_plain if◌then◌or_else◌
 message_plain a = between_plain (shown a.name) (values_line a.tuple) 58 (number_plain a.name) refl (values_plain a.tuple)
 
 signed_plain : (s : Traffic) (m : List ℕ) → Plain m → Plain (signed s m)
-unfolding signed each is_plain if◌then◌else◌
+unfolding signed each is_plain if◌then◌or_else◌
 signed_plain Nothing m e = refl
 signed_plain Consumed m e = plain_append (bytes "?") m refl e
 signed_plain Sent m e = plain_append (bytes "!") m refl e
 
 place_plain : (n : Name) → Plain (place_line n)
-unfolding place_line each is_plain if◌then◌else◌
+unfolding place_line each is_plain if◌then◌or_else◌
 place_plain n = row_plain (bytes " ") refl _ _
 
 pub step_plain : (n : Name) (a : Answer) → Plain (step_line n a)
-unfolding step_line traffic_line is_plain if◌then◌else◌
+unfolding step_line traffic_line is_plain if◌then◌or_else◌
 step_plain n a = between_plain (place_line n) (signed a.traffic (message_line a)) 32 (place_plain n) refl (signed_plain a.traffic (message_line a) (message_plain a))
 
 -- "`post M:V`"
 pub post_plain : (name : ℕ) (g : Tuple) → Plain (bytes "post " ++ (shown name ++ (bytes ":" ++ values_line g)))
-unfolding each is_plain if◌then◌else◌
+unfolding each is_plain if◌then◌or_else◌
 post_plain name g =
     plain_append (bytes "post ") (shown name ++ (bytes ":" ++ values_line g)) refl
     (plain_append (shown name) (bytes ":" ++ values_line g) (number_plain name) (plain_append (bytes ":") (values_line g) refl (values_plain g)))

@@ -6,7 +6,7 @@ use mathlib.Core.List.{List, [], ◌∷◌, ◌++◌}
 use lib.Dec.{eqb, ltb}
 use lib.ListN.{length}
 use borrow.Author.Tests.{eq-eqb}
-use Rattle.base_words.specs.Pick.{if◌then◌else◌}
+use Rattle.base_words.specs.Pick.{if◌then◌or_else◌}
 use Rattle.base_words.specs.Words.{at}
 use Rattle.base_words.specs.Writes.{writes}
 use Rattle.base_words.specs.Counts.{values}
@@ -36,7 +36,7 @@ module _ (g k : Tuple) (same : same_tuple g k ≡ true) where
   unfolding without
   without_same [] = refl
   without_same (x ∷ xs) =
-      ap₂ (λ (b : Bool) (ys : List Tuple). if b then xs else x ∷ ys) (same_sym x g ∙ same_both g k x same ∙ same_sym k x) (without_same xs)
+      ap₂ (λ (b : Bool) (ys : List Tuple). if b then xs or_else x ∷ ys) (same_sym x g ∙ same_both g k x same ∙ same_sym k x) (without_same xs)
 
 -- THE SAME SITE with equal values
 module _ (x : Site) (g : Tuple) (same : same_tuple x.given g ≡ true) where
@@ -47,7 +47,7 @@ module _ (x : Site) (g : Tuple) (same : same_tuple x.given g ≡ true) where
   queues_same : (q : List ℕ) → queues_after x q ≡ queues_after (y x g same) q
   unfolding queues_after
   queues_same q =
-      ap₂ (λ (ms : List Tuple) (e : Evaluated). if receives x then with_messages q (message_named x) ms else if sends x then sending q (message_named x) e.tuple else q)
+      ap₂ (λ (ms : List Tuple) (e : Evaluated). if receives x then with_messages q (message_named x) ms or_else if sends x then sending q (message_named x) e.tuple or_else q)
       (without_same x.given g same (messages_of q (message_named x))) (sent_same x g same)
 
   traffic_same : traffic x ≡ traffic (y x g same)
@@ -55,8 +55,8 @@ module _ (x : Site) (g : Tuple) (same : same_tuple x.given g ≡ true) where
   traffic_same =
       ap₂ (λ (e d : Evaluated).
       if receives x then record { number = 0; traffic = Consumed; name = message_named x; tuple = e.tuple }
-      else if sends x then record { number = 0; traffic = Sent; name = message_named x; tuple = d.tuple }
-      else record { number = 0; traffic = Nothing; name = 0; tuple = empty })
+      or_else if sends x then record { number = 0; traffic = Sent; name = message_named x; tuple = d.tuple }
+      or_else record { number = 0; traffic = Nothing; name = 0; tuple = empty })
       (template_same x g same) (sent_same x g same)
 
 -- A STEP that is accepted
@@ -93,12 +93,12 @@ module _ (t s q : List ℕ) (n : Name) (g : Tuple) (same : same_tuple n.given g 
 module _ (g : Tuple) (few : g.length ≤ values) where
   word_same : (i : ℕ) → message_word (tidied g) i ≡ message_word g i
   unfolding message_word tidied
-  word_same i = ap (λ (v : ℕ). if eqb i 0 then g.length else v) (same_value (tidied g) g (tidied_same g few) (i - values_in))
+  word_same i = ap (λ (v : ℕ). if eqb i 0 then g.length or_else v) (same_value (tidied g) g (tidied_same g few) (i - values_in))
 
   words_same : (ms : List Tuple) (i : ℕ) → messages_word (ms ++ (tidied g ∷ [])) i ≡ messages_word (ms ++ (g ∷ [])) i
   unfolding messages_word
-  words_same [] i = ap (λ (v : ℕ). if ltb i slot_words then v else 0) (word_same i)
-  words_same (m ∷ ms) i = ap (λ (v : ℕ). if ltb i slot_words then message_word m i else v) (words_same ms (i - slot_words))
+  words_same [] i = ap (λ (v : ℕ). if ltb i slot_words then v or_else 0) (word_same i)
+  words_same (m ∷ ms) i = ap (λ (v : ℕ). if ltb i slot_words then message_word m i or_else v) (words_same ms (i - slot_words))
 
   longer_same : (ms : List Tuple) → length (ms ++ (tidied g ∷ [])) ≡ length (ms ++ (g ∷ []))
   longer_same [] = refl
@@ -109,7 +109,7 @@ module _ (g : Tuple) (few : g.length ≤ values) where
   sending_same q name =
       let ms : List Tuple = messages_of q name in
       ap (λ (f : ℕ → ℕ). writes f q (queue_place name) queue_words)
-      (λ i j. if eqb j 0 then longer_same ms i else words_same ms (j - slots_in) i)
+      (λ i j. if eqb j 0 then longer_same ms i or_else words_same ms (j - slots_in) i)
 
   refusals_same : (q : List ℕ) (name : ℕ) → post_refusals q name (tidied g) ≡ post_refusals q name g
   unfolding post_refusals tidied
@@ -118,5 +118,5 @@ module _ (g : Tuple) (few : g.length ≤ values) where
   pub post_same : (q : List ℕ) (name : ℕ) → post q name (tidied g) ≡ post q name g
   unfolding post
   post_same q name =
-      ap₂ (λ (rs : List Refusal) (y : List ℕ). if eqb (first_refusal rs) 0 then record { number = 0; queues = y } else record { number = first_refusal rs; queues = q })
+      ap₂ (λ (rs : List Refusal) (y : List ℕ). if eqb (first_refusal rs) 0 then record { number = 0; queues = y } or_else record { number = first_refusal rs; queues = q })
       (refusals_same q name) (sending_same q name)

@@ -6,7 +6,7 @@ use Prim.Native.Nat.{ℕ, ◌+◌, ◌/◌, ◌%◌}
 use native.Mathlib.Omega.{arith}
 use lib.Dec.{eqb, ltb}
 use borrow.Author.Tests.{le-leb}
-use Rattle.base_words.specs.Pick.{if◌then◌else◌}
+use Rattle.base_words.specs.Pick.{if◌then◌or_else◌}
 use Rattle.base_words.specs.Text.{bytes}
 use Rattle.base_words.specs.Each.{each}
 use Rattle.write_decimals.specs.Decimals.{digit, is_digit}
@@ -32,26 +32,26 @@ unfolding field
 field_plain sign n s = plain_append (sign ∷ []) (two n) s (two_plain n)
 
 day_plain : (d : Day) → Plain (day_text d)
-unfolding day_text each is_plain if◌then◌else◌
+unfolding day_text each is_plain if◌then◌or_else◌
 day_plain d =
     plain_append (two (d.year / 100) ++ two d.year ++ field 45 d.month) (field 45 d.day)
     (plain_append (two (d.year / 100) ++ two d.year) (field 45 d.month) (plain_append (two (d.year / 100)) (two d.year) (two_plain (d.year / 100)) (two_plain d.year)) (field_plain 45 d.month refl))
     (field_plain 45 d.day refl)
 
 clock_plain : (m : ℕ) → Plain (clock_text m)
-unfolding clock_text each is_plain if◌then◌else◌
+unfolding clock_text each is_plain if◌then◌or_else◌
 clock_plain m =
     plain_append (field 84 (m / 3600000 % 24) ++ field 58 (m / 60000 % 60)) (field 58 (m / 1000 % 60))
     (plain_append (field 84 (m / 3600000 % 24)) (field 58 (m / 60000 % 60)) (field_plain 84 (m / 3600000 % 24) refl) (field_plain 58 (m / 60000 % 60) refl))
     (field_plain 58 (m / 1000 % 60) refl)
 
 millis_plain : (m : ℕ) → Plain (millis_text m)
-unfolding millis_text each is_plain if◌then◌else◌
+unfolding millis_text each is_plain if◌then◌or_else◌
 millis_plain m =
     plain_append ((46 ∷ []) ++ (digit (m / 100 % 10) ∷ [])) (two m) (plain_append (46 ∷ []) (digit (m / 100 % 10) ∷ []) refl (one_plain (m / 100))) (two_plain m)
 
 moment_plain : (m : ℕ) → Plain (moment_text m)
-unfolding moment_text each is_plain if◌then◌else◌
+unfolding moment_text each is_plain if◌then◌or_else◌
 moment_plain m =
     plain_append (day_text (day_of m) ++ clock_text m ++ millis_text m) (bytes "+00:00")
     (plain_append (day_text (day_of m) ++ clock_text m) (millis_text m) (plain_append (day_text (day_of m)) (clock_text m) (day_plain (day_of m)) (clock_plain m)) (millis_plain m))
@@ -66,7 +66,7 @@ pub stamp_is : (moment : ℕ) → Stamped (stamp_text moment)
 unfolding stamp_text date_opening
 stamp_is moment = go (eqb moment 0) (ltb moment moments_end)
   where
-    go : (a b : Bool) → Stamped (if a then [] else if b then date_tag ++ moment_text moment ++ bytes "\"/>" else [])
-    go true b = unfold if◌then◌else◌ in none refl
-    go false true = unfold if◌then◌else◌ in dated (moment_text moment) (append_assoc date_tag (moment_text moment) (bytes "\"/>")) (moment_plain moment)
-    go false false = unfold if◌then◌else◌ in none refl
+    go : (a b : Bool) → Stamped (if a then [] or_else if b then date_tag ++ moment_text moment ++ bytes "\"/>" or_else [])
+    go true b = unfold if◌then◌or_else◌ in none refl
+    go false true = unfold if◌then◌or_else◌ in dated (moment_text moment) (append_assoc date_tag (moment_text moment) (bytes "\"/>")) (moment_plain moment)
+    go false false = unfold if◌then◌or_else◌ in none refl

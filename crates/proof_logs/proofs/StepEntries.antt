@@ -9,7 +9,7 @@ use lib.Seq.{take_all, get_or-drop}
 use borrow.Author.Tests.{lt-ltb}
 use Rattle.base_words.specs.Counts.{values}
 use Rattle.base_words.specs.Each.{joined}
-use Rattle.base_words.specs.Pick.{if◌then◌else◌}
+use Rattle.base_words.specs.Pick.{if◌then◌or_else◌}
 use Rattle.base_words.specs.Text.{bytes}
 use Rattle.base_words.specs.Words.{at, part, greatest}
 use Rattle.text_lexer.specs.Lexer.{is_word}
@@ -60,7 +60,7 @@ first_byte : (w : List ℕ) (p b : ℕ) (r : List ℕ) → drop p w ≡ b ∷ r 
 first_byte w p b r e = (let d : at w p ≡ at w (p + 0) = ap (at w) (omega arith) in d) ∙ sym (get_or-drop p w 0 0) ∙ ap (λ (s : List ℕ). at s 0) e
 
 next_byte : (w : List ℕ) (p b : ℕ) (r : List ℕ) → drop p w ≡ b ∷ r → after w p ≡ p + 1
-unfolding after if◌then◌else◌
+unfolding after if◌then◌or_else◌
 next_byte w p b r e = rw (lt-ltb p (length w) (omega (arith, ap length e, length-drop p w))) refl
 
 rest : (w : List ℕ) (p b : ℕ) (r : List ℕ) → drop p w ≡ b ∷ r → drop (p + 1) w ≡ r
@@ -70,7 +70,7 @@ pub whole : (w : List ℕ) (p : ℕ) → part w p (length w) ≡ drop p w
 whole w p = take_all (length w - p) (drop p w) (omega (arith, length-drop p w))
 
 pub traffic_read : (w : List ℕ) (p m : ℕ) (x : Traffic) (g : Tuple) → m ≤ number_most → Sound g → drop p w ≡ signed x (shown m ++ 58 ∷ values_line g) → traffic_from w p ≡ given true (given_by x g)
-unfolding traffic_from signed given_by same_bytes if◌then◌else◌
+unfolding traffic_from signed given_by same_bytes if◌then◌or_else◌
 traffic_read w p m Nothing g few s e = rw (whole w p, e) refl
 traffic_read w p m Consumed g few s e =
     rw (whole w p, e, first_byte w p 63 _ e, next_byte w p 63 _ e, message_read w (p + 1) m g few s (rest w p 63 _ e)) refl
@@ -85,7 +85,7 @@ abbrev pub spaced : ℕ → ℕ → ℕ → ℕ → ℕ → List ℕ → List �
 spaced a b c d e r = shown a ++ 32 ∷ (shown b ++ 32 ∷ (shown c ++ 32 ∷ (shown d ++ 32 ∷ (shown e ++ 32 ∷ r))))
 
 pub place_spaced : (n : Name) (r : List ℕ) → place_line n ++ bytes " " ++ r ≡ spaced n.pool n.instance n.element n.phase n.branch r
-unfolding place_line row joined marked_off if◌then◌else◌
+unfolding place_line row joined marked_off if◌then◌or_else◌
 place_spaced n r = rw append_assoc (rw append_assoc (rw append_assoc (rw append_assoc (rw append_assoc refl))))
 
 -- THE PLACES of the numbers
@@ -117,7 +117,7 @@ unfolding traffic_line message_line
 traffic_is a = ap (signed a.traffic) (append_assoc (shown a.name) (bytes ":") (values_line a.tuple))
 
 pub step_from : (n : Name) (a : Answer) (w : List ℕ) → Small n → a.name ≤ number_most → Sound a.tuple → w ≡ step_line n a → step_entry w ≡ step_of n (given_by a.traffic a.tuple)
-unfolding step_entry all_right five_placed if◌then◌else◌
+unfolding step_entry all_right five_placed if◌then◌or_else◌
 step_from n a w s few t e =
     let e0 : drop (number_place w 0) w ≡ spaced n.pool n.instance n.element n.phase n.branch (traffic_line a) = unfold number_place in e ∙ (unfold step_line in place_spaced n (traffic_line a)) in
     let u0 = e0 in

@@ -9,7 +9,7 @@ use lib.Dec.{eqb, leb, ltb}
 use borrow.Author.Tests.{eqb-true, leb-true}
 use Rattle.base_words.specs.All.{all}
 use Rattle.base_words.specs.Counts.{pools, pool_numbers, branches, instances, values}
-use Rattle.base_words.specs.Pick.{if◌then◌else◌}
+use Rattle.base_words.specs.Pick.{if◌then◌or_else◌}
 use Rattle.base_words.specs.Words.{at}
 use Rattle.base_words.proofs.AllLaws.{and_left, and_right, all_at}
 use Rattle.base_words.proofs.SeekLaws.{sought}
@@ -128,7 +128,7 @@ module _ (t s q : List ℕ) (n : Name) (fits : table_fits t ≡ true) (allowed :
       (λ d. omega arith))
 
   template_few : receives x ≡ true → (template x).tuple.length ≤ values
-  unfolding template expected evaluated gathered site_of if◌then◌else◌
+  unfolding template expected evaluated gathered site_of if◌then◌or_else◌
   template_few e = rw e (length_few t s n fits f (or_left (receives x) (sends x) e))
 
   pub says_few : (traffic x).tuple.length ≤ values

@@ -7,7 +7,7 @@ use native.Mathlib.Omega.{arith}
 use lib.Dec.{eqb, leb, ltb}
 use borrow.Author.Tests.{eqb-true, ltb-true, leb-true}
 use Rattle.base_words.specs.Counts.{names, values}
-use Rattle.base_words.specs.Pick.{if◌then◌else◌}
+use Rattle.base_words.specs.Pick.{if◌then◌or_else◌}
 use Rattle.base_words.specs.Words.{at, greatest}
 use Rattle.base_words.proofs.AllLaws.{and_left, and_right}
 use Rattle.base_bytes.specs.Bytes.{same_bytes}
@@ -91,7 +91,7 @@ module _ (t : List ℕ) where
       named_again : stepped t z k ≡ stepped t z n
       unfolding stepped
       named_again =
-          ap (λ (o : Outcome). if fitting t z then leaving o else record { answer = record { number = lent_number t z; traffic = Nothing; name = 0; tuple = empty }; state = z })
+          ap (λ (o : Outcome). if fitting t z then leaving o or_else record { answer = record { number = lent_number t z; traffic = Nothing; name = 0; tuple = empty }; state = z })
           (step_same t (instances_of z) (queues_of z) n (tidied n.given) same allowed)
 
       line_again : step_line k a ≡ step_line n a
@@ -102,7 +102,7 @@ module _ (t : List ℕ) where
       true_again = ap (λ (w : List ℕ). same_bytes w (step_line n a)) line_again ∙ same_self (step_line n a)
 
       step_again : ((j : ℕ) → at a.tuple.values j ≤ greatest) → Retaken (a_step n) z
-      unfolding line_told line_taken taken_by did if◌then◌else◌
+      unfolding line_told line_taken taken_by did if◌then◌or_else◌
       step_again words =
           ap (λ (e : Entry). taken_by (stepped t) (posted_to t) e (step_line n a) z) (step_named words)
           ∙ ap (λ (o : Stepped). record { number = o.answer.number; right = same_bytes (step_line k o.answer) (step_line n a); state = o.state }) named_again
@@ -123,11 +123,11 @@ module _ (t : List ℕ) where
       posted_again : posted_to t z name (tidied g) ≡ posted_to t z name g
       unfolding posted_to
       posted_again =
-          ap (λ (o : Posted). if fitting t z then record { number = o.number; state = instances_of z ++ o.queues } else record { number = lent_number t z; state = z })
+          ap (λ (o : Posted). if fitting t z then record { number = o.number; state = instances_of z ++ o.queues } or_else record { number = lent_number t z; state = z })
           (post_same g short (queues_of z) name)
 
       post_again : ((j : ℕ) → at g.values j ≤ greatest) → Retaken (a_post name g) z
-      unfolding line_told line_taken taken_by did if◌then◌else◌
+      unfolding line_told line_taken taken_by did if◌then◌or_else◌
       post_again words =
           ap (λ (e : Entry). taken_by (stepped t) (posted_to t) e (post_line name g) z) (post_entry_lem name g few (record { few = short; small = words }))
           ∙ ap (λ (o : Left). record { number = o.number; right = true; state = o.state }) posted_again
@@ -147,7 +147,7 @@ module _ (t : List ℕ) where
   -- ALL OF THEM, k events before these
   pub told-lawful : (acts : List Act) (k : ℕ) (z : List ℕ) → Valid t z → all_accepted t acts z ≡ true → AllWords t acts z
       → judged_by (line_taken (stepped t) (posted_to t)) (told t acts z) k z ≡ lawful
-  unfolding told all_accepted AllWords judged_by if◌then◌else◌
+  unfolding told all_accepted AllWords judged_by if◌then◌or_else◌
   told-lawful [] k z v h words = refl
   told-lawful (a ∷ rest) k z v h words =
       let e : (did t a z).number ≡ 0 = eqb-true (did t a z).number 0 (and_left (eqb (did t a z).number 0) (all_accepted t rest (did t a z).state) h) in

@@ -8,7 +8,7 @@ use native.Mathlib.Omega.{arith}
 use lib.Dec.{eqb}
 use lib.ListN.{length, drop, length-append, length-drop, get_or-eq_default}
 use borrow.Author.Tests.{ne_eqb, le-leb}
-use Rattle.base_words.specs.Pick.{if◌then◌else◌}
+use Rattle.base_words.specs.Pick.{if◌then◌or_else◌}
 use Rattle.base_words.specs.Text.{bytes}
 use Rattle.base_bytes.specs.Bytes.{past}
 use Rattle.xml_characters.specs.Names.{is_blank}
@@ -52,12 +52,12 @@ module _ (t : List ℕ) (e : Reached) (o m : ℕ) (c d : Cursor) (lines : List (
   on_opens (suc n) h = rw goes (further.opens n (omega arith))
 
   between_says : closes_event c.level d.level ≡ false → (n : ℕ) → suc m ≤ n → lines_in n t c ≡ lines
-  unfolding lines_in by_move if◌then◌else◌
+  unfolding lines_in by_move if◌then◌or_else◌
   between_says k zero h = absurd (omega arith)
   between_says k (suc n) h = rw (goes, k) (further.says n (omega arith))
 
   event_says : closes_event c.level d.level ≡ true → (n : ℕ) → suc m ≤ n → lines_in n t c ≡ line_of t d ∷ lines
-  unfolding lines_in by_move if◌then◌else◌
+  unfolding lines_in by_move if◌then◌or_else◌
   event_says k zero h = absurd (omega arith)
   event_says k (suc n) h = rw (goes, k) (ap (λ (l : List (List ℕ)). line_of t d ∷ l) (further.says n (omega arith)))
 
@@ -157,15 +157,15 @@ module _ (t : List ℕ) (c : Cursor) (stands : drop c.at t ≡ 10 ∷ []) where
   long = omega (arith, length-drop c.at t, ap length stands)
 
   blank : run Blanks t c.at ≡ length t
-  unfolding run past is_of is_blank if◌then◌else◌
+  unfolding run past is_of is_blank if◌then◌or_else◌
   blank = rw stands (sym long)
 
   no_opener : opener t (length t) ≡ Other
-  unfolding opener opens_name if◌then◌else◌
+  unfolding opener opens_name if◌then◌or_else◌
   no_opener = let end : length t ≤ length t = omega arith in rw (get_or-eq_default t 0 end)
 
   stopped : advance t c ≡ Fault (length t)
-  unfolding advance by_inside inside_at between ends_at outside_at if◌then◌else◌
+  unfolding advance by_inside inside_at between ends_at outside_at if◌then◌or_else◌
   stopped = rw (blank, no_opener, le-leb (length t) (length t) (omega arith)) refl
 
   pub stop_read : Reads t (SkipFault (length t)) c.opened 1 c []

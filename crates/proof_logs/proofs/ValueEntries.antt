@@ -8,7 +8,7 @@ use lib.ListN.{length, length-append, length-drop, drop}
 use borrow.Author.Tests.{le-leb, lt-leb}
 use Rattle.base_words.specs.Counts.{values}
 use Rattle.base_words.specs.Each.{joined}
-use Rattle.base_words.specs.Pick.{if◌then◌else◌}
+use Rattle.base_words.specs.Pick.{if◌then◌or_else◌}
 use Rattle.base_words.specs.Text.{bytes}
 use Rattle.base_words.specs.Words.{at, greatest}
 use Rattle.text_lexer.specs.Lexer.{is_word}
@@ -52,7 +52,7 @@ commas_long (v ∷ u ∷ r) =
     omega (arith, length-append (shown v) (44 ∷ commas (u ∷ r)), commas_long (u ∷ r), shown_some v)
 
 pub values_read : (w : List ℕ) (p : ℕ) (g : Tuple) (n : ℕ) (v : ℕ) (r : List ℕ) → Fair (v ∷ r) → drop p w ≡ commas (v ∷ r) → length r < n → values_in n w p g ≡ given true (add_all g (v ∷ r))
-unfolding commas add_all values_in if_value if◌then◌else◌
+unfolding commas add_all values_in if_value if◌then◌or_else◌
 values_read w p g zero v r f e l = absurd (omega (arith, l))
 values_read w p g (suc n) v [] (one _ _ h f) e l =
     let s = run_last 44 comma w p v h e in
@@ -86,11 +86,11 @@ module _ (P : ℕ → Type 0) (p0 : P 0) (p1 : P 1) (p2 : P 2) (p3 : P 3) (p4 : 
   up_to_four (suc (suc (suc (suc (suc k))))) h = absurd (omega (arith, h))
 
 pub row_commas : (s : List ℕ) (k : ℕ) → k ≤ 4 → row (bytes ",") s k ≡ commas (firsts k s)
-unfolding row joined marked_off if◌then◌else◌ commas firsts
+unfolding row joined marked_off if◌then◌or_else◌ commas firsts
 row_commas s = up_to_four (λ k. row (bytes ",") s k ≡ commas (firsts k s)) refl refl refl (rw append_assoc refl) (rw append_assoc (rw append_assoc refl))
 
 pub added_tidy : (s : List ℕ) (k : ℕ) → k ≤ 4 → add_all empty (firsts k s) ≡ tidied (tuple k s)
-unfolding add_all firsts added one_more tidied value_of if◌then◌else◌
+unfolding add_all firsts added one_more tidied value_of if◌then◌or_else◌
 added_tidy s = up_to_four (λ k. add_all empty (firsts k s) ≡ tidied (tuple k s)) refl refl refl refl refl
 
 pub firsts_fair : (s : List ℕ) (k : ℕ) → k ≤ 4 → ((j : ℕ) → at s j ≤ greatest) → Fair (firsts k s)
@@ -102,7 +102,7 @@ firsts_fair s k h small =
 
 -- a tuple whose values stand from p to the end
 pub tuple_read : (w : List ℕ) (p : ℕ) (g : Tuple) → g.length ≤ 4 → ((j : ℕ) → at g.values j ≤ greatest) → drop p w ≡ values_line g → values_from w p ≡ given true (tidied g)
-unfolding values_from if◌then◌else◌ commas add_all values_line lesser
+unfolding values_from if◌then◌or_else◌ commas add_all values_line lesser
 tuple_read w p g few small e = go (firsts g.length g.values) refl
   where
     shown-row : drop p w ≡ commas (firsts g.length g.values)

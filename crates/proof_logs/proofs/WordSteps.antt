@@ -10,7 +10,7 @@ use lib.ListN.{length, length-append, set, replicate}
 use borrow.Author.Tests.{eqb-true, ltb-true, leb-true}
 use Rattle.base_words.specs.Counts.{names, values, messages}
 use Rattle.base_words.specs.Each.{tab}
-use Rattle.base_words.specs.Pick.{if◌then◌else◌}
+use Rattle.base_words.specs.Pick.{if◌then◌or_else◌}
 use Rattle.base_words.specs.Words.{at, greatest}
 use Rattle.base_words.proofs.AllLaws.{and_left, and_right}
 use Rattle.base_words.specs.Iter.{iter}
@@ -192,7 +192,7 @@ module _ (t s q : List ℕ) (n : Name) (tw : Worded t) (sw : Worded s) (qw : Wor
   instance_words_lem : Worded x.instance
   unfolding site_of before instance_of shared_of
   instance_words_lem =
-      append_worded (if eqb (move_named t n).also making then replicate instance_words 0 else instance_of s (pool_named t n) n.instance) (shared_of s)
+      append_worded (if eqb (move_named t n).also making then replicate instance_words 0 or_else instance_of s (pool_named t n) n.instance) (shared_of s)
       (by_choice Worded (eqb (move_named t n).also making) (replicate instance_words 0) (tab (λ k. at s (instance_place (pool_named t n) n.instance + k)) instance_words)
       (λ e. zeros_worded instance_words)
       (λ e. tab_worded (λ k. at s (instance_place (pool_named t n) n.instance + k)) (λ k. sw (instance_place (pool_named t n) n.instance + k)) instance_words))

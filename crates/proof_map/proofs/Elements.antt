@@ -10,7 +10,7 @@ use lib.ListN.{length, get_or}
 use borrow.Author.Tests.{eqb-true}
 use Rattle.base_words.specs.Each.{joined, total}
 use Rattle.base_words.specs.Iter.{iter}
-use Rattle.base_words.specs.Pick.{if◌then◌else◌}
+use Rattle.base_words.specs.Pick.{if◌then◌or_else◌}
 use Rattle.base_words.specs.Sum.{sum, one_if}
 use Rattle.base_words.proofs.EachLaws.{total_append}
 use Rattle.base_words.proofs.SumLaws.{sum_ext}
@@ -40,23 +40,23 @@ module _ (t w : List ℕ) (n p k : ℕ) where
   is_end = ap (λ (c : ℕ). eqb c kinds.end_snd) (kind_drawn t w n k)
 
   -- a message end event is no branch
-  at_end : (c : ℕ) (b : Bool) → eqb c kinds.end_snd ≡ b → is_end_snd (element_drawn t w n k) ≡ b → total (λ el. one_if (is_end_snd el)) (if not (eqb c branch) then element_drawn t w n k ∷ [] else []) ≡ one_if (b && true)
-  unfolding total if◌then◌else◌
+  at_end : (c : ℕ) (b : Bool) → eqb c kinds.end_snd ≡ b → is_end_snd (element_drawn t w n k) ≡ b → total (λ el. one_if (is_end_snd el)) (if not (eqb c branch) then element_drawn t w n k ∷ [] or_else []) ≡ one_if (b && true)
+  unfolding total if◌then◌or_else◌
   at_end c b q e = go b (eqb c branch) refl q e
     where
       go : (b d : Bool) → eqb c branch ≡ d → eqb c kinds.end_snd ≡ b → is_end_snd (element_drawn t w n k) ≡ b
-          → total (λ el. one_if (is_end_snd el)) (if not d then element_drawn t w n k ∷ [] else []) ≡ one_if (b && true)
+          → total (λ el. one_if (is_end_snd el)) (if not d then element_drawn t w n k ∷ [] or_else []) ≡ one_if (b && true)
       go true false r q e = let z = ap one_if e in omega (arith, z)
       go false false r q e = let z = ap one_if e in omega (arith, z)
       go false true r q e = refl
       go true true r q e = absurd (omega (arith, eqb-true c branch r, eqb-true c kinds.end_snd q))
 
   one_end : total (λ el. one_if (is_end_snd el)) (element_if t w n p k) ≡ one_if (is_message_end p w k)
-  unfolding element_if is_element is_message_end is_of_kind total if◌then◌else◌
+  unfolding element_if is_element is_message_end is_of_kind total if◌then◌or_else◌
   one_end = go (is_node (sort w k)) (eqb (within w k) p) (kind w k) is_end
     where
       go : (a b : Bool) (c : ℕ) → is_end_snd (element_drawn t w n k) ≡ eqb c kinds.end_snd
-          → total (λ el. one_if (is_end_snd el)) (if a && (b && not (eqb c branch)) then element_drawn t w n k ∷ [] else []) ≡ one_if ((a && eqb c kinds.end_snd) && b)
+          → total (λ el. one_if (is_end_snd el)) (if a && (b && not (eqb c branch)) then element_drawn t w n k ∷ [] or_else []) ≡ one_if ((a && eqb c kinds.end_snd) && b)
       go false b c e = refl
       go true false c e = as_none (eqb c kinds.end_snd)
       go true true c e = at_end c (eqb c kinds.end_snd) refl e
@@ -72,7 +72,7 @@ module _ (t w : List ℕ) (n p : ℕ) where
   ends_many = ends_of n
 
   nodes_many : length (elements_of t w n p) ≡ count_before (is_of an_element p w) n
-  unfolding elements_of element_if is_of if◌then◌else◌
+  unfolding elements_of element_if is_of if◌then◌or_else◌
   nodes_many = as_many (is_element p w) (element_drawn t w n) n
 
   pub element_lines : length (all_treated (elements_of t w n p)) ≡ count_before (is_of an_element p w) n + count_before (is_message_end p w) n
@@ -80,5 +80,5 @@ module _ (t w : List ℕ) (n p : ℕ) where
   element_lines = all_long (elements_of t w n p) (end_sends (elements_of t w n p)) ∙ ap₂ ◌+◌ nodes_many ends_many
 
   pub line_names_element : (k : ℕ) → k < n → is_of an_element p w k ≡ true → get_or (elements_of t w n p) (count_before (is_of an_element p w) k) [] ≡ element_drawn t w n k
-  unfolding elements_of element_if is_of if◌then◌else◌
+  unfolding elements_of element_if is_of if◌then◌or_else◌
   line_names_element k l h = at_place (is_element p w) (element_drawn t w n) [] n k l h

@@ -5,7 +5,7 @@ use mathlib.Core.Bool.{Bool, true, false}
 use mathlib.Core.List.{List, [], ◌∷◌}
 use native.Mathlib.Omega.{arith}
 use lib.ListN.{set, replicate}
-use Rattle.base_words.specs.Pick.{if◌then◌else◌}
+use Rattle.base_words.specs.Pick.{if◌then◌or_else◌}
 use Rattle.base_words.specs.Words.{at}
 use Rattle.base_words.proofs.IterLaws.{iter_keeps}
 use Rattle.base_table.specs.Places.{kind_place, element_words}
@@ -13,8 +13,8 @@ use Rattle.base_table.specs.Table.{kind_in}
 use Rattle.draw_things.specs.Things.{kind}
 use Rattle.draw_model.specs.Drawn.{with_edge, with_message, with_form, with_task, with_first, head_of, with_term, with_condition, said_or_true, guarded_by, with_guard, with_branch, exit_by, entering_by, leaving_by, by_flow, element_drawn}
 
-either : {A : Type 0} (P : A → Type 0) (b : Bool) (x y : A) → P x → P y → P (if b then x else y)
-unfolding if◌then◌else◌
+either : {A : Type 0} (P : A → Type 0) (b : Bool) (x y : A) → P x → P y → P (if b then x or_else y)
+unfolding if◌then◌or_else◌
 either P true x y p q = p
 either P false x y p q = q
 

@@ -9,7 +9,7 @@ use native.Mathlib.Omega.{arith}
 use lib.ListN.{length, get_or, length-append, get_or-append}
 use lib.Seq.{get_or-append-add}
 use Rattle.base_words.specs.Each.{joined, total}
-use Rattle.base_words.specs.Pick.{if◌then◌else◌}
+use Rattle.base_words.specs.Pick.{if◌then◌or_else◌}
 use Rattle.base_words.specs.Sum.{sum, one_if}
 use Rattle.base_words.proofs.EachLaws.{total_append}
 use Rattle.draw_numbers.specs.Numbers.{count_before}
@@ -25,16 +25,16 @@ none_of f = refl
 
 module _ {A : Type 0} (test : ℕ → Bool) (make : ℕ → A) where
   abbrev pub one : ℕ → List A
-  one k = if test k then make k ∷ [] else []
+  one k = if test k then make k ∷ [] or_else []
 
   abbrev pub picked : ℕ → List A
   picked n = joined one n
 
   one_long : (k : ℕ) → length (one k) ≡ one_if (test k)
-  unfolding if◌then◌else◌
+  unfolding if◌then◌or_else◌
   one_long k = go (test k)
     where
-      go : (b : Bool) → length (if b then make k ∷ [] else []) ≡ one_if b
+      go : (b : Bool) → length (if b then make k ∷ [] or_else []) ≡ one_if b
       go true = refl
       go false = refl
 
@@ -44,7 +44,7 @@ module _ {A : Type 0} (test : ℕ → Bool) (make : ℕ → A) where
   as_many (suc n) = length-append (picked n) (one n) ∙ ap₂ ◌+◌ (as_many n) (one_long n)
 
   one_is : (k : ℕ) → test k ≡ true → one k ≡ make k ∷ []
-  unfolding if◌then◌else◌
+  unfolding if◌then◌or_else◌
   one_is k h = rw (h) refl
 
   fewer : (n k : ℕ) → k < n → test k ≡ true → count_before test k < count_before test n

@@ -9,7 +9,7 @@ use lib.Dec.{eqb, ltb}
 use lib.ListN.{length, length-append, replicate, length-replicate, get_or-replicate}
 use borrow.Author.Tests.{eqb-true, eqb-false, eq-eqb, ltb-true, ltb-false, lt-ltb}
 use Rattle.base_words.specs.Each.{total, tab}
-use Rattle.base_words.specs.Pick.{if◌then◌else◌}
+use Rattle.base_words.specs.Pick.{if◌then◌or_else◌}
 use Rattle.base_words.specs.Seek.{seek}
 use Rattle.base_words.specs.Sum.{sum, hit}
 use Rattle.base_words.specs.Counts.{edges, elements}
@@ -398,10 +398,10 @@ module _ (P : ℕ → List ℕ) (c : ℕ) (right : Entered P c) where
       let m : taker P c (last_in es) ≡ j = taker_is j (last_in es) jc (enter_one (last_in es) (last_in_lem (exits_of (P k)) es is p some)) in
       let bl : is_block P c (edges_in es) k j ≡ true = and_true (ltb j c) _ (lt-ltb j c jc) (and_true (closes (P k) (P j)) _ cl (is_rearranged es (entries_of (P j)) same)) in
       let jn : join_of P c (sequence_walk P c n) k ≡ j =
-      ap (λ (v : List ℕ). closing_join P c k (last_in v) (edges_in v)) w.0 ∙ ap (λ i. if is_block P c (edges_in es) k i then i else c) m ∙ chosen (is_block P c (edges_in es) k j) j c bl in
+      ap (λ (v : List ℕ). closing_join P c k (last_in v) (edges_in v)) w.0 ∙ ap (λ i. if is_block P c (edges_in es) k i then i or_else c) m ∙ chosen (is_block P c (edges_in es) k j) j c bl in
       walk_on n a k kc (enters k a s.entries e)
       ∙ passed-by (passes (P k)) _ _ (no_pass_split (closed (P k) (P j) cl))
-      ∙ ap (λ i. if ltb i c then walked_over (k ∷ i ∷ elements_passed (sequence_walk P c n) (exits_of (P k))) (sequence_walk P c n (exit_at (P i) 0)) else halted a) jn
+      ∙ ap (λ i. if ltb i c then walked_over (k ∷ i ∷ elements_passed (sequence_walk P c n) (exits_of (P k))) (sequence_walk P c n (exit_at (P i) 0)) or_else halted a) jn
       ∙ chosen (ltb j c) _ _ (lt-ltb j c jc)
       ∙ ap₂ (λ (v : List ℕ) (u : SequenceWalk). walked_over (k ∷ j ∷ v) u) w.1 (h n (omega (arith, z, r)))
     where

@@ -8,7 +8,7 @@ use native.Mathlib.Nat.{not-suc-le-zero, le_of_suc-le-suc, eq-or-lt_of_le}
 use native.Mathlib.Omega.{arith}
 use lib.Dec.{eqb}
 use borrow.Author.Tests.{eqb-true, eqb-false, eq-eqb, ne_eqb}
-use Rattle.base_words.specs.Pick.{if◌then◌else◌}
+use Rattle.base_words.specs.Pick.{if◌then◌or_else◌}
 use Rattle.base_words.specs.Words.{at}
 use Rattle.base_words.specs.Sum.{sum, hit, one_if}
 use Rattle.base_words.proofs.EachLaws.{total-tab, total_one}
@@ -68,11 +68,11 @@ sum_apart g x (suc n) apart =
 
 -- HOW MANY ENTRIES AND EXITS a kind has that has one
 pub one_exit : (el : List ℕ) (q : ℕ) → kind_in el ≡ q → (kind_of q).exits ≡ one → exit_count el ≡ 1
-unfolding exit_count used if◌then◌else◌
+unfolding exit_count used if◌then◌or_else◌
 one_exit el q e h = ap (λ y. used (kind_of y).exits (at el exits_place)) e ∙ ap (λ y. used y (at el exits_place)) h
 
 pub one_entry : (el : List ℕ) (q : ℕ) → kind_in el ≡ q → (kind_of q).entries ≡ one → entry_count el ≡ 1
-unfolding entry_count used if◌then◌else◌
+unfolding entry_count used if◌then◌or_else◌
 one_entry el q e h = ap (λ y. used (kind_of y).entries (at el entries_place)) e ∙ ap (λ y. used y (at el entries_place)) h
 
 pub no_start : (el : List ℕ) (q : ℕ) → kind_in el ≡ q → (eqb q start || eqb q start_rcv) ≡ false → starts el ≡ false
@@ -84,7 +84,7 @@ module _ (P : ℕ → List ℕ) (c : ℕ) (sound : Sound P c) (k : ℕ) (there :
   el = P k
 
   exits_some : (q : ℕ) → (kind_of (kind_in el)).exits ≡ q → q ≡ none → exit_count el ≡ 0
-  unfolding exit_count used if◌then◌else◌
+  unfolding exit_count used if◌then◌or_else◌
   exits_some q e h = ap (λ y. used y (at el exits_place)) (e ∙ h)
 
   pub leaves_one : (j : ℕ) → j < exit_count el → ((kind_in el ≡ xor_split) ⊎ (kind_in el ≡ event_based) → ⊥) → Leaves P c sound k there inner (exit_at el j ∷ [])

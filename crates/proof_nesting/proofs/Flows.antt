@@ -8,7 +8,7 @@ use mathlib.Core.Logic.{◌⊎◌, inl, inr}
 use native.Mathlib.Omega.{arith}
 use lib.Dec.{eqb}
 use borrow.Author.Tests.{eqb-true, eqb-false, eq-eqb, ne_eqb}
-use Rattle.base_words.specs.Pick.{if◌then◌else◌}
+use Rattle.base_words.specs.Pick.{if◌then◌or_else◌}
 use Rattle.base_words.specs.Sum.{hit, one_if}
 use Rattle.base_words.proofs.EachLaws.{total_append}
 use Rattle.base_kinds.specs.declared.moves.Move.{Move}
@@ -140,7 +140,7 @@ module _ (P : ℕ → List ℕ) (c : ℕ) where
       pub few : (phase b : ℕ) → Tried (P k) (move_in (P k) phase) b → putting (occ xs) (P k) (move_in (P k) phase) b ≤ some (move_in (P k) phase).puts
 
     unfoldable pub tasked : ℕ → ℕ
-    tasked n = if eqb (task_in (P k)) 0 then 0 else hit (task_in (P k)) n
+    tasked n = if eqb (task_in (P k)) 0 then 0 or_else hit (task_in (P k)) n
 
     tasked_other : (l : ℕ) → l < c → (l ≡ k → ⊥) → tasked (task_in (P l)) ≡ 0
     unfolding tasked

@@ -12,7 +12,7 @@ use lib.ListN.{length, set, length-set}
 use lib.Seq.{get_or-set_same, get_or-set_other, set_out}
 use borrow.Author.Tests.{eqb-true, eqb-false, ne_eqb, ltb-true, ltb-false, lt-ltb}
 use Rattle.base_words.specs.Iter.{iter}
-use Rattle.base_words.specs.Pick.{if◌then◌else◌}
+use Rattle.base_words.specs.Pick.{if◌then◌or_else◌}
 use Rattle.base_words.specs.Sum.{sum}
 use Rattle.base_words.specs.Words.{at}
 use Rattle.base_words.specs.Counts.{count_most}
@@ -47,7 +47,7 @@ weigh_one : (a n : ℕ) → n < count_most → weigh a (more n) ≡ weigh a n + 
 unfolding weigh more
 weigh_one a n l = let e : n + 1 ≡ suc n = omega arith in chosen_weigh (ltb n count_most) (lt-ltb n count_most l) e
   where
-    chosen_weigh : (b : Bool) → b ≡ true → n + 1 ≡ suc n → weigh a (if b then n + 1 else n) ≡ weigh a n + a
+    chosen_weigh : (b : Bool) → b ≡ true → n + 1 ≡ suc n → weigh a (if b then n + 1 or_else n) ≡ weigh a n + a
     chosen_weigh b h e = ap (weigh a) (chosen b (n + 1) n h ∙ e)
 
 -- two sums that differ in one term
@@ -166,24 +166,24 @@ module _ (u : ℕ → ℕ) where
       by_test (eqb cell up)
       (λ e.
       let a : eqb cell down ≡ false = ne_eqb cell down (λ z. let y = eqb-true cell up e in omega arith) in
-      let x : (if eqb cell up then more (at h k) else (if eqb cell down then at h k - 1 else at h k)) ≡ more (at h k) = chosen (eqb cell up) _ _ e in
-      let y : (if eqb cell down then u k else 0) ≡ 0 = passed (eqb cell down) _ _ a in
-      let z : (if eqb cell up then u k else 0) ≡ u k = chosen (eqb cell up) _ _ e in
+      let x : (if eqb cell up then more (at h k) or_else (if eqb cell down then at h k - 1 or_else at h k)) ≡ more (at h k) = chosen (eqb cell up) _ _ e in
+      let y : (if eqb cell down then u k or_else 0) ≡ 0 = passed (eqb cell down) _ _ a in
+      let z : (if eqb cell up then u k or_else 0) ≡ u k = chosen (eqb cell up) _ _ e in
       rw (x, y, z) (omega (arith, mass_one h k l r room)))
       (λ e.
       by_test (eqb cell down)
       (λ f.
-      let x : (if eqb cell up then more (at h k) else (if eqb cell down then at h k - 1 else at h k)) ≡ at h k - 1 = passed (eqb cell up) _ _ e ∙ chosen (eqb cell down) _ _ f in
-      let y : (if eqb cell down then u k else 0) ≡ u k = chosen (eqb cell down) _ _ f in
-      let z : (if eqb cell up then u k else 0) ≡ 0 = passed (eqb cell up) _ _ e in
+      let x : (if eqb cell up then more (at h k) or_else (if eqb cell down then at h k - 1 or_else at h k)) ≡ at h k - 1 = passed (eqb cell up) _ _ e ∙ chosen (eqb cell down) _ _ f in
+      let y : (if eqb cell down then u k or_else 0) ≡ u k = chosen (eqb cell down) _ _ f in
+      let z : (if eqb cell up then u k or_else 0) ≡ 0 = passed (eqb cell up) _ _ e in
       rw (x, y, z)
       (by_test (ltb 0 (at h k))
       (λ g. omega (arith, mass_less h k l r (ltb-true 0 (at h k) g)))
       (λ g. let n : at h k - 1 ≡ at h k = (let v = ltb-false 0 (at h k) g in omega arith) in let q = mass_set h k (at h k - 1) l r in let p : weigh (u k) (at h k - 1) ≡ weigh (u k) (at h k) = ap (weigh (u k)) n in omega (arith, q, p))))
       (λ f.
-      let x : (if eqb cell up then more (at h k) else (if eqb cell down then at h k - 1 else at h k)) ≡ at h k = passed (eqb cell up) _ _ e ∙ passed (eqb cell down) _ _ f in
-      let y : (if eqb cell down then u k else 0) ≡ 0 = passed (eqb cell down) _ _ f in
-      let z : (if eqb cell up then u k else 0) ≡ 0 = passed (eqb cell up) _ _ e in
+      let x : (if eqb cell up then more (at h k) or_else (if eqb cell down then at h k - 1 or_else at h k)) ≡ at h k = passed (eqb cell up) _ _ e ∙ passed (eqb cell down) _ _ f in
+      let y : (if eqb cell down then u k or_else 0) ≡ 0 = passed (eqb cell down) _ _ f in
+      let z : (if eqb cell up then u k or_else 0) ≡ 0 = passed (eqb cell up) _ _ e in
       rw (x, y, z) (omega (arith, mass_set h k (at h k) l r))))
 
   -- A COUNT changed by a cell
@@ -193,19 +193,19 @@ module _ (u : ℕ → ℕ) where
       by_test (eqb cell up)
       (λ e.
       let a : eqb cell down ≡ false = ne_eqb cell down (λ z. let y = eqb-true cell up e in omega arith) in
-      let x : (if eqb cell up then more (at h k) else (if eqb cell down then at h k - 1 else at h k)) ≡ more (at h k) = chosen (eqb cell up) _ _ e in
-      let y : (if eqb cell down then u k else 0) ≡ 0 = passed (eqb cell down) _ _ a in
-      let z : (if eqb cell up then u k else 0) ≡ u k = chosen (eqb cell up) _ _ e in
+      let x : (if eqb cell up then more (at h k) or_else (if eqb cell down then at h k - 1 or_else at h k)) ≡ more (at h k) = chosen (eqb cell up) _ _ e in
+      let y : (if eqb cell down then u k or_else 0) ≡ 0 = passed (eqb cell down) _ _ a in
+      let z : (if eqb cell up then u k or_else 0) ≡ u k = chosen (eqb cell up) _ _ e in
       rw (x, y, z) (omega (arith, mass_more h k l r)))
       (λ e.
       by_test (eqb cell down)
       (λ f.
-      let x : (if eqb cell up then more (at h k) else (if eqb cell down then at h k - 1 else at h k)) ≡ at h k - 1 = passed (eqb cell up) _ _ e ∙ chosen (eqb cell down) _ _ f in
-      let y : (if eqb cell down then u k else 0) ≡ u k = chosen (eqb cell down) _ _ f in
-      let z : (if eqb cell up then u k else 0) ≡ 0 = passed (eqb cell up) _ _ e in
+      let x : (if eqb cell up then more (at h k) or_else (if eqb cell down then at h k - 1 or_else at h k)) ≡ at h k - 1 = passed (eqb cell up) _ _ e ∙ chosen (eqb cell down) _ _ f in
+      let y : (if eqb cell down then u k or_else 0) ≡ u k = chosen (eqb cell down) _ _ f in
+      let z : (if eqb cell up then u k or_else 0) ≡ 0 = passed (eqb cell up) _ _ e in
       rw (x, y, z) (omega (arith, mass_less h k l r (ltb-true 0 (at h k) (chosen_true (eqb cell down) (ltb 0 (at h k)) true can f)))))
       (λ f.
-      let x : (if eqb cell up then more (at h k) else (if eqb cell down then at h k - 1 else at h k)) ≡ at h k = passed (eqb cell up) _ _ e ∙ passed (eqb cell down) _ _ f in
-      let y : (if eqb cell down then u k else 0) ≡ 0 = passed (eqb cell down) _ _ f in
-      let z : (if eqb cell up then u k else 0) ≡ 0 = passed (eqb cell up) _ _ e in
+      let x : (if eqb cell up then more (at h k) or_else (if eqb cell down then at h k - 1 or_else at h k)) ≡ at h k = passed (eqb cell up) _ _ e ∙ passed (eqb cell down) _ _ f in
+      let y : (if eqb cell down then u k or_else 0) ≡ 0 = passed (eqb cell down) _ _ f in
+      let z : (if eqb cell up then u k or_else 0) ≡ 0 = passed (eqb cell up) _ _ e in
       rw (x, y, z) (omega (arith, mass_set h k (at h k) l r))))

@@ -9,7 +9,7 @@ use lib.Dec.{eqb, ltb}
 use lib.ListN.{length, length-set}
 use lib.Seq.{get_or-set_other}
 use borrow.Author.Tests.{eqb-true, ltb-true, lt-ltb, le-ltb}
-use Rattle.base_words.specs.Pick.{if◌then◌else◌}
+use Rattle.base_words.specs.Pick.{if◌then◌or_else◌}
 use Rattle.base_words.specs.Sum.{sum}
 use Rattle.base_words.specs.Words.{at}
 use Rattle.base_words.specs.Counts.{edges, tasks}
@@ -32,7 +32,7 @@ use Rattle.proof_nesting.proofs.Mass.{weigh, mass, mass_same, mass_lowered, leng
 
 -- THE WEIGHT of a word of an instance: of its edge, or of its task
 unfoldable pub weight_at : (ℕ → ℕ) → (ℕ → ℕ) → ℕ → ℕ
-weight_at w d k = if ltb k edges then w (k + 1) else if ltb k (edges + tasks) then d ((k - edges) + 1) else d ((k - (edges + tasks)) + 1)
+weight_at w d k = if ltb k edges then w (k + 1) or_else if ltb k (edges + tasks) then d ((k - edges) + 1) or_else d ((k - (edges + tasks)) + 1)
 
 module _ (w d : ℕ → ℕ) where
   pub weight_token : (e : ℕ) → 1 ≤ e → e ≤ edges → weight_at w d (token_place e) ≡ w e
@@ -126,10 +126,10 @@ module _ (w d : ℕ → ℕ) where
 
     -- COUNTS
     same_count : (cell way k : ℕ) → ((cell ≡ 0 → ⊥) → weight_at w d k ≡ d n) → (way ≡ 0 → ⊥) → counted cell way (weight_at w d k) ≡ counted cell way (d n)
-    unfolding counted if◌then◌else◌
+    unfolding counted if◌then◌or_else◌
     same_count cell way k right some = go (eqb cell way) refl
       where
-        go : (t : Bool) → eqb cell way ≡ t → (if t then weight_at w d k else 0) ≡ (if t then d n else 0)
+        go : (t : Bool) → eqb cell way ≡ t → (if t then weight_at w d k or_else 0) ≡ (if t then d n or_else 0)
         go true e = right (λ z. some (sym (eqb-true cell way e) ∙ z))
         go false e = refl
 

@@ -9,7 +9,7 @@ use native.Mathlib.Omega.{arith}
 use lib.Dec.{eqb, ltb}
 use borrow.Author.Tests.{eqb-true, eqb-false, eq-eqb, ltb-true, ltb-false}
 use Rattle.base_words.specs.Each.{total}
-use Rattle.base_words.specs.Pick.{if◌then◌else◌}
+use Rattle.base_words.specs.Pick.{if◌then◌or_else◌}
 use Rattle.base_words.specs.Sum.{sum, hit, one_if}
 use Rattle.base_words.proofs.EachLaws.{total_one, total_append}
 use Rattle.base_kinds.specs.declared.moves.Move.{Move}
@@ -85,7 +85,7 @@ module _ (P : ℕ → List ℕ) (c : ℕ) (sound : Sound P c) (nest : Nested P c
 
   -- the first edge of a start
   unfoldable pub firstly : ℕ → ℕ
-  firstly f = if eqb (kind_in (P p₀)) start then hit f s₀ else 0
+  firstly f = if eqb (kind_in (P p₀)) start then hit f s₀ or_else 0
 
   firstly_exit : (k j : ℕ) → k < c → j < exit_count (P k) → firstly (exit_at (P k) j) ≡ 0
   unfolding firstly
@@ -98,7 +98,7 @@ module _ (P : ℕ → List ℕ) (c : ℕ) (sound : Sound P c) (nest : Nested P c
   kind_goes el q s h e = eqb-false (kind_of q).exits noExits h (sym (ap (λ y. (kind_of y).exits) s) ∙ e)
 
   exits_go : (el : List ℕ) → 0 < exit_count el → Goes el
-  unfolding exit_count used if◌then◌else◌
+  unfolding exit_count used if◌then◌or_else◌
   exits_go el l e = absurd (let z : exit_count el ≡ 0 = ap (λ y. used y (at el exits_place)) e in omega (arith, z, l))
 
   split_goes : (el join : List ℕ) → Closed el join → Goes el
@@ -283,7 +283,7 @@ module _ (P : ℕ → List ℕ) (c : ℕ) (sound : Sound P c) (nest : Nested P c
 
     module _ (phase b : ℕ) (t : Tried (P p₀) (move_in (P p₀) phase) b) where
       entries_sum : sum (λ j. w (entry_at (P p₀) j)) (entry_count (P p₀)) ≤ 1
-      unfolding kind_of entry_count used if◌then◌else◌ sum
+      unfolding kind_of entry_count used if◌then◌or_else◌ sum
       entries_sum =
           ⊎_elim
           (λ is. let z = sum_first (λ j. w (entry_at (P p₀) j)) (entry_count (P p₀)) (first_entry_one is) in omega (arith, z, w_first is))
@@ -361,7 +361,7 @@ module _ (P : ℕ → List ℕ) (c : ℕ) (sound : Sound P c) (nest : Nested P c
   any_line = (ones P c sound nest.runs).0
 
   end_exits : exit_count (P nest.last) ≡ 0
-  unfolding exit_count used if◌then◌else◌ kind_of
+  unfolding exit_count used if◌then◌or_else◌ kind_of
   end_exits = ap (λ y. used (kind_of y).exits (at (P nest.last) exits_place)) nest.last_ends
 
   -- AN EDGE that leaves an element; that leaves none

@@ -8,7 +8,7 @@ use native.Mathlib.Omega.{arith}
 use lib.Dec.{eqb, leb}
 use borrow.Author.Tests.{eqb-true, eqb-false, eq-eqb, ne_eqb, leb-true, not-true}
 use Rattle.base_words.specs.Each.{each}
-use Rattle.base_words.specs.Pick.{if◌then◌else◌}
+use Rattle.base_words.specs.Pick.{if◌then◌or_else◌}
 use Rattle.base_words.specs.Sum.{sum, one_if}
 use Rattle.base_words.proofs.ListLaws.{each_at}
 use Rattle.base_words.proofs.SumLaws.{sum_add, sum_ext, sum_mono}
@@ -28,7 +28,7 @@ unfoldable pub taking : (ℕ → ℕ) → List ℕ → Move → ℕ → ℕ
 taking i el m b = sum (λ j. i (entry_at el (first_touched m.takes b + j))) (touched m.takes (entry_count el))
 
 unfoldable pub counted : ℕ → ℕ → ℕ → ℕ
-counted cell way w = if eqb cell way then w else 0
+counted cell way w = if eqb cell way then w or_else 0
 
 unfoldable pub counts : ℕ → ℕ → Move → ℕ
 counts way w m = counted m.active way w + counted m.ready way w
@@ -44,10 +44,10 @@ module _ (f g : ℕ → ℕ) (el : List ℕ) (m : Move) (b : ℕ) where
   taking_add = sum_add (λ j. f (entry_at el (first_touched m.takes b + j))) (λ j. g (entry_at el (first_touched m.takes b + j))) (touched m.takes (entry_count el))
 
 counted_add : (cell way v w : ℕ) → counted cell way (v + w) ≡ counted cell way v + counted cell way w
-unfolding counted if◌then◌else◌
+unfolding counted if◌then◌or_else◌
 counted_add cell way v w = go (eqb cell way)
   where
-    go : (t : Bool) → (if t then v + w else 0) ≡ (if t then v else 0) + (if t then w else 0)
+    go : (t : Bool) → (if t then v + w or_else 0) ≡ (if t then v or_else 0) + (if t then w or_else 0)
     go true = refl
     go false = refl
 
@@ -56,18 +56,18 @@ unfolding counts
 counts_add way v w m = omega (arith, counted_add m.active way v w, counted_add m.ready way v w)
 
 counted_most : (cell way w : ℕ) → w ≤ 1 → counted cell way w ≤ one_if (eqb cell way)
-unfolding counted if◌then◌else◌
+unfolding counted if◌then◌or_else◌
 counted_most cell way w l = go (eqb cell way)
   where
-    go : (t : Bool) → (if t then w else 0) ≤ one_if t
+    go : (t : Bool) → (if t then w or_else 0) ≤ one_if t
     go true = l
     go false = omega arith
 
 counted_least : (cell way w : ℕ) → (cell ≡ way → 1 ≤ w) → one_if (eqb cell way) ≤ counted cell way w
-unfolding counted if◌then◌else◌
+unfolding counted if◌then◌or_else◌
 counted_least cell way w l = go (eqb cell way) refl
   where
-    go : (t : Bool) → eqb cell way ≡ t → one_if t ≤ (if t then w else 0)
+    go : (t : Bool) → eqb cell way ≡ t → one_if t ≤ (if t then w or_else 0)
     go true e = l (eqb-true cell way e)
     go false e = omega arith
 
@@ -80,10 +80,10 @@ unfolding counts
 counts_least way w m a r = omega (arith, counted_least m.active way w a, counted_least m.ready way w r)
 
 pub counts_none : (way w : ℕ) (m : Move) → w ≡ 0 → counts way w m ≡ 0
-unfolding counts counted if◌then◌else◌
+unfolding counts counted if◌then◌or_else◌
 counts_none way w m e = rw e (go (eqb m.active way) (eqb m.ready way))
   where
-    go : (t u : Bool) → (if t then 0 else 0) + (if u then 0 else 0) ≡ 0
+    go : (t u : Bool) → (if t then 0 or_else 0) + (if u then 0 or_else 0) ≡ 0
     go true true = refl
     go true false = refl
     go false true = refl
@@ -98,10 +98,10 @@ abbrev pub some : ℕ → ℕ
 some cell = one_if (not (eqb cell 0))
 
 pub by_touch : (Q : ℕ → ℕ → Type 0) (cell b n : ℕ) → (cell ≡ every → Q 0 n) → (cell ≡ branch → Q b 1) → ((cell ≡ every → ⊥) → (cell ≡ branch → ⊥) → Q 0 0) → Q (first_touched cell b) (touched cell n)
-unfolding first_touched touched if◌then◌else◌
+unfolding first_touched touched if◌then◌or_else◌
 by_touch Q cell b n f g h = go (eqb cell every) refl (eqb cell branch) refl
   where
-    go : (t : Bool) → eqb cell every ≡ t → (u : Bool) → eqb cell branch ≡ u → Q (if u then b else 0) (if t then n else (if u then 1 else 0))
+    go : (t : Bool) → eqb cell every ≡ t → (u : Bool) → eqb cell branch ≡ u → Q (if u then b or_else 0) (if t then n or_else (if u then 1 or_else 0))
     go true e true d = absurd (let x = eqb-true cell every e in let y = eqb-true cell branch d in omega arith)
     go true e false d = f (eqb-true cell every e)
     go false e true d = g (eqb-true cell branch d)
@@ -173,63 +173,63 @@ module _ (k m p : ℕ) where
   lost r = some r.takes + (one_if (eqb r.active down) + one_if (eqb r.ready down))
 
   pub row_balanced : ((move_of k m p).also ≡ making → ⊥) → gained (move_of k m p) ≤ lost (move_of k m p)
-  unfolding each if◌then◌else◌
+  unfolding each if◌then◌or_else◌
   row_balanced n =
-      let h = every_row (λ r. if eqb r.also making then true else leb (gained r) (lost r)) refl refl in
+      let h = every_row (λ r. if eqb r.also making then true or_else leb (gained r) (lost r)) refl refl in
       leb-true _ _ (passed_true _ true _ h (ne_eqb _ making n))
 
   pub row_takes : ((move_of k m p).takes ≡ 0 → ⊥) → ((move_of k m p).takes ≡ every → ⊥) → (move_of k m p).takes ≡ branch
-  unfolding each if◌then◌else◌
+  unfolding each if◌then◌or_else◌
   row_takes n e =
-      let h = every_row (λ r. if eqb r.takes 0 then true else (if eqb r.takes every then true else eqb r.takes branch)) refl refl in
+      let h = every_row (λ r. if eqb r.takes 0 then true or_else (if eqb r.takes every then true or_else eqb r.takes branch)) refl refl in
       eqb-true _ branch (passed_true _ true _ (passed_true _ true _ h (ne_eqb _ 0 n)) (ne_eqb _ every e))
 
   -- only an xorJoin takes the branch's alone; only an xorSplit and an eventBased put on the branch's alone, and they always do; only a task has counts
   pub row_join : (move_of k m p).takes ≡ branch → k ≡ xor_join
-  unfolding each if◌then◌else◌
+  unfolding each if◌then◌or_else◌
   row_join e =
-      let h = every_row (λ r. if eqb r.takes branch then eqb r.kind xor_join else true) refl refl in
+      let h = every_row (λ r. if eqb r.takes branch then eqb r.kind xor_join or_else true) refl refl in
       let q : (move_of k m p).kind ≡ xor_join = eqb-true _ xor_join (chosen_true _ _ true h (eq-eqb _ branch e)) in
       sym (row_kind k m p (λ z. omega (arith, q, z))) ∙ q
 
   pub row_join_one : (move_of k m p).takes ≡ every → k ≡ xor_join → ⊥
-  unfolding each if◌then◌else◌
+  unfolding each if◌then◌or_else◌
   row_join_one e z =
-      let h = every_row (λ r. if eqb r.takes every then not (eqb r.kind 0) else true) refl refl in
-      let g = every_row (λ r. if eqb r.takes every then not (eqb r.kind xor_join) else true) refl refl in
+      let h = every_row (λ r. if eqb r.takes every then not (eqb r.kind 0) or_else true) refl refl in
+      let g = every_row (λ r. if eqb r.takes every then not (eqb r.kind xor_join) or_else true) refl refl in
       let c = eq-eqb _ every e in
       let q : (move_of k m p).kind ≡ k = row_kind k m p (eqb-false _ 0 (not-true _ (chosen_true _ _ true h c))) in
       eqb-false _ xor_join (not-true _ (chosen_true _ _ true g c)) (q ∙ z)
 
   pub row_split : (move_of k m p).puts ≡ every → (k ≡ xor_split → ⊥) × (k ≡ event_based → ⊥)
-  unfolding each if◌then◌else◌
+  unfolding each if◌then◌or_else◌
   row_split e =
-      let h = every_row (λ r. if eqb r.puts every then not (eqb r.kind 0) else true) refl refl in
-      let g = every_row (λ r. if eqb r.puts every then not (eqb r.kind xor_split) else true) refl refl in
-      let f = every_row (λ r. if eqb r.puts every then not (eqb r.kind event_based) else true) refl refl in
+      let h = every_row (λ r. if eqb r.puts every then not (eqb r.kind 0) or_else true) refl refl in
+      let g = every_row (λ r. if eqb r.puts every then not (eqb r.kind xor_split) or_else true) refl refl in
+      let f = every_row (λ r. if eqb r.puts every then not (eqb r.kind event_based) or_else true) refl refl in
       let c = eq-eqb _ every e in
       let q : (move_of k m p).kind ≡ k = row_kind k m p (eqb-false _ 0 (not-true _ (chosen_true _ _ true h c))) in
       (λ z. eqb-false _ xor_split (not-true _ (chosen_true _ _ true g c)) (q ∙ z), λ z. eqb-false _ event_based (not-true _ (chosen_true _ _ true f c)) (q ∙ z))
 
   pub row_lowers : ((move_of k m p).active ≡ down) ⊎ ((move_of k m p).ready ≡ down) → is_task k ≡ true
-  unfolding each if◌then◌else◌
+  unfolding each if◌then◌or_else◌
   row_lowers e =
-      let h = every_row (λ r. if eqb r.active down then is_task r.kind else true) refl refl in
-      let g = every_row (λ r. if eqb r.ready down then is_task r.kind else true) refl refl in
-      let n = every_row (λ r. if eqb r.active down then not (eqb r.kind 0) else true) refl refl in
-      let o = every_row (λ r. if eqb r.ready down then not (eqb r.kind 0) else true) refl refl in
+      let h = every_row (λ r. if eqb r.active down then is_task r.kind or_else true) refl refl in
+      let g = every_row (λ r. if eqb r.ready down then is_task r.kind or_else true) refl refl in
+      let n = every_row (λ r. if eqb r.active down then not (eqb r.kind 0) or_else true) refl refl in
+      let o = every_row (λ r. if eqb r.ready down then not (eqb r.kind 0) or_else true) refl refl in
       ⊎_elim
       (λ a. let c = eq-eqb _ down a in subst (λ y. is_task y ≡ true) (row_kind k m p (eqb-false _ 0 (not-true _ (chosen_true _ _ true n c)))) (chosen_true _ _ true h c))
       (λ a. let c = eq-eqb _ down a in subst (λ y. is_task y ≡ true) (row_kind k m p (eqb-false _ 0 (not-true _ (chosen_true _ _ true o c)))) (chosen_true _ _ true g c))
       e
 
   pub row_raises : ((move_of k m p).active ≡ up) ⊎ ((move_of k m p).ready ≡ up) → is_task k ≡ true
-  unfolding each if◌then◌else◌
+  unfolding each if◌then◌or_else◌
   row_raises e =
-      let h = every_row (λ r. if eqb r.active up then is_task r.kind else true) refl refl in
-      let g = every_row (λ r. if eqb r.ready up then is_task r.kind else true) refl refl in
-      let n = every_row (λ r. if eqb r.active up then not (eqb r.kind 0) else true) refl refl in
-      let o = every_row (λ r. if eqb r.ready up then not (eqb r.kind 0) else true) refl refl in
+      let h = every_row (λ r. if eqb r.active up then is_task r.kind or_else true) refl refl in
+      let g = every_row (λ r. if eqb r.ready up then is_task r.kind or_else true) refl refl in
+      let n = every_row (λ r. if eqb r.active up then not (eqb r.kind 0) or_else true) refl refl in
+      let o = every_row (λ r. if eqb r.ready up then not (eqb r.kind 0) or_else true) refl refl in
       ⊎_elim
       (λ a. let c = eq-eqb _ up a in subst (λ y. is_task y ≡ true) (row_kind k m p (eqb-false _ 0 (not-true _ (chosen_true _ _ true n c)))) (chosen_true _ _ true h c))
       (λ a. let c = eq-eqb _ up a in subst (λ y. is_task y ≡ true) (row_kind k m p (eqb-false _ 0 (not-true _ (chosen_true _ _ true o c)))) (chosen_true _ _ true g c))
@@ -237,22 +237,22 @@ module _ (k m p : ℕ) where
 
   -- a startRcv does nothing but make an instance
   pub row_made : k ≡ start_rcv → ((move_of k m p).also ≡ making → ⊥) → (move_of k m p).puts ≡ 0
-  unfolding each if◌then◌else◌
+  unfolding each if◌then◌or_else◌
   row_made is n =
-      let h = every_row (λ r. if eqb r.puts 0 then true else not (eqb r.kind 0)) refl refl in
-      let g = every_row (λ r. if eqb r.kind start_rcv then eqb r.also making else true) refl refl in
+      let h = every_row (λ r. if eqb r.puts 0 then true or_else not (eqb r.kind 0)) refl refl in
+      let g = every_row (λ r. if eqb r.kind start_rcv then eqb r.also making or_else true) refl refl in
       by_test (eqb (move_of k m p).puts 0) (eqb-true _ 0)
       (λ e.
       let q : (move_of k m p).kind ≡ k = row_kind k m p (eqb-false _ 0 (not-true _ (passed_true _ true _ h e))) in
       absurd (n (eqb-true _ making (chosen_true _ _ true g (eq-eqb _ start_rcv (q ∙ is))))))
 
   pub row_counts : ((move_of k m p).active ≡ 0 → ⊥) ⊎ ((move_of k m p).ready ≡ 0 → ⊥) → is_task k ≡ true
-  unfolding each if◌then◌else◌
+  unfolding each if◌then◌or_else◌
   row_counts e =
-      let h = every_row (λ r. if eqb r.active 0 then true else is_task r.kind) refl refl in
-      let g = every_row (λ r. if eqb r.ready 0 then true else is_task r.kind) refl refl in
-      let n = every_row (λ r. if eqb r.active 0 then true else not (eqb r.kind 0)) refl refl in
-      let o = every_row (λ r. if eqb r.ready 0 then true else not (eqb r.kind 0)) refl refl in
+      let h = every_row (λ r. if eqb r.active 0 then true or_else is_task r.kind) refl refl in
+      let g = every_row (λ r. if eqb r.ready 0 then true or_else is_task r.kind) refl refl in
+      let n = every_row (λ r. if eqb r.active 0 then true or_else not (eqb r.kind 0)) refl refl in
+      let o = every_row (λ r. if eqb r.ready 0 then true or_else not (eqb r.kind 0)) refl refl in
       ⊎_elim
       (λ a. let c = ne_eqb _ 0 a in subst (λ y. is_task y ≡ true) (row_kind k m p (eqb-false _ 0 (not-true _ (passed_true _ true _ n c)))) (passed_true _ true _ h c))
       (λ a. let c = ne_eqb _ 0 a in subst (λ y. is_task y ≡ true) (row_kind k m p (eqb-false _ 0 (not-true _ (passed_true _ true _ o c)))) (passed_true _ true _ g c))

@@ -8,7 +8,7 @@ use native.Mathlib.Omega.{arith}
 use lib.Dec.{eqb, leb}
 use borrow.Author.Tests.{eqb-true, eqb-false, eq-eqb, ne_eqb, leb-true, not-true}
 use Rattle.base_words.specs.Each.{each}
-use Rattle.base_words.specs.Pick.{if◌then◌else◌}
+use Rattle.base_words.specs.Pick.{if◌then◌or_else◌}
 use Rattle.base_words.specs.Sum.{sum, one_if}
 use Rattle.base_words.proofs.SumLaws.{sum_ext, sum_mono, sum-zero}
 use Rattle.base_kinds.specs.declared.moves.Move.{Move}
@@ -55,10 +55,10 @@ module _ (k m p : ℕ) where
   r = move_of k m p
 
   pub row_whole : (r.also ≡ making → ⊥) → ((kind_of k).exits ≡ none → ⊥) → lost k m p r ≤ gained k m p r
-  unfolding each if◌then◌else◌ kind_of
+  unfolding each if◌then◌or_else◌ kind_of
   row_whole n goes =
-      let h = every_row k m p (λ r. if eqb r.also making then true else (if eqb (kind_of r.kind).exits none then true else leb (lost k m p r) (gained k m p r))) refl refl in
-      let g = every_row k m p (λ r. if eqb r.kind 0 then leb (lost k m p r) (gained k m p r) else true) refl refl in
+      let h = every_row k m p (λ r. if eqb r.also making then true or_else (if eqb (kind_of r.kind).exits none then true or_else leb (lost k m p r) (gained k m p r))) refl refl in
+      let g = every_row k m p (λ r. if eqb r.kind 0 then leb (lost k m p r) (gained k m p r) or_else true) refl refl in
       by_test (eqb r.kind 0)
       (λ e. leb-true _ _ (chosen_true _ _ true g e))
       (λ e.
@@ -66,17 +66,17 @@ module _ (k m p : ℕ) where
       leb-true _ _ (passed_true _ true _ (passed_true _ true _ h (ne_eqb _ making n)) (ne_eqb _ none (λ z. goes (ap (λ y. (kind_of y).exits) (sym q) ∙ z)))))
 
   pub row_puts : (r.puts ≡ 0 → ⊥) → (r.puts ≡ every → ⊥) → r.puts ≡ branch
-  unfolding each if◌then◌else◌
+  unfolding each if◌then◌or_else◌
   row_puts n e =
-      let h = every_row k m p (λ r. if eqb r.puts 0 then true else (if eqb r.puts every then true else eqb r.puts branch)) refl refl in
+      let h = every_row k m p (λ r. if eqb r.puts 0 then true or_else (if eqb r.puts every then true or_else eqb r.puts branch)) refl refl in
       eqb-true _ branch (passed_true _ true _ (passed_true _ true _ h (ne_eqb _ 0 n)) (ne_eqb _ every e))
 
   -- only an xorSplit and an eventBased put on the branch's alone
   pub row_branch : r.puts ≡ branch → (k ≡ xor_split) ⊎ (k ≡ event_based)
-  unfolding each if◌then◌else◌
+  unfolding each if◌then◌or_else◌
   row_branch e =
-      let h = every_row k m p (λ r. if eqb r.puts branch then (eqb r.kind xor_split || eqb r.kind event_based) else true) refl refl in
-      let n = every_row k m p (λ r. if eqb r.puts branch then not (eqb r.kind 0) else true) refl refl in
+      let h = every_row k m p (λ r. if eqb r.puts branch then (eqb r.kind xor_split || eqb r.kind event_based) or_else true) refl refl in
+      let n = every_row k m p (λ r. if eqb r.puts branch then not (eqb r.kind 0) or_else true) refl refl in
       let c = eq-eqb _ branch e in
       let q : r.kind ≡ k = row_kind k m p (eqb-false _ 0 (not-true _ (chosen_true _ _ true n c))) in
       either r.kind q (chosen_true _ _ true h c)
@@ -91,28 +91,28 @@ module _ (k m p : ℕ) where
 
   -- an end takes every entry and puts nothing
   pub row_end : (r.kind ≡ 0 → ⊥) → k ≡ end → (r.takes ≡ every) × (r.puts ≡ 0) × (r.also ≡ 0)
-  unfolding each if◌then◌else◌
+  unfolding each if◌then◌or_else◌
   row_end there is =
-      let h = every_row k m p (λ r. if eqb r.kind end then eqb r.takes every else true) refl refl in
-      let g = every_row k m p (λ r. if eqb r.kind end then eqb r.puts 0 else true) refl refl in
-      let a = every_row k m p (λ r. if eqb r.kind end then eqb r.also 0 else true) refl refl in
+      let h = every_row k m p (λ r. if eqb r.kind end then eqb r.takes every or_else true) refl refl in
+      let g = every_row k m p (λ r. if eqb r.kind end then eqb r.puts 0 or_else true) refl refl in
+      let a = every_row k m p (λ r. if eqb r.kind end then eqb r.also 0 or_else true) refl refl in
       let c = eq-eqb r.kind end (row_kind k m p there ∙ is) in
       (eqb-true _ every (chosen_true _ _ true h c), eqb-true _ 0 (chosen_true _ _ true g c), eqb-true _ 0 (chosen_true _ _ true a c))
 
   -- what clears has no exits; what makes takes nothing and puts on every exit
   pub row_clearing : r.also ≡ clearing → (kind_of k).exits ≡ none
-  unfolding each if◌then◌else◌ kind_of
+  unfolding each if◌then◌or_else◌ kind_of
   row_clearing e =
-      let h = every_row k m p (λ r. if eqb r.also clearing then eqb (kind_of r.kind).exits none else true) refl refl in
-      let n = every_row k m p (λ r. if eqb r.also clearing then not (eqb r.kind 0) else true) refl refl in
+      let h = every_row k m p (λ r. if eqb r.also clearing then eqb (kind_of r.kind).exits none or_else true) refl refl in
+      let n = every_row k m p (λ r. if eqb r.also clearing then not (eqb r.kind 0) or_else true) refl refl in
       let c = eq-eqb _ clearing e in
       let q : r.kind ≡ k = row_kind k m p (eqb-false _ 0 (not-true _ (chosen_true _ _ true n c))) in
       ap (λ y. (kind_of y).exits) (sym q) ∙ eqb-true _ none (chosen_true _ _ true h c)
 
   pub row_makes : r.also ≡ making → (r.takes ≡ 0) × (r.puts ≡ every)
-  unfolding each if◌then◌else◌
+  unfolding each if◌then◌or_else◌
   row_makes e =
-      let h = every_row k m p (λ r. if eqb r.also making then eqb r.takes 0 else true) refl refl in
-      let g = every_row k m p (λ r. if eqb r.also making then eqb r.puts every else true) refl refl in
+      let h = every_row k m p (λ r. if eqb r.also making then eqb r.takes 0 or_else true) refl refl in
+      let g = every_row k m p (λ r. if eqb r.also making then eqb r.puts every or_else true) refl refl in
       let c = eq-eqb _ making e in
       (eqb-true _ 0 (chosen_true _ _ true h c), eqb-true _ every (chosen_true _ _ true g c))

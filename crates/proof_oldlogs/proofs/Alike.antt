@@ -8,7 +8,7 @@ use native.Mathlib.Omega.{arith}
 use lib.ListN.{length, set, length-set}
 use lib.Seq.{get_or-set_same, get_or-set_other, set_out}
 use Rattle.base_words.specs.Iter.{iter}
-use Rattle.base_words.specs.Pick.{if◌then◌else◌}
+use Rattle.base_words.specs.Pick.{if◌then◌or_else◌}
 use Rattle.base_words.specs.Words.{at}
 use Rattle.base_words.specs.Writes.{writes}
 use Rattle.step_queues.proofs.SlotLaws.{by_below}
@@ -50,11 +50,11 @@ module _ (K U : ℕ → Type 0) where
       (writes_alike c f g a b k n (λ j h. e j (omega arith)) (λ j h. l j (omega arith)) r)
 
 -- A choice, and a loop, on both sides of a relation
-pub choice_both : {A : Type 0} (R : A → A → Type 0) (t t' : Bool) (a b a' b' : A) → t' ≡ t → (t ≡ true → R a a') → (t ≡ false → R b b') → R (if t then a else b) (if t' then a' else b')
-unfolding if◌then◌else◌
-choice_both R t t' a b a' b' e f g = subst (λ (s : Bool). R (if t then a else b) (if s then a' else b')) (sym e) (go t f g)
+pub choice_both : {A : Type 0} (R : A → A → Type 0) (t t' : Bool) (a b a' b' : A) → t' ≡ t → (t ≡ true → R a a') → (t ≡ false → R b b') → R (if t then a or_else b) (if t' then a' or_else b')
+unfolding if◌then◌or_else◌
+choice_both R t t' a b a' b' e f g = subst (λ (s : Bool). R (if t then a or_else b) (if s then a' or_else b')) (sym e) (go t f g)
   where
-    go : (s : Bool) → (s ≡ true → R a a') → (s ≡ false → R b b') → R (if s then a else b) (if s then a' else b')
+    go : (s : Bool) → (s ≡ true → R a a') → (s ≡ false → R b b') → R (if s then a or_else b) (if s then a' or_else b')
     go true f g = f refl
     go false f g = g refl
 

@@ -12,7 +12,7 @@ use borrow.Author.Tests.{eqb-true, ltb-true}
 use Rattle.base_words.specs.Counts.{instances, edges}
 use Rattle.base_words.specs.Each.{each}
 use Rattle.base_words.specs.Iter.{iter}
-use Rattle.base_words.specs.Pick.{if◌then◌else◌}
+use Rattle.base_words.specs.Pick.{if◌then◌or_else◌}
 use Rattle.base_words.specs.Seek.{seek}
 use Rattle.base_words.specs.Words.{at}
 use Rattle.base_words.proofs.IterLaws.{iter_keeps}
@@ -94,7 +94,7 @@ module _ (ps : List Pool) (model : Model ps) (room : each has_room ps ≡ true) 
 
       -- start's first edge is mentioned
       edge_there : 0 < entry_count (element_at t p e)
-      unfolding entry_count kind_of used if◌then◌else◌
+      unfolding entry_count kind_of used if◌then◌or_else◌
       edge_there = let z : used (kind_of (kind_in (element_at t p e))).entries (at (element_at t p e) entries_place) ≡ 1 = ap (λ k. used (kind_of k).entries (at (element_at t p e) entries_place)) start_kind in omega (arith, z)
 
       edge_kept : Kept (els_in ps p) (token_place (start_edge t p))

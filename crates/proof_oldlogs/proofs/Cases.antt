@@ -13,7 +13,7 @@ use borrow.Author.Tests.{eqb-true, eq-eqb, ne_eqb, lt-ltb}
 use Rattle.base_words.specs.All.{all}
 use Rattle.base_words.specs.Counts.{branches, count_most}
 use Rattle.base_words.specs.Iter.{iter}
-use Rattle.base_words.specs.Pick.{if◌then◌else◌}
+use Rattle.base_words.specs.Pick.{if◌then◌or_else◌}
 use Rattle.base_words.specs.Sum.{hit, one_if}
 use Rattle.base_words.specs.Words.{at}
 use Rattle.base_kinds.specs.declared.moves.Move.{Move}
@@ -136,7 +136,7 @@ module _ (els : List (List ℕ)) (x y : List ℕ) (phase b : ℕ) (known : Known
 
     same_ways : branch_count y m' ≡ branch_count x m
     unfolding branch_count
-    same_ways = λ i. if eqb (row i).takes branch then entries i else if eqb (row i).puts branch then exits i else 1
+    same_ways = λ i. if eqb (row i).takes branch then entries i or_else if eqb (row i).puts branch then exits i or_else 1
 
     abbrev from : ℕ
     from = first_touched m.puts b
@@ -214,13 +214,13 @@ module _ (els : List (List ℕ)) (x y : List ℕ) (phase b : ℕ) (known : Known
     asks_none = ap (λ (r : Move). r.asks) old_row ∙ ending_is.2
 
     one_entry : entry_count y ≡ entry_count x
-    unfolding entry_count kind_of used if◌then◌else◌
+    unfolding entry_count kind_of used if◌then◌or_else◌
     one_entry =
         ap (λ k. used (kind_of k).entries (at y entries_place)) d.is
         ∙ sym (ap (λ k. used (kind_of k).entries (at x entries_place)) d.was)
 
     one_exit : exit_count y ≡ 1
-    unfolding exit_count kind_of used if◌then◌else◌
+    unfolding exit_count kind_of used if◌then◌or_else◌
     one_exit = ap (λ k. used (kind_of k).exits (at y exits_place)) d.is
 
     sent_pairing : Pairing (Kept els) (Unmentioned els) x y m m' b
@@ -256,11 +256,11 @@ module _ (els : List (List ℕ)) (x y : List ℕ) (phase b : ℕ) (known : Known
 
     -- what is put
     puts_old : (k : List ℕ) → puts x m b k ≡ k
-    unfolding puts touched iter if◌then◌else◌
+    unfolding puts touched iter if◌then◌or_else◌
     puts_old k = ap (λ (c : ℕ). iter (put_one x (first_touched c b)) k (touched c (exit_count x))) puts_none
 
     puts_new : (k : List ℕ) → puts y m' b k ≡ set k F (more (at k F))
-    unfolding puts put_one touched first_touched iter if◌then◌else◌
+    unfolding puts put_one touched first_touched iter if◌then◌or_else◌
     puts_new k =
         ap (λ (c : ℕ). iter (put_one y (first_touched c b)) k (touched c (exit_count y))) puts_one
         ∙ ap (λ (n : ℕ). iter (put_one y (first_touched every b)) k n) one_exit
@@ -285,7 +285,7 @@ module _ (els : List (List ℕ)) (x y : List ℕ) (phase b : ℕ) (known : Known
             (λ i. let z : at (set k' F (more (at k' F))) w ≡ at k' w = ap (λ (y : List ℕ). at y w) (set_out k' F (more (at k' F)) i) in omega (arith, z, r.few w u))
 
     sent_rooms : (c : ℕ → ℕ) → c F < count_most → (k k' : List ℕ) → A c k k' → has_rooms y k' m' b ≡ true
-    unfolding has_rooms edge_has_room touched first_touched all if◌then◌else◌
+    unfolding has_rooms edge_has_room touched first_touched all if◌then◌or_else◌
     sent_rooms c f k k' r =
         ap (λ (c : ℕ). all (edge_has_room y k' (first_touched c b)) (touched c (exit_count y))) puts_one
         ∙ ap (λ (n : ℕ). all (edge_has_room y k' (first_touched every b)) n) one_exit

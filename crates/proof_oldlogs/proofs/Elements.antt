@@ -11,7 +11,7 @@ use lib.Seq.{get_or-drop}
 use Rattle.base_words.specs.All.{all}
 use Rattle.base_words.specs.Counts.{branches, edges, values, assignments}
 use Rattle.base_words.specs.Iter.{iter}
-use Rattle.base_words.specs.Pick.{if◌then◌else◌}
+use Rattle.base_words.specs.Pick.{if◌then◌or_else◌}
 use Rattle.base_words.specs.Words.{at}
 use Rattle.base_words.proofs.AllLaws.{and_left, and_right}
 use Rattle.base_words.proofs.PickLaws.{and_true}
@@ -120,11 +120,11 @@ module _ (K U : ℕ → Type 0) (c : ℕ → ℕ) (x y : List ℕ) (m m' : Move)
     field_same d =
         let a : at h' (defined_place d) ≡ at h (defined_place d) = r.same (defined_place d) (P.high (defined_place d) (omega arith)) in
         let v : at h' (value_place d) ≡ at h (value_place d) = r.same (value_place d) (P.high (value_place d) (omega arith)) in
-        λ i. if eqb (a i) 0 then Undefined else Number (v i)
+        λ i. if eqb (a i) 0 then Undefined or_else Number (v i)
 
     operand_same : (w w' : List ℕ) (k : ℕ) → at w' k ≡ at w k → at w' (k + operand_number) ≡ at w (k + operand_number) → operand_of w' h' k ≡ operand_of w h k
     unfolding operand_of
-    operand_same w w' k a v = λ i. if eqb (a i) 0 then Number (v i) else (field_same (at w' (k + operand_number)) ∙ ap (field_of h) v) i
+    operand_same w w' k a v = λ i. if eqb (a i) 0 then Number (v i) or_else (field_same (at w' (k + operand_number)) ∙ ap (field_of h) v) i
 
     module _ (w w' : List ℕ) (s : Same 5 w w') where
       left_same : operand_of w' h' left_place ≡ operand_of w h left_place
@@ -137,21 +137,21 @@ module _ (K U : ℕ → Type 0) (c : ℕ → ℕ) (x y : List ℕ) (m m' : Move)
       unfolding expression_of
       expression_same = λ i.
           if eqb (s form_place (omega arith) i) plus then sum_of (left_same i) (right_same i)
-          else if eqb (s form_place (omega arith) i) minus then difference_of (left_same i) (right_same i)
-          else left_same i
+          or_else if eqb (s form_place (omega arith) i) minus then difference_of (left_same i) (right_same i)
+          or_else left_same i
 
       condition_same : condition_of w' h' ≡ condition_of w h
       unfolding condition_of
       condition_same = λ i.
           if eqb (s form_place (omega arith) i) always then True
-          else if eqb (s form_place (omega arith) i) equals then equal_of (left_same i) (right_same i)
-          else if eqb (s form_place (omega arith) i) below then less_of (left_same i) (right_same i)
-          else Neither
+          or_else if eqb (s form_place (omega arith) i) equals then equal_of (left_same i) (right_same i)
+          or_else if eqb (s form_place (omega arith) i) below then less_of (left_same i) (right_same i)
+          or_else Neither
 
     -- the message of the branch
     item_same : (g : Tuple) (j : ℕ) → j < values → item_value y b h' g j ≡ item_value x b h g j
     unfolding item_value
-    item_same g j l = λ i. if leb (length_same i) j then Number 0 else if binds_same j l i then Number (value_of g j) else expression_same (item_at x b j) (item_at y b j) (item j l) i
+    item_same g j l = λ i. if leb (length_same i) j then Number 0 or_else if binds_same j l i then Number (value_of g j) or_else expression_same (item_at x b j) (item_at y b j) (item j l) i
 
     pub evaluated_same : (g : Tuple) → evaluated y b h' g ≡ evaluated x b h g
     unfolding evaluated
@@ -179,8 +179,8 @@ module _ (K U : ℕ → Type 0) (c : ℕ → ℕ) (x y : List ℕ) (m m' : Move)
         let v : version_seen h' ≡ version_seen h = r.same version_place (P.high version_place (omega arith)) in
         λ i.
         if eqb (P.deeds.alone i) on then
-        if eqb (mode_same i) na_nc || eqb (v i) former then eqb (active_same i) 0 && eqb (ready_same i) 0 else true
-        else true
+        if eqb (mode_same i) na_nc || eqb (v i) former then eqb (active_same i) 0 && eqb (ready_same i) 0 or_else true
+        or_else true
 
     pub permits_same : counts_permit y h' m' b ≡ counts_permit x h m b
     unfolding counts_permit
@@ -196,7 +196,7 @@ module _ (K U : ℕ → Type 0) (c : ℕ → ℕ) (x y : List ℕ) (m m' : Move)
 
     other_same : (j : ℕ) → j < branches → other_false y h' b j ≡ other_false x h b j
     unfolding other_false left_out
-    other_same j l = λ i. if (if default_same b P.few i then eqb j b else default_same j l i) then true else is_false (condition_same (condition_at x j) (condition_at y j) (condition j l) i)
+    other_same j l = λ i. if (if default_same b P.few i then eqb j b or_else default_same j l i) then true or_else is_false (condition_same (condition_at x j) (condition_at y j) (condition j l) i)
 
     holds_same : eqb m.asks on ≡ true → holds y h' b ≡ holds x h b
     unfolding holds
@@ -204,7 +204,7 @@ module _ (K U : ℕ → Type 0) (c : ℕ → ℕ) (x y : List ℕ) (m m' : Move)
         let every : all (other_false y h' b) (exit_count y) ≡ all (other_false x h b) (exit_count x) =
         ap (all (other_false y h' b)) (P.exits e) ∙ all_same _ _ (exit_count x) (λ j l. other_same j (omega (arith, l, P.exits_few))) in
         let earlier : all (other_false y h' b) b ≡ all (other_false x h b) b = all_same _ _ b (λ j l. other_same j (omega (arith, l, P.few))) in
-        λ i. if default_same b P.few i then every i else is_true (condition_same (condition_at x b) (condition_at y b) (condition b P.few) i) && earlier i
+        λ i. if default_same b P.few i then every i or_else is_true (condition_same (condition_at x b) (condition_at y b) (condition b P.few) i) && earlier i
 
     pub granted_same : granted y h' m' b ≡ granted x h m b
     unfolding granted

@@ -9,7 +9,7 @@ use Rattle.base_words.specs.All.{all}
 use Rattle.base_words.specs.Sum.{sum, one_if}
 use Rattle.base_words.specs.Each.{total, each, tab, joined, those}
 use Rattle.base_words.specs.Iter.{iter}
-use Rattle.base_words.specs.Pick.{if◌then◌else◌}
+use Rattle.base_words.specs.Pick.{if◌then◌or_else◌}
 use Rattle.base_words.specs.Seek.{seek}
 use Rattle.base_words.specs.Writes.{writes}
 use Rattle.base_kinds.specs.Kinds.{kind_of, used}
@@ -59,7 +59,7 @@ use Rattle.proof_oldlogs.specs.Points.{text, said, old, steps, acts, points}
 use Rattle.proof_oldlogs.proofs.Theorems.{old_history_lawful}
 
 pub points_hold : each (λ (b : Bool). b) points ≡ true
-unfolding is_end_snd times_in mentioned is_unused first_from lowest_unused with_one sending_to end_of first_end treated end_sends all_treated rewritten unused_count room_for hasRoom-of-ends all sum total each tab joined those iter if◌then◌else◌ seek writes kind_of used mode_of is_rule rule_of move_of has_number pool_of limit_of entry_count exit_count sum_of difference_of equal_of less_of is_true is_false is_defined number_in value_of same_tuple has without times messages_of message_word messages_word queue_word with_messages tidied field_of operand_of expression_of condition_of default_at left_out other_false holds binds item_value gathered evaluated bind_one bound assigned_value assign_one assigned touched first_touched branch_count instance_named has_token has_tokens can_lower waits is_alone counts_permit granted below_limit edge_has_room has_rooms can_raise roomy expected received worked message_sent take_one taken more count_changed active_changed ready_changed put_one puts cleared moved first_refusal element_named move_named instance_of shared_of before site_of exists template work sent defined matches after_taking queued space refusals_at refusals instance_after made_after instances_after queues_after traffic step condition_count received_count sent_count of_kind as_exit as_entry as_first as_task as_received as_sent is_default defaults default_once binds_field times_bound template_once bound_once check1 check2 check3 edge_right check4 check5 pool_receives pool_sends not_sent_there check6 check7 check8 lowest among between is_blank is_sign is_digit is_letter is_word past token_of token_here token_at if_word if_sign if_assign if_end value_from leading_zero number_of same_bytes as_number is_field_letter field_behind field_from fieldOf-of-numerals as_field operandOf-of-numerals if_value if_too_large if_number if_field if_out_of_range if_at onward ◌then◌ sign_at assign_at end_at keep_number number field keep_operand operand mode_named keep_mode mode is_spelled starts_number starts_field starts_sign joint expression bind template_item comparison condition assignment guarded starts one_too_many too_many counted item_of items_from items inside series message receiving receiving_branches one_edge task_part part_of is_keyword kind_named blank parts_from parts_of element_of element starts_element put_before barred element_alone elements_at pool_word opening closing closed inside_pool pool_of_word pool starts_pool pools_at model flat filled pool_table table_of checked judged read_into
+unfolding is_end_snd times_in mentioned is_unused first_from lowest_unused with_one sending_to end_of first_end treated end_sends all_treated rewritten unused_count room_for hasRoom-of-ends all sum total each tab joined those iter if◌then◌or_else◌ seek writes kind_of used mode_of is_rule rule_of move_of has_number pool_of limit_of entry_count exit_count sum_of difference_of equal_of less_of is_true is_false is_defined number_in value_of same_tuple has without times messages_of message_word messages_word queue_word with_messages tidied field_of operand_of expression_of condition_of default_at left_out other_false holds binds item_value gathered evaluated bind_one bound assigned_value assign_one assigned touched first_touched branch_count instance_named has_token has_tokens can_lower waits is_alone counts_permit granted below_limit edge_has_room has_rooms can_raise roomy expected received worked message_sent take_one taken more count_changed active_changed ready_changed put_one puts cleared moved first_refusal element_named move_named instance_of shared_of before site_of exists template work sent defined matches after_taking queued space refusals_at refusals instance_after made_after instances_after queues_after traffic step condition_count received_count sent_count of_kind as_exit as_entry as_first as_task as_received as_sent is_default defaults default_once binds_field times_bound template_once bound_once check1 check2 check3 edge_right check4 check5 pool_receives pool_sends not_sent_there check6 check7 check8 lowest among between is_blank is_sign is_digit is_letter is_word past token_of token_here token_at if_word if_sign if_assign if_end value_from leading_zero number_of same_bytes as_number is_field_letter field_behind field_from fieldOf-of-numerals as_field operandOf-of-numerals if_value if_too_large if_number if_field if_out_of_range if_at onward ◌then◌ sign_at assign_at end_at keep_number number field keep_operand operand mode_named keep_mode mode is_spelled starts_number starts_field starts_sign joint expression bind template_item comparison condition assignment guarded starts one_too_many too_many counted item_of items_from items inside series message receiving receiving_branches one_edge task_part part_of is_keyword kind_named blank parts_from parts_of element_of element starts_element put_before barred element_alone elements_at pool_word opening closing closed inside_pool pool_of_word pool starts_pool pools_at model flat filled pool_table table_of checked judged read_into
 points_hold = refl
 
 -- THE HISTORY: its six steps were accepted, and the log that was printed of it is lawful
@@ -73,11 +73,11 @@ steps_most number i e (x ∷ xs) = omega (arith, steps_most number i e xs, one (
     one false = omega arith
 
 accepted : all_old_accepted old acts (fresh old present) ≡ true
-unfolding all_old_accepted old_did old_stepped leaving is_start start_place has_start start_edge pool_begun fresh is_end_snd times_in mentioned is_unused first_from lowest_unused with_one sending_to end_of first_end treated end_sends all_treated rewritten unused_count room_for hasRoom-of-ends all sum total each tab joined those iter if◌then◌else◌ seek writes kind_of used mode_of is_rule rule_of move_of has_number pool_of limit_of entry_count exit_count sum_of difference_of equal_of less_of is_true is_false is_defined number_in value_of same_tuple has without times messages_of message_word messages_word queue_word with_messages tidied field_of operand_of expression_of condition_of default_at left_out other_false holds binds item_value gathered evaluated bind_one bound assigned_value assign_one assigned touched first_touched branch_count instance_named has_token has_tokens can_lower waits is_alone counts_permit granted below_limit edge_has_room has_rooms can_raise roomy expected received worked message_sent take_one taken more count_changed active_changed ready_changed put_one puts cleared moved first_refusal element_named move_named instance_of shared_of before site_of exists template work sent defined matches after_taking queued space refusals_at refusals instance_after made_after instances_after queues_after traffic step condition_count received_count sent_count of_kind as_exit as_entry as_first as_task as_received as_sent is_default defaults default_once binds_field times_bound template_once bound_once check1 check2 check3 edge_right check4 check5 pool_receives pool_sends not_sent_there check6 check7 check8 lowest among between is_blank is_sign is_digit is_letter is_word past token_of token_here token_at if_word if_sign if_assign if_end value_from leading_zero number_of same_bytes as_number is_field_letter field_behind field_from fieldOf-of-numerals as_field operandOf-of-numerals if_value if_too_large if_number if_field if_out_of_range if_at onward ◌then◌ sign_at assign_at end_at keep_number number field keep_operand operand mode_named keep_mode mode is_spelled starts_number starts_field starts_sign joint expression bind template_item comparison condition assignment guarded starts one_too_many too_many counted item_of items_from items inside series message receiving receiving_branches one_edge task_part part_of is_keyword kind_named blank parts_from parts_of element_of element starts_element put_before barred element_alone elements_at pool_word opening closing closed inside_pool pool_of_word pool starts_pool pools_at model flat filled pool_table table_of checked judged read_into
+unfolding all_old_accepted old_did old_stepped leaving is_start start_place has_start start_edge pool_begun fresh is_end_snd times_in mentioned is_unused first_from lowest_unused with_one sending_to end_of first_end treated end_sends all_treated rewritten unused_count room_for hasRoom-of-ends all sum total each tab joined those iter if◌then◌or_else◌ seek writes kind_of used mode_of is_rule rule_of move_of has_number pool_of limit_of entry_count exit_count sum_of difference_of equal_of less_of is_true is_false is_defined number_in value_of same_tuple has without times messages_of message_word messages_word queue_word with_messages tidied field_of operand_of expression_of condition_of default_at left_out other_false holds binds item_value gathered evaluated bind_one bound assigned_value assign_one assigned touched first_touched branch_count instance_named has_token has_tokens can_lower waits is_alone counts_permit granted below_limit edge_has_room has_rooms can_raise roomy expected received worked message_sent take_one taken more count_changed active_changed ready_changed put_one puts cleared moved first_refusal element_named move_named instance_of shared_of before site_of exists template work sent defined matches after_taking queued space refusals_at refusals instance_after made_after instances_after queues_after traffic step condition_count received_count sent_count of_kind as_exit as_entry as_first as_task as_received as_sent is_default defaults default_once binds_field times_bound template_once bound_once check1 check2 check3 edge_right check4 check5 pool_receives pool_sends not_sent_there check6 check7 check8 lowest among between is_blank is_sign is_digit is_letter is_word past token_of token_here token_at if_word if_sign if_assign if_end value_from leading_zero number_of same_bytes as_number is_field_letter field_behind field_from fieldOf-of-numerals as_field operandOf-of-numerals if_value if_too_large if_number if_field if_out_of_range if_at onward ◌then◌ sign_at assign_at end_at keep_number number field keep_operand operand mode_named keep_mode mode is_spelled starts_number starts_field starts_sign joint expression bind template_item comparison condition assignment guarded starts one_too_many too_many counted item_of items_from items inside series message receiving receiving_branches one_edge task_part part_of is_keyword kind_named blank parts_from parts_of element_of element starts_element put_before barred element_alone elements_at pool_word opening closing closed inside_pool pool_of_word pool starts_pool pools_at model flat filled pool_table table_of checked judged read_into
 accepted = refl
 
 read : (read_into text []).number ≡ 0
-unfolding is_end_snd times_in mentioned is_unused first_from lowest_unused with_one sending_to end_of first_end treated end_sends all_treated rewritten unused_count room_for hasRoom-of-ends all sum total each tab joined those iter if◌then◌else◌ seek writes kind_of used mode_of is_rule rule_of move_of has_number pool_of limit_of entry_count exit_count sum_of difference_of equal_of less_of is_true is_false is_defined number_in value_of same_tuple has without times messages_of message_word messages_word queue_word with_messages tidied field_of operand_of expression_of condition_of default_at left_out other_false holds binds item_value gathered evaluated bind_one bound assigned_value assign_one assigned touched first_touched branch_count instance_named has_token has_tokens can_lower waits is_alone counts_permit granted below_limit edge_has_room has_rooms can_raise roomy expected received worked message_sent take_one taken more count_changed active_changed ready_changed put_one puts cleared moved first_refusal element_named move_named instance_of shared_of before site_of exists template work sent defined matches after_taking queued space refusals_at refusals instance_after made_after instances_after queues_after traffic step condition_count received_count sent_count of_kind as_exit as_entry as_first as_task as_received as_sent is_default defaults default_once binds_field times_bound template_once bound_once check1 check2 check3 edge_right check4 check5 pool_receives pool_sends not_sent_there check6 check7 check8 lowest among between is_blank is_sign is_digit is_letter is_word past token_of token_here token_at if_word if_sign if_assign if_end value_from leading_zero number_of same_bytes as_number is_field_letter field_behind field_from fieldOf-of-numerals as_field operandOf-of-numerals if_value if_too_large if_number if_field if_out_of_range if_at onward ◌then◌ sign_at assign_at end_at keep_number number field keep_operand operand mode_named keep_mode mode is_spelled starts_number starts_field starts_sign joint expression bind template_item comparison condition assignment guarded starts one_too_many too_many counted item_of items_from items inside series message receiving receiving_branches one_edge task_part part_of is_keyword kind_named blank parts_from parts_of element_of element starts_element put_before barred element_alone elements_at pool_word opening closing closed inside_pool pool_of_word pool starts_pool pools_at model flat filled pool_table table_of checked judged read_into
+unfolding is_end_snd times_in mentioned is_unused first_from lowest_unused with_one sending_to end_of first_end treated end_sends all_treated rewritten unused_count room_for hasRoom-of-ends all sum total each tab joined those iter if◌then◌or_else◌ seek writes kind_of used mode_of is_rule rule_of move_of has_number pool_of limit_of entry_count exit_count sum_of difference_of equal_of less_of is_true is_false is_defined number_in value_of same_tuple has without times messages_of message_word messages_word queue_word with_messages tidied field_of operand_of expression_of condition_of default_at left_out other_false holds binds item_value gathered evaluated bind_one bound assigned_value assign_one assigned touched first_touched branch_count instance_named has_token has_tokens can_lower waits is_alone counts_permit granted below_limit edge_has_room has_rooms can_raise roomy expected received worked message_sent take_one taken more count_changed active_changed ready_changed put_one puts cleared moved first_refusal element_named move_named instance_of shared_of before site_of exists template work sent defined matches after_taking queued space refusals_at refusals instance_after made_after instances_after queues_after traffic step condition_count received_count sent_count of_kind as_exit as_entry as_first as_task as_received as_sent is_default defaults default_once binds_field times_bound template_once bound_once check1 check2 check3 edge_right check4 check5 pool_receives pool_sends not_sent_there check6 check7 check8 lowest among between is_blank is_sign is_digit is_letter is_word past token_of token_here token_at if_word if_sign if_assign if_end value_from leading_zero number_of same_bytes as_number is_field_letter field_behind field_from fieldOf-of-numerals as_field operandOf-of-numerals if_value if_too_large if_number if_field if_out_of_range if_at onward ◌then◌ sign_at assign_at end_at keep_number number field keep_operand operand mode_named keep_mode mode is_spelled starts_number starts_field starts_sign joint expression bind template_item comparison condition assignment guarded starts one_too_many too_many counted item_of items_from items inside series message receiving receiving_branches one_edge task_part part_of is_keyword kind_named blank parts_from parts_of element_of element starts_element put_before barred element_alone elements_at pool_word opening closing closed inside_pool pool_of_word pool starts_pool pools_at model flat filled pool_table table_of checked judged read_into
 read = refl
 
 -- no event has a moment; a step's line is not long
@@ -85,7 +85,7 @@ abbrev none : ℕ → ℕ
 none k = 0
 
 events_short : (ns : List Name) (z : List ℕ) → length (events_text none (old_told old (map a_step ns) z)) ≤ event_most * length ns
-unfolding old_told old_line events_text event_text event_opening event_closing stamp_text if◌then◌else◌
+unfolding old_told old_line events_text event_text event_opening event_closing stamp_text if◌then◌or_else◌
 events_short [] z = omega arith
 events_short (n ∷ ns) z =
     let line : List ℕ = step_line n (old_stepped old z n).answer in

@@ -12,7 +12,7 @@ use lib.Seq.{get_or-take}
 use borrow.Author.Tests.{eqb-true, eq-eqb}
 use Rattle.base_words.specs.Counts.{pools, branches, edges}
 use Rattle.base_words.specs.Each.{each, total}
-use Rattle.base_words.specs.Pick.{if◌then◌else◌}
+use Rattle.base_words.specs.Pick.{if◌then◌or_else◌}
 use Rattle.base_words.specs.Seek.{seek}
 use Rattle.base_words.specs.Sum.{sum, hit, one_if}
 use Rattle.base_words.specs.Words.{at}
@@ -58,9 +58,9 @@ module _ (k m p : ℕ) (there : (move_of k m p).kind ≡ 0 → ⊥) where
       (eq-or-lt_of_le s.0)
 
   pub phase_none : k ≡ end_snd → p ≡ 0
-  unfolding move_of each if◌then◌else◌
+  unfolding move_of each if◌then◌or_else◌
   phase_none e =
-      let a = each_at (λ (r : Move). if eqb r.kind end_snd then eqb r.phase 0 else true) moves no_move refl refl (rule_of k m p) in
+      let a = each_at (λ (r : Move). if eqb r.kind end_snd then eqb r.phase 0 or_else true) moves no_move refl refl (rule_of k m p) in
       sym row_phase ∙ eqb-true (move_of k m p).phase 0 (chosen_true (eqb (move_of k m p).kind end_snd) _ true a (eq-eqb (move_of k m p).kind end_snd (row_kind k m p there ∙ e)))
 
 abbrev pub ending : Move
@@ -70,15 +70,15 @@ abbrev pub sending : Move
 sending = move_of inter_snd 0 0
 
 pub send_deeds : Deeds ending sending
-unfolding move_of rule_of is_rule mode_of seek if◌then◌else◌
+unfolding move_of rule_of is_rule mode_of seek if◌then◌or_else◌
 send_deeds = record { takes = refl; asks = refl; receives = refl; assigns = refl; sends = refl; active = refl; ready = refl; alone = refl; also = refl }
 
 pub ending_is : (ending.takes ≡ every) × (ending.puts ≡ 0) × (ending.asks ≡ 0)
-unfolding move_of rule_of is_rule mode_of seek if◌then◌else◌
+unfolding move_of rule_of is_rule mode_of seek if◌then◌or_else◌
 ending_is = (refl, refl, refl)
 
 pub sending_is : (sending.takes ≡ every) × (sending.puts ≡ every) × (sending.kind ≡ inter_snd)
-unfolding move_of rule_of is_rule mode_of seek if◌then◌else◌
+unfolding move_of rule_of is_rule mode_of seek if◌then◌or_else◌
 sending_is = (refl, refl, refl)
 
 -- AN EDGE THAT NO ELEMENT MENTIONS, and the place of its tokens; the other places
@@ -133,7 +133,7 @@ module _ (els : List (List ℕ)) (every : Every Right els) (e : ℕ) (l : e < le
 -- an endSnd x has no mode, one entry and no exit
 module _ (x : List ℕ) (r : Right x) (is : is_end_snd x ≡ true) where
   pub end_mode : mode_in x ≡ 0
-  unfolding is_end_snd element_fits kind_of task_fits if◌then◌else◌
+  unfolding is_end_snd element_fits kind_of task_fits if◌then◌or_else◌
   end_mode =
       let was : kind_in x ≡ end_snd = eqb-true (kind_in x) end_snd is in
       let parts : parts_fit (kind_of end_snd) x ≡ true = ap (λ k. parts_fit (kind_of k) x) (sym was) ∙ and_right (not (eqb (kind_of (kind_in x)).letters 0)) _ r.fits in

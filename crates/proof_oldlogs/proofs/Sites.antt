@@ -6,7 +6,7 @@ use mathlib.Core.List.{List}
 use lib.Dec.{eqb, ltb}
 use lib.ListN.{length}
 use Rattle.base_words.specs.Counts.{messages}
-use Rattle.base_words.specs.Pick.{if◌then◌else◌}
+use Rattle.base_words.specs.Pick.{if◌then◌or_else◌}
 use Rattle.base_kinds.specs.declared.moves.Move.{Move}
 use Rattle.base_kinds.specs.Moves.{on, making}
 use Rattle.meaning.specs.declared.Tuple.{Tuple}
@@ -75,18 +75,18 @@ module _ (K U : ℕ → Type 0) (c : ℕ → ℕ) (x y : List ℕ) (m m' : Move)
 
   pub made_same : made_after Y ≡ made_after X
   unfolding made_after
-  made_same = λ i. if eqb (P.deeds.also i) making then more made else made
+  made_same = λ i. if eqb (P.deeds.also i) making then more made or_else made
 
   pub queues_same : (q : List ℕ) → queues_after Y q ≡ queues_after X q
   unfolding queues_after
-  queues_same q = λ i. if receives_same i then consuming q (named_same i) g else if sends_same i then sending q (named_same i) (sent_same i).tuple else q
+  queues_same q = λ i. if receives_same i then consuming q (named_same i) g or_else if sends_same i then sending q (named_same i) (sent_same i).tuple or_else q
 
   pub traffic_same : traffic Y ≡ traffic X
   unfolding traffic
   traffic_same = λ i.
       if receives_same i then record { number = 0; traffic = Consumed; name = named_same i; tuple = (template_same i).tuple }
-      else if sends_same i then record { number = 0; traffic = Sent; name = named_same i; tuple = (sent_same i).tuple }
-      else record { number = 0; traffic = Nothing; name = 0; tuple = empty }
+      or_else if sends_same i then record { number = 0; traffic = Sent; name = named_same i; tuple = (sent_same i).tuple }
+      or_else record { number = 0; traffic = Nothing; name = 0; tuple = empty }
 
   pub accepted_alike : (has_rooms x (after_taking X) m b ≡ true → has_rooms y (after_taking Y) m' b ≡ true) → (q : List ℕ) → Accepted X q → Accepted Y q
   unfolding matches queued space below_limit
@@ -97,8 +97,8 @@ module _ (K U : ℕ → Type 0) (c : ℕ → ℕ) (x y : List ℕ) (m m' : Move)
     outright = (λ i. receives_same i || defined_same i) ∙ a.outright;
     matched = ap (λ (e : Evaluated). same_tuple e.tuple g) template_same ∙ a.matched;
     worked_out = defined_same ∙ a.worked_out;
-    waiting = (λ i. if receives_same i then has g (messages_of q (named_same i)) else true) ∙ a.waiting;
-    limited = (λ i. if eqb (P.deeds.also i) making then ltb made limit else true) ∙ a.limited;
-    spacious = (λ i. if sends_same i then ltb (length (messages_of q (named_same i))) messages else true) ∙ a.spacious;
+    waiting = (λ i. if receives_same i then has g (messages_of q (named_same i)) or_else true) ∙ a.waiting;
+    limited = (λ i. if eqb (P.deeds.also i) making then ltb made limit or_else true) ∙ a.limited;
+    spacious = (λ i. if sends_same i then ltb (length (messages_of q (named_same i))) messages or_else true) ∙ a.spacious;
     roomed = roomy_alike K U c x y m m' b P (after_taking X) (after_taking Y) taking_alike rooms a.roomed;
   }

@@ -13,7 +13,7 @@ use lib.Seq.{get_or-append-add}
 use borrow.Author.Tests.{eqb-true, eq-eqb, ne_eqb, lt-ltb, ltb-true}
 use Rattle.base_words.specs.Counts.{pools, instances, count_most}
 use Rattle.base_words.specs.Each.{each}
-use Rattle.base_words.specs.Pick.{if◌then◌else◌}
+use Rattle.base_words.specs.Pick.{if◌then◌or_else◌}
 use Rattle.base_words.specs.Sum.{one_if}
 use Rattle.base_words.specs.Words.{at}
 use Rattle.base_words.proofs.ListLaws.{get_d_tab}
@@ -190,7 +190,7 @@ module _ (ps : List Pool) (model : Model ps) (room : each has_room ps ≡ true) 
   zeros = replicate instance_words 0
 
   abbrev own : List ℕ → Move → List ℕ
-  own z r = if eqb r.also making then zeros else instance_of z p i
+  own z r = if eqb r.also making then zeros or_else instance_of z p i
 
   own_long : (z : List ℕ) (r : Move) → length (own z r) ≡ instance_words
   own_long z r = by_choice (λ (w : List ℕ). length w ≡ instance_words) (eqb r.also making) zeros (instance_of z p i) (λ o. length-replicate {A = ℕ} instance_words 0) (λ o. instance_long z p i)
@@ -269,7 +269,7 @@ module _ (ps : List Pool) (model : Model ps) (room : each has_room ps ≡ true) 
       (ap (λ r. ltb e (element_count t' r)) pool_same ∙ lt-ltb e (element_count t' p) (omega (arith, h, count_new ps model room p l, (spots_of ps model room p l).longer))))
       (ap not (ne_eqb m'.kind 0 both.there)))
       (lt-ltb b (branch_count y m') (subst (λ k. b < k) (sym both.ways) f.branch)))
-      ((λ j. if eqb (also_same j) making then eqb i (made_new j) else ltb i (made_new j)) ∙ f.instance)
+      ((λ j. if eqb (also_same j) making then eqb i (made_new j) or_else ltb i (made_new j)) ∙ f.instance)
 
   -- THE EDGE of an endSnd
   was_end : Sent els x y → is_end_snd (get_or els e []) ≡ true

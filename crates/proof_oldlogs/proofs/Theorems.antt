@@ -11,7 +11,7 @@ use lib.Seq.{get_or-take, take_at, drop_at, length-take-le}
 use borrow.Author.Tests.{eqb-true, eq-eqb}
 use Rattle.base_words.specs.Counts.{instances, count_most}
 use Rattle.base_words.specs.Each.{each, total}
-use Rattle.base_words.specs.Pick.{if◌then◌else◌}
+use Rattle.base_words.specs.Pick.{if◌then◌or_else◌}
 use Rattle.base_words.specs.Sum.{one_if}
 use Rattle.base_words.specs.Words.{at}
 use Rattle.base_words.proofs.AllLaws.{and_left, and_right}
@@ -62,7 +62,7 @@ use Rattle.proof_oldlogs.proofs.Steps.{Follows, counting, none_refused, traffic_
 use Rattle.proof_oldlogs.proofs.Beginnings.{fresh_same, fresh_blank}
 
 -- what is accepted, by its number
-first_none : (k : ℕ) (o w : Outcome) → o.answer.number ≡ k → (if eqb k 0 then w else o).answer.number ≡ 0 → k ≡ 0
+first_none : (k : ℕ) (o w : Outcome) → o.answer.number ≡ k → (if eqb k 0 then w or_else o).answer.number ≡ 0 → k ≡ 0
 first_none k o w e h = by_test (eqb k 0) (λ y. eqb-true k 0 y) (λ y. sym e ∙ sym (ap (λ (u : Outcome). u.answer.number) (passed (eqb k 0) w o y)) ∙ h)
 
 module _ (ps : List Pool) (m : Model ps) (room : each has_room ps ≡ true) (sound : lowest ps ≡ 0) where

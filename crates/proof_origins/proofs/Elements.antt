@@ -10,7 +10,7 @@ use lib.Dec.{eqb}
 use lib.ListN.{drop, get_or, take}
 use borrow.Author.Tests.{eqb-true, eq-eqb}
 use Rattle.base_words.specs.Each.{each}
-use Rattle.base_words.specs.Pick.{if◌then◌else◌}
+use Rattle.base_words.specs.Pick.{if◌then◌or_else◌}
 use Rattle.base_words.specs.Words.{at}
 use Rattle.base_words.proofs.AllLaws.{and_left, and_right}
 use Rattle.base_words.proofs.ListLaws.{each_at}
@@ -33,18 +33,18 @@ use Rattle.proof_origins.proofs.Pieces.{expression_text, item_text_lem, sent_tex
 unfoldable pub part_text : ℕ → List ℕ → List ℕ
 part_text c el =
     if eqb c (code "E") then shown (entry_at el 0)
-    else if eqb c (code "X") then shown (exit_at el 0)
-    else if eqb c (code "F") then edges_text (entries_of el)
-    else if eqb c (code "Y") then edges_text (exits_of el)
-    else if eqb c (code "N") then task_text (task_in el) (mode_at el) (guard_of el) (assignments_of el)
-    else if eqb c (code "T") then message_text item_text (message_name el 0) (template_of el 0)
-    else if eqb c (code "S") then message_text exp_text (message_name el 0) (message_of el 0)
-    else if eqb c (code "G") then enclosed (code "{") (code "}") (list choice_text (span (choice_of el) 0 (exit_count el)))
-    else list receipt_text (span (receipt_of el) 0 (exit_count el))
+    or_else if eqb c (code "X") then shown (exit_at el 0)
+    or_else if eqb c (code "F") then edges_text (entries_of el)
+    or_else if eqb c (code "Y") then edges_text (exits_of el)
+    or_else if eqb c (code "N") then task_text (task_in el) (mode_at el) (guard_of el) (assignments_of el)
+    or_else if eqb c (code "T") then message_text item_text (message_name el 0) (template_of el 0)
+    or_else if eqb c (code "S") then message_text exp_text (message_name el 0) (message_of el 0)
+    or_else if eqb c (code "G") then enclosed (code "{") (code "}") (list choice_text (span (choice_of el) 0 (exit_count el)))
+    or_else list receipt_text (span (receipt_of el) 0 (exit_count el))
 
 unfoldable pub parts_text : ℕ → List ℕ → List ℕ → List ℕ
 parts_text s [] el = []
-parts_text s (c ∷ cs) el = if eqb c (code " ") then [] else s ∷ (part_text c el ++ parts_text (code ",") cs el)
+parts_text s (c ∷ cs) el = if eqb c (code " ") then [] or_else s ∷ (part_text c el ++ parts_text (code ",") cs el)
 
 unfoldable pub row_text : Kind → List ℕ → List ℕ
 row_text k el = take k.letters k.keyword ++ (parts_text (code "(") k.parts el ++ (code ")" ∷ []))
@@ -53,26 +53,26 @@ row_text k el = take k.letters k.keyword ++ (parts_text (code "(") k.parts el ++
 unfoldable suits : Kind → ℕ → Bool
 suits k c =
     if eqb c (code "E") then true
-    else if eqb c (code "X") then true
-    else if eqb c (code "F") then eqb k.entries many
-    else if eqb c (code "Y") then eqb k.exits many
-    else if eqb c (code "N") then eqb k.task one && eqb k.conditions one
-    else if eqb c (code "T") then eqb (k.receives + k.sends) one
-    else if eqb c (code "S") then eqb (k.receives + k.sends) one && eqb k.receives none
-    else if eqb c (code "G") then eqb k.exits many && eqb k.conditions many
-    else eqb k.exits many && eqb (k.receives + k.sends) many
+    or_else if eqb c (code "X") then true
+    or_else if eqb c (code "F") then eqb k.entries many
+    or_else if eqb c (code "Y") then eqb k.exits many
+    or_else if eqb c (code "N") then eqb k.task one && eqb k.conditions one
+    or_else if eqb c (code "T") then eqb (k.receives + k.sends) one
+    or_else if eqb c (code "S") then eqb (k.receives + k.sends) one && eqb k.receives none
+    or_else if eqb c (code "G") then eqb k.exits many && eqb k.conditions many
+    or_else eqb k.exits many && eqb (k.receives + k.sends) many
 
 unfoldable all_suit : Kind → List ℕ → Bool
 all_suit k [] = true
-all_suit k (c ∷ cs) = if eqb c (code " ") then true else suits k c && all_suit k cs
+all_suit k (c ∷ cs) = if eqb c (code " ") then true or_else suits k c && all_suit k cs
 
 rows_suit : (k : ℕ) → all_suit (kind_of k) (kind_of k).parts ≡ true
-unfolding kind_of all_suit suits each if◌then◌else◌
+unfolding kind_of all_suit suits each if◌then◌or_else◌
 rows_suit k = each_at (λ (r : Kind). all_suit r r.parts) kinds no_kind refl refl k
 
 -- two chains with the tests of a third
-choices : {A : Type 0} (b u w : Bool) (x x' y y' : A) → (u ≡ true → x ≡ x') → (w ≡ true → y ≡ y') → (if b then u else w) ≡ true → (if b then x else y) ≡ (if b then x' else y')
-unfolding if◌then◌else◌
+choices : {A : Type 0} (b u w : Bool) (x x' y y' : A) → (u ≡ true → x ≡ x') → (w ≡ true → y ≡ y') → (if b then u or_else w) ≡ true → (if b then x or_else y) ≡ (if b then x' or_else y')
+unfolding if◌then◌or_else◌
 choices true u w x x' y y' f g h = f h
 choices false u w x x' y y' f g h = g h
 
@@ -197,13 +197,15 @@ at_both : {A B : Type 0} (R : A → B → Type 0) (xs : List A) (ys : List B) (d
 at_both R [] [] d e nil r k = r
 at_both R (x ∷ xs) (y ∷ ys) d e (cons p b) r zero = p
 at_both R (x ∷ xs) (y ∷ ys) d e (cons p b) r (suc k) = at_both R xs ys d e b r k
+at_both R [] (y ∷ ys) d e b r k = elim b [ ]
+at_both R (x ∷ xs) [] d e b r k = elim b [ ]
 
 module _ (el : List ℕ) where
   abbrev Says : Element → Kind → Type 0
   Says x k = eqb k.letters 0 ≡ false → element_text x ≡ row_text k el
 
   rows_say : Both Says (of_each_kind el) kinds
-  unfolding of_each_kind element_text called behind_each row_text parts_text part_text if◌then◌else◌
+  unfolding of_each_kind element_text called behind_each row_text parts_text part_text if◌then◌or_else◌
   rows_say = cons (λ q. absurd (false≢true (sym q))) (cons (λ q. refl) (cons (λ q. refl) (cons (λ q. refl) (cons (λ q. refl) (cons (λ q. refl) (cons (λ q. refl) (cons (λ q. refl) (cons (λ q. refl) (cons (λ q. refl) (cons (λ q. refl) (cons (λ q. refl) (cons (λ q. refl) (cons (λ q. refl) (cons (λ q. refl) (cons (λ q. refl) nil)))))))))))))))
 
   row_says : (k : ℕ) → eqb (kind_of k).letters 0 ≡ false → element_text (get_or (of_each_kind el) k (end 0)) ≡ row_text (kind_of k) el

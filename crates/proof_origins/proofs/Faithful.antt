@@ -11,7 +11,7 @@ use lib.ListN.{length, drop}
 use lib.Seq.{get_or-drop, ext_get_or}
 use borrow.Author.Tests.{eqb-true, ltb-true, lt-ltb, le-leb}
 use Rattle.base_words.specs.All.{all}
-use Rattle.base_words.specs.Pick.{if◌then◌else◌}
+use Rattle.base_words.specs.Pick.{if◌then◌or_else◌}
 use Rattle.base_words.specs.Words.{at}
 use Rattle.base_words.specs.Counts.{pools, edges, tasks, fields, names, instances, fields_named}
 use Rattle.base_words.proofs.AllLaws.{and_left, and_right, all_at}
@@ -60,10 +60,10 @@ cut w (suc n) j l =
 
 -- A FIELD OR A STORE: whether it is defined, and its value
 abbrev pair_fits : ℕ → ℕ → Bool
-pair_fits D W = if eqb D 0 then eqb W 0 else eqb D 1
+pair_fits D W = if eqb D 0 then eqb W 0 or_else eqb D 1
 
 abbrev value_in : ℕ → ℕ → Value
-value_in D W = if eqb D 0 then Undefined else Number W
+value_in D W = if eqb D 0 then Undefined or_else Number W
 
 pair_same : (D W D' W' : ℕ) → pair_fits D W ≡ true → pair_fits D' W' ≡ true → value_in D W ≡ value_in D' W' → (D ≡ D') × (W ≡ W')
 unfolding is_defined number_in

@@ -9,7 +9,7 @@ use lib.Dec.{eqb, ltb}
 use lib.ListN.{drop, get_or}
 use lib.Seq.{get_or-drop}
 use borrow.Author.Tests.{eqb-true, eqb-false, eq-eqb, ne_eqb}
-use Rattle.base_words.specs.Pick.{if◌then◌else◌}
+use Rattle.base_words.specs.Pick.{if◌then◌or_else◌}
 use Rattle.base_words.specs.Words.{at}
 use Rattle.base_words.specs.Counts.{fields_named}
 use Rattle.base_words.proofs.AllLaws.{and_left, and_right}
@@ -124,7 +124,7 @@ module _ (x : List ℕ) where
 
 -- A MODE
 pub mode_text_lem : (k : ℕ) → k ≤ Row.na_nc → (k ≡ 0 → ⊥) → shown_mode k ≡ mode_text (get_or (a ∷ a ∷ na_c ∷ na_nc ∷ []) k a)
-unfolding shown_mode mode_text if◌then◌else◌
+unfolding shown_mode mode_text if◌then◌or_else◌
 mode_text_lem zero l z = absurd (z refl)
 mode_text_lem (suc zero) l z = refl
 mode_text_lem (suc (suc zero)) l z = refl

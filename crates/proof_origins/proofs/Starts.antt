@@ -8,7 +8,7 @@ use lib.Dec.{eqb, ltb}
 use lib.ListN.{length, get_or, set, replicate, length-replicate}
 use lib.Seq.{get_or-take, get_or-set_same, get_or-set_other}
 use borrow.Author.Tests.{eqb-true, eqb-false, eq-eqb, ne_eqb, ltb-true, ltb-false, lt-ltb, le-ltb}
-use Rattle.base_words.specs.Pick.{if◌then◌else◌}
+use Rattle.base_words.specs.Pick.{if◌then◌or_else◌}
 use Rattle.base_words.specs.Seek.{seek}
 use Rattle.base_words.specs.Each.{tab}
 use Rattle.base_words.specs.Sum.{one_if, hit}
@@ -50,7 +50,7 @@ module _ {A B : Type 0} (f : ℕ → A) (test : A → Bool) (get : A → B) (non
   passes j = test (f j)
 
   abbrev found : ℕ → B
-  found n = if ltb (seek passes n) n then get (f (seek passes n)) else none
+  found n = if ltb (seek passes n) n then get (f (seek passes n)) or_else none
 
   first_from_lem : (k n m : ℕ) → k + n ≡ m → ((j : ℕ) → j < k → passes j ≡ false) → of_first test get none (span f k n) ≡ found m
   unfolding of_first span
@@ -87,15 +87,15 @@ abbrev Waits : Element → Type 0
 Waits el = beginning_at el ≡ waits
 
 module _ (el : List ℕ) where
-  by_kind : (k : ℕ) → beginning_at (get_or (of_each_kind el) k (end 0)) ≡ (if eqb k Kinds.start then begins (entry_at el 0) else waits)
-  unfolding of_each_kind beginning_at if◌then◌else◌
+  by_kind : (k : ℕ) → beginning_at (get_or (of_each_kind el) k (end 0)) ≡ (if eqb k Kinds.start then begins (entry_at el 0) or_else waits)
+  unfolding of_each_kind beginning_at if◌then◌or_else◌
   by_kind zero = refl
   by_kind (suc zero) = refl
   by_kind (suc (suc k)) =
       at_each Waits _ (end 0) (more refl (more refl (more refl (more refl (more refl (more refl (more refl (more refl (more refl (more refl (more refl (more refl (more refl (more refl none)))))))))))))) refl k
       ∙ sym (passed (eqb (suc (suc k)) Kinds.start) _ waits (ne_eqb (suc (suc k)) Kinds.start (λ q. omega arith)))
 
-  element_begins : beginning_at (element_of el) ≡ (if eqb (kind_in el) Kinds.start then begins (entry_at el 0) else waits)
+  element_begins : beginning_at (element_of el) ≡ (if eqb (kind_in el) Kinds.start then begins (entry_at el 0) or_else waits)
   unfolding element_of
   element_begins = by_kind (kind_in el)
 
@@ -107,17 +107,17 @@ module _ (el : List ℕ) where
 
 -- A POOL and a collaboration
 module _ (t : List ℕ) where
-  process_begins : (p : ℕ) → beginning (process_at t p) ≡ (if has_start t p then begins (start_edge t p) else waits)
+  process_begins : (p : ℕ) → beginning (process_at t p) ≡ (if has_start t p then begins (start_edge t p) or_else waits)
   unfolding process_at has_start start_place is_start start_edge
   process_begins p =
       let n : ℕ = element_count t p in
       let s : ℕ = start_place t p in
       let w : seek (λ j. is_beginning (beginning_at (element_of (element_at t p j)))) n ≡ s = seek_alike _ (is_start t p) (λ j. is_beginning_lem (element_at t p j)) n in
       first_is (λ e. element_of (element_at t p e)) (λ x. is_beginning (beginning_at x)) beginning_at waits n
-      ∙ ap (λ k. if ltb k n then beginning_at (element_of (element_at t p k)) else waits) w
+      ∙ ap (λ k. if ltb k n then beginning_at (element_of (element_at t p k)) or_else waits) w
       ∙ same_if (ltb s n) waits _ _ (λ y. element_begins (element_at t p s) ∙ chosen (eqb (kind_in (element_at t p s)) Kinds.start) _ waits (eq-eqb (kind_in (element_at t p s)) Kinds.start (start_kind t p y)))
 
-  pool_begins : (p : ℕ) → beginning_of (collaboration_of t) p ≡ (if is_pool t p then beginning (process_at t (pool_of t p)) else waits)
+  pool_begins : (p : ℕ) → beginning_of (collaboration_of t) p ≡ (if is_pool t p then beginning (process_at t (pool_of t p)) or_else waits)
   unfolding beginning_of collaboration_of pool_at is_pool pool_of has_number
   pool_begins p = first_is (pool_at t) (λ (P : Pool). eqb P.name p) (λ (P : Pool). beginning P.process) waits (pool_count t)
 
@@ -176,7 +176,7 @@ module _ (t : List ℕ) (v : ℕ) (fits : table_fits t ≡ true) where
       (λ e. made_begun q l e ∙ ap instances_begun (sym (process_begins t q ∙ chosen (has_start t q) _ waits e)))
       (λ e. made_blank q l e ∙ ap instances_begun (sym (process_begins t q ∙ passed (has_start t q) _ waits e)))
 
-  pool_opening : (q i : ℕ) → q < pool_count t → inside_or blank (ltb i (made_count s q)) (own_of (local_of (instance_of s q i))) ≡ (if eqb i 0 then opening (beginning (process_at t q)) else blank)
+  pool_opening : (q i : ℕ) → q < pool_count t → inside_or blank (ltb i (made_count s q)) (own_of (local_of (instance_of s q i))) ≡ (if eqb i 0 then opening (beginning (process_at t q)) or_else blank)
   unfolding opening
   pool_opening q i l =
       by_test (has_start t q)
@@ -202,14 +202,14 @@ module _ (t : List ℕ) (v : ℕ) (fits : table_fits t ≡ true) where
       (λ y. chosen (is_pool t p) _ 0 y ∙ pool_count_lem (pool_of t p) (ltb-true (pool_of t p) (pool_count t) y) ∙ ap instances_begun (sym (pool_begins t p ∙ chosen (is_pool t p) _ waits y)))
       (λ y. passed (is_pool t p) _ 0 y ∙ ap instances_begun (sym (pool_begins t p ∙ passed (is_pool t p) _ waits y)))
 
-  instance_initial : (p i : ℕ) → inside_or blank (is_pool t p && ltb i (made_count s (pool_of t p))) (own_of (local_of (instance_of s (pool_of t p) i))) ≡ (if eqb i 0 then opening (beginning_of C p) else blank)
+  instance_initial : (p i : ℕ) → inside_or blank (is_pool t p && ltb i (made_count s (pool_of t p))) (own_of (local_of (instance_of s (pool_of t p) i))) ≡ (if eqb i 0 then opening (beginning_of C p) or_else blank)
   unfolding opening is_pool
   instance_initial p i =
       by_test (is_pool t p)
       (λ y.
       ap (λ b. inside_or blank (b && ltb i (made_count s (pool_of t p))) (own_of (local_of (instance_of s (pool_of t p) i)))) y
       ∙ pool_opening (pool_of t p) i (ltb-true (pool_of t p) (pool_count t) y)
-      ∙ ap (λ b. if eqb i 0 then opening b else blank) (sym (pool_begins t p ∙ chosen (is_pool t p) _ waits y)))
+      ∙ ap (λ b. if eqb i 0 then opening b or_else blank) (sym (pool_begins t p ∙ chosen (is_pool t p) _ waits y)))
       (λ y.
       ap (λ b. inside_or blank (b && ltb i (made_count s (pool_of t p))) (own_of (local_of (instance_of s (pool_of t p) i)))) y
       ∙ passed false _ blank refl

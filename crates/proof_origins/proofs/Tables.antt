@@ -5,7 +5,7 @@ use mathlib.Core.Path.{◌≡◌, refl, sym, ◌∙◌, ap, ap₂}
 use mathlib.Core.Bool.{true}
 use mathlib.Core.List.{List, [], ◌∷◌, ◌++◌}
 use lib.Dec.{eqb}
-use Rattle.base_words.specs.Pick.{if◌then◌else◌}
+use Rattle.base_words.specs.Pick.{if◌then◌or_else◌}
 use Rattle.base_words.specs.Text.{bytes}
 use Rattle.base_words.specs.Words.{at}
 use Rattle.base_words.specs.Counts.{pools}
@@ -29,9 +29,9 @@ module _ (t : List ℕ) (p : ℕ) where
   n = at t (limit_place p)
 
   abbrev mark : Mark
-  mark = if eqb n 0 then Mark.pool else Mark.mi_pool
+  mark = if eqb n 0 then Mark.pool or_else Mark.mi_pool
 
-  mark_text_lem : (if eqb n 0 then bytes "pool" else bytes "miPool") ≡ mark_text mark
+  mark_text_lem : (if eqb n 0 then bytes "pool" or_else bytes "miPool") ≡ mark_text mark
   unfolding mark_text
   mark_text_lem = each_way mark_text (eqb n 0) _ _ Mark.pool Mark.mi_pool (λ e. refl) (λ e. refl)
 

@@ -3,7 +3,7 @@
 use Prim.Native.Char.{code}
 use Prim.Native.String.{String}
 use Rattle.std.specs.Prelude.{ℕ, ◌-◌, List, [], ◌∷◌, ◌++◌, ltb}
-use Rattle.base_words.specs.Pick.{if◌then◌else◌}
+use Rattle.base_words.specs.Pick.{if◌then◌or_else◌}
 use Rattle.base_words.specs.Text.{bytes}
 use Rattle.write_decimals.specs.Decimals.{shown}
 use Rattle.paper.specs.Syntax.{Operand, number, field, Exp, alone, sum, difference, Cond, always, default, equal, less, Item, exp, Assignments, ε, ◌:=◌, ◌&◌, Mode, a, na_c, na_nc, Choice, Receipt, Element, start, start_rcv, end, terminate, end_snd, inter_rcv, inter_snd, event_based, and_split, and_join, xor_join, xor_split, task, task_rcv, task_snd, Mark, Pool}
@@ -25,7 +25,7 @@ list f xs = between_signs (code ",") f xs
 
 -- OPERANDS, EXPRESSIONS, ITEMS, CONDITIONS. Fields are d0 to d15 and, behind them, the stores s0 to s15
 unfoldable pub field_text : ℕ → List ℕ
-field_text d = if ltb d 16 then code "d" ∷ shown d else code "s" ∷ shown (d - 16)
+field_text d = if ltb d 16 then code "d" ∷ shown d or_else code "s" ∷ shown (d - 16)
 
 unfoldable pub operand_text : Operand → List ℕ
 operand_text (number v) = shown v

@@ -2,14 +2,14 @@
 -- for the pool whose start has the first edge e, and σi(p) = ∅ for the others. Document 01: "Fresh state: empty queues; a pool with `start` has instance 0, with one token on start's
 -- first edge; a pool with `startRcv` has none." Document 02, wish 8: "fields `s0` to `s15`, undefined at first". (RULES: stores)
 use Rattle.std.specs.Prelude.{ℕ, Bool, true, false, List, [], ◌∷◌, eqb}
-use Rattle.base_words.specs.Pick.{if◌then◌else◌}
+use Rattle.base_words.specs.Pick.{if◌then◌or_else◌}
 use Rattle.paper.specs.Syntax.{Element, start, start_rcv, end, terminate, end_snd, inter_rcv, inter_snd, event_based, and_split, and_join, xor_join, xor_split, task, task_rcv, task_snd, Pool}
 use Rattle.paper.specs.States.{Local, unmarked, unset, blank, ◌edges:◌, put, Configuration}
 
 -- what is got of the first thing of a list that passes a test
 unfoldable pub of_first : {A B : Type 0} → (A → Bool) → (A → B) → B → List A → B
 of_first test get none [] = none
-of_first test get none (x ∷ xs) = if test x then get x else of_first test get none xs
+of_first test get none (x ∷ xs) = if test x then get x or_else of_first test get none xs
 
 -- a process begins at the first edge of its start, or waits for a message
 pub data Beginning : Type 0 where
@@ -55,7 +55,7 @@ opening (begins e) = blank edges: put unmarked e 1
 
 unfoldable pub initial : List Pool → Configuration
 initial C = record {
-  σi = λ p i. if eqb i 0 then opening (beginning_of C p) else blank;
+  σi = λ p i. if eqb i 0 then opening (beginning_of C p) or_else blank;
   made = λ p. instances_begun (beginning_of C p);
   σm = λ m. record { times = λ vs. 0; size = 0 };
   σds = unset;

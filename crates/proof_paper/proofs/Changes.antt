@@ -10,7 +10,7 @@ use lib.ListN.{length, length-set}
 use lib.Seq.{get_or-set_other, set-get_or}
 use borrow.Author.Tests.{eqb-true}
 use Rattle.base_words.specs.Iter.{iter}
-use Rattle.base_words.specs.Pick.{if◌then◌else◌}
+use Rattle.base_words.specs.Pick.{if◌then◌or_else◌}
 use Rattle.base_words.specs.Words.{at}
 use Rattle.base_words.specs.Counts.{edges, tasks, count_most}
 use Rattle.check_limits.specs.Limits.{within}
@@ -37,7 +37,7 @@ put_edges el m b = span (λ j. exit_at el (first_touched m.puts b + j)) 0 (touch
 
 -- a count by its cell
 unfoldable pub changed : ℕ → (ℕ → ℕ) → ℕ → ℕ → ℕ
-changed cell σ n = if eqb cell up then inc σ n else if eqb cell down then dec σ n else σ
+changed cell σ n = if eqb cell up then inc σ n or_else if eqb cell down then dec σ n or_else σ
 
 -- what a number in range says of the paper's state
 pub tokens_are : (h : List ℕ) (e : ℕ) → 1 ≤ e → e ≤ edges → (local_of h).σe e ≡ tokens h e

@@ -9,7 +9,7 @@ use native.Mathlib.Nat.{not-suc-le-zero}
 use native.Mathlib.Omega.{arith}
 use lib.Dec.{eqb}
 use lib.ListN.{length, get_or}
-use Rattle.base_words.specs.Pick.{if◌then◌else◌}
+use Rattle.base_words.specs.Pick.{if◌then◌or_else◌}
 use Rattle.base_words.specs.Words.{at}
 use Rattle.base_words.proofs.AllLaws.{and_left}
 use Rattle.base_kinds.specs.declared.moves.Move.{Move}
@@ -141,7 +141,7 @@ module _ (v : ℕ) (el : List ℕ) (fits : element_fits el ≡ true) (L : Local)
   unfolding guard_of used
   guarded_by e c g =
       let o : (kind_of (kind_in el)).conditions ≡ one = ap (λ y. (kind_of y).conditions) e ∙ c in
-      let l : 0 < used (kind_of (kind_in el)).conditions (at el exits_place) = subst (λ y. 0 < used y (at el exits_place)) (sym o) (unfold if◌then◌else◌ in omega arith) in
+      let l : 0 < used (kind_of (kind_in el)).conditions (at el exits_place) = subst (λ y. 0 < used y (at el exits_place)) (sym o) (unfold if◌then◌or_else◌ in omega arith) in
       let f : condition_fits one (condition_at el 0) ≡ true = subst (λ y. condition_fits y (condition_at el 0) ≡ true) o (condition_fits_lem el fits 0 l) in
       ⊎_elim (λ h. h.0) (λ d. absurd (guard_plain (condition_at el 0) f d.0)) g
 
@@ -151,14 +151,14 @@ module _ (v : ℕ) (el : List ℕ) (fits : element_fits el ≡ true) (L : Local)
 
   -- WHERE A LINE HAS A CHOICE
   xor_join_law : Law (row 10)
-  unfolding entries_of touched first_touched if◌then◌else◌ branch_count of_each_kind kind_of used width
+  unfolding entries_of touched first_touched if◌then◌or_else◌ branch_count of_each_kind kind_of used width
   xor_join_law k q = (
     ap width (element_is k) ∙ length-span (entry_at el) 0 (entry_count el),
     (λ b l. by_branch (xor_join_rule (given b) b (entry_at el b) (stands_from_zero (entry_at el) (entry_count el) b l)) (element_is k) (just_one (entry_at el) b) (one_exit k refl)),
   )
 
   event_law : Law (row 7)
-  unfolding receipt_of touched first_touched if◌then◌else◌ branch_count of_each_kind kind_of used width
+  unfolding receipt_of touched first_touched if◌then◌or_else◌ branch_count of_each_kind kind_of used width
   event_law k q = (
     ap width (element_is k) ∙ length-span (receipt_of el) 0 (exit_count el),
     (λ b l. by_branch (event_rule (given b) b (exit_at el b) (stands_from_zero (receipt_of el) (exit_count el) b l)) (element_is k) (one_entry k refl) (just_one (exit_at el) b)),
@@ -168,7 +168,7 @@ module _ (v : ℕ) (el : List ℕ) (fits : element_fits el ≡ true) (L : Local)
   Picked b = Chosen (given b) b (choice_of el b) (span (choice_of el) 0 (exit_count el))
 
   xor_split_law : Law (row 11)
-  unfolding choice_of touched first_touched if◌then◌else◌ branch_count of_each_kind kind_of used width
+  unfolding choice_of touched first_touched if◌then◌or_else◌ branch_count of_each_kind kind_of used width
   xor_split_law k q = (
     ap width (element_is k) ∙ length-span (choice_of el) 0 (exit_count el),
     (λ b l. by_branch (xor_split_rule (given b) b (choice_of el b) (stands_from_zero (choice_of el) (exit_count el) b l) (chooses b) (grants b l)) (element_is k) (one_entry k refl) (just_one (exit_at el) b)),
@@ -203,7 +203,7 @@ module _ (v : ℕ) (el : List ℕ) (fits : element_fits el ≡ true) (L : Local)
       absurd (false≢true (and_left false (parts_fit (kind_of 0) el) (subst (λ y. not (eqb (kind_of y).letters 0) && parts_fit (kind_of y) el ≡ true) k fits)))
 
   laws : Each Law moves
-  unfolding entries_of exits_of touched first_touched if◌then◌else◌ branch_count of_each_kind kind_of used width span
+  unfolding entries_of exits_of touched first_touched if◌then◌or_else◌ branch_count of_each_kind kind_of used width span
   laws =
       more (λ k q. by_rule (start_rule here) refl refl (element_is k) (one_entry k refl) (one_exit k refl))
       (more (λ k q. by_rule (start_rcv_rule here) refl refl (element_is k) refl (one_exit k refl))

@@ -12,7 +12,7 @@ use lib.ListN.{length, set, drop, length-set}
 use borrow.Author.Tests.{eqb-true, eq-eqb, ltb-true, ltb-false, lt-ltb, le-ltb, le-leb, lt-leb}
 use Rattle.base_words.specs.All.{all}
 use Rattle.base_words.specs.Iter.{iter}
-use Rattle.base_words.specs.Pick.{if◌then◌else◌}
+use Rattle.base_words.specs.Pick.{if◌then◌or_else◌}
 use Rattle.base_words.specs.Words.{at}
 use Rattle.base_words.specs.Counts.{fields, values, assignments, fields_named}
 use Rattle.base_words.proofs.AllLaws.{and_left, and_right, all_at, all_of}
@@ -67,7 +67,7 @@ idle_turns go s c still (suc d) = let z : c + suc d ≡ suc (c + d) = omega arit
 all_turns : {A : Type 0} (go : ℕ → A → A) (s : A) (c most : ℕ) → c ≤ most → ((j : ℕ) → c ≤ j → (x : A) → go j x ≡ x) → iter go s most ≡ iter go s c
 all_turns go s c most l still = let z : most ≡ c + (most - c) = omega arith in ap (iter go s) z ∙ idle_turns go s c still (most - c)
 
-one_only : {σ τ : ℕ → Value} (d : ℕ) (x : Exp) (v : ℕ) → worth σ x ≡ Number v → Updates σ (d := x) τ → τ ≡ put σ d (Number v)
+one_only : {σ : ℕ → Value} (d : ℕ) {τ : ℕ → Value} (x : Exp) (v : ℕ) → worth σ x ≡ Number v → Updates σ (d := x) τ → τ ≡ put σ d (Number v)
 one_only {σ} d x v e (one f) = ap (put σ d) (sym f ∙ e)
 
 pub none_only : {σ τ : ℕ → Value} → Updates σ ε τ → τ ≡ σ
@@ -118,7 +118,7 @@ module _ (el : List ℕ) (b : ℕ) (g : Tuple) where
   is_bind j = eqb (at (item_at el b j) form_place) binding
 
   abbrev pub binding_of : ℕ → Assignments
-  binding_of j = if is_bind j then bound_field j := alone (number (at g.values j)) else ε
+  binding_of j = if is_bind j then bound_field j := alone (number (at g.values j)) or_else ε
 
   abbrev item : ℕ → Item
   item j = item_of (item_at el b j)
@@ -439,14 +439,14 @@ module _ (el : List ℕ) (few : assignment_count el ≤ assignments) (right : (j
   abbrev Next : Assigned → Assigned → ℕ → Value → Type 0
   Next a c d w = (v : ℕ) × (a.defined ≡ true) × (w ≡ Number v) × (c.instance ≡ with_field a.instance d v)
 
-  one_back : (t : Bool) (i : List ℕ) (d : ℕ) (w : Value) → (if t then assigned_value i d w else record { defined = t; instance = i }).defined ≡ true
-      → Next (record { defined = t; instance = i }) (if t then assigned_value i d w else record { defined = t; instance = i }) d w
-  unfolding if◌then◌else◌ assigned_value
+  one_back : (t : Bool) (i : List ℕ) (d : ℕ) (w : Value) → (if t then assigned_value i d w or_else record { defined = t; instance = i }).defined ≡ true
+      → Next (record { defined = t; instance = i }) (if t then assigned_value i d w or_else record { defined = t; instance = i }) d w
+  unfolding if◌then◌or_else◌ assigned_value
   one_back true i d (Number v) e = (v, refl, refl, refl)
   one_back true i d Undefined e = absurd (false≢true e)
   one_back false i d w e = absurd (false≢true e)
 
-  turn_is : (j : ℕ) → j < count → to (suc j) ≡ (if (to j).defined then assigned_value (to j).instance (target j) (expression_of (source j) (to j).instance) else to j)
+  turn_is : (j : ℕ) → j < count → to (suc j) ≡ (if (to j).defined then assigned_value (to j).instance (target j) (expression_of (source j) (to j).instance) or_else to j)
   unfolding iter assign_one
   turn_is j l = passed (leb count j) (to j) _ (lt-leb count j l)
 
@@ -508,7 +508,7 @@ module _ (el : List ℕ) (few : assignment_count el ≤ assignments) (right : (j
       let r = on_from (suc k) n (omega arith) (ap (λ (a : Assigned). a.defined) q) (subst (λ ρ. Updates ρ (chain (assignment_of el) (suc k) n) τ) p v) in
       (subst (λ i. (to i).defined ≡ true) (sym (from_next k n)) r.0, r.1 ∙ ap T (sym (from_next k n)))
     where
-      one-worth : {σ ρ : ℕ → Value} {d : ℕ} {z : Exp} → Updates σ (d := z) ρ → (v : ℕ) × (worth σ z ≡ Number v) × (ρ ≡ put σ d (Number v))
+      one-worth : {σ : ℕ → Value} {d : ℕ} {ρ : ℕ → Value} {z : Exp} → Updates σ (d := z) ρ → (v : ℕ) × (worth σ z ≡ Number v) × (ρ ≡ put σ d (Number v))
       one-worth (one {v = v} f) = (v, f, refl)
 
   pub assigned_complete : {τ : ℕ → Value} → Updates (local_of h).σd (assignments_of el) τ → ((assigned el h).defined ≡ true) × (τ ≡ (local_of (assigned el h).instance).σd)

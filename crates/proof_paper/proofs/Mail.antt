@@ -8,7 +8,7 @@ use native.Mathlib.Omega.{arith}
 use lib.Dec.{eqb, ltb}
 use lib.ListN.{length, length-append}
 use borrow.Author.Tests.{eqb-true, eq-eqb, ltb-true, lt-ltb}
-use Rattle.base_words.specs.Pick.{if◌then◌else◌}
+use Rattle.base_words.specs.Pick.{if◌then◌or_else◌}
 use Rattle.base_words.specs.Sum.{one_if}
 use Rattle.base_words.specs.Words.{at}
 use Rattle.base_words.specs.Counts.{names, values, messages}
@@ -17,7 +17,7 @@ use Rattle.base_words.proofs.PickLaws.{and_true}
 use Rattle.base_state.specs.Places.{queue_words}
 use Rattle.meaning.specs.declared.Tuple.{Tuple}
 use Rattle.meaning.specs.Tuples.{empty, same_tuple}
-use Rattle.meaning.specs.Messages.{has, times, without, appended}
+use Rattle.meaning.specs.Messages.{has, times, without as leaving, appended}
 use Rattle.meaning.specs.Queues.{message_count, messages_of, sending, consuming, tidied, Tidy}
 use Rattle.step_queues.proofs.MessageLaws.{length_without}
 use Rattle.step_queues.proofs.QueueLaws.{count_is}
@@ -145,7 +145,7 @@ module _ (q : List ℕ) (m : ℕ) (long : length q ≡ queue_words * names) (nam
   unfolding ◌without◌
   taken_out e = λ i. record { times = λ ws. at_each ws i; size = sizes i }
     where
-      at_each : (ws : List ℕ) → times (tuple_of ws) (messages_of (consuming q m g) m) ≡ (if same (values_of g) ws then times (tuple_of ws) ms - 1 else times (tuple_of ws) ms)
+      at_each : (ws : List ℕ) → times (tuple_of ws) (messages_of (consuming q m g) m) ≡ (if same (values_of g) ws then times (tuple_of ws) ms - 1 or_else times (tuple_of ws) ms)
       at_each ws =
           let c = times-consuming q m long name tidy g (tuple_of ws) e in
           by_test (same (values_of g) ws)
@@ -159,7 +159,7 @@ module _ (q : List ℕ) (m : ℕ) (long : length q ≡ queue_words * names) (nam
   mail_consumed e =
       put_is (mail_of q) (mail_of (consuming q m g)) m (mail_of q m without values_of g)
       (here_is (consuming q m g) ∙ taken_out e ∙ ap (λ (M : Multiset). M without values_of g) (sym (here_is q)))
-      (λ k ne. same_if (ltb k names) nothing (queue_of (consuming q m g) k) (queue_of q k) (λ w. ap view (messages_other q m ((without) g ms) k ne (rooms k (ltb-true k names w)))))
+      (λ k ne. same_if (ltb k names) nothing (queue_of (consuming q m g) k) (queue_of q k) (λ w. ap view (messages_other q m (leaving g ms) k ne (rooms k (ltb-true k names w)))))
     where
       view : List Tuple → Multiset
       view xs = record { times = λ vs. times (tuple_of vs) xs; size = length xs }
@@ -172,7 +172,7 @@ module _ (q : List ℕ) (m : ℕ) (long : length q ≡ queue_words * names) (nam
       fewer : message_count q m < messages
       fewer = let c = count_is q m in omega arith
 
-      at_each : (ws : List ℕ) → times (tuple_of ws) (messages_of (sending q m g) m) ≡ (if same (values_of g) ws then times (tuple_of ws) ms + 1 else times (tuple_of ws) ms)
+      at_each : (ws : List ℕ) → times (tuple_of ws) (messages_of (sending q m g) m) ≡ (if same (values_of g) ws then times (tuple_of ws) ms + 1 or_else times (tuple_of ws) ms)
       at_each ws =
           let c = times-sending q m long name tidy g fewer (tuple_of ws) r in
           by_test (same (values_of g) ws)

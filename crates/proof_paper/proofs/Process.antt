@@ -10,7 +10,7 @@ use lib.Dec.{eqb}
 use lib.ListN.{length}
 use borrow.Author.Tests.{eqb-true, eqb-false, eq-eqb, ne_eqb, ltb-true, lt-ltb}
 use Rattle.base_words.specs.All.{all}
-use Rattle.base_words.specs.Pick.{if◌then◌else◌}
+use Rattle.base_words.specs.Pick.{if◌then◌or_else◌}
 use Rattle.base_words.specs.Words.{at}
 use Rattle.base_words.specs.Counts.{edges, tasks, count_most}
 use Rattle.base_words.proofs.AllLaws.{and_left, and_right, all_at, all_of}
@@ -51,7 +51,7 @@ use Rattle.proof_paper.proofs.Words.{mode_few, condition_fits_lem, mode_is_na_nc
 use Rattle.proof_paper.proofs.EachKind.{parts_at, Grants}
 
 -- a test that is asked only where another passes
-when : (b x : Bool) → (b ≡ true → x ≡ true) → (if b then x else true) ≡ true
+when : (b x : Bool) → (b ≡ true → x ≡ true) → (if b then x or_else true) ≡ true
 when b x f = by_test b (λ e. chosen b x true e ∙ f e) (λ e. passed b x true e)
 
 -- what holds of an element that has a step by the row m and branch b

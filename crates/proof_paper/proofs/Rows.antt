@@ -6,7 +6,7 @@ use mathlib.Core.Bool.{Bool, true, false}
 use mathlib.Core.List.{List}
 use native.Mathlib.Omega.{arith}
 use lib.Dec.{eqb}
-use Rattle.base_words.specs.Pick.{if◌then◌else◌}
+use Rattle.base_words.specs.Pick.{if◌then◌or_else◌}
 use Rattle.base_kinds.specs.declared.moves.Move.{Move}
 use Rattle.base_kinds.specs.Moves.{on, up, down, making, clearing}
 use Rattle.meaning.specs.declared.Value.{Value}
@@ -40,7 +40,7 @@ pub record Fires (m : Move) (P : Parts) (G : Type 0) (L : Local) : Type 0 where
 
 -- what it assigns, before it sends or after it received
 abbrev pub assigning : Move → Parts → Assignments
-assigning m P = if eqb m.assigns on then P.assigns else ε
+assigning m P = if eqb m.assigns on then P.assigns or_else ε
 
 -- what it says, F being the fields that it leaves: it makes, receives, sends, or none of these
 abbrev pub saying : (receives sends makes : Bool) → Parts → Assignments → Internal → (ℕ → Value) → Label → (ℕ → Value) → Type 0
@@ -51,15 +51,15 @@ saying false false makes P A quiet σ l F = (l ≡ Label.τ quiet) × Updates σ
 
 abbrev pub Says : Move → Parts → (ℕ → Value) → Label → (ℕ → Value) → Type 0
 Says m P σ l F =
-    saying (eqb m.receives on) (eqb m.sends on) (eqb m.also making) P (assigning m P) (if eqb m.also clearing then kill else Internal.ε) σ l F
+    saying (eqb m.receives on) (eqb m.sends on) (eqb m.also making) P (assigning m P) (if eqb m.also clearing then kill or_else Internal.ε) σ l F
 
 -- what it does
 abbrev pub effect : Move → Parts → Local → (ℕ → Value) → Local
 effect m P L F = record {
-  σe = if eqb m.also clearing then unmarked else incs (decs L.σe P.takes) P.puts;
+  σe = if eqb m.also clearing then unmarked or_else incs (decs L.σe P.takes) P.puts;
   σd = F;
-  active = if eqb m.also clearing then unmarked else changed m.active L.active P.task;
-  ready = if eqb m.also clearing then unmarked else changed m.ready L.ready P.task;
+  active = if eqb m.also clearing then unmarked or_else changed m.active L.active P.task;
+  ready = if eqb m.also clearing then unmarked or_else changed m.ready L.ready P.task;
 }
 
 pub record Goes (m : Move) (P : Parts) (G : Type 0) (L : Local) (l : Label) (σ : Local) : Type 0 where
@@ -80,7 +80,7 @@ module _ (m : Move) (P : Parts) (σ : ℕ → Value) where
   begins = eqb m.also making
 
   abbrev quiet : Internal
-  quiet = if eqb m.also clearing then kill else Internal.ε
+  quiet = if eqb m.also clearing then kill or_else Internal.ε
 
   pub says_new : {l : Label} {F : ℕ → Value} → hears ≡ true → begins ≡ true → saying true speaks true P (assigning m P) quiet σ l F → Says m P σ l F
   says_new {l} {F} h b x = subst (λ r. saying r speaks begins P (assigning m P) quiet σ l F) (sym h) (subst (λ k. saying true speaks k P (assigning m P) quiet σ l F) (sym b) x)
@@ -166,7 +166,7 @@ module _ (P : Parts) (A : Assignments) (quiet : Internal) (σ F : ℕ → Value)
 -- what a row says, by the label
 module _ (m : Move) (P : Parts) (σ F : ℕ → Value) where
   abbrev silent : Internal
-  silent = if eqb m.also clearing then kill else Internal.ε
+  silent = if eqb m.also clearing then kill or_else Internal.ε
 
   pub means_new : (k : ℕ) (us : List Evaluated) → Says m P σ (Label.new k us) F → (eqb m.receives on ≡ true) × (eqb m.also making ≡ true) × (P.name ≡ k) × Templates σ P.template us × (F ≡ σ)
   means_new k us = read_new P (assigning m P) silent σ F (eqb m.receives on) (eqb m.sends on) (eqb m.also making) k us

@@ -10,7 +10,7 @@ use lib.Dec.{eqb}
 use lib.ListN.{length, replicate, length-replicate}
 use borrow.Author.Tests.{eqb-true, ne_eqb, not-true}
 use Rattle.base_words.specs.Each.{each}
-use Rattle.base_words.specs.Pick.{if◌then◌else◌}
+use Rattle.base_words.specs.Pick.{if◌then◌or_else◌}
 use Rattle.base_words.specs.Words.{at}
 use Rattle.base_words.specs.Counts.{fields, values, fields_named}
 use Rattle.base_words.proofs.ListLaws.{each_at}
@@ -107,33 +107,33 @@ module _ (t s : List ℕ) (v : valid t ≡ true) (n : Name) (f : Found t s n) wh
   of_kind_lem column k e = ap (λ y. column (kind_of y)) (sym kind_is) ∙ e
 
   tasked : (m.active ≡ 0 → ⊥) ⊎ (m.ready ≡ 0 → ⊥) → 1 ≤ task_in el
-  unfolding each if◌then◌else◌ kind_of
+  unfolding each if◌then◌or_else◌ kind_of
   tasked d =
-      let a = every_row (λ r. if eqb r.active 0 then true else eqb (kind_of r.kind).task one) refl refl in
-      let c = every_row (λ r. if eqb r.ready 0 then true else eqb (kind_of r.kind).task one) refl refl in
+      let a = every_row (λ r. if eqb r.active 0 then true or_else eqb (kind_of r.kind).task one) refl refl in
+      let c = every_row (λ r. if eqb r.ready 0 then true or_else eqb (kind_of r.kind).task one) refl refl in
       task_there el fits (of_kind_lem (λ k. k.task) one (⊎_elim
       (λ z. eqb-true (kind_of m.kind).task one (passed_true _ true _ a (ne_eqb m.active 0 z)))
       (λ z. eqb-true (kind_of m.kind).task one (passed_true _ true _ c (ne_eqb m.ready 0 z))) d))
 
   pub alone_tasked : eqb m.alone on ≡ true → 1 ≤ task_in el
-  unfolding each if◌then◌else◌ kind_of
+  unfolding each if◌then◌or_else◌ kind_of
   alone_tasked e =
-      let a = every_row (λ r. if eqb r.alone on then eqb (kind_of r.kind).task one else true) refl refl in
+      let a = every_row (λ r. if eqb r.alone on then eqb (kind_of r.kind).task one or_else true) refl refl in
       task_there el fits (of_kind_lem (λ k. k.task) one (eqb-true (kind_of m.kind).task one (chosen_true _ _ true a e)))
 
   asks_all : eqb m.asks on ≡ true → used kind.conditions (at el exits_place) ≡ exit_count el
-  unfolding each if◌then◌else◌ kind_of exit_count
+  unfolding each if◌then◌or_else◌ kind_of exit_count
   asks_all e =
-      let a = every_row (λ r. if eqb r.asks on then eqb (kind_of r.kind).conditions (kind_of r.kind).exits else true) refl refl in
+      let a = every_row (λ r. if eqb r.asks on then eqb (kind_of r.kind).conditions (kind_of r.kind).exits or_else true) refl refl in
       ap (λ y. used y (at el exits_place)) (ap (λ y. (kind_of y).conditions) (sym kind_is) ∙ eqb-true (kind_of m.kind).conditions (kind_of m.kind).exits (chosen_true _ _ true a e) ∙ ap (λ y. (kind_of y).exits) kind_is)
 
   asks_few : eqb m.asks on ≡ true → b < exit_count el
-  unfolding each if◌then◌else◌ kind_of branch_count exit_count used
+  unfolding each if◌then◌or_else◌ kind_of branch_count exit_count used
   asks_few e =
-      let a = every_row (λ r. if eqb r.asks on then not (eqb r.takes branch) else true) refl refl in
-      let c = every_row (λ r. if eqb r.asks on then (if eqb r.puts branch then true else eqb (kind_of r.kind).exits one) else true) refl refl in
+      let a = every_row (λ r. if eqb r.asks on then not (eqb r.takes branch) or_else true) refl refl in
+      let c = every_row (λ r. if eqb r.asks on then (if eqb r.puts branch then true or_else eqb (kind_of r.kind).exits one) or_else true) refl refl in
       let z = not-true _ (chosen_true _ _ true a e) in
-      let w : branch_count el m ≡ (if eqb m.puts branch then exit_count el else 1) = passed (eqb m.takes branch) _ _ z in
+      let w : branch_count el m ≡ (if eqb m.puts branch then exit_count el or_else 1) = passed (eqb m.takes branch) _ _ z in
       by_test (eqb m.puts branch)
       (λ y. subst (λ k. b < k) (w ∙ chosen (eqb m.puts branch) _ _ y) f.branch)
       (λ y.
@@ -154,9 +154,9 @@ module _ (t s : List ℕ) (v : valid t ≡ true) (n : Name) (f : Found t s n) wh
 
   -- FIELDS
   sends_plain : eqb m.sends on ≡ true → kind.receives ≡ 0
-  unfolding each if◌then◌else◌ kind_of
+  unfolding each if◌then◌or_else◌ kind_of
   sends_plain e =
-      let a = every_row (λ r. if eqb r.sends on then eqb (kind_of r.kind).receives 0 else true) refl refl in
+      let a = every_row (λ r. if eqb r.sends on then eqb (kind_of r.kind).receives 0 or_else true) refl refl in
       of_kind_lem (λ k. k.receives) 0 (eqb-true (kind_of m.kind).receives 0 (chosen_true _ _ true a e))
 
   pub sends_alone : eqb m.sends on ≡ true → eqb m.receives on ≡ false

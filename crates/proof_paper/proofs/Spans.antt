@@ -53,10 +53,14 @@ module _ {A : Type 0} (f : ℕ → A) where
   stands_at k (suc n) zero l = subst (λ i. Stands (f i) 0 (f k ∷ span f (suc k) n)) (sym (from_here k)) here
   stands_at k (suc n) (suc j) l = there (subst (λ i. Stands (f i) j (span f (suc k) n)) (sym (from_next k j)) (stands_at (suc k) n j (le_of_suc-le-suc l)))
 
-  pub at_stands : (x : A) (k n j : ℕ) → Stands x j (span f k n) → (j < n) × (x ≡ f (k + j))
+  stands_at_from : (k : ℕ) (x : A) (n j : ℕ) → Stands x j (span f k n) → (j < n) × (x ≡ f (k + j))
   unfolding span
-  at_stands x k (suc n) zero here = (omega arith, ap f (sym (from_here k)))
-  at_stands x k (suc n) (suc j) (there s) = let h = at_stands x (suc k) n j s in (omega (arith, h.0), h.1 ∙ ap f (sym (from_next k j)))
+  stands_at_from k x zero j s = elim s [ ]
+  stands_at_from k x (suc n) zero here = (omega arith, ap f (sym (from_here k)))
+  stands_at_from k x (suc n) (suc j) (there s) = let h = stands_at_from (suc k) x n j s in (omega (arith, h.0), h.1 ∙ ap f (sym (from_next k j)))
+
+  pub at_stands : (x : A) (k n j : ℕ) → Stands x j (span f k n) → (j < n) × (x ≡ f (k + j))
+  at_stands x k n j s = stands_at_from k x n j s
 
   pub stands_from_zero : (n j : ℕ) → j < n → Stands (f j) j (span f 0 n)
   stands_from_zero n j l = let z : 0 + j ≡ j = omega arith in subst (λ i. Stands (f i) j (span f 0 n)) z (stands_at 0 n j l)

@@ -9,7 +9,7 @@ use lib.Dec.{eqb, ltb}
 use lib.ListN.{length, replicate, length-replicate}
 use borrow.Author.Tests.{eqb-true, eq-eqb, ne_eqb, not-true, ltb-true, lt-ltb}
 use Rattle.base_words.specs.Each.{each}
-use Rattle.base_words.specs.Pick.{if◌then◌else◌}
+use Rattle.base_words.specs.Pick.{if◌then◌or_else◌}
 use Rattle.base_words.specs.Words.{at}
 use Rattle.base_words.specs.Counts.{pools, names, values, instances, messages}
 use Rattle.base_words.proofs.AllLaws.{and_left, and_right}
@@ -151,25 +151,25 @@ module _ (t s q : List ℕ) (v : valid t ≡ true) (state : Fitting t s q) (n : 
 
   -- what makes an instance receives, and assigns nothing
   begins_hears : eqb m.also making ≡ true → eqb m.receives on ≡ true
-  unfolding move_named move_of each if◌then◌else◌
-  begins_hears e = chosen_true _ _ true (each_at (λ (r : Move). if eqb r.also making then eqb r.receives on else true) moves no_move refl refl (rule_of (kind_in el) (mode_in el) n.phase)) e
+  unfolding move_named move_of each if◌then◌or_else◌
+  begins_hears e = chosen_true _ _ true (each_at (λ (r : Move). if eqb r.also making then eqb r.receives on or_else true) moves no_move refl refl (rule_of (kind_in el) (mode_in el) n.phase)) e
 
   begins_plain : eqb m.also making ≡ true → eqb m.assigns on ≡ false
-  unfolding move_named move_of each if◌then◌else◌
-  begins_plain e = not-true _ (chosen_true _ _ true (each_at (λ (r : Move). if eqb r.also making then not (eqb r.assigns on) else true) moves no_move refl refl (rule_of (kind_in el) (mode_in el) n.phase)) e)
+  unfolding move_named move_of each if◌then◌or_else◌
+  begins_plain e = not-true _ (chosen_true _ _ true (each_at (λ (r : Move). if eqb r.also making then not (eqb r.assigns on) or_else true) moves no_move refl refl (rule_of (kind_in el) (mode_in el) n.phase)) e)
 
   deaf_makes_none : eqb m.receives on ≡ false → eqb m.also making ≡ false
   deaf_makes_none e = by_test (eqb m.also making) (λ z. absurd (false≢true (sym e ∙ begins_hears z))) (λ z. z)
 
   -- the label of the step, by what its row says, and the configuration after it
   abbrev quiet : Internal
-  quiet = if eqb m.also clearing then kill else Internal.ε
+  quiet = if eqb m.also clearing then kill or_else Internal.ε
 
   abbrev pub label : Seen
   label =
-      if eqb m.receives on then if eqb m.also making then Seen.new name (values_of g) else Seen.receives name (values_of g)
-      else if eqb m.sends on then Seen.sends name (values_of (sent x).tuple)
-      else Seen.τ quiet
+      if eqb m.receives on then if eqb m.also making then Seen.new name (values_of g) or_else Seen.receives name (values_of g)
+      or_else if eqb m.sends on then Seen.sends name (values_of (sent x).tuple)
+      or_else Seen.τ quiet
 
   abbrev after : Configuration
   after = configuration_of t (instances_after t s n) (queues_after x q)

@@ -9,7 +9,7 @@ use lib.Dec.{eqb, leb, ltb}
 use lib.ListN.{length}
 use lib.Seq.{take_at, drop_at}
 use borrow.Author.Tests.{eqb-true, eq-eqb, lt-ltb, le-leb}
-use Rattle.base_words.specs.Pick.{if◌then◌else◌}
+use Rattle.base_words.specs.Pick.{if◌then◌or_else◌}
 use Rattle.base_words.specs.Counts.{names, values, messages}
 use Rattle.base_words.proofs.AllLaws.{and_left, and_right}
 use Rattle.base_words.proofs.PickLaws.{and_true}
@@ -40,7 +40,7 @@ use Rattle.proof_paper.proofs.Mail.{mail_sent, length-values}
 use Rattle.proof_paper.proofs.Steps.{label, sound, complete}
 
 -- what is accepted, by its number
-first_none : (k : ℕ) (o : Outcome) (w : Outcome) → o.answer.number ≡ k → (if eqb k 0 then w else o).answer.number ≡ 0 → k ≡ 0
+first_none : (k : ℕ) (o : Outcome) (w : Outcome) → o.answer.number ≡ k → (if eqb k 0 then w or_else o).answer.number ≡ 0 → k ≡ 0
 first_none k o w e h = by_test (eqb k 0) (λ y. eqb-true k 0 y) (λ y. sym e ∙ sym (ap (λ (u : Outcome). u.answer.number) (passed (eqb k 0) w o y)) ∙ h)
 
 post_accepted : (q : List ℕ) (name : ℕ) (g : Tuple) → name < names → g.length ≤ values → length (messages_of q name) < messages → first_refusal (post_refusals q name g) ≡ 0

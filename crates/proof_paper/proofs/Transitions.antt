@@ -10,7 +10,7 @@ use native.Mathlib.Omega.{arith}
 use lib.Dec.{eqb}
 use lib.ListN.{length, get_or}
 use borrow.Author.Tests.{eqb-true, eq-eqb}
-use Rattle.base_words.specs.Pick.{if◌then◌else◌}
+use Rattle.base_words.specs.Pick.{if◌then◌or_else◌}
 use Rattle.base_words.specs.Seek.{seek}
 use Rattle.base_words.proofs.AllLaws.{and_left, and_right}
 use Rattle.base_words.proofs.SeekLaws.{sought, seek_found}
@@ -80,7 +80,7 @@ na_row k p x y na_c ne = x
 na_row k p x y na_nc ne = y
 
 row_there : {v : ℕ} {E : Element} {p b : ℕ} {L : Local} {l : Label} {σ : Local} → Moves v E p b L l σ → ((move_of (kind_number E) (mode_number E) p).kind ≡ kind_number E) × (b < width E)
-unfolding kind_number mode_number width number_of is_rule mode_of seek if◌then◌else◌
+unfolding kind_number mode_number width number_of is_rule mode_of seek if◌then◌or_else◌
 row_there (P-Start _ _) = (row_by 1 0 0 0 (omega arith) refl refl refl, omega arith)
 row_there (P-End _) = (row_by 3 0 0 2 (omega arith) refl refl refl, omega arith)
 row_there (P-Terminate _) = (row_by 4 0 0 3 (omega arith) refl refl refl, omega arith)

@@ -1,7 +1,7 @@
 -- THE DECODERS: the paper's syntax that the words of a table stand for, and the paper's state that the words of a state stand for. They are total; a
 -- number outside its range (edge 0, field 32, a pool that is not there) finds nothing, and never the place of another.
 use Rattle.std.specs.Prelude.{ℕ, zero, suc, ◌+◌, ◌*◌, Bool, ◌&&◌, List, [], ◌∷◌, eqb, ltb, length, get_or, drop}
-use Rattle.base_words.specs.Pick.{if◌then◌else◌}
+use Rattle.base_words.specs.Pick.{if◌then◌or_else◌}
 use Rattle.base_words.specs.Words.{at}
 use Rattle.base_words.specs.Counts.{edges, tasks, fields, names, fields_named}
 use Rattle.base_table.specs.Places.{operand_number, form_place, left_place, right_place, plus, minus, binding, always, equals, below, assigned_in, pool_place, limit_place}
@@ -35,23 +35,23 @@ chain f k (suc n) = f k & chain f (suc k) n
 
 -- AN ELEMENT, el its words; x the words of an expression, a condition or an item
 unfoldable pub operand_at : List ℕ → ℕ → Operand
-operand_at x p = if eqb (at x p) 0 then number (at x (p + operand_number)) else field (at x (p + operand_number))
+operand_at x p = if eqb (at x p) 0 then number (at x (p + operand_number)) or_else field (at x (p + operand_number))
 
 unfoldable pub exp_at : List ℕ → Exp
 exp_at x =
     if eqb (at x form_place) plus then sum (operand_at x left_place) (operand_at x right_place)
-    else if eqb (at x form_place) minus then difference (operand_at x left_place) (operand_at x right_place)
-    else alone (operand_at x left_place)
+    or_else if eqb (at x form_place) minus then difference (operand_at x left_place) (operand_at x right_place)
+    or_else alone (operand_at x left_place)
 
 unfoldable pub cond_at : List ℕ → Cond
 cond_at x =
     if eqb (at x form_place) always then Cond.always
-    else if eqb (at x form_place) equals then equal (operand_at x left_place) (operand_at x right_place)
-    else if eqb (at x form_place) below then less (operand_at x left_place) (operand_at x right_place)
-    else default
+    or_else if eqb (at x form_place) equals then equal (operand_at x left_place) (operand_at x right_place)
+    or_else if eqb (at x form_place) below then less (operand_at x left_place) (operand_at x right_place)
+    or_else default
 
 unfoldable pub item_of : List ℕ → Item
-item_of x = if eqb (at x form_place) binding then Item.formal (at x (left_place + operand_number)) else exp (exp_at x)
+item_of x = if eqb (at x form_place) binding then Item.formal (at x (left_place + operand_number)) or_else exp (exp_at x)
 
 unfoldable pub template_of : List ℕ → ℕ → List Item
 template_of el b = span (λ j. item_of (item_at el b j)) 0 (message_length el b)
@@ -111,7 +111,7 @@ unfoldable pub process_at : List ℕ → ℕ → List Element
 process_at t p = span (λ e. element_of (element_at t p e)) 0 (element_count t p)
 
 unfoldable pub pool_at : List ℕ → ℕ → Pool
-pool_at t p = record { mark = if eqb (at t (limit_place p)) 0 then Mark.pool else Mark.mi_pool; name = at t (pool_place p); process = process_at t p; limit = limit_of t p }
+pool_at t p = record { mark = if eqb (at t (limit_place p)) 0 then Mark.pool or_else Mark.mi_pool; name = at t (pool_place p); process = process_at t p; limit = limit_of t p }
 
 unfoldable pub collaboration_of : List ℕ → List Pool
 collaboration_of t = span (pool_at t) 0 (pool_count t)
@@ -119,7 +119,7 @@ collaboration_of t = span (pool_at t) 0 (pool_count t)
 -- AN INSTANCE, h its words, or those that a step sees, with the stores behind its fields: what stands at a number of the right range, and nothing at
 -- another
 abbrev pub inside_or : {A : Type 0} → A → Bool → A → A
-inside_or none inside x = if inside then x else none
+inside_or none inside x = if inside then x or_else none
 
 abbrev pub local_of : List ℕ → Local
 local_of h = record {
@@ -147,7 +147,7 @@ queue_of q m = record { times = λ vs. times (tuple_of vs) (messages_of q m); si
 
 -- store d: whether it is defined, and its value
 unfoldable pub store_of : List ℕ → ℕ → Value
-store_of s d = if eqb (at s (shared_place + 2 * d)) 0 then Undefined else Number (at s (shared_place + (2 * d + 1)))
+store_of s d = if eqb (at s (shared_place + 2 * d)) 0 then Undefined or_else Number (at s (shared_place + (2 * d + 1)))
 
 abbrev pub configuration_of : List ℕ → List ℕ → List ℕ → Configuration
 configuration_of t s q = record {

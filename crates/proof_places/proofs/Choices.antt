@@ -8,7 +8,7 @@ use native.Mathlib.Omega.{arith}
 use lib.Dec.{ltb}
 use lib.ListN.{set}
 use borrow.Author.Tests.{ltb-true}
-use Rattle.base_words.specs.Pick.{if◌then◌else◌}
+use Rattle.base_words.specs.Pick.{if◌then◌or_else◌}
 use Rattle.text_lexer.specs.declared.Form.{Form}
 use Rattle.text_lexer.specs.declared.Form.TheVariants.{Sign}
 use Rattle.text_lexer.specs.Lexer.{token_at}
@@ -135,10 +135,10 @@ pub record Starting (starting : List ℕ → ℕ → Bool) : Type 0 where
   pub item : (k : Lexeme) → test k ≡ true → starts_one k ≡ true
 
 abbrev surplus : Bool → ℕ
-surplus c = if c then excessive else misplaced
+surplus c = if c then excessive or_else misplaced
 
 surplus_three : (c : Bool) → refuses (surplus c) ≡ refuses excessive → c ≡ true
-unfolding if◌then◌else◌
+unfolding if◌then◌or_else◌
 surplus_three true e = refl
 surplus_three false e = two_three e
 
@@ -153,7 +153,7 @@ full_tries f st e =
     }
   where
     all_three : refuses (surplus true) ≡ refuses excessive
-    all_three = unfold if◌then◌else◌ in refl
+    all_three = unfold if◌then◌or_else◌ in refl
 
 -- a sign that must stand there
 must_end : (s : ℕ) (f : Reader) (t : List ℕ) (from : ℕ) (x : List ℕ) → ((sign s then f) t from x).end ≡ (if_at (sign_at s t from) (λ q. f t q x) (refused_at misplaced (place_of t from) x)).end
@@ -180,18 +180,18 @@ module _ (P : Form → Bool) (item : ℕ → Reader) (starting : List ℕ → �
   tail n k = look (code ",") (from_item n (k + 1)) (counted least total (k + 1))
 
   tail_last : (n k : ℕ) → ltb (k + 1) least ≡ false → Tries P (from_item n (k + 1)) → Calm P (tail n k)
-  unfolding counted if◌then◌else◌
-  tail_last n k h a = look_still (code ",") _ (λ t from x. ap (λ (c : Bool). (if c then refused_at misplaced (place_of t from) x else passed_to from (set x total (k + 1))).end) h) apart a
+  unfolding counted if◌then◌or_else◌
+  tail_last n k h a = look_still (code ",") _ (λ t from x. ap (λ (c : Bool). (if c then refused_at misplaced (place_of t from) x or_else passed_to from (set x total (k + 1))).end) h) apart a
 
   tail_short : (n k : ℕ) → ltb (k + 1) least ≡ true → Reads P (from_item n (k + 1)) → Calm P (tail n k)
-  unfolding counted if◌then◌else◌
+  unfolding counted if◌then◌or_else◌
   tail_short n k h a =
       let c = led_calm (signal_then (sign_signal (code ",") b comma) a) in
       record {
         reads = reads_as
             (λ t from x.
             must_end (code ",") (from_item n (k + 1)) t from x
-            ∙ sym (ap (λ (d : Bool). (if_at (sign_at (code ",") t from) (λ q. from_item n (k + 1) t q x) (if d then refused_at misplaced (place_of t from) x else passed_to from (set x total (k + 1)))).end) h))
+            ∙ sym (ap (λ (d : Bool). (if_at (sign_at (code ",") t from) (λ q. from_item n (k + 1) t q x) (if d then refused_at misplaced (place_of t from) x or_else passed_to from (set x total (k + 1)))).end) h))
             c.reads;
         calm = c.calm;
       }

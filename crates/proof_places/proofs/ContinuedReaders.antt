@@ -6,7 +6,7 @@ use mathlib.Core.Bool.{Bool, true, false, ◌&&◌}
 use mathlib.Core.List.{List, [], ◌∷◌}
 use native.Mathlib.Omega.{arith}
 use Rattle.base_words.specs.Each.{each}
-use Rattle.base_words.specs.Pick.{if◌then◌else◌}
+use Rattle.base_words.specs.Pick.{if◌then◌or_else◌}
 use Rattle.base_words.specs.Text.{bytes}
 use Rattle.base_words.specs.Counts.{edges}
 use Rattle.base_table.specs.Places.{form_place, left_place, always, default}
@@ -84,8 +84,8 @@ module _ (defaults : Bool) (place : ℕ) where
   abbrev by_word : Lexeme → Grammar
   by_word k = chosen compared.runs.grammar k.form (same_bytes k.letters (bytes "true")) (defaults && same_bytes k.letters (bytes "default"))
 
-  word_leads : (t : List ℕ) (from : ℕ) (x : List ℕ) (m : Form) (c d : Bool) → (token_at t from).form ≡ m → Leads t (if_word m (if c then store (place + form_place) always t (behind t from) x else if d then store (place + form_place) default t (behind t from) x else (operand (place + left_place) then comparison place) t from x) (refused_at misplaced (place_of t from) x)).end (chosen compared.runs.grammar m c d) from
-  unfolding if_word if◌then◌else◌
+  word_leads : (t : List ℕ) (from : ℕ) (x : List ℕ) (m : Form) (c d : Bool) → (token_at t from).form ≡ m → Leads t (if_word m (if c then store (place + form_place) always t (behind t from) x or_else if d then store (place + form_place) default t (behind t from) x or_else (operand (place + left_place) then comparison place) t from x) (refused_at misplaced (place_of t from) x)).end (chosen compared.runs.grammar m c d) from
+  unfolding if_word if◌then◌or_else◌
   word_leads t from x Word true d e = steps refl (ap is_end e) (ends refl refl)
   word_leads t from x Word false true e = steps refl (ap is_end e) (ends refl refl)
   word_leads t from x Word false false e = compared.runs.leads t from x
@@ -104,10 +104,14 @@ module _ (defaults : Bool) (place : ℕ) where
   word_onward k Other c d z = takes_refuses takes misplaced refl (sym z)
 
   sampled : (b : Bool) → by_word (met (sample b)) ≡ compared.runs.grammar
+  unfolding same_bytes
   sampled b = go defaults b
     where
       go : (a b : Bool) → chosen compared.runs.grammar (sample b).form (same_bytes (sample b).spelled (bytes "true")) (a && same_bytes (sample b).spelled (bytes "default")) ≡ compared.runs.grammar
-      go a b = unfold same_bytes in elim a [ true ↦ elim b [ true ↦ refl | false ↦ refl ] | false ↦ elim b [ true ↦ refl | false ↦ refl ] ]
+      go true true = refl
+      go true false = refl
+      go false true = refl
+      go false false = refl
 
   word_ranged : (k : Lexeme) (m : Form) (c d : Bool) → turn (chosen compared.runs.grammar m c d) k ≡ refuses excessive → Ranged any compared.runs.grammar k
   word_ranged k Word true d z = takes_refuses takes excessive refl z

@@ -6,7 +6,7 @@ use mathlib.Core.List.{List}
 use Prim.Native.Nat.{ℕ, ◌-◌}
 use lib.Dec.{eqb, leb}
 use lib.ListN.{set}
-use Rattle.base_words.specs.Pick.{if◌then◌else◌}
+use Rattle.base_words.specs.Pick.{if◌then◌or_else◌}
 use Rattle.base_words.specs.Counts.{fields_named}
 use Rattle.base_table.specs.Places.{mode_place}
 use Rattle.text_lexer.specs.declared.Form.{Form}
@@ -31,7 +31,7 @@ pub data Course (A : Type 0) : Type 0 where
 
 unfoldable pub follow : {A : Type 0} → Course A → List ℕ → ℕ → Got A
 follow (stop v) t at = record { end = At at; value = v }
-follow (refuse above v) t at = record { end = Refused (if above then excessive else misplaced) (place_of t at); value = v }
+follow (refuse above v) t at = record { end = Refused (if above then excessive or_else misplaced) (place_of t at); value = v }
 follow (pass c) t at = follow c t (behind t at)
 follow (look k) t at = follow (k (token_at t at).form (letters t at)) t at
 
@@ -55,7 +55,7 @@ unfolding follow
 stopped v = record { course = stop v; is = λ t at. refl }
 
 pub refusing : {A : Type 0} (v : A) → Follows (λ t at. record { end = Refused misplaced (place_of t at); value = v })
-unfolding follow if◌then◌else◌
+unfolding follow if◌then◌or_else◌
 refusing v = record { course = refuse false v; is = λ t at. refl }
 
 -- ONE AFTER THE OTHER, with what the first got; what is kept of that where it is refused
@@ -116,18 +116,18 @@ unfolding ◌then◌ onward
 
 -- A SIGN THAT MAY STAND THERE
 pub sign_or : {A : Type 0} (s : ℕ) {g h : List ℕ → ℕ → Got A} → Follows g → Follows h → Follows (λ t at. if_at (sign_at s t at) (g t) (h t at))
-unfolding follow sign_at if_sign if_at if◌then◌else◌
+unfolding follow sign_at if_sign if_at if◌then◌or_else◌
 sign_or {A} s {g} {h} pg ph =
     record {
-      course = look (λ m w. if_sign m (λ b. if eqb b s then pass pg.course else ph.course) ph.course);
+      course = look (λ m w. if_sign m (λ b. if eqb b s then pass pg.course or_else ph.course) ph.course);
       is = λ t at. by_form (token_at t at).form t at;
     }
   where
-    by_test : (c : Bool) (t : List ℕ) (at : ℕ) → if_at (if c then At (behind t at) else Refused misplaced (place_of t at)) (g t) (h t at) ≡ follow (if c then pass pg.course else ph.course) t at
+    by_test : (c : Bool) (t : List ℕ) (at : ℕ) → if_at (if c then At (behind t at) or_else Refused misplaced (place_of t at)) (g t) (h t at) ≡ follow (if c then pass pg.course or_else ph.course) t at
     by_test true t at = pg.is t (behind t at)
     by_test false t at = ph.is t at
 
-    by_form : (m : Form) (t : List ℕ) (at : ℕ) → if_at (if_sign m (λ b. if eqb b s then At (behind t at) else Refused misplaced (place_of t at)) (Refused misplaced (place_of t at))) (g t) (h t at) ≡ follow (if_sign m (λ b. if eqb b s then pass pg.course else ph.course) ph.course) t at
+    by_form : (m : Form) (t : List ℕ) (at : ℕ) → if_at (if_sign m (λ b. if eqb b s then At (behind t at) or_else Refused misplaced (place_of t at)) (Refused misplaced (place_of t at))) (g t) (h t at) ≡ follow (if_sign m (λ b. if eqb b s then pass pg.course or_else ph.course) ph.course) t at
     by_form Word t at = ph.is t at
     by_form (Sign b) t at = by_test (eqb b s) t at
     by_form Assign t at = ph.is t at
@@ -145,8 +145,8 @@ by_token D d = record { course = look (λ m w. (d m w).course); is = λ t at. (d
 pub token_reads : (D : Form → List ℕ → Reader) → ((m : Form) (w : List ℕ) → Reads (D m w)) → Reads (λ t at x. D (token_at t at).form (letters t at) t at x)
 token_reads D d = record { from = λ x. by_token (λ m w t at. got (D m w t at x)) (λ m w. (d m w).from x) }
 
-pub if_follows : {A : Type 0} (b : Bool) {f g : List ℕ → ℕ → Got A} → Follows f → Follows g → Follows (λ t at. if b then f t at else g t at)
-unfolding if◌then◌else◌
+pub if_follows : {A : Type 0} (b : Bool) {f g : List ℕ → ℕ → Got A} → Follows f → Follows g → Follows (λ t at. if b then f t at or_else g t at)
+unfolding if◌then◌or_else◌
 if_follows true pf pg = pf
 if_follows false pf pg = pg
 
@@ -158,13 +158,13 @@ word_follows Assign pf pg = pg
 word_follows End pf pg = pg
 word_follows Other pf pg = pg
 
-pub if_reads : (b : Bool) {f g : Reader} → Reads f → Reads g → Reads (if b then f else g)
-unfolding if◌then◌else◌
+pub if_reads : (b : Bool) {f g : Reader} → Reads f → Reads g → Reads (if b then f or_else g)
+unfolding if◌then◌or_else◌
 if_reads true rf rg = rf
 if_reads false rf rg = rg
 
-pub if_each : (b : Bool) {f g : Reader} → Reads f → Reads g → Reads (λ t at x. if b then f t at x else g t at x)
-unfolding if◌then◌else◌
+pub if_each : (b : Bool) {f g : Reader} → Reads f → Reads g → Reads (λ t at x. if b then f t at x or_else g t at x)
+unfolding if◌then◌or_else◌
 if_each true rf rg = rf
 if_each false rf rg = rg
 
@@ -188,7 +188,7 @@ one_course (off y e) = refuse false y
 one_course (out y e) = refuse true y
 
 one_is : {F : ℕ → ℕ → Parsed} (o : One F) (t : List ℕ) (at : ℕ) → got (F (place_of t at) (behind t at)) ≡ follow (one_course o) t at
-unfolding follow one_course if◌then◌else◌
+unfolding follow one_course if◌then◌or_else◌
 one_is (on y e) t at = ap got (e (place_of t at) (behind t at))
 one_is (off y e) t at = ap got (e (place_of t at) (behind t at))
 one_is (out y e) t at = ap got (e (place_of t at) (behind t at))
@@ -203,8 +203,8 @@ one_token f F e o =
       };
     }
 
-if_one : (b : Bool) {F G : ℕ → ℕ → Parsed} → One F → One G → One (λ p q. if b then F p q else G p q)
-unfolding if◌then◌else◌
+if_one : (b : Bool) {F G : ℕ → ℕ → Parsed} → One F → One G → One (λ p q. if b then F p q or_else G p q)
+unfolding if◌then◌or_else◌
 if_one true f g = f
 if_one false f g = g
 
@@ -216,12 +216,12 @@ word_one Assign f g = g
 word_one End f g = g
 word_one Other f g = g
 
-sign_one : (s : ℕ) (m : Form) (x : List ℕ) → One (λ p q. record { end = if_sign m (λ b. if eqb b s then At q else Refused misplaced p) (Refused misplaced p); words = x })
-unfolding if_sign if◌then◌else◌
+sign_one : (s : ℕ) (m : Form) (x : List ℕ) → One (λ p q. record { end = if_sign m (λ b. if eqb b s then At q or_else Refused misplaced p) (Refused misplaced p); words = x })
+unfolding if_sign if◌then◌or_else◌
 sign_one s Word x = off x (λ p q. refl)
 sign_one s (Sign b) x = go (eqb b s)
   where
-    go : (c : Bool) → One (λ p q. record { end = if c then At q else Refused misplaced p; words = x })
+    go : (c : Bool) → One (λ p q. record { end = if c then At q or_else Refused misplaced p; words = x })
     go true = on x (λ p q. refl)
     go false = off x (λ p q. refl)
 sign_one s Assign x = off x (λ p q. refl)
@@ -260,7 +260,7 @@ no_word x = off x (λ p q. refl)
 pub sign_reads : (s : ℕ) → Reads (sign s)
 unfolding sign_at
 sign_reads s =
-    one_token (sign s) (λ m w x p q. record { end = if_sign m (λ b. if eqb b s then At q else Refused misplaced p) (Refused misplaced p); words = x }) (λ t at x. refl)
+    one_token (sign s) (λ m w x p q. record { end = if_sign m (λ b. if eqb b s then At q or_else Refused misplaced p) (Refused misplaced p); words = x }) (λ t at x. refl)
     (λ m w x. sign_one s m x)
 
 pub assign_reads : Reads assign
@@ -307,7 +307,7 @@ skip_reads change = record { from = λ x. record { course = pass (stop (change x
 
 -- the text's end, beside a value
 pub end_follows : {A : Type 0} (v : A) → Follows (λ t at. record { end = end_at t at; value = v })
-unfolding follow end_at if_end if◌then◌else◌
+unfolding follow end_at if_end if◌then◌or_else◌
 end_follows {A} v = record { course = look (λ m w. if_end m (pass (stop v)) (refuse false v)); is = λ t at. by_form (token_at t at).form t at }
   where
     by_form : (m : Form) (t : List ℕ) (at : ℕ) → ◌≡◌ {A = Got A} (record { end = if_end m (At (behind t at)) (Refused misplaced (place_of t at)); value = v }) (follow (if_end m (pass (stop v)) (refuse false v)) t at)
@@ -326,10 +326,10 @@ pub told : (F : Form → List ℕ → Bool) → Told (λ t at. F (token_at t at)
 told F = record { test = F; is = λ t at. refl }
 
 -- the token at which there are too many
-pub many_follows : {A : Type 0} {s : List ℕ → ℕ → Bool} (v : A) → Told s → Follows (λ t at. record { end = Refused (if s t at then excessive else misplaced) (place_of t at); value = v })
+pub many_follows : {A : Type 0} {s : List ℕ → ℕ → Bool} (v : A) → Told s → Follows (λ t at. record { end = Refused (if s t at then excessive or_else misplaced) (place_of t at); value = v })
 unfolding follow
 many_follows {A} {s} v o =
     record {
       course = look (λ m w. refuse (o.test m w) v);
-      is = λ t at. ap (λ (b : Bool). record { end = Refused (if b then excessive else misplaced) (place_of t at); value = v }) (o.is t at);
+      is = λ t at. ap (λ (b : Bool). record { end = Refused (if b then excessive or_else misplaced) (place_of t at); value = v }) (o.is t at);
     }

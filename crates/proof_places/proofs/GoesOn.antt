@@ -8,7 +8,7 @@ use lib.Dec.{eqb, ltb}
 use lib.ListN.{length}
 use Rattle.base_words.specs.Counts.{text_most}
 use Rattle.base_words.specs.Each.{each}
-use Rattle.base_words.specs.Pick.{if◌then◌else◌}
+use Rattle.base_words.specs.Pick.{if◌then◌or_else◌}
 use Rattle.base_words.specs.Words.{part}
 use Rattle.check_model.specs.Checks.{lowest}
 use Rattle.text_lexer.specs.declared.Form.{Form}
@@ -164,20 +164,20 @@ pub three_right : (t : List ℕ) (p : ℕ) → (model t).end ≡ Refused excessi
 three_right t p e = record { cause = exceeds t p e; with = λ u agree. place_right t u excessive p e agree }
 
 -- WHAT READING INTO A TABLE ANSWERS: 2 and 3 with their place are these refusals; a text of at most 65,536 bytes that is read whole is answered 0, 4 or 28.
-neither : (n : ℕ) (c : Bool) (x y : ReadInto) → (x.number ≡ n → ⊥) → (y.number ≡ n → ⊥) → (if c then x else y).number ≡ n → ⊥
-unfolding if◌then◌else◌
+neither : (n : ℕ) (c : Bool) (x y : ReadInto) → (x.number ≡ n → ⊥) → (y.number ≡ n → ⊥) → (if c then x or_else y).number ≡ n → ⊥
+unfolding if◌then◌or_else◌
 neither n true x y f g h = f h
 neither n false x y f g h = g h
 
 module _ (t table : List ℕ) where
   refused_answer : (n : ℕ) → 1 < n → n < 4 → (read_into t table).number ≡ n → (model t).end ≡ Refused n (read_into t table).beside
-  unfolding read_into judged checked if◌then◌else◌
+  unfolding read_into judged checked if◌then◌or_else◌
   refused_answer n l u e = by_length (ltb text_most (length t)) e
     where
       by_end : (r : Read) → (judged r (model t).value table).number ≡ n → r ≡ Refused n (judged r (model t).value table).beside
       by_end (At q) h =
           absurd (neither n (eqb (lowest (model t).value) 0)
-          (if each has_room (model t).value then record { number = 0; beside = 0; table = table_of (map rewritten (model t).value) } else record { number = 28; beside = 0; table = table })
+          (if each has_room (model t).value then record { number = 0; beside = 0; table = table_of (map rewritten (model t).value) } or_else record { number = 28; beside = 0; table = table })
           (record { number = 4; beside = lowest (model t).value; table = table })
           (neither n (each has_room (model t).value)
           (record { number = 0; beside = 0; table = table_of (map rewritten (model t).value) })
@@ -186,7 +186,7 @@ module _ (t table : List ℕ) where
           (λ z. omega (arith, z, u)) h)
       by_end (Refused m q) h = ap (λ (k : ℕ). Refused k q) h
 
-      by_length : (c : Bool) → (if◌then◌else◌ {A = ReadInto} c (record { number = 1; beside = 0; table = table }) (judged (model t).end (model t).value table)).number ≡ n → (model t).end ≡ Refused n (if◌then◌else◌ {A = ReadInto} c (record { number = 1; beside = 0; table = table }) (judged (model t).end (model t).value table)).beside
+      by_length : (c : Bool) → (if◌then◌or_else◌ {A = ReadInto} c (record { number = 1; beside = 0; table = table }) (judged (model t).end (model t).value table)).number ≡ n → (model t).end ≡ Refused n (if◌then◌or_else◌ {A = ReadInto} c (record { number = 1; beside = 0; table = table }) (judged (model t).end (model t).value table)).beside
       by_length true h = absurd (omega (arith, h, l))
       by_length false h = by_end (model t).end h
 
@@ -197,5 +197,5 @@ module _ (t table : List ℕ) where
   answer_three e = exceeds t (read_into t table).beside (refused_answer excessive (omega arith) (omega arith) e)
 
   pub whole_answer : (q : ℕ) → ltb text_most (length t) ≡ false → (model t).end ≡ At q → read_into t table ≡ checked (lowest (model t).value) (model t).value table
-  unfolding read_into judged if◌then◌else◌
+  unfolding read_into judged if◌then◌or_else◌
   whole_answer q short e = rw short (ap (λ (r : Read). judged r (model t).value table) e)

@@ -8,7 +8,7 @@ use native.Mathlib.Omega.{arith}
 use lib.Dec.{eqb}
 use lib.ListN.{length}
 use Rattle.base_words.specs.Each.{each}
-use Rattle.base_words.specs.Pick.{if◌then◌else◌}
+use Rattle.base_words.specs.Pick.{if◌then◌or_else◌}
 use Rattle.text_lexer.specs.declared.Form.{Form}
 use Rattle.text_lexer.specs.Lexer.{is_word, token_at, if_word, if_sign}
 use Rattle.base_bytes.specs.Bytes.{between, is_digit, is_letter}
@@ -135,7 +135,7 @@ sample true = worded (49 ∷ []) one_long one_word
 sample false = worded (100 ∷ 48 ∷ []) two_long field_word
 
 pub sample_numeral : (s : Bool) → numeral (met (sample s)) ≡ true
-unfolding if_word is_spelled number_of field_of field_from field_behind leading_zero value_from is_digit between if◌then◌else◌
+unfolding if_word is_spelled number_of field_of field_from field_behind leading_zero value_from is_digit between if◌then◌or_else◌
 sample_numeral true = refl
 sample_numeral false = refl
 

@@ -10,7 +10,7 @@ use lib.ListN.{length, drop, set}
 use borrow.Author.Tests.{eq-eqb}
 use Rattle.base_words.specs.Counts.{fields_named}
 use Rattle.base_words.specs.Each.{each}
-use Rattle.base_words.specs.Pick.{if◌then◌else◌}
+use Rattle.base_words.specs.Pick.{if◌then◌or_else◌}
 use Rattle.base_words.specs.Text.{bytes}
 use Rattle.base_words.specs.Words.{at}
 use Rattle.base_kinds.specs.Moves.{a}
@@ -48,14 +48,14 @@ showing_sign s m e = ap (showing s) e ∙ eq-eqb s s refl
 pub two_three : {A : Type 0} → refuses misplaced ≡ refuses excessive → A
 two_three e = let z : ◌≡◌ {A = ℕ} 2 3 = refused_alike (refuses misplaced) misplaced excessive refl e in absurd (omega (arith, z))
 
-abbrev or_else : Bool → Turn
-or_else c = choose c takes (refuses misplaced)
+abbrev or_misplaced : Bool → Turn
+or_misplaced c = choose c takes (refuses misplaced)
 
-else_firm : (c : Bool) → or_else c ≡ passes → ⊥
+else_firm : (c : Bool) → or_misplaced c ≡ passes → ⊥
 else_firm true e = takes_passes takes refl e
 else_firm false e = passes_refuses passes misplaced refl (sym e)
 
-else_calm : (c : Bool) → or_else c ≡ refuses excessive → ⊥
+else_calm : (c : Bool) → or_misplaced c ≡ refuses excessive → ⊥
 else_calm true e = takes_refuses takes excessive refl e
 else_calm false e = two_three e
 
@@ -65,12 +65,12 @@ pub data Sighted (s : ℕ) (k : Token) (r : Read) : Type 0 where
   unseen : showing s k.form ≡ false → r ≡ Refused misplaced k.at → Sighted s k r
 
 module _ (s : ℕ) (k : Token) where
-  sign_pick : (c : Bool) → showing s k.form ≡ c → is_end k.form ≡ false → Sighted s k (if c then At k.next else Refused misplaced k.at)
-  unfolding if◌then◌else◌
+  sign_pick : (c : Bool) → showing s k.form ≡ c → is_end k.form ≡ false → Sighted s k (if c then At k.next or_else Refused misplaced k.at)
+  unfolding if◌then◌or_else◌
   sign_pick true e h = seen e h refl
   sign_pick false e h = unseen e refl
 
-  sign_form : (m : Form) → k.form ≡ m → Sighted s k (if_sign m (λ b. if eqb b s then At k.next else Refused misplaced k.at) (Refused misplaced k.at))
+  sign_form : (m : Form) → k.form ≡ m → Sighted s k (if_sign m (λ b. if eqb b s then At k.next or_else Refused misplaced k.at) (Refused misplaced k.at))
   unfolding if_sign
   sign_form Word e = unseen (ap (showing s) e) refl
   sign_form (Sign b) e = sign_pick (eqb b s) (ap (showing s) e) (ap is_end e)
@@ -82,15 +82,15 @@ pub sighted : (s : ℕ) (t : List ℕ) (from : ℕ) → Sighted s (token_at t fr
 unfolding sign_at
 sighted s t from = sign_form s (token_at t from) (token_at t from).form refl
 
-sign_judged : (s : ℕ) (k : Token) (r : Read) → Sighted s k r → Judged (or_else (showing s k.form)) k r
-sign_judged s k r (seen c h z) = on (ap or_else c) h z
-sign_judged s k r (unseen c z) = off misplaced (ap or_else c) z
+sign_judged : (s : ℕ) (k : Token) (r : Read) → Sighted s k r → Judged (or_misplaced (showing s k.form)) k r
+sign_judged s k r (seen c h z) = on (ap or_misplaced c) h z
+sign_judged s k r (unseen c z) = off misplaced (ap or_misplaced c) z
 
 pub sign_signal : (s : ℕ) (b : Piece) → b.form ≡ Sign s → Signal s (sign s)
 sign_signal s b e =
-    token_signal (sign s) (λ k. or_else (showing s k.form)) (λ t from x. sign_judged s (token_at t from) (sign_at s t from) (sighted s t from)) s
+    token_signal (sign s) (λ k. or_misplaced (showing s k.form)) (λ t from x. sign_judged s (token_at t from) (sign_at s t from) (sighted s t from)) s
     (λ k. else_firm (showing s k.form)) (λ k. else_calm (showing s k.form))
-    b e (ap or_else (showing_sign s b.form e))
+    b e (ap or_misplaced (showing_sign s b.form e))
 
 -- `:=`
 abbrev assigns : Form → Bool
@@ -100,7 +100,7 @@ assigns Assign = true
 assigns End = false
 assigns Other = false
 
-assign_form : (k : Token) (m : Form) → k.form ≡ m → Judged (or_else (assigns m)) k (if_assign m (At k.next) (Refused misplaced k.at))
+assign_form : (k : Token) (m : Form) → k.form ≡ m → Judged (or_misplaced (assigns m)) k (if_assign m (At k.next) (Refused misplaced k.at))
 unfolding if_assign
 assign_form k Word e = off misplaced refl refl
 assign_form k (Sign b) e = off misplaced refl refl
@@ -111,7 +111,7 @@ assign_form k Other e = off misplaced refl refl
 pub assign_once : Once assign
 unfolding assign_at
 assign_once =
-    token_once assign (λ k. or_else (assigns k.form)) (λ t from x. assign_form (token_at t from) (token_at t from).form refl)
+    token_once assign (λ k. or_misplaced (assigns k.form)) (λ t from x. assign_form (token_at t from) (token_at t from).form refl)
     (λ k. else_firm (assigns k.form)) becomes refl (λ k z. absurd (else_calm (assigns k.form) z))
 
 -- A WORD, judged by its letters
@@ -187,11 +187,12 @@ number_turn least most TooLarge = refuses excessive
 number_turn least most NotANumber = refuses misplaced
 
 number_verdict : (least most place : ℕ) (v : Number) (p q : ℕ) (x : List ℕ) → Verdict (number_turn least most v) p q (keep_number v least most place p q x).end
-unfolding keep_number
+unfolding keep_number if◌then◌or_else◌
 number_verdict least most place (Value v) p q x = go (leb least v && leb v most)
   where
-    go : (c : Bool) → Verdict (choose c takes (refuses excessive)) p q (if c then passed_to q (set x place v) else refused_at excessive p x).end
-    go c = unfold if◌then◌else◌ in elim c [ true ↦ good refl refl | false ↦ bad excessive refl refl ]
+    go : (c : Bool) → Verdict (choose c takes (refuses excessive)) p q (if c then passed_to q (set x place v) or_else refused_at excessive p x).end
+    go true = good refl refl
+    go false = bad excessive refl refl
 number_verdict least most place TooLarge p q x = bad excessive refl refl
 number_verdict least most place NotANumber p q x = bad misplaced refl refl
 
@@ -211,11 +212,11 @@ number_spelled least most TooLarge z = refl
 number_spelled least most NotANumber z = two_three z
 
 one_value : number_of (49 ∷ []) ≡ Value 1
-unfolding number_of leading_zero value_from is_digit between if◌then◌else◌
+unfolding number_of leading_zero value_from is_digit between if◌then◌or_else◌
 one_value = refl
 
 field_value : field_of (100 ∷ 48 ∷ []) ≡ Value 0
-unfolding field_of field_from field_behind number_of leading_zero value_from is_digit between if◌then◌else◌
+unfolding field_of field_from field_behind number_of leading_zero value_from is_digit between if◌then◌or_else◌
 field_value = refl
 
 pub number_once : (least most place : ℕ) → leb least 1 && leb 1 most ≡ true → Once (number least most place)
@@ -269,14 +270,15 @@ spelled_field TooLarge z = refl
 spelled_field NotANumber z = two_three z
 
 operand_spelled : (w : List ℕ) → operand_turn (operand_of w) ≡ refuses excessive → numeric w ≡ true
-unfolding operand_of
+unfolding operand_of if◌then◌or_else◌
 operand_spelled w z = go (is_field_letter (at w 0)) z
   where
-    go : (c : Bool) → operand_turn (if c then as_field (field_of w) else as_number (number_of w)) ≡ refuses excessive → is_spelled (number_of w) || is_spelled (field_of w) ≡ true
-    go c = unfold if◌then◌else◌ in elim c [ true ↦ λ h. or_right (is_spelled (number_of w)) _ (spelled_field (field_of w) h) | false ↦ λ h. or_left (is_spelled (number_of w)) _ (spelled_number (number_of w) h) ]
+    go : (c : Bool) → operand_turn (if c then as_field (field_of w) or_else as_number (number_of w)) ≡ refuses excessive → is_spelled (number_of w) || is_spelled (field_of w) ≡ true
+    go true h = or_right (is_spelled (number_of w)) _ (spelled_field (field_of w) h)
+    go false h = or_left (is_spelled (number_of w)) _ (spelled_number (number_of w) h)
 
 one_operand : operand_of (49 ∷ []) ≡ OfNumber 1
-unfolding operand_of is_field_letter as_number if◌then◌else◌
+unfolding operand_of is_field_letter as_number if◌then◌or_else◌
 one_operand = ap as_number one_value
 
 pub operand_once : (place : ℕ) → Once (operand place)
@@ -289,8 +291,8 @@ operand_once place =
     (λ w z. record { spelled = operand_spelled w z; better = true; taken = fits })
 
 -- a mode
-mode_verdict : (c : Bool) (p q : ℕ) (x y : List ℕ) → Verdict (or_else (not c)) p q (if c then refused_at misplaced p x else passed_to q y).end
-unfolding if◌then◌else◌
+mode_verdict : (c : Bool) (p q : ℕ) (x y : List ℕ) → Verdict (or_misplaced (not c)) p q (if c then refused_at misplaced p x or_else passed_to q y).end
+unfolding if◌then◌or_else◌
 mode_verdict true p q x y = bad misplaced refl refl
 mode_verdict false p q x y = good refl refl
 
@@ -299,13 +301,13 @@ unfolding each is_word is_letter is_digit between
 mode_word = refl
 
 mode_named_lem : mode_named (bytes "a") ≡ a
-unfolding mode_named same_bytes if◌then◌else◌
+unfolding mode_named same_bytes if◌then◌or_else◌
 mode_named_lem = refl
 
 pub mode_once : Once mode
 unfolding mode keep_mode
 mode_once =
-    word_once mode (λ w. or_else (not (eqb (mode_named w) 0))) (λ w p q x. keep_mode (mode_named w) p q x) (λ t from x. refl)
+    word_once mode (λ w. or_misplaced (not (eqb (mode_named w) 0))) (λ w p q x. keep_mode (mode_named w) p q x) (λ t from x. refl)
     (λ w p q x. mode_verdict (eqb (mode_named w) 0) p q x _) (λ w. else_firm (not (eqb (mode_named w) 0)))
-    (bytes "a") (omega arith) mode_word (ap (λ (m : ℕ). or_else (not (eqb m 0))) mode_named_lem)
+    (bytes "a") (omega arith) mode_word (ap (λ (m : ℕ). or_misplaced (not (eqb m 0))) mode_named_lem)
     (λ w z. absurd (else_calm (not (eqb (mode_named w) 0)) z))

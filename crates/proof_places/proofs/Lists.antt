@@ -7,7 +7,7 @@ use mathlib.Core.List.{List}
 use native.Mathlib.Omega.{arith}
 use lib.Dec.{eqb}
 use borrow.Author.Tests.{eq-eqb, eqb-true}
-use Rattle.base_words.specs.Pick.{if◌then◌else◌}
+use Rattle.base_words.specs.Pick.{if◌then◌or_else◌}
 use Rattle.base_words.specs.Text.{bytes}
 use Rattle.base_words.specs.Counts.{edges, tasks, names, fewest}
 use Rattle.base_table.specs.Places.{entries_place, exits_place}
@@ -34,7 +34,7 @@ number_starting = record {
   test = of_number;
   same = λ t from. refl;
   such = sample true;
-  passing = unfold if_word is_spelled number_of leading_zero value_from is_digit between if◌then◌else◌ in refl;
+  passing = unfold if_word is_spelled number_of leading_zero value_from is_digit between if◌then◌or_else◌ in refl;
   item = λ k e. or_left _ _ (or_left _ _ e);
 }
 
@@ -44,7 +44,7 @@ field_starting = record {
   test = of_field;
   same = λ t from. refl;
   such = sample false;
-  passing = unfold if_word is_spelled field_of field_from field_behind number_of leading_zero value_from is_digit between if◌then◌else◌ in refl;
+  passing = unfold if_word is_spelled field_of field_from field_behind number_of leading_zero value_from is_digit between if◌then◌or_else◌ in refl;
   item = λ k e. or_left _ _ (or_right (of_number k) _ e);
 }
 
@@ -77,8 +77,8 @@ or_starting {f} {g} a b = record {
   item = λ k e. either (a.test k) (b.test k) e (a.item k) (b.item k);
 }
 
-if_starting : (c : Bool) {f g : List ℕ → ℕ → Bool} → Starting f → Starting g → Starting (λ t from. if c then f t from else g t from)
-unfolding if◌then◌else◌
+if_starting : (c : Bool) {f g : List ℕ → ℕ → Bool} → Starting f → Starting g → Starting (λ t from. if c then f t from or_else g t from)
+unfolding if◌then◌or_else◌
 if_starting true a b = a
 if_starting false a b = b
 
@@ -91,13 +91,13 @@ starts_starting item =
     (if_starting (eqb item an_assignment) field_starting branch_starting)))
 
 -- LISTS
-if_reads : {P : Form → Bool} (c : Bool) {f g : Reader} → Reads P f → Reads P g → Reads P (if c then f else g)
-unfolding if◌then◌else◌
+if_reads : {P : Form → Bool} (c : Bool) {f g : Reader} → Reads P f → Reads P g → Reads P (if c then f or_else g)
+unfolding if◌then◌or_else◌
 if_reads true a b = a
 if_reads false a b = b
 
-if_each : {P : Form → Bool} (c : Bool) {f g : Reader} → Reads P f → Reads P g → Reads P (λ t from x. if c then f t from x else g t from x)
-unfolding if◌then◌else◌
+if_each : {P : Form → Bool} (c : Bool) {f g : Reader} → Reads P f → Reads P g → Reads P (λ t from x. if c then f t from x or_else g t from x)
+unfolding if◌then◌or_else◌
 if_each true a b = a
 if_each false a b = b
 
@@ -183,8 +183,8 @@ task_reads =
     (then_calm (condition_reads false _) (led_calm (signal_then comma assignments_reads))))))
 
 -- the part with a letter, by the letters that there are
-pick_reads : {P : Form → Bool} (c d : Bool) {f g : Reader} → c || d ≡ true → Reads P f → (d ≡ true → Reads P g) → Reads P (if c then f else g)
-unfolding if◌then◌else◌
+pick_reads : {P : Form → Bool} (c d : Bool) {f g : Reader} → c || d ≡ true → Reads P f → (d ≡ true → Reads P g) → Reads P (if c then f or_else g)
+unfolding if◌then◌or_else◌
 pick_reads true d e a b = a
 pick_reads false d e a b = b e
 
@@ -201,5 +201,5 @@ part_reads c h =
     pick_reads (eqb c (code "G")) false h guards_reads λ h. absurd (false≢true h)
 
 pub last_reads : Reads (showing (code ")")) (part_of (code "B"))
-unfolding part_of if◌then◌else◌
+unfolding part_of if◌then◌or_else◌
 last_reads = branches_reads

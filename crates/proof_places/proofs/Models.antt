@@ -9,7 +9,7 @@ use lib.Dec.{eqb}
 use lib.ListN.{length, replicate}
 use borrow.Author.Tests.{eqb-true}
 use Rattle.base_words.specs.Each.{each}
-use Rattle.base_words.specs.Pick.{if◌then◌else◌}
+use Rattle.base_words.specs.Pick.{if◌then◌or_else◌}
 use Rattle.base_words.specs.Seek.{seek}
 use Rattle.base_words.specs.Text.{bytes}
 use Rattle.base_words.specs.Counts.{pool_numbers, instances}
@@ -42,7 +42,7 @@ use Rattle.proof_places.proofs.Lists.{part_reads, last_reads}
 
 -- BY A KEYWORD: what is behind it goes by the number that it names, and 0 is none
 module _ {A : Type 0} {P : Form → Bool} (end : A → Read) (f : Reader) (name : List ℕ → ℕ) (rest : ℕ → Reader) (good : ℕ → List ℕ → ℕ → List ℕ → A) (bad : List ℕ → ℕ → List ℕ → A)
-    (same : (t : List ℕ) (from : ℕ) (x : List ℕ) → (f t from x).end ≡ end (if_word (token_at t from).form (if eqb (name (letters t from)) 0 then bad t from x else good (name (letters t from)) t from x) (bad t from x)))
+    (same : (t : List ℕ) (from : ℕ) (x : List ℕ) → (f t from x).end ≡ end (if_word (token_at t from).form (if eqb (name (letters t from)) 0 then bad t from x or_else good (name (letters t from)) t from x) (bad t from x)))
     (refusal : (t : List ℕ) (from : ℕ) (x : List ℕ) → end (bad t from x) ≡ Refused misplaced (place_of t from))
     (words : ℕ → List ℕ → List ℕ)
     (going : (n : ℕ) (t : List ℕ) (from : ℕ) (x : List ℕ) → end (good n t from x) ≡ (rest n t (behind t from) (words n x)).end)
@@ -58,8 +58,8 @@ module _ {A : Type 0} {P : Form → Bool} (end : A → Read) (f : Reader) (name 
   abbrev by_name : Lexeme → Grammar
   by_name k = called k.form (eqb (name k.letters) 0) (name k.letters)
 
-  called_leads : (t : List ℕ) (from : ℕ) (x : List ℕ) (m : Form) (c : Bool) (n : ℕ) → (token_at t from).form ≡ m → Leads t (end (if_word m (if c then bad t from x else good n t from x) (bad t from x))) (called m c n) from
-  unfolding if_word if◌then◌else◌
+  called_leads : (t : List ℕ) (from : ℕ) (x : List ℕ) (m : Form) (c : Bool) (n : ℕ) → (token_at t from).form ≡ m → Leads t (end (if_word m (if c then bad t from x or_else good n t from x) (bad t from x))) (called m c n) from
+  unfolding if_word if◌then◌or_else◌
   called_leads t from x Word true n e = fails misplaced refl (refusal t from x)
   called_leads t from x Word false n e =
       steps refl (ap is_end e) (subst (λ (r : Read). Leads t r (reads n).runs.grammar (behind t from)) (sym (going n t from x)) ((reads n).runs.leads t (behind t from) (words n x)))
@@ -114,7 +114,7 @@ fits_row (c ∷ cs) = (eqb c (code " ") || (among (bytes "EXFYNTSG") c || (eqb c
 final_calm : (s : ℕ) (cs : List ℕ) → final cs ≡ true → (t : List ℕ) (from : ℕ) (x : List ℕ) → (parts_from s cs t from x).end ≡ At from
 unfolding parts_from
 final_calm s [] e t from x = refl
-final_calm s (c ∷ cs) e t from x = unfold if◌then◌else◌ in rw e
+final_calm s (c ∷ cs) e t from x = unfold if◌then◌or_else◌ in rw e
 
 nothing_calm : {P : Form → Bool} → Calm P nothing
 nothing_calm = still_calm nothing (λ t from x. refl)
@@ -140,8 +140,8 @@ row_part c cs rest e =
     subst (λ (d : ℕ). Reads (showing (code ")")) (part_of d then parts_from (code ",") cs)) (sym b)
     (reads_as (ends_there (part_of (code "B")) cs (and_right (eqb c (code "B")) (final cs) k)) last_reads))
 
-row_calm : (s : ℕ) → is_sign s ≡ true → (c : ℕ) (cs : List ℕ) (d e : Bool) → d || e ≡ true → (e ≡ true → Reads (showing (code ")")) (part_of c then parts_from (code ",") cs)) → Calm (showing (code ")")) (if d then nothing else sign s then part_of c then parts_from (code ",") cs)
-unfolding if◌then◌else◌
+row_calm : (s : ℕ) → is_sign s ≡ true → (c : ℕ) (cs : List ℕ) (d e : Bool) → d || e ≡ true → (e ≡ true → Reads (showing (code ")")) (part_of c then parts_from (code ",") cs)) → Calm (showing (code ")")) (if d then nothing or_else sign s then part_of c then parts_from (code ",") cs)
+unfolding if◌then◌or_else◌
 row_calm s h c cs true e z r = nothing_calm
 row_calm s h c cs false e z r = led_calm (signal_then (signal s h) (r z))
 
@@ -174,7 +174,7 @@ unfolding each is_word is_letter is_digit between
 end_word = refl
 
 end_named : eqb (kind_named (bytes "end")) 0 ≡ false
-unfolding kind_named is_keyword same_bytes seek kind_of if◌then◌else◌
+unfolding kind_named is_keyword same_bytes seek kind_of if◌then◌or_else◌
 end_named = refl
 
 element_reads : Reads any element
@@ -252,8 +252,8 @@ elements_reads : Reads shuts (bare elements_at)
 unfolding elements_at
 elements_reads = bars_reads shuts element_alone starts_element alone_reads element_starting shuts_apart 31
 
-closing_reads : (c : Bool) → Reads any (bare elements_at then (if c then sign (code ")") else sign (code ",") then number 1 instances limit_in then sign (code ")")))
-unfolding if◌then◌else◌ is_sign among
+closing_reads : (c : Bool) → Reads any (bare elements_at then (if c then sign (code ")") or_else sign (code ",") then number 1 instances limit_in then sign (code ")")))
+unfolding if◌then◌or_else◌ is_sign among
 closing_reads true = then_led elements_reads (signal_led (signal (code ")") refl)) refl
 closing_reads false = then_led elements_reads (signal_then comma (once_then (number_once 1 instances limit_in refl) (once_reads (signal_once (signal (code ")") refl))))) refl
 
@@ -287,7 +287,7 @@ unfolding each is_word is_letter is_digit between
 pool_word_lem = refl
 
 pool_named_lem : eqb (pool_word (bytes "pool")) 0 ≡ false
-unfolding pool_word same_bytes if◌then◌else◌
+unfolding pool_word same_bytes if◌then◌or_else◌
 pool_named_lem = refl
 
 pool_reads : Reads any (bare pool)

@@ -9,7 +9,7 @@ use native.Mathlib.Omega.{arith}
 use lib.ListN.{length, take, drop}
 use lib.Seq.{get_or-drop, length-take-le, take-append_seam, drop-append_seam}
 use Rattle.base_words.specs.Each.{each}
-use Rattle.base_words.specs.Pick.{if◌then◌else◌}
+use Rattle.base_words.specs.Pick.{if◌then◌or_else◌}
 use Rattle.base_words.specs.Words.{at, part}
 use Rattle.text_lexer.specs.declared.Form.{Form}
 use Rattle.text_lexer.specs.declared.Form.TheVariants.{Word, Sign, Assign, End, Other}
@@ -61,7 +61,7 @@ module _ (t : List ℕ) (p : ℕ) (s : List ℕ) (e : drop p t ≡ 32 ∷ s) whe
   left_blank = left_at t p (32 ∷ []) s e
 
   blank_past : past is_blank (drop p t) p ≡ past is_blank (drop (p + 1) t) (p + 1)
-  unfolding past is_blank among if◌then◌else◌
+  unfolding past is_blank among if◌then◌or_else◌
   blank_past = ap (λ (l : List ℕ). past is_blank l p) e ∙ sym (ap (λ (l : List ℕ). past is_blank l (p + 1)) left_blank)
 
   pub blank_token : token_at t p ≡ token_at t (p + 1)

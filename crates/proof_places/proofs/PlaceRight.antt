@@ -7,7 +7,7 @@ use mathlib.Core.List.{List}
 use native.Mathlib.Omega.{arith}
 use lib.Dec.{ltb}
 use lib.ListN.{length}
-use Rattle.base_words.specs.Pick.{if◌then◌else◌}
+use Rattle.base_words.specs.Pick.{if◌then◌or_else◌}
 use Rattle.base_words.specs.Counts.{text_most}
 use Rattle.text_lexer.specs.declared.Token.{Token}
 use Rattle.text_lexer.specs.Lexer.{token_at}
@@ -39,7 +39,7 @@ module _ {A : Type 0} (t u : List ℕ) (p : ℕ) (same : Same t u p) where
   local (stop v) at good = record { same = refl; seen = good }
   local (refuse above v) at good =
       record {
-        same = ap (λ (k : Token). record { end = Refused (if above then excessive else misplaced) k.at; value = v }) (same.token at (itself good));
+        same = ap (λ (k : Token). record { end = Refused (if above then excessive or_else misplaced) k.at; value = v }) (same.token at (itself good));
         seen = itself good;
       }
   local (pass c) at good =
@@ -71,5 +71,5 @@ module _ (t u : List ℕ) (n p : ℕ) where
   not_accepted refusal agree q e = let z : Refused n p ≡ At q = sym (place_right refusal agree) ∙ e in let c : ◌≡◌ {A = ℕ} 0 1 = cc in absurd (omega arith)
 
   pub answer_right : (model t).end ≡ Refused n p → Agree t u p → ltb text_most (length u) ≡ false → (table : List ℕ) → read_into u table ≡ record { number = n; beside = p; table = table }
-  unfolding read_into judged if◌then◌else◌
+  unfolding read_into judged if◌then◌or_else◌
   answer_right refusal agree short table = rw short (ap (λ (r : Read). judged r (model u).value table) (place_right refusal agree))

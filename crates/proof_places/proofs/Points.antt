@@ -1,6 +1,6 @@
 -- A point, computed: a text whose refusal has a place, and another that agrees with it there and goes on. Assumes nothing.
 use mathlib.Core.Path.{◌≡◌, refl}
-use Rattle.base_words.specs.Pick.{if◌then◌else◌}
+use Rattle.base_words.specs.Pick.{if◌then◌or_else◌}
 use Rattle.base_words.specs.Text.{bytes}
 use Rattle.text_lexer.specs.Lexer.{is_blank, is_word, is_sign, token_of, token_here, token_at, if_word, if_sign}
 use Rattle.base_bytes.specs.Bytes.{among, between, is_letter, is_digit, past}
@@ -14,7 +14,7 @@ use Rattle.proof_places.proofs.PlaceRight.{place_right}
 
 -- "3: a number is outside its range", at the number
 short_refused : (model (bytes "pool( 0")).end ≡ Refused 3 6
-unfolding model pools_at barred pool pool_word pool_of_word inside_pool opening number keep_number sign_at ◌then◌ onward if_at if_sign if_word token_at token_here token_of past is_sign is_digit is_letter is_word is_blank between among number_of leading_zero value_from same_bytes if◌then◌else◌
+unfolding model pools_at barred pool pool_word pool_of_word inside_pool opening number keep_number sign_at ◌then◌ onward if_at if_sign if_word token_at token_here token_of past is_sign is_digit is_letter is_word is_blank between among number_of leading_zero value_from same_bytes if◌then◌or_else◌
 short_refused = refl
 
 pub long_refused : (model (bytes "pool( 0,start(1,{}))|")).end ≡ Refused 3 6

@@ -5,7 +5,7 @@ use mathlib.Core.Bool.{Bool, true, false, not, ◌&&◌, ◌||◌}
 use mathlib.Core.List.{List, [], ◌∷◌}
 use lib.Dec.{eqb, ltb}
 use lib.ListN.{set}
-use Rattle.base_words.specs.Pick.{if◌then◌else◌}
+use Rattle.base_words.specs.Pick.{if◌then◌or_else◌}
 use Rattle.base_words.specs.Text.{bytes}
 use Rattle.base_words.specs.Counts.{edges}
 use Rattle.base_kinds.specs.Kinds.{kind_of}
@@ -60,8 +60,8 @@ condition_reads defaults place =
     (λ m w t at x.
     if_word m
     (if same_bytes w (bytes "true") then skip (λ x. set x (place + form_place) always) t at x
-    else if defaults && same_bytes w (bytes "default") then skip (λ x. set x (place + form_place) default) t at x
-    else (operand (place + left_place) then comparison place) t at x)
+    or_else if defaults && same_bytes w (bytes "default") then skip (λ x. set x (place + form_place) default) t at x
+    or_else (operand (place + left_place) then comparison place) t at x)
     (refused_at misplaced (place_of t at) x))
     (λ m w.
     word_reads m
@@ -98,8 +98,8 @@ element-told = told (λ m w. if_word m (not (eqb (kind_named w) 0)) false)
 or_told : {f g : List ℕ → ℕ → Bool} → Told f → Told g → Told (λ t at. f t at || g t at)
 or_told a b = record { test = λ m w. a.test m w || b.test m w; is = λ t at i. a.is t at i || b.is t at i }
 
-if_told : (c : Bool) {f g : List ℕ → ℕ → Bool} → Told f → Told g → Told (λ t at. if c then f t at else g t at)
-unfolding if◌then◌else◌
+if_told : (c : Bool) {f g : List ℕ → ℕ → Bool} → Told f → Told g → Told (λ t at. if c then f t at or_else g t at)
+unfolding if◌then◌or_else◌
 if_told true a b = a
 if_told false a b = b
 
@@ -201,7 +201,7 @@ element_reads =
     token_reads
     (λ m w t at x.
     if_word m
-    (if eqb (kind_named w) 0 then refused_at misplaced (place_of t at) (blank 0 x) else (skip (blank (kind_named w)) then parts_of (kind_named w)) t at x)
+    (if eqb (kind_named w) 0 then refused_at misplaced (place_of t at) (blank 0 x) or_else (skip (blank (kind_named w)) then parts_of (kind_named w)) t at x)
     (refused_at misplaced (place_of t at) (blank 0 x)))
     (λ m w.
     word_reads m

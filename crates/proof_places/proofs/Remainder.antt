@@ -6,7 +6,7 @@ use mathlib.Core.List.{List, [], ◌∷◌}
 use native.Mathlib.Omega.{arith}
 use lib.ListN.{length, take, drop}
 use lib.Seq.{drop-drop}
-use Rattle.base_words.specs.Pick.{if◌then◌else◌}
+use Rattle.base_words.specs.Pick.{if◌then◌or_else◌}
 use Rattle.base_words.specs.Words.{part}
 use Rattle.text_lexer.specs.declared.Form.{Form}
 use Rattle.text_lexer.specs.declared.Form.TheVariants.{End}
@@ -21,11 +21,11 @@ use Rattle.proof_places.proofs.Tokens.{Enough, at_end, behind_enough}
 
 -- the same token from another place on
 past_shift : (class : ℕ → Bool) (s : List ℕ) (p : ℕ) → past class s p ≡ p + past class s 0
-unfolding past if◌then◌else◌
+unfolding past if◌then◌or_else◌
 past_shift class [] p = omega arith
 past_shift class (b ∷ s) p = go (class b) (past_shift class s (p + 1)) (past_shift class s (0 + 1))
   where
-    go : (c : Bool) → past class s (p + 1) ≡ p + 1 + past class s 0 → past class s (0 + 1) ≡ 0 + 1 + past class s 0 → (if c then past class s (p + 1) else p) ≡ p + (if c then past class s (0 + 1) else 0)
+    go : (c : Bool) → past class s (p + 1) ≡ p + 1 + past class s 0 → past class s (0 + 1) ≡ 0 + 1 + past class s 0 → (if c then past class s (p + 1) or_else p) ≡ p + (if c then past class s (0 + 1) or_else 0)
     go true e f = omega (arith, e, f)
     go false e f = omega arith
 

@@ -217,11 +217,12 @@ abbrev pub reads_as : {P : Form → Bool} {f g : Reader} → ((t : List ℕ) (fr
 reads_as e a = record { runs = runs_as e a.runs; pieces = a.pieces; whole = a.whole }
 
 then_end : (f g : Reader) (t : List ℕ) (from : ℕ) (x : List ℕ) → if_at (f t from x).end (λ q. (g t q (f t from x).words).end) (f t from x).end ≡ ((f then g) t from x).end
-unfolding ◌then◌ onward
+unfolding ◌then◌ onward if_at
 then_end f g t from x = if_end_lem (f t from x).end (λ q. g t q (f t from x).words) (f t from x)
   where
     if_end_lem : (r : Read) (h : ℕ → Parsed) (y : Parsed) → if_at r (λ q. (h q).end) y.end ≡ (if_at r h y).end
-    if_end_lem r h y = unfold if_at in elim r [ At q ↦ refl | Refused n p ↦ refl ]
+    if_end_lem (At q) h y = refl
+    if_end_lem (Refused n p) h y = refl
 
 module _ (P Q : Form → Bool) (f g : Reader) (a : Reads P f) (b : Reads Q g) (fits : Fits P Q b.pieces) (apart : Apart a.runs.grammar b.runs.grammar) where
   seq-ends : (t : List ℕ) (from : ℕ) (x : List ℕ) → Leads t ((f then g) t from x).end (seq a.runs.grammar b.runs.grammar) from

@@ -5,7 +5,7 @@ use mathlib.Core.Path.{◌≡◌, ◌∙◌, sym, ap}
 use mathlib.Core.List.{List}
 use lib.ListN.{length}
 use borrow.Author.Tests.{le-ltb}
-use Rattle.base_words.specs.Pick.{if◌then◌else◌}
+use Rattle.base_words.specs.Pick.{if◌then◌or_else◌}
 use Rattle.base_words.specs.Counts.{text_most}
 use Rattle.text_readers.specs.declared.Read.{Read}
 use Rattle.check_model.specs.Checks.{Pool, lowest}
@@ -25,7 +25,7 @@ module _ (t u : List ℕ) (alike : tokens t ≡ tokens u) where
 
   module _ (x : List ℕ) (short : length t ≤ text_most) (short-too : length u ≤ text_most) where
     answer : (v : List ℕ) → length v ≤ text_most → (r : Read) → (model v).end ≡ r → read_into v x ≡ judged r (model v).value x
-    unfolding read_into if◌then◌else◌
+    unfolding read_into if◌then◌or_else◌
     answer v l r e = rw (le-ltb text_most (length v) l) (ap (λ (r : Read). judged r (model v).value x) e)
 
     pub answer_alike : AnswerAlike t u x (read_into t x) (read_into u x)

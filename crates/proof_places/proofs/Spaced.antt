@@ -8,7 +8,7 @@ use native.Mathlib.Omega.{arith}
 use lib.ListN.{length, take, drop, length-append, length-drop, take-append-drop}
 use lib.Seq.{length-take-le, take_at, drop_at, drop-drop, drop-append_seam, get_or_at}
 use Rattle.base_words.specs.Each.{each}
-use Rattle.base_words.specs.Pick.{if◌then◌else◌}
+use Rattle.base_words.specs.Pick.{if◌then◌or_else◌}
 use Rattle.base_words.specs.Words.{at, part}
 use Rattle.base_words.proofs.AllLaws.{and_left, and_right}
 use Rattle.text_lexer.specs.declared.Token.{Token}
@@ -33,7 +33,7 @@ unfolding token_at
 by_past t a b e = ap (λ (k : ℕ). token_here (drop k t) k) e
 
 past_over : (class : ℕ → Bool) (b s : List ℕ) (p : ℕ) → each class b ≡ true → past class (b ++ s) p ≡ past class s (p + length b)
-unfolding past each if◌then◌else◌
+unfolding past each if◌then◌or_else◌
 past_over class [] s p h = ap (past class s) (sym (add-zero p))
 past_over class (c ∷ b) s p h =
     rw (and_left (class c) (each class b) h)

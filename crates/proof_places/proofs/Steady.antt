@@ -3,7 +3,7 @@
 use Prim.Native.Nat.{ℕ, suc}
 use mathlib.Core.Path.{◌≡◌, refl, sym, subst}
 use mathlib.Core.List.{List}
-use Rattle.base_words.specs.Pick.{if◌then◌else◌}
+use Rattle.base_words.specs.Pick.{if◌then◌or_else◌}
 use Rattle.text_readers.specs.Reading.{misplaced, excessive, letters}
 use Rattle.check_model.specs.Checks.{Pool}
 use Rattle.text_read.specs.Notation.{Got, model}
@@ -19,7 +19,7 @@ module _ {A : Type 0} (t u : List ℕ) (level : Level t u) where
   steady : (c : Course A) (k : ℕ) → ReadAlike t u (follow c t (behind_first t k)) (follow c u (behind_first u k))
   unfolding follow behind_first
   steady (stop v) k = record { value = refl; end = both_read k refl refl }
-  steady (refuse above v) k = record { value = refl; end = both_refused (if above then excessive else misplaced) k refl refl }
+  steady (refuse above v) k = record { value = refl; end = both_refused (if above then excessive or_else misplaced) k refl refl }
   steady (pass c) k = steady c (suc k)
   steady (look f) k =
       subst (λ (c : Course A). ReadAlike t u (follow (look f) t (behind_first t k)) (follow c u (behind_first u k)))

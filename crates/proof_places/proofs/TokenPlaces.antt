@@ -8,7 +8,7 @@ use native.Mathlib.Omega.{arith}
 use lib.Dec.{eqb, ltb}
 use lib.ListN.{length}
 use Rattle.base_words.specs.Each.{each}
-use Rattle.base_words.specs.Pick.{if◌then◌else◌}
+use Rattle.base_words.specs.Pick.{if◌then◌or_else◌}
 use Rattle.base_words.specs.Counts.{text_most}
 use Rattle.text_lexer.specs.declared.Token.{Token}
 use Rattle.text_lexer.proofs.TokenLaws.{token_order, token_end, token_within}
@@ -64,21 +64,21 @@ neither n a b (inl e) = absurd (a e)
 neither n a b (inr e) = absurd (b e)
 
 judged_place : (t : List ℕ) (r : Read) (ps : List Pool) (table : List ℕ) → Placed t r → AtPlace (judged r ps table) → TokenPlace t (judged r ps table).beside
-unfolding judged Placed checked if◌then◌else◌
+unfolding judged Placed checked if◌then◌or_else◌
 judged_place t (Refused n p) ps table placed e = placed
 judged_place t (At q) ps table placed e = go (eqb (lowest ps) 0) (each has_room ps) e
   where
     go : (b r : Bool)
-        → AtPlace (if b then (if r then record { number = 0; beside = 0; table = table_of (map rewritten ps) } else record { number = 28; beside = 0; table = table }) else record { number = 4; beside = lowest ps; table = table })
+        → AtPlace (if b then (if r then record { number = 0; beside = 0; table = table_of (map rewritten ps) } or_else record { number = 28; beside = 0; table = table }) or_else record { number = 4; beside = lowest ps; table = table })
         → TokenPlace t (judged (At q) ps table).beside
     go true true e = neither 0 (λ n. omega arith) (λ n. omega arith) e
     go true false e = neither 28 (λ n. omega arith) (λ n. omega arith) e
     go false r e = neither 4 (λ n. omega arith) (λ n. omega arith) e
 
 pub answer_place : (t table : List ℕ) → AtPlace (read_into t table) → TokenPlace t (read_into t table).beside
-unfolding read_into if◌then◌else◌
+unfolding read_into if◌then◌or_else◌
 answer_place t table = go (ltb text_most (length t))
   where
-    go : (b : Bool) → AtPlace (if b then record { number = 1; beside = 0; table = table } else judged (model t).end (model t).value table) → TokenPlace t (if b then record { number = 1; beside = 0; table = table } else judged (model t).end (model t).value table).beside
+    go : (b : Bool) → AtPlace (if b then record { number = 1; beside = 0; table = table } or_else judged (model t).end (model t).value table) → TokenPlace t (if b then record { number = 1; beside = 0; table = table } or_else judged (model t).end (model t).value table).beside
     go true e = neither 1 (λ n. omega arith) (λ n. omega arith) e
     go false e = judged_place t (model t).end (model t).value table (model_placed t) e

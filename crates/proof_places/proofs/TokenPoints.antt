@@ -1,7 +1,7 @@
 -- Points, computed: the tokens of a text, and two texts that differ in their blanks alone. Assumes nothing.
 use mathlib.Core.Path.{◌≡◌, refl}
 use mathlib.Core.List.{[], ◌∷◌}
-use Rattle.base_words.specs.Pick.{if◌then◌else◌}
+use Rattle.base_words.specs.Pick.{if◌then◌or_else◌}
 use Rattle.base_words.specs.Text.{bytes}
 use Rattle.base_words.specs.Words.{at}
 use Rattle.text_lexer.specs.declared.Form.TheVariants.{Word, Assign, Other}
@@ -18,5 +18,5 @@ pub record Points : Type 0 where
   pub blanks : tokens (bytes "\tpool ( 1 ,\n") ≡ tokens (bytes "pool(1,")
 
 pub points : Points
-unfolding tokens tokens_from token_at token_here token_of past is_sign is_digit is_letter is_word is_blank between among if_end if◌then◌else◌
+unfolding tokens tokens_from token_at token_here token_of past is_sign is_digit is_letter is_word is_blank between among if_end if◌then◌or_else◌
 points = record { digit = refl; four = refl; none = refl; blanks = refl }

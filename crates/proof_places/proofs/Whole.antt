@@ -6,7 +6,7 @@ use mathlib.Core.Bool.{Bool, true, false, not}
 use mathlib.Core.List.{List, [], ◌∷◌}
 use lib.Dec.{eqb}
 use lib.ListN.{replicate}
-use Rattle.base_words.specs.Pick.{if◌then◌else◌}
+use Rattle.base_words.specs.Pick.{if◌then◌or_else◌}
 use Rattle.base_words.specs.Counts.{pools, elements}
 use Rattle.base_table.specs.Places.{element_words}
 use Rattle.check_model.specs.Checks.{Pool}
@@ -59,7 +59,7 @@ pool_follows =
     by_token
     (λ m w t at.
     if_word m
-    (if eqb (pool_word w) 0 then unread (Refused misplaced (place_of t at)) else inside_pool (pool_word w) t (start t at (0 ∷ 0 ∷ [])))
+    (if eqb (pool_word w) 0 then unread (Refused misplaced (place_of t at)) or_else inside_pool (pool_word w) t (start t at (0 ∷ 0 ∷ [])))
     (unread (Refused misplaced (place_of t at))))
     (λ m w.
     word_follows m
@@ -90,7 +90,7 @@ whole_is t = whole_follows.is t 0
 -- So a text is read to a place, or refused with 2 or with 3: what holds of all those ends holds of a text's.
 module _ (P : Read → Type 0) (read : (q : ℕ) → P (At q)) (two : (p : ℕ) → P (Refused misplaced p)) (three : (p : ℕ) → P (Refused excessive p)) where
   follow_ends : {A : Type 0} (c : Course A) (t : List ℕ) (at : ℕ) → P (follow c t at).end
-  unfolding follow if◌then◌else◌
+  unfolding follow if◌then◌or_else◌
   follow_ends (stop v) t at = read at
   follow_ends (refuse true v) t at = three (place_of t at)
   follow_ends (refuse false v) t at = two (place_of t at)

@@ -9,7 +9,7 @@ use native.Mathlib.Omega.{arith}
 use lib.Dec.{eqb, leb, ltb}
 use borrow.Author.Tests.{eqb-true, eqb-false, eq-eqb, ne_eqb, ltb-true, ltb-false, lt-ltb, le-leb, not-true, not-false}
 use Rattle.base_words.specs.All.{all}
-use Rattle.base_words.specs.Pick.{if◌then◌else◌}
+use Rattle.base_words.specs.Pick.{if◌then◌or_else◌}
 use Rattle.base_words.specs.Seek.{seek}
 use Rattle.base_words.specs.Words.{at}
 use Rattle.base_words.specs.Counts.{edges, tasks}
@@ -119,14 +119,14 @@ module _ (t : List ℕ) (v : valid t ≡ true) (p : ℕ) (there : p < pool_count
     unfolding has_tokens touched all
     no_tokens el m b e =
         let q : touched m.takes (entry_count el) ≡ 0 =
-        passed (eqb m.takes every) (entry_count el) (if eqb m.takes branch then 1 else 0) (ne_eqb m.takes every (λ y. omega (arith, y, e)))
+        passed (eqb m.takes every) (entry_count el) (if eqb m.takes branch then 1 or_else 0) (ne_eqb m.takes every (λ y. omega (arith, y, e)))
         ∙ passed (eqb m.takes branch) 1 0 (ne_eqb m.takes branch (λ y. omega (arith, y, e))) in
         all_of (has_token el seen (first_touched m.takes b)) (touched m.takes (entry_count el)) (λ j l. absurd (omega (arith, q, l)))
 
     no_wait : (el : List ℕ) (m : Move) → m.alone ≡ 0 → is_alone el seen m ≡ true
     unfolding is_alone
     no_wait el m e =
-        passed (eqb m.alone on) (if waits el seen then eqb (active_count seen (task_in el)) 0 && eqb (ready_count seen (task_in el)) 0 else true) true (ne_eqb m.alone on (λ y. omega (arith, y, e)))
+        passed (eqb m.alone on) (if waits el seen then eqb (active_count seen (task_in el)) 0 && eqb (ready_count seen (task_in el)) 0 or_else true) true (ne_eqb m.alone on (λ y. omega (arith, y, e)))
 
     lowering : (e phase : ℕ) → e < c → Lowers (move_in (P e) phase) → ((move_in (P e) phase).active ≡ down → 0 < active_count seen (task_in (P e))) → ((move_in (P e) phase).ready ≡ down → 0 < ready_count seen (task_in (P e))) → Able
     lowering e phase l o x y = record {
@@ -165,7 +165,7 @@ module _ (t : List ℕ) (v : valid t ≡ true) (p : ℕ) (there : p < pool_count
       missing e = seek (λ j. not (has e j)) (entry_count (P e))
 
       unfoldable able : ℕ → Bool
-      able e = if eqb (kind_in (P e)) xor_join then ltb (some e) (entry_count (P e)) else (ltb 0 (entry_count (P e)) && not (ltb (missing e) (entry_count (P e))))
+      able e = if eqb (kind_in (P e)) xor_join then ltb (some e) (entry_count (P e)) or_else (ltb 0 (entry_count (P e)) && not (ltb (missing e) (entry_count (P e))))
 
       quiet_seen : (k : ℕ) → edges ≤ k → k < defined_place 0 → at seen k ≡ 0
       quiet_seen k a b = seen_is k b ∙ quiet k a b
@@ -174,7 +174,7 @@ module _ (t : List ℕ) (v : valid t ≡ true) (p : ℕ) (there : p < pool_count
       unfolding is_alone
       all_quiet e l m =
           let few = task_few (P e) (element_fits_lem t (valid_fits t v) p there e l) in
-          by_choice (λ (b : Bool). b ≡ true) (eqb m.alone on) (if waits (P e) seen then eqb (active_count seen (task_in (P e))) 0 && eqb (ready_count seen (task_in (P e))) 0 else true) true
+          by_choice (λ (b : Bool). b ≡ true) (eqb m.alone on) (if waits (P e) seen then eqb (active_count seen (task_in (P e))) 0 && eqb (ready_count seen (task_in (P e))) 0 or_else true) true
           (λ y.
           by_choice (λ (b : Bool). b ≡ true) (waits (P e) seen) (eqb (active_count seen (task_in (P e))) 0 && eqb (ready_count seen (task_in (P e))) 0) true
           (λ w. and_true _ _ (eq-eqb _ 0 (quiet_seen (active_place (task_in (P e))) (omega arith) (omega (arith, few)))) (eq-eqb _ 0 (quiet_seen (ready_place (task_in (P e))) (omega arith) (omega (arith, few)))))
@@ -182,10 +182,10 @@ module _ (t : List ℕ) (v : valid t ≡ true) (p : ℕ) (there : p < pool_count
           (λ y. refl)
 
       entered : (e : ℕ) → 0 < entry_count (P e) → (kind_of (kind_in (P e))).entries ≡ none → ⊥
-      unfolding entry_count used if◌then◌else◌
+      unfolding entry_count used if◌then◌or_else◌
       entered e l n = let q : entry_count (P e) ≡ 0 = ap (λ y. used y (at (P e) entries_place)) n in omega (arith, q, l)
 
-      fit_mode : (e : ℕ) → e < c → (if is_task (kind_in (P e)) then leb 1 (mode_in (P e)) else eqb (mode_in (P e)) 0) ≡ true
+      fit_mode : (e : ℕ) → e < c → (if is_task (kind_in (P e)) then leb 1 (mode_in (P e)) or_else eqb (mode_in (P e)) 0) ≡ true
       fit_mode e l =
           ⊎_elim (λ o. chosen (is_task (kind_in (P e))) _ _ o.0 ∙ le-leb 1 (mode_in (P e)) o.1) (λ o. passed (is_task (kind_in (P e))) _ _ o.0 ∙ eq-eqb (mode_in (P e)) 0 o.1)
           (task_mode t v p there e l)
@@ -219,7 +219,7 @@ module _ (t : List ℕ) (v : valid t ≡ true) (p : ℕ) (there : p < pool_count
             let k : m.takes ≡ branch = o.takes ∙ chosen (eqb (kind_in (P e)) xor_join) branch every (eq-eqb _ xor_join is) in
             let y = eq-eqb m.takes branch k in
             let ne = ne_eqb m.takes every (λ d. omega (arith, d, k)) in
-            with_branch b (subst (λ n. b < n) (sym (chosen (eqb m.takes branch) (entry_count (P e)) (if eqb m.puts branch then exit_count (P e) else 1) y)) r)
+            with_branch b (subst (λ n. b < n) (sym (chosen (eqb m.takes branch) (entry_count (P e)) (if eqb m.puts branch then exit_count (P e) or_else 1) y)) r)
             (all_of (has_token (P e) seen (first_touched m.takes b)) (touched m.takes (entry_count (P e)))
             (λ j u.
             let n : touched m.takes (entry_count (P e)) ≡ 1 = passed (eqb m.takes every) (entry_count (P e)) _ ne ∙ chosen (eqb m.takes branch) 1 0 y in
@@ -230,7 +230,7 @@ module _ (t : List ℕ) (v : valid t ≡ true) (p : ℕ) (there : p < pool_count
         some_branch : (m.takes ≡ branch → ⊥) → 0 < branch_count (P e) m
         unfolding branch_count
         some_branch n =
-            subst (λ n. 0 < n) (sym (passed (eqb m.takes branch) (entry_count (P e)) (if eqb m.puts branch then exit_count (P e) else 1) (ne_eqb _ branch n)))
+            subst (λ n. 0 < n) (sym (passed (eqb m.takes branch) (entry_count (P e)) (if eqb m.puts branch then exit_count (P e) or_else 1) (ne_eqb _ branch n)))
             (by_choice (λ (n : ℕ). 0 < n) (eqb m.puts branch) (exit_count (P e)) 1 (λ d. some_exits t v p there e l (o.puts (eqb-true _ branch d))) (λ d. omega arith))
 
         by_all : (kind_in (P e) ≡ xor_join → ⊥) → ((j : ℕ) → j < entry_count (P e) → has e j ≡ true) → Able

@@ -6,7 +6,7 @@ use mathlib.Core.List.{List, [], ◌∷◌}
 use native.Mathlib.Omega.{arith}
 use lib.Dec.{eqb, ltb}
 use borrow.Author.Tests.{ltb-true}
-use Rattle.base_words.specs.Pick.{if◌then◌else◌}
+use Rattle.base_words.specs.Pick.{if◌then◌or_else◌}
 use Rattle.base_words.proofs.PickLaws.{and_false_left}
 use Rattle.base_table.specs.Table.{pool_count, element_count}
 use Rattle.base_state.specs.Instances.{instances_of, queues_of}
@@ -33,7 +33,7 @@ use Rattle.proof_profile.proofs.Named.{zero_nested}
 
 -- the first of a list does not hold
 first_of : (k : ℕ) (b : Bool) (rs : List Refusal) → b ≡ false → first_refusal (k unless b ∷ rs) ≡ k
-unfolding first_refusal if◌then◌else◌
+unfolding first_refusal if◌then◌or_else◌
 first_of k b rs e = rw e
 
 module _ (t : List ℕ) (yes : (nested_of t).number ≡ 0) where
@@ -59,7 +59,7 @@ module _ (t : List ℕ) (yes : (nested_of t).number ≡ 0) where
       (λ l. let q = step_number t z (made_valid t (zero_nested t yes).0 z m) n in let r = no_pool (instances_of z) (queues_of z) n l in omega (arith, e, q, r))
 
   post_18 : (z : List ℕ) (name : ℕ) (g : Tuple) → (posted_to t z name g).number ≡ 18 → ⊥
-  unfolding is_one_of if◌then◌else◌
+  unfolding is_one_of if◌then◌or_else◌
   post_18 z name g e = false≢true (ap (is_one_of post_numbers) (sym e) ∙ post_numbers_lem t z name g)
 
   act_18 : (z : List ℕ) → Made t z → (a : Act) → (did t a z).number ≡ 18 → ⊥

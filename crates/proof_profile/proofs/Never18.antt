@@ -7,7 +7,7 @@ use native.Mathlib.Omega.{arith}
 use lib.Dec.{eqb, ltb}
 use lib.ListN.{drop}
 use borrow.Author.Tests.{lt-ltb}
-use Rattle.base_words.specs.Pick.{if◌then◌else◌}
+use Rattle.base_words.specs.Pick.{if◌then◌or_else◌}
 use Rattle.base_words.specs.Words.{at}
 use Rattle.base_words.specs.Counts.{count_most}
 use Rattle.base_words.proofs.AllLaws.{all_of}
@@ -44,12 +44,12 @@ use Rattle.proof_profile.proofs.Steady.{Steady, small_seen, did_steady}
 
 -- the first refusal is the last of the list: the others hold
 not_here : (k : ℕ) (b : Bool) (rs : List Refusal) → (k ≡ 18 → ⊥) → first_refusal (k unless b ∷ rs) ≡ 18 → (b ≡ true) × (first_refusal rs ≡ 18)
-unfolding first_refusal if◌then◌else◌
+unfolding first_refusal if◌then◌or_else◌
 not_here k true rs n e = (refl, e)
 not_here k false rs n e = absurd (n e)
 
 last_here : (b : Bool) → first_refusal (18 unless b ∷ []) ≡ 18 → b ≡ false
-unfolding first_refusal if◌then◌else◌
+unfolding first_refusal if◌then◌or_else◌
 last_here true e = absurd (omega (arith, e))
 last_here false e = refl
 

@@ -11,7 +11,7 @@ use lib.Seq.{get_or-set_other}
 use borrow.Author.Tests.{eqb-true, eqb-false, leb-false}
 use Rattle.base_words.specs.Each.{total, tab}
 use Rattle.base_words.specs.Iter.{iter}
-use Rattle.base_words.specs.Pick.{if◌then◌else◌}
+use Rattle.base_words.specs.Pick.{if◌then◌or_else◌}
 use Rattle.base_words.specs.Sum.{hit, one_if}
 use Rattle.base_words.specs.Words.{at}
 use Rattle.base_words.proofs.EachLaws.{total_append, total-tab, total_one}
@@ -41,7 +41,7 @@ module _ (el : List ℕ) (k : ℕ) where
   only x l = same_hit k x (let q = total_one (hit k) x in omega arith)
 
   counts_from : 0 < total (hit k) (count_places el) → Uses el k
-  unfolding count_places total if◌then◌else◌
+  unfolding count_places total if◌then◌or_else◌
   counts_from l = go (leb (mode_in el) a) refl (eqb ((kind_of (kind_in el)).receives + (kind_of (kind_in el)).sends) 0) refl l
     where
       x : ℕ
@@ -51,7 +51,7 @@ module _ (el : List ℕ) (k : ℕ) where
       y = ready_place (task_in el)
 
       go : (b : Bool) → leb (mode_in el) a ≡ b → (o : Bool) → eqb ((kind_of (kind_in el)).receives + (kind_of (kind_in el)).sends) 0 ≡ o
-          → 0 < total (hit k) (if b then [] else (if o then x ∷ [] else x ∷ y ∷ [])) → Uses el k
+          → 0 < total (hit k) (if b then [] or_else (if o then x ∷ [] or_else x ∷ y ∷ [])) → Uses el k
       go true e o f l = absurd (omega (arith, l))
       go false e true f l = active (leb-false (mode_in el) a e) (only x l)
       go false e false f l =

@@ -8,7 +8,7 @@ use lib.Dec.{eqb, leb, ltb}
 use lib.ListN.{get_or-eq_default}
 use borrow.Author.Tests.{eqb-true, eqb-false, eq-eqb, ne_eqb, ltb-true, ltb-false, leb-true, not-true}
 use Rattle.base_words.specs.All.{all}
-use Rattle.base_words.specs.Pick.{if◌then◌else◌}
+use Rattle.base_words.specs.Pick.{if◌then◌or_else◌}
 use Rattle.base_words.specs.Seek.{seek}
 use Rattle.base_words.proofs.AllLaws.{all_at, and_left, and_right}
 use Rattle.base_kinds.specs.declared.Kind.{Kind}
@@ -30,14 +30,14 @@ row_few q n =
     (λ e. absurd (n (ap (λ (y : Kind). y.entries) (get_or-eq_default kinds no_kind (ltb-false q rows e)))))
 
 -- ENTRIES: several only of an andJoin and an xorJoin
-many_rows : all (λ q. if eqb (kind_of q).entries many then (eqb q and_join || eqb q xor_join) else true) rows ≡ true
-unfolding all kind_of if◌then◌else◌
+many_rows : all (λ q. if eqb (kind_of q).entries many then (eqb q and_join || eqb q xor_join) or_else true) rows ≡ true
+unfolding all kind_of if◌then◌or_else◌
 many_rows = refl
 
 pub many_joins : (q : ℕ) → (kind_of q).entries ≡ many → (q ≡ and_join) ⊎ (q ≡ xor_join)
 many_joins q e =
     let l = row_few q (λ z. omega (arith, z, e)) in
-    let h = chosen_true _ _ true (all_at (λ q. if eqb (kind_of q).entries many then (eqb q and_join || eqb q xor_join) else true) rows many_rows q l) (eq-eqb _ many e) in
+    let h = chosen_true _ _ true (all_at (λ q. if eqb (kind_of q).entries many then (eqb q and_join || eqb q xor_join) or_else true) rows many_rows q l) (eq-eqb _ many e) in
     ⊎_elim (λ z. inl (eqb-true q and_join z)) (λ z. inr (eqb-true q xor_join z)) (or_either _ _ h)
 
 few_rows : all (λ q. leb (kind_of q).entries many) rows ≡ true
@@ -54,22 +54,22 @@ one_or_many q n =
 
 -- THE FIRST MOVE of an element that has entries
 unfoldable pub first_phase : ℕ → ℕ
-first_phase m = if leb m a then 0 else 1
+first_phase m = if leb m a then 0 or_else 1
 
 abbrev fit_mode : ℕ → ℕ → Bool
-fit_mode q m = if is_task q then leb 1 m else eqb m 0
+fit_mode q m = if is_task q then leb 1 m or_else eqb m 0
 
 abbrev takes_from : ℕ → ℕ
-takes_from q = if eqb q xor_join then branch else every
+takes_from q = if eqb q xor_join then branch or_else every
 
 abbrev enters : ℕ → Move → Bool
 enters q r =
     not (eqb r.kind 0)
     && (not (eqb r.also making)
-    && (not (eqb r.active down) && (not (eqb r.ready down) && (eqb r.takes (takes_from q) && (if eqb r.puts branch then eqb (kind_of q).exits many else true)))))
+    && (not (eqb r.active down) && (not (eqb r.ready down) && (eqb r.takes (takes_from q) && (if eqb r.puts branch then eqb (kind_of q).exits many or_else true)))))
 
-enter_rows : all (λ q. all (λ m. if eqb (kind_of q).entries none then true else (if fit_mode q m then enters q (move_of q m (first_phase m)) else true)) modes) rows ≡ true
-unfolding all kind_of if◌then◌else◌ move_of rule_of is_rule mode_of seek first_phase
+enter_rows : all (λ q. all (λ m. if eqb (kind_of q).entries none then true or_else (if fit_mode q m then enters q (move_of q m (first_phase m)) or_else true)) modes) rows ≡ true
+unfolding all kind_of if◌then◌or_else◌ move_of rule_of is_rule mode_of seek first_phase
 enter_rows = refl
 
 pub record Enters (q : ℕ) (r : Move) : Type 0 where
@@ -77,7 +77,7 @@ pub record Enters (q : ℕ) (r : Move) : Type 0 where
   pub old : r.also ≡ making → ⊥
   pub active : r.active ≡ down → ⊥
   pub ready : r.ready ≡ down → ⊥
-  pub takes : r.takes ≡ (if eqb q xor_join then branch else every)
+  pub takes : r.takes ≡ (if eqb q xor_join then branch or_else every)
   pub puts : r.puts ≡ branch → (kind_of q).exits ≡ many
 
 differs : (x y : ℕ) → not (eqb x y) ≡ true → x ≡ y → ⊥
@@ -86,8 +86,8 @@ differs x y h = eqb-false x y (not-true (eqb x y) h)
 pub first_move : (q m : ℕ) → ((kind_of q).entries ≡ none → ⊥) → m < modes → fit_mode q m ≡ true → Enters q (move_of q m (first_phase m))
 first_move q m some few fit =
     let r : Move = move_of q m (first_phase m) in
-    let row = all_at (λ q. all (λ m. if eqb (kind_of q).entries none then true else (if fit_mode q m then enters q (move_of q m (first_phase m)) else true)) modes) rows enter_rows q (row_few q some) in
-    let cell = all_at (λ m. if eqb (kind_of q).entries none then true else (if fit_mode q m then enters q (move_of q m (first_phase m)) else true)) modes row m few in
+    let row = all_at (λ q. all (λ m. if eqb (kind_of q).entries none then true or_else (if fit_mode q m then enters q (move_of q m (first_phase m)) or_else true)) modes) rows enter_rows q (row_few q some) in
+    let cell = all_at (λ m. if eqb (kind_of q).entries none then true or_else (if fit_mode q m then enters q (move_of q m (first_phase m)) or_else true)) modes row m few in
     let h = chosen_true (fit_mode q m) _ true (passed_true (eqb (kind_of q).entries none) true _ cell (ne_eqb _ none some)) fit in
     let h1 = and_right (not (eqb r.kind 0)) _ h in
     let h2 = and_right (not (eqb r.also making)) _ h1 in
@@ -138,7 +138,7 @@ by_mode F m l r x y =
     (λ e. let d = eqb-false m na_c e in let z : m ≡ na_nc = omega (arith, d, l, r) in subst F (sym z) y)
 
 unfoldable pub active_phase : ℕ → ℕ
-active_phase q = if eqb q task then 3 else 2
+active_phase q = if eqb q task then 3 or_else 2
 
 -- r lowers the one count and leaves the other
 abbrev goes_by : (Move → ℕ) → (Move → ℕ) → Move → Bool
@@ -150,7 +150,7 @@ gone_by x y r h =
     (lowered r (and_left (lowers r) (eqb (x r) down && not (eqb (y r) down)) h), eqb-true _ down (and_left (eqb (x r) down) (not (eqb (y r) down)) h1), differs _ down (and_right (eqb (x r) down) (not (eqb (y r) down)) h1))
 
 active_test : (q m : ℕ) → is_task q ≡ true → a < m → m < modes → goes_by (λ r. r.active) (λ r. r.ready) (move_of q m (active_phase q)) ≡ true
-unfolding if◌then◌else◌ move_of rule_of is_rule mode_of seek active_phase
+unfolding if◌then◌or_else◌ move_of rule_of is_rule mode_of seek active_phase
 active_test q m h l r =
     by_task (λ q. goes_by (λ r. r.active) (λ r. r.ready) (move_of q m (active_phase q)) ≡ true) q h
     (by_mode (λ m. goes_by (λ r. r.active) (λ r. r.ready) (move_of task m 3) ≡ true) m l r refl refl)
@@ -161,7 +161,7 @@ pub active_move : (q m : ℕ) → is_task q ≡ true → a < m → m < modes →
 active_move q m h l r = gone_by (λ r. r.active) (λ r. r.ready) (move_of q m (active_phase q)) (active_test q m h l r)
 
 ready_test : (q m : ℕ) → is_task q ≡ true → ((kind_of q).receives + (kind_of q).sends ≡ 0 → ⊥) → a < m → m < modes → goes_by (λ r. r.ready) (λ r. r.active) (move_of q m 3) ≡ true
-unfolding if◌then◌else◌ move_of rule_of is_rule mode_of seek kind_of
+unfolding if◌then◌or_else◌ move_of rule_of is_rule mode_of seek kind_of
 ready_test q m h speaks l r =
     by_task (λ q. ((kind_of q).receives + (kind_of q).sends ≡ 0 → ⊥) → goes_by (λ r. r.ready) (λ r. r.active) (move_of q m 3) ≡ true) q h
     (λ s. absurd (s refl))

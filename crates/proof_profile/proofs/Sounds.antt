@@ -10,7 +10,7 @@ use lib.ListN.{get_or-eq_default}
 use borrow.Author.Tests.{eqb-true, eqb-false, eq-eqb, ne_eqb, ltb-true, ltb-false, leb-true}
 use Rattle.base_words.specs.All.{all}
 use Rattle.base_words.specs.Each.{total}
-use Rattle.base_words.specs.Pick.{if◌then◌else◌}
+use Rattle.base_words.specs.Pick.{if◌then◌or_else◌}
 use Rattle.base_words.specs.Sum.{sum, hit, one_if}
 use Rattle.base_words.specs.Words.{at}
 use Rattle.base_words.specs.Counts.{edges, tasks, elements, fewest, branches, assignments}
@@ -51,15 +51,15 @@ kind_task q h =
     or_else (eqb q task) _ h (λ e. ap (λ y. (kind_of y).task) (eqb-true q task e)) λ h₂.
     or_else (eqb q task_rcv) _ h₂ (λ e. ap (λ y. (kind_of y).task) (eqb-true q task_rcv e)) (λ e. ap (λ y. (kind_of y).task) (eqb-true q task_snd e))
 
-task-kinds : all (λ q. if eqb (kind_of q).task one then is_task q else true) 16 ≡ true
-unfolding all kind_of if◌then◌else◌
+task-kinds : all (λ q. if eqb (kind_of q).task one then is_task q or_else true) 16 ≡ true
+unfolding all kind_of if◌then◌or_else◌
 task-kinds = refl
 
 pub task_kind : (q : ℕ) → (kind_of q).task ≡ one → is_task q ≡ true
 unfolding kind_of
 task_kind q h =
     by_test (ltb q 16)
-    (λ e. chosen_true (eqb (kind_of q).task one) (is_task q) true (all_at (λ q. if eqb (kind_of q).task one then is_task q else true) 16 task-kinds q (ltb-true q 16 e)) (eq-eqb _ _ h))
+    (λ e. chosen_true (eqb (kind_of q).task one) (is_task q) true (all_at (λ q. if eqb (kind_of q).task one then is_task q or_else true) 16 task-kinds q (ltb-true q 16 e)) (eq-eqb _ _ h))
     (λ e. absurd (let z : (kind_of q).task ≡ 0 = ap (λ (y : Kind). y.task) (get_or-eq_default kinds no_kind (ltb-false q 16 e)) in omega (arith, z, h)))
 
 module _ (t : List ℕ) (v : valid t ≡ true) (p : ℕ) (there : p < pool_count t) where
@@ -156,8 +156,8 @@ module _ (t : List ℕ) (v : valid t ≡ true) (p : ℕ) (there : p < pool_count
   edge_first x n f h l =
       by_test (eqb (x + n) 0) (λ e. let z = eqb-true (x + n) 0 e in omega arith)
       (λ e.
-      let r = passed_true (eqb (x + n) 0) true (eqb n 1 && eqb x (if eqb f 0 then 1 else 0)) h e in
-      let o = eqb-true x (if eqb f 0 then 1 else 0) (and_right (eqb n 1) (eqb x (if eqb f 0 then 1 else 0)) r) in
+      let r = passed_true (eqb (x + n) 0) true (eqb n 1 && eqb x (if eqb f 0 then 1 or_else 0)) h e in
+      let o = eqb-true x (if eqb f 0 then 1 or_else 0) (and_right (eqb n 1) (eqb x (if eqb f 0 then 1 or_else 0)) r) in
       o ∙ passed (eqb f 0) 1 0 (ne_zero f l))
     where
       ne_zero : (f : ℕ) → 1 ≤ f → eqb f 0 ≡ false
@@ -253,8 +253,8 @@ module _ (t : List ℕ) (v : valid t ≡ true) (p : ℕ) (there : p < pool_count
   edge_met : (x n f : ℕ) → edge_right x n f ≡ true → 1 ≤ n → f ≡ 0 → x ≡ 1
   unfolding edge_right
   edge_met x n f h l z =
-      let r = passed_true (eqb (x + n) 0) true (eqb n 1 && eqb x (if eqb f 0 then 1 else 0)) h (ne_eqb (x + n) 0 (λ q. omega (arith, q, l))) in
-      let o = eqb-true x (if eqb f 0 then 1 else 0) (and_right (eqb n 1) (eqb x (if eqb f 0 then 1 else 0)) r) in
+      let r = passed_true (eqb (x + n) 0) true (eqb n 1 && eqb x (if eqb f 0 then 1 or_else 0)) h (ne_eqb (x + n) 0 (λ q. omega (arith, q, l))) in
+      let o = eqb-true x (if eqb f 0 then 1 or_else 0) (and_right (eqb n 1) (eqb x (if eqb f 0 then 1 or_else 0)) r) in
       o ∙ chosen (eqb f 0) 1 0 (eq-eqb f 0 z)
 
   entry_at_lem : (x k j : ℕ) → j < entry_count (P k) → entry_at (P k) j ≡ x → 1 ≤ as_entry x (P k)

@@ -9,7 +9,7 @@ use native.Mathlib.Omega.{arith}
 use lib.Dec.{eqb, ltb}
 use lib.ListN.{replicate}
 use borrow.Author.Tests.{ne_eqb, lt-ltb}
-use Rattle.base_words.specs.Pick.{if◌then◌else◌}
+use Rattle.base_words.specs.Pick.{if◌then◌or_else◌}
 use Rattle.base_words.proofs.PickLaws.{and_true}
 use Rattle.base_kinds.specs.declared.moves.Move.{Move}
 use Rattle.base_kinds.specs.Moves.{making}
@@ -98,7 +98,7 @@ module _ (t : List ℕ) (v : valid t ≡ true) (p : ℕ) (there : p < pool_count
       limited = passed (eqb (move_named t n).also making) (ltb (site_of t s n).made (site_of t s n).limit) true old
 
       rest : is_one_of otherwise (first_refusal (refusals t s (queues_of z) n)) ≡ true
-      unfolding refusals refusals_at is_one_of if◌then◌else◌
+      unfolding refusals refusals_at is_one_of if◌then◌or_else◌
       rest =
           first_fine otherwise (refusals t s (queues_of z) n) refl
           (inl is_there, (inl permits, (inr refl, (inr refl, (inr refl, (inr refl, (inr refl, (inr refl, (inl limited, (inr refl, (inl (has_room_lem t v p there nest z right steady n (sym is) (found t s n is_there)), record {})))))))))))

@@ -9,7 +9,7 @@ use lib.Dec.{eqb, ltb}
 use lib.ListN.{length, take, length-take}
 use lib.Seq.{take-take, take-append-le, length-take-le}
 use borrow.Author.Tests.{le-ltb}
-use Rattle.base_words.specs.Pick.{if◌then◌else◌}
+use Rattle.base_words.specs.Pick.{if◌then◌or_else◌}
 use Rattle.base_bytes.proofs.PieceLaws.{by_order}
 use Rattle.xml_skip.specs.declared.Reached.{Reached}
 use Rattle.xml_skip.specs.declared.Reached.TheVariants.{Past, Fault}
@@ -55,11 +55,11 @@ module _ (a : List ℕ) (l : IsLog a) (n : ℕ) (inside : n ≤ length a) where
     opened_there = opened_in a (ended_by a (has_trace a l.0 l.1)) n inside reaches
 
     found_there : is_lost n t (scan t).last ≡ false
-    unfolding is_lost if◌then◌else◌
+    unfolding is_lost if◌then◌or_else◌
     found_there = rw (le-ltb n (length t) (omega (arith, t_long))) opened_there
 
     by_end : (s : Reached) → Ends n s → Repairs (repaired_by s t (scan t).last out)
-    unfolding repaired_by if◌then◌else◌
+    unfolding repaired_by if◌then◌or_else◌
     by_end s (inl e) = rw e (given_repairs t (scan t).last.events 0 out)
     by_end s (inr e) = rw (e, found_there) (given_repairs (closed t (scan t).last) (scan t).last.events (length t - (scan t).last.kept) out)
 

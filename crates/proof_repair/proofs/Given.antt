@@ -9,7 +9,7 @@ use lib.Dec.{ltb}
 use lib.ListN.{length, take, drop}
 use lib.Seq.{take-append_seam, drop-append_seam}
 use borrow.Author.Tests.{ltb-false, lt-ltb, le-ltb}
-use Rattle.base_words.specs.Pick.{if◌then◌else◌}
+use Rattle.base_words.specs.Pick.{if◌then◌or_else◌}
 use Rattle.log_text.specs.Logs.{log_most}
 use Rattle.log_repair.specs.Repair.{Repair, refused, repair_given}
 
@@ -29,14 +29,14 @@ pub record Gave (w : List ℕ) (events dropped : ℕ) (out : List ℕ) (r : Repa
 
 module _ (w : List ℕ) (events dropped : ℕ) (out : List ℕ) where
   pub gave : length w ≤ log_most → length w ≤ length out → Gave w events dropped out (repair_given w events dropped out)
-  unfolding repair_given if◌then◌else◌
+  unfolding repair_given if◌then◌or_else◌
   gave h k =
       let e : repair_given w events dropped out ≡ whole w events dropped out = rw (le-ltb log_most (length w) h, le-ltb (length out) (length w) k) refl in
       record { short = h; room = k; is = e; log = ap output e ∙ take-append_seam w (drop (length w) out) }
 
   -- accepted, or no room
   by_room : (a b : Bool) → ltb log_most (length w) ≡ a → ltb (length out) (length w) ≡ b → Gave w events dropped out (repair_given w events dropped out) ⊎ (repair_given w events dropped out ≡ refused 5 out)
-  unfolding repair_given if◌then◌else◌
+  unfolding repair_given if◌then◌or_else◌
   by_room true b e f = inr (rw e refl)
   by_room false true e f = inr (rw (e, f) refl)
   by_room false false e f = inl (gave (ltb-false log_most (length w) e) (ltb-false (length out) (length w) f))

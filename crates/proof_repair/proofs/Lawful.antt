@@ -7,7 +7,7 @@ use native.Mathlib.Omega.{arith}
 use lib.Dec.{eqb}
 use borrow.Author.Tests.{eqb-false}
 use lib.ListN.{length, take}
-use Rattle.base_words.specs.Pick.{if◌then◌else◌}
+use Rattle.base_words.specs.Pick.{if◌then◌or_else◌}
 use Rattle.state_fits.specs.Fresh.{fresh}
 use Rattle.xml_skip.specs.declared.Reached.{Reached}
 use Rattle.xml_skip.specs.declared.Reached.TheVariants.{Past, Fault}
@@ -29,21 +29,21 @@ not_past q p e = false≢true (ap is_past e)
 
 -- 23 comes of the text alone
 lines_never : (take : List ℕ → List ℕ → Taking) (ws : List (List ℕ)) (k : ℕ) (z : List ℕ) → (judged_by take ws k z).number ≡ 23 → ⊥
-unfolding judged_by if◌then◌else◌
+unfolding judged_by if◌then◌or_else◌
 lines_never take [] k z e = omega (arith, e)
 lines_never take (w ∷ ws) k z e = go (eqb (take w z).number 0) (take w z).right e (lines_never take ws (k + 1) (take w z).state)
   where
-    go : (a b : Bool) → (if a then if b then judged_by take ws (k + 1) (take w z).state else judgment 24 k 0 else judgment 24 k (take w z).number).number ≡ 23 → ((judged_by take ws (k + 1) (take w z).state).number ≡ 23 → ⊥) → ⊥
+    go : (a b : Bool) → (if a then if b then judged_by take ws (k + 1) (take w z).state or_else judgment 24 k 0 or_else judgment 24 k (take w z).number).number ≡ 23 → ((judged_by take ws (k + 1) (take w z).state).number ≡ 23 → ⊥) → ⊥
     go true true q r = r q
     go true false q r = omega (arith, q)
     go false b q r = omega (arith, q)
 
 module _ (m : List ℕ) (v : ℕ) where
   log_never : (u : List ℕ) → IsLog u → (judged_to m v u).number ≡ 23 → ⊥
-  unfolding judged_to judged_from judged_end if◌then◌else◌
+  unfolding judged_to judged_from judged_end if◌then◌or_else◌
   log_never u l e = go (eqb (asked_number m v) 0) (scan u).end l.1 e
     where
-      go : (b : Bool) (s : Reached) → s ≡ Past l.0 → (if b then judged_end s (judged_by (line_taken (stepped m) (posted_to m)) (lines_of u) 0 (fresh m v)) else judgment (asked_number m v) 0 0).number ≡ 23 → ⊥
+      go : (b : Bool) (s : Reached) → s ≡ Past l.0 → (if b then judged_end s (judged_by (line_taken (stepped m) (posted_to m)) (lines_of u) 0 (fresh m v)) or_else judgment (asked_number m v) 0 0).number ≡ 23 → ⊥
       go true (Past q) f k = lines_never (line_taken (stepped m) (posted_to m)) (lines_of u) 0 (fresh m v) k
       go true (Fault q) f k = not_past q l.0 f
       go false s f k = by_asked (λ n. n ≡ 23 → ⊥) m v (λ h. omega (arith, h)) (λ h. omega (arith, h)) (λ h. omega (arith, h)) k
@@ -54,11 +54,11 @@ module _ (m : List ℕ) (v : ℕ) where
 
   module _ (a : List ℕ) (e : judged_to m v a ≡ lawful) where
     pub a_log : IsLog a
-    unfolding judged_to judged_from judged_end if◌then◌else◌
+    unfolding judged_to judged_from judged_end if◌then◌or_else◌
     a_log = go (eqb (asked_number m v) 0) refl (scan a).end refl (ap (λ (j : Judged). j.number) e)
       where
         go : (b : Bool) → eqb (asked_number m v) 0 ≡ b → (s : Reached) → (scan a).end ≡ s
-            → (if b then judged_end s (judged_by (line_taken (stepped m) (posted_to m)) (lines_of a) 0 (fresh m v)) else judgment (asked_number m v) 0 0).number ≡ 0 → IsLog a
+            → (if b then judged_end s (judged_by (line_taken (stepped m) (posted_to m)) (lines_of a) 0 (fresh m v)) or_else judgment (asked_number m v) 0 0).number ≡ 0 → IsLog a
         go true r (Past q) f k = (q, f)
         go true r (Fault q) f k = absurd (omega (arith, k))
         go false r s f k = absurd (eqb-false (asked_number m v) 0 r k)

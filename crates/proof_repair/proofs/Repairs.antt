@@ -7,7 +7,7 @@ use native.Mathlib.Omega.{arith}
 use lib.Dec.{eqb, ltb}
 use lib.ListN.{length, take, drop}
 use lib.Seq.{take_all}
-use Rattle.base_words.specs.Pick.{if◌then◌else◌}
+use Rattle.base_words.specs.Pick.{if◌then◌or_else◌}
 use Rattle.xml_skip.specs.declared.Reached.{Reached}
 use Rattle.xml_skip.specs.declared.Reached.TheVariants.{Past, Fault}
 use Rattle.log_text.specs.declared.Cursor.{Cursor}
@@ -56,9 +56,9 @@ module _ (t out : List ℕ) where
   unfolding is_lost
   not_lost q e = go (ltb q (length t)) e
     where
-      go : (b : Bool) → (if b then true else eqb (scan t).last.opened 0) ≡ false → Ended t
-      go true k = absurd (false≢true (sym (unfold if◌then◌else◌ in k)))
-      go false k = ended_by t (unfold if◌then◌else◌ in k)
+      go : (b : Bool) → (if b then true or_else eqb (scan t).last.opened 0) ≡ false → Ended t
+      go true k = absurd (false≢true (sym (unfold if◌then◌or_else◌ in k)))
+      go false k = ended_by t (unfold if◌then◌or_else◌ in k)
 
   closed_right : Ended t → (repair_given (closed t (scan t).last) (scan t).last.events (length t - (scan t).last.kept) out).number ≡ 0
       → Right t out (repair_given (closed t (scan t).last) (scan t).last.events (length t - (scan t).last.kept) out)
@@ -70,22 +70,22 @@ module _ (t out : List ℕ) where
       (closed_lines t e g.short ∙ all_lines (scan t).last.events refl)
 
   by_end : (s : Reached) → (scan t).end ≡ s → (repaired_by s t (scan t).last out).number ≡ 0 → Right t out (repaired_by s t (scan t).last out)
-  unfolding repaired_by refused if◌then◌else◌
+  unfolding repaired_by refused if◌then◌or_else◌
   by_end (Past q) e z = gave_right t (scan t).last.events 0 _ (accepted_gave t (scan t).last.events 0 out z) (q, e) refl (all_lines (scan t).last.events refl)
   by_end (Fault q) e z = go (is_lost q t (scan t).last) refl z
     where
-      go : (b : Bool) → is_lost q t (scan t).last ≡ b → (if b then refused 27 out else repair_given (closed t (scan t).last) (scan t).last.events (length t - (scan t).last.kept) out).number ≡ 0
-          → Right t out (if b then refused 27 out else repair_given (closed t (scan t).last) (scan t).last.events (length t - (scan t).last.kept) out)
+      go : (b : Bool) → is_lost q t (scan t).last ≡ b → (if b then refused 27 out or_else repair_given (closed t (scan t).last) (scan t).last.events (length t - (scan t).last.kept) out).number ≡ 0
+          → Right t out (if b then refused 27 out or_else repair_given (closed t (scan t).last) (scan t).last.events (length t - (scan t).last.kept) out)
       go true k z = absurd (omega (arith, z))
       go false k z = closed_right (not_lost q k) z
 
   -- the trace was opened
   ended_at : (s : Reached) → (scan t).end ≡ s → (repaired_by s t (scan t).last out).number ≡ 0 → Ended t
-  unfolding repaired_by refused if◌then◌else◌
+  unfolding repaired_by refused if◌then◌or_else◌
   ended_at (Past q) e z = ended_by t (has_trace t q e)
   ended_at (Fault q) e z = go (is_lost q t (scan t).last) refl z
     where
-      go : (b : Bool) → is_lost q t (scan t).last ≡ b → (if b then refused 27 out else repair_given (closed t (scan t).last) (scan t).last.events (length t - (scan t).last.kept) out).number ≡ 0 → Ended t
+      go : (b : Bool) → is_lost q t (scan t).last ≡ b → (if b then refused 27 out or_else repair_given (closed t (scan t).last) (scan t).last.events (length t - (scan t).last.kept) out).number ≡ 0 → Ended t
       go true k z = absurd (omega (arith, z))
       go false k z = not_lost q k
 

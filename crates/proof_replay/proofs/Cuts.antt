@@ -9,7 +9,7 @@ use native.Mathlib.Omega.{arith}
 use lib.Dec.{eqb}
 use lib.ListN.{length, take, drop, length-append, length-take, take-append-drop}
 use lib.Seq.{take_all, take-take, take-append-le, length-take-le}
-use Rattle.base_words.specs.Pick.{if◌then◌else◌}
+use Rattle.base_words.specs.Pick.{if◌then◌or_else◌}
 use Rattle.base_words.specs.Words.{at, greatest}
 use Rattle.base_state.specs.Versions.{is_version}
 use Rattle.state_fits.specs.Fresh.{fresh}
@@ -37,12 +37,12 @@ use Rattle.proof_replay.proofs.OwnState.{first_accepted, first_posted, first_tol
 
 -- as many are kept as whole events were read
 kept_by_lem : (s : Reached) (u : List ℕ) (c : Cursor) (out : List ℕ) → (repaired_by s u c out).number ≡ 0 → (repaired_by s u c out).kept ≡ c.events
-unfolding repaired_by refused if◌then◌else◌
+unfolding repaired_by refused if◌then◌or_else◌
 kept_by_lem (Past q) u c out z = ap (λ (r : Repair). r.kept) (accepted_gave u c.events 0 out z).is
 kept_by_lem (Fault q) u c out z = go (is_lost q u c) z
   where
-    go : (b : Bool) → (if b then refused 27 out else repair_given (closed u c) c.events (length u - c.kept) out).number ≡ 0
-        → (if b then refused 27 out else repair_given (closed u c) c.events (length u - c.kept) out).kept ≡ c.events
+    go : (b : Bool) → (if b then refused 27 out or_else repair_given (closed u c) c.events (length u - c.kept) out).number ≡ 0
+        → (if b then refused 27 out or_else repair_given (closed u c) c.events (length u - c.kept) out).kept ≡ c.events
     go true k = absurd (omega (arith, k))
     go false k = ap (λ (r : Repair). r.kept) (accepted_gave (closed u c) c.events (length u - c.kept) out k).is
 

@@ -8,7 +8,7 @@ use native.Mathlib.Omega.{arith}
 use lib.Dec.{eqb}
 use lib.ListN.{length}
 use borrow.Author.Tests.{eqb-true, eqb-false, eq-eqb}
-use Rattle.base_words.specs.Pick.{if◌then◌else◌}
+use Rattle.base_words.specs.Pick.{if◌then◌or_else◌}
 use Rattle.base_words.proofs.PickLaws.{and_true}
 use Rattle.state_fits.specs.Fresh.{fresh}
 use Rattle.proof_steps.proofs.Choices.{by_test}
@@ -35,15 +35,15 @@ module _ (t : List ℕ) where
     onward = judged_by (take t) ws (k + 1) (did t (act_of w) z).state
 
     pub line_on : eqb (take t w z).number 0 ≡ true → (take t w z).right ≡ true → judged_by (take t) (w ∷ ws) k z ≡ onward
-    unfolding judged_by if◌then◌else◌
+    unfolding judged_by if◌then◌or_else◌
     line_on a b = rw (a, b) (ap (judged_by (take t) ws (k + 1)) (state_is t w z))
 
     line_untrue : eqb (take t w z).number 0 ≡ true → (take t w z).right ≡ false → judged_by (take t) (w ∷ ws) k z ≡ judgment 24 k 0
-    unfolding judged_by if◌then◌else◌
+    unfolding judged_by if◌then◌or_else◌
     line_untrue a b = rw (a, b) refl
 
     line_refused : eqb (take t w z).number 0 ≡ false → judged_by (take t) (w ∷ ws) k z ≡ judgment 24 k (take t w z).number
-    unfolding judged_by if◌then◌else◌
+    unfolding judged_by if◌then◌or_else◌
     line_refused a = rw a refl
 
     -- true and on, or at fault

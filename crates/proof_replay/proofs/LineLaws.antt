@@ -3,7 +3,7 @@ use Prim.Native.Nat.{ℕ}
 use mathlib.Core.Path.{◌≡◌, ◌∙◌, refl, sym, ap}
 use mathlib.Core.Bool.{Bool, true, false, false≢true}
 use mathlib.Core.List.{List, [], ◌∷◌}
-use Rattle.base_words.specs.Pick.{if◌then◌else◌}
+use Rattle.base_words.specs.Pick.{if◌then◌or_else◌}
 use Rattle.base_bytes.specs.Bytes.{same_bytes}
 use Rattle.write_lines.specs.Lines.{step_line}
 use Rattle.proof_steps.proofs.Choices.{by_test}
@@ -23,20 +23,20 @@ module _ (t : List ℕ) where
 
   module _ (w z : List ℕ) where
     pub number_is : (take w z).number ≡ (did t (act_of w) z).number
-    unfolding line_taken taken_by act_of did if◌then◌else◌
+    unfolding line_taken taken_by act_of did if◌then◌or_else◌
     number_is = by_test (entry_of w).posts (λ e. rw e refl) (λ e. rw e refl)
 
     pub state_is : (take w z).state ≡ (did t (act_of w) z).state
-    unfolding line_taken taken_by act_of did if◌then◌else◌
+    unfolding line_taken taken_by act_of did if◌then◌or_else◌
     state_is = by_test (entry_of w).posts (λ e. rw e refl) (λ e. rw e refl)
 
     -- a post's line is true; a step's is where it is the printed one
     pub post_true : (entry_of w).posts ≡ true → (take w z).right ≡ true
-    unfolding line_taken taken_by if◌then◌else◌
+    unfolding line_taken taken_by if◌then◌or_else◌
     post_true e = rw e refl
 
     step_right : (entry_of w).posts ≡ false → (take w z).right ≡ same_bytes (line_told t (act_of w) z) w
-    unfolding line_taken taken_by act_of line_told if◌then◌else◌
+    unfolding line_taken taken_by act_of line_told if◌then◌or_else◌
     step_right e = rw e refl
 
     pub step_true : (entry_of w).posts ≡ false → w ≡ line_told t (act_of w) z → (take w z).right ≡ true

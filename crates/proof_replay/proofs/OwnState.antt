@@ -7,7 +7,7 @@ use lib.Dec.{eqb}
 use lib.ListN.{length, take}
 use borrow.Author.Tests.{eqb-true}
 use Rattle.base_words.specs.Words.{at, greatest}
-use Rattle.base_words.specs.Pick.{if◌then◌else◌}
+use Rattle.base_words.specs.Pick.{if◌then◌or_else◌}
 use Rattle.base_words.proofs.AllLaws.{and_left, and_right}
 use Rattle.base_words.proofs.PickLaws.{and_true}
 use Rattle.base_state.specs.Versions.{is_version}
@@ -120,7 +120,7 @@ module _ (t : List ℕ) where
       reached_valid = after-valid t acts (fresh t v) (fresh-valid t v asked)
 
       run_left : (ran_to t reached limit).state ≡ after t (run_steps t limit reached) reached
-      unfolding ran_to ran_given if◌then◌else◌ after
+      unfolding ran_to ran_given if◌then◌or_else◌ after
       run_left =
           ap (λ (r : RanTo). r.state) (chosen {A = RanTo} (fitting t reached) (ended (ran t limit (instances_of reached) (queues_of reached))) _ reached_valid.fits ∙ run_is_steps t limit reached reached_valid)
 

@@ -7,7 +7,7 @@ use native.Mathlib.Omega.{arith}
 use lib.Dec.{eqb}
 use lib.ListN.{length}
 use borrow.Author.Tests.{eqb-true, eqb-false, ne_eqb}
-use Rattle.base_words.specs.Pick.{if◌then◌else◌}
+use Rattle.base_words.specs.Pick.{if◌then◌or_else◌}
 use Rattle.state_fits.specs.Fresh.{fresh}
 use Rattle.proof_steps.proofs.Choices.{by_test, by_choice}
 use Rattle.xml_skip.specs.declared.Reached.TheVariants.{Past}
@@ -29,14 +29,14 @@ use Rattle.proof_replay.proofs.LineLaws.{take}
 module _ (give : List ℕ → List ℕ → Taking) where
   -- lines behind lawful ones, and behind ones with a fault
   pub judged_both : (xs ys : List (List ℕ)) (k : ℕ) (z : List ℕ) → judged_by give xs k z ≡ lawful → judged_by give (xs ++ ys) k z ≡ judged_by give ys (k + length xs) (left_by_lines give xs z)
-  unfolding judged_by left_by_lines if◌then◌else◌
+  unfolding judged_by left_by_lines if◌then◌or_else◌
   judged_both [] ys k z h = ap (λ (n : ℕ). judged_by give ys n z) (let e : k ≡ k + 0 = omega arith in e)
   judged_both (w ∷ xs) ys k z h = go (eqb (give w z).number 0) (give w z).right (judged_both xs ys (k + 1) (give w z).state) h
     where
       go : (a b : Bool)
           → (judged_by give xs (k + 1) (give w z).state ≡ lawful → judged_by give (xs ++ ys) (k + 1) (give w z).state ≡ judged_by give ys (k + 1 + length xs) (left_by_lines give xs (give w z).state))
-          → (if a then if b then judged_by give xs (k + 1) (give w z).state else judgment 24 k 0 else judgment 24 k (give w z).number) ≡ lawful
-          → (if a then if b then judged_by give (xs ++ ys) (k + 1) (give w z).state else judgment 24 k 0 else judgment 24 k (give w z).number) ≡ judged_by give ys (k + length (w ∷ xs)) (left_by_lines give xs (give w z).state)
+          → (if a then if b then judged_by give xs (k + 1) (give w z).state or_else judgment 24 k 0 or_else judgment 24 k (give w z).number) ≡ lawful
+          → (if a then if b then judged_by give (xs ++ ys) (k + 1) (give w z).state or_else judgment 24 k 0 or_else judgment 24 k (give w z).number) ≡ judged_by give ys (k + length (w ∷ xs)) (left_by_lines give xs (give w z).state)
       go true true on e =
           on e
           ∙ ap (λ (n : ℕ). judged_by give ys n (left_by_lines give xs (give w z).state)) (let p : k + 1 + length xs ≡ k + length (w ∷ xs) = omega arith in p)
@@ -44,14 +44,14 @@ module _ (give : List ℕ → List ℕ → Taking) where
       go false b on e = absurd (omega (arith, ap (λ (j : Judged). j.number) e))
 
   pub fault_both : (xs ys : List (List ℕ)) (k : ℕ) (z : List ℕ) (j own : ℕ) → judged_by give xs k z ≡ judgment 24 j own → judged_by give (xs ++ ys) k z ≡ judgment 24 j own
-  unfolding judged_by if◌then◌else◌
+  unfolding judged_by if◌then◌or_else◌
   fault_both [] ys k z j own h = absurd (omega (arith, ap (λ (d : Judged). d.number) h))
   fault_both (w ∷ xs) ys k z j own h = go (eqb (give w z).number 0) (give w z).right (fault_both xs ys (k + 1) (give w z).state j own) h
     where
       go : (a b : Bool)
           → (judged_by give xs (k + 1) (give w z).state ≡ judgment 24 j own → judged_by give (xs ++ ys) (k + 1) (give w z).state ≡ judgment 24 j own)
-          → (if a then if b then judged_by give xs (k + 1) (give w z).state else judgment 24 k 0 else judgment 24 k (give w z).number) ≡ judgment 24 j own
-          → (if a then if b then judged_by give (xs ++ ys) (k + 1) (give w z).state else judgment 24 k 0 else judgment 24 k (give w z).number) ≡ judgment 24 j own
+          → (if a then if b then judged_by give xs (k + 1) (give w z).state or_else judgment 24 k 0 or_else judgment 24 k (give w z).number) ≡ judgment 24 j own
+          → (if a then if b then judged_by give (xs ++ ys) (k + 1) (give w z).state or_else judgment 24 k 0 or_else judgment 24 k (give w z).number) ≡ judgment 24 j own
       go true true on e = on e
       go true false on e = e
       go false b on e = e
@@ -63,13 +63,13 @@ module _ (give : List ℕ → List ℕ → Taking) where
 
   -- n events more before them
   pub judged_later : (ys : List (List ℕ)) (n k : ℕ) (z : List ℕ) → judged_by give ys (n + k) z ≡ later n (judged_by give ys k z)
-  unfolding judged_by later if◌then◌else◌
+  unfolding judged_by later if◌then◌or_else◌
   judged_later [] n k z = refl
   judged_later (w ∷ ys) n k z = go (eqb (give w z).number 0) (give w z).right (judged_later ys n (k + 1) (give w z).state)
     where
       go : (a b : Bool) → judged_by give ys (n + (k + 1)) (give w z).state ≡ later n (judged_by give ys (k + 1) (give w z).state)
-          → (if a then if b then judged_by give ys (n + k + 1) (give w z).state else judgment 24 (n + k) 0 else judgment 24 (n + k) (give w z).number)
-          ≡ later n (if a then if b then judged_by give ys (k + 1) (give w z).state else judgment 24 k 0 else judgment 24 k (give w z).number)
+          → (if a then if b then judged_by give ys (n + k + 1) (give w z).state or_else judgment 24 (n + k) 0 or_else judgment 24 (n + k) (give w z).number)
+          ≡ later n (if a then if b then judged_by give ys (k + 1) (give w z).state or_else judgment 24 k 0 or_else judgment 24 k (give w z).number)
       go true true e = ap (λ (m : ℕ). judged_by give ys m (give w z).state) (let p : n + k + 1 ≡ n + (k + 1) = omega arith in p) ∙ e
       go true false e = refl
       go false b e = refl
@@ -85,7 +85,7 @@ unfolding later
 later_number n j = by_choice (λ (d : Judged). d.number ≡ j.number) (eqb j.number 24) (judgment 24 (n + j.beside) j.own) j (λ e. sym (eqb-true j.number 24 e)) (λ e. refl)
 
 refused_same : (j : Judged) (x y z : List ℕ) → (j.number ≡ 0 → ⊥) → kept_by j x z ≡ kept_by j y z
-unfolding kept_by if◌then◌else◌
+unfolding kept_by if◌then◌or_else◌
 refused_same j x y z n = rw (ne_eqb j.number 0 n) refl
 
 -- x is what lines leave of z, where they are lawful

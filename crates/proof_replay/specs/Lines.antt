@@ -1,6 +1,6 @@
 -- WHAT THE LINES OF A LOG TELL: the calls that they name, when they are true of accepted ones, and which is the first that is not. t is a table, z a state, w a line.
 use Rattle.std.specs.Prelude.{ℕ, ◌+◌, ◌≡◌, false, List, [], ◌∷◌, ◌++◌, eqb, length}
-use Rattle.base_words.specs.Pick.{if◌then◌else◌}
+use Rattle.base_words.specs.Pick.{if◌then◌or_else◌}
 use Rattle.log_lines.specs.Entries.{entry_of}
 use Rattle.log_judge.specs.declared.Judged.{Judged}
 use Rattle.log_judge.specs.Judge.{judgment}
@@ -9,7 +9,7 @@ use Rattle.proof_logs.specs.Told.{line_told}
 
 -- the step or the post that a line names
 unfoldable pub act_of : List ℕ → Act
-act_of w = if (entry_of w).posts then a_post (entry_of w).name.pool (entry_of w).name.given else a_step (entry_of w).name
+act_of w = if (entry_of w).posts then a_post (entry_of w).name.pool (entry_of w).name.given or_else a_step (entry_of w).name
 
 unfoldable pub acts_of : List (List ℕ) → List Act
 acts_of [] = []
@@ -42,4 +42,4 @@ pub record FirstFault (t : List ℕ) (ws : List (List ℕ)) (z : List ℕ) (k ow
 
 -- an answer where n events are before those that were judged
 unfoldable pub later : ℕ → Judged → Judged
-later n j = if eqb j.number 24 then judgment 24 (n + j.beside) j.own else j
+later n j = if eqb j.number 24 then judgment 24 (n + j.beside) j.own or_else j

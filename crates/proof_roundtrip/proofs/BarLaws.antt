@@ -9,7 +9,7 @@ use lib.Dec.{eqb}
 use lib.ListN.{length, drop, length-append}
 use borrow.Author.Tests.{ne_eqb}
 use Rattle.base_words.specs.Each.{joined, tab}
-use Rattle.base_words.specs.Pick.{if◌then◌else◌}
+use Rattle.base_words.specs.Pick.{if◌then◌or_else◌}
 use Rattle.base_words.proofs.JoinLaws.{joined_ext}
 use Rattle.base_words.proofs.PickLaws.{pick_no}
 use Rattle.text_lexer.specs.Lexer.{is_sign}
@@ -44,7 +44,7 @@ behind s f (suc n) =
     ap (λ (l : List ℕ). f 0 ++ l) (joined_front (λ k. s ∷ f (suc k)) n ∙ ap (λ (l : List ℕ). s ∷ l) (behind s (λ k. f (suc k)) n))
 
 lead_none : (s : ℕ) → lead s 0 ≡ []
-unfolding lead if◌then◌else◌
+unfolding lead if◌then◌or_else◌
 lead_none s = refl
 
 lead_some : (s k : ℕ) → lead s (suc k) ≡ s ∷ []

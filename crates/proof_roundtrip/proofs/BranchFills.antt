@@ -8,7 +8,7 @@ use mathlib.Core.Logic.{inl, inr, ⊎_elim}
 use native.Mathlib.Omega.{arith}
 use lib.ListN.{drop}
 use Rattle.base_words.specs.Counts.{fewest, branches, edges}
-use Rattle.base_words.specs.Pick.{if◌then◌else◌}
+use Rattle.base_words.specs.Pick.{if◌then◌or_else◌}
 use Rattle.base_words.specs.Words.{at, greatest}
 use Rattle.base_kinds.specs.Kinds.{none, many}
 use Rattle.base_table.specs.Places.{element_words, exits_place, edge_place, condition_place, message_place, expression_words, message_words}
@@ -54,7 +54,7 @@ abbrev Right : ℕ → List ℕ → Type 0
 Right j y = Ranged 1 edges (edge_place exits_place j) y × (condition_fits many (drop (condition_place j) y) ≡ true)
 
 each_guarded : (j : ℕ) → j < branches → Fills (item_of guarded_list j) (Place j) (Right j)
-unfolding item_of guarded if◌then◌else◌
+unfolding item_of guarded if◌then◌or_else◌
 each_guarded j l =
     fills_behind (idle_sign (code "("))
     (fills_then (fills_number 1 edges (edge_place exits_place j) (omega (arith, l)) (omega arith))

@@ -7,7 +7,7 @@ use lib.Dec.{eqb}
 use borrow.Author.Tests.{eqb-true, ne_eqb}
 use Rattle.base_words.specs.All.{all}
 use Rattle.base_words.specs.Each.{each}
-use Rattle.base_words.specs.Pick.{if◌then◌else◌}
+use Rattle.base_words.specs.Pick.{if◌then◌or_else◌}
 use Rattle.base_words.specs.Words.{at}
 use Rattle.base_words.proofs.AllLaws.{all_at, and_left, and_right}
 use Rattle.base_words.proofs.ListLaws.{each_at}
@@ -19,14 +19,14 @@ use Rattle.proof_roundtrip.proofs.NumberReads.{then_of, else_of}
 unfoldable pub goes : Kind → ℕ → Bool
 goes k c =
     if eqb c (code "E") then eqb k.entries one
-    else if eqb c (code "X") then eqb k.exits one
-    else if eqb c (code "F") then eqb k.entries many
-    else if eqb c (code "Y") then eqb k.exits many
-    else if eqb c (code "N") then eqb k.task one && eqb k.conditions one
-    else if eqb c (code "T") then eqb (k.receives + k.sends) one
-    else if eqb c (code "S") then eqb k.receives none && eqb k.sends one
-    else if eqb c (code "G") then eqb k.exits many && eqb k.conditions many
-    else eqb c (code "B") && (eqb k.exits many && eqb (k.receives + k.sends) many)
+    or_else if eqb c (code "X") then eqb k.exits one
+    or_else if eqb c (code "F") then eqb k.entries many
+    or_else if eqb c (code "Y") then eqb k.exits many
+    or_else if eqb c (code "N") then eqb k.task one && eqb k.conditions one
+    or_else if eqb c (code "T") then eqb (k.receives + k.sends) one
+    or_else if eqb c (code "S") then eqb k.receives none && eqb k.sends one
+    or_else if eqb c (code "G") then eqb k.exits many && eqb k.conditions many
+    or_else eqb c (code "B") && (eqb k.exits many && eqb (k.receives + k.sends) many)
 
 -- the same, taken apart
 pub data Coded (k : Kind) : ℕ → Type 0 where
@@ -40,7 +40,7 @@ pub data Coded (k : Kind) : ℕ → Type 0 where
   guards : k.exits ≡ 2 → k.conditions ≡ 2 → Coded k (code "G")
   receivers : k.exits ≡ 2 → k.receives + k.sends ≡ 2 → Coded k (code "B")
 
-by_if : {P : Type 0} (b x y : Bool) → (if b then x else y) ≡ true → (b ≡ true → x ≡ true → P) → (y ≡ true → P) → P
+by_if : {P : Type 0} (b x y : Bool) → (if b then x or_else y) ≡ true → (b ≡ true → x ≡ true → P) → (y ≡ true → P) → P
 by_if {P} b x y h f g = go b refl
   where
     go : (t : Bool) → b ≡ t → P
@@ -72,14 +72,14 @@ abbrev row_goes : Kind → Bool
 row_goes k = all (λ i. eqb (at k.parts i) (code " ") || goes k (at k.parts i)) 4
 
 kinds_go : each row_goes kinds ≡ true
-unfolding each all goes if◌then◌else◌
+unfolding each all goes if◌then◌or_else◌
 kinds_go = refl
 
 pub parts_go : (k i : ℕ) → i < 4 → (at (kind_of k).parts i ≡ (code " ") → ⊥) → goes (kind_of k) (at (kind_of k).parts i) ≡ true
 unfolding kind_of
 parts_go k i l n =
     or_else (eqb (at (kind_of k).parts i) (code " ")) _ (ne_eqb (at (kind_of k).parts i) (code " ") n)
-    (all_at (λ i. eqb (at (kind_of k).parts i) (code " ") || goes (kind_of k) (at (kind_of k).parts i)) 4 (each_at row_goes kinds no_kind kinds_go (unfold all goes if◌then◌else◌ in refl) k) i l)
+    (all_at (λ i. eqb (at (kind_of k).parts i) (code " ") || goes (kind_of k) (at (kind_of k).parts i)) 4 (each_at row_goes kinds no_kind kinds_go (unfold all goes if◌then◌or_else◌ in refl) k) i l)
   where
     or_else : (a b : Bool) → a ≡ false → a || b ≡ true → b ≡ true
     or_else a b e h = rw e at h

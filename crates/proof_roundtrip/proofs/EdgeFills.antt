@@ -11,7 +11,7 @@ use lib.ListN.{drop}
 use lib.Seq.{get_or-drop, drop-drop}
 use borrow.Author.Tests.{le-leb}
 use Rattle.base_words.specs.Counts.{fewest, branches, edges}
-use Rattle.base_words.specs.Pick.{if◌then◌else◌}
+use Rattle.base_words.specs.Pick.{if◌then◌or_else◌}
 use Rattle.base_words.specs.Words.{at}
 use Rattle.base_words.proofs.PickLaws.{and_true}
 use Rattle.base_kinds.specs.Kinds.{one, many}
@@ -26,11 +26,11 @@ use Rattle.proof_roundtrip.proofs.ExpressionFills.{tail_same}
 use Rattle.proof_roundtrip.proofs.ListFills.{things_of, region_cases, fills_all, fills_series}
 
 pub count_one : count_fits one 1 ≡ true
-unfolding count_fits if◌then◌else◌
+unfolding count_fits if◌then◌or_else◌
 count_one = refl
 
 pub count_many : (n : ℕ) → fewest ≤ n → n ≤ branches → count_fits many n ≡ true
-unfolding count_fits if◌then◌else◌
+unfolding count_fits if◌then◌or_else◌
 count_many n l u = and_true (leb fewest n) (leb n branches) (le-leb fewest n l) (le-leb n branches u)
 
 edge_of : (x : List ℕ) → 1 ≤ at x 0 → at x 0 ≤ edges → edge_fits x ≡ true
@@ -74,7 +74,7 @@ module _ (list : ℕ) (h : list + 9 ≤ element_words) where
   Right j y = Ranged 1 edges (edge_place list j) y
 
   each_edge : (j : ℕ) → j < branches → Fills (item_of (edge_list list) j) (Place j) (Right j)
-  unfolding item_of if◌then◌else◌
+  unfolding item_of if◌then◌or_else◌
   each_edge j l = fills_number 1 edges (edge_place list j) (omega (arith, h, l)) (omega arith)
 
   edges_apart : (j k i : ℕ) → j < k → k < branches → Place j i → Place k i → ⊥

@@ -11,7 +11,7 @@ use lib.ListN.{drop}
 use borrow.Author.Tests.{eqb-true, not-true}
 use Rattle.base_words.specs.All.{all}
 use Rattle.base_words.specs.Counts.{branches, assignments}
-use Rattle.base_words.specs.Pick.{if◌then◌else◌}
+use Rattle.base_words.specs.Pick.{if◌then◌or_else◌}
 use Rattle.base_words.specs.Words.{at}
 use Rattle.base_words.proofs.AllLaws.{all_at, and_left, and_right}
 use Rattle.base_words.proofs.PickLaws.{and_true}
@@ -51,21 +51,21 @@ module _ (k : ℕ) (l : 0 < k) (u : k < kind_count + 1) where
   task_test j = not (eqb (kind_of j).task one) && (free j task_place 2 && free j assignments_place 25)
 
   row_task : Either k (code "N" ∷ []) (task_test k ≡ true)
-  unfolding all listed stores region_of spans kind_of if◌then◌else◌
+  unfolding all listed stores region_of spans kind_of if◌then◌or_else◌
   row_task = either_of k (code "N" ∷ []) (task_test k) (of_kind_lem (λ j. either j (code "N" ∷ []) (task_test j)) refl k l u)
 
   abbrev entries_test : ℕ → Bool
   entries_test j = eqb (kind_of j).entries 0 && free j entries_place 9
 
   row_entries : Either k (code "E" ∷ code "F" ∷ []) (entries_test k ≡ true)
-  unfolding all listed stores region_of spans kind_of if◌then◌else◌
+  unfolding all listed stores region_of spans kind_of if◌then◌or_else◌
   row_entries = either_of k (code "E" ∷ code "F" ∷ []) (entries_test k) (of_kind_lem (λ j. either j (code "E" ∷ code "F" ∷ []) (entries_test j)) refl k l u)
 
   abbrev exits_test : ℕ → Bool
   exits_test j = eqb (kind_of j).exits 0 && free j exits_place 9
 
   row_exits : Either k (code "X" ∷ code "Y" ∷ code "G" ∷ code "B" ∷ []) (exits_test k ≡ true)
-  unfolding all listed stores region_of spans kind_of if◌then◌else◌
+  unfolding all listed stores region_of spans kind_of if◌then◌or_else◌
   row_exits = either_of k (code "X" ∷ code "Y" ∷ code "G" ∷ code "B" ∷ []) (exits_test k) (of_kind_lem (λ j. either j (code "X" ∷ code "Y" ∷ code "G" ∷ code "B" ∷ []) (exits_test j)) refl k l u)
 
   abbrev guard_test : ℕ → Bool
@@ -75,7 +75,7 @@ module _ (k : ℕ) (l : 0 < k) (u : k < kind_count + 1) where
   conditions_test j = guard_test j || (eqb (kind_of j).conditions 0 && free j (condition_place 0) 40)
 
   row_conditions : Either k (code "G" ∷ []) (conditions_test k ≡ true)
-  unfolding all listed stores region_of spans kind_of if◌then◌else◌
+  unfolding all listed stores region_of spans kind_of if◌then◌or_else◌
   row_conditions = either_of k (code "G" ∷ []) (conditions_test k) (of_kind_lem (λ j. either j (code "G" ∷ []) (conditions_test j)) refl k l u)
 
   abbrev template_test : ℕ → Bool
@@ -88,7 +88,7 @@ module _ (k : ℕ) (l : 0 < k) (u : k < kind_count + 1) where
   messages_test j = template_test j || (output_test j || (eqb ((kind_of j).receives + (kind_of j).sends) 0 && free j (message_place 0) 176))
 
   row_messages : Either k (code "B" ∷ []) (messages_test k ≡ true)
-  unfolding all listed stores region_of spans kind_of if◌then◌else◌
+  unfolding all listed stores region_of spans kind_of if◌then◌or_else◌
   row_messages = either_of k (code "B" ∷ []) (messages_test k) (of_kind_lem (λ j. either j (code "B" ∷ []) (messages_test j)) refl k l u)
 
 -- things of which one is used, or none
@@ -108,7 +108,7 @@ both_eq : (a b c d : ℕ) → eqb a b && eqb c d ≡ true → (a ≡ b) × (c �
 both_eq a b c d e = (eqb-true a b (and_left (eqb a b) (eqb c d) e), eqb-true c d (and_right (eqb a b) (eqb c d) e))
 
 task_none : (task : ℕ) (y : List ℕ) → eqb task one ≡ false → at y task_place ≡ 0 → at y mode_place ≡ 0 → at y assignments_place ≡ 0 → task_fits task y ≡ true
-unfolding task_fits if◌then◌else◌
+unfolding task_fits if◌then◌or_else◌
 task_none task y e a b c = rw (e, a, b, c)
 
 -- what was stored by the parts of row k
@@ -124,73 +124,73 @@ module _ (k : ℕ) (l : 0 < k) (u : k < kind_count + 1) (y : List ℕ) (g : Good
 
   -- what the row says of a part, and what was stored of it
   entry_row : Has k (code "E") → (kind_of k).entries ≡ one
-  unfolding suits if◌then◌else◌
+  unfolding suits if◌then◌or_else◌
   entry_row h = eqb-true (kind_of k).entries one (suit (code "E") h)
 
   entry_words : Has k (code "E") → edges_fit one (drop entries_place y) ≡ true
-  unfolding good if◌then◌else◌
+  unfolding good if◌then◌or_else◌
   entry_words h = g (code "E") h
 
   entries_row : Has k (code "F") → (kind_of k).entries ≡ many
-  unfolding suits if◌then◌else◌
+  unfolding suits if◌then◌or_else◌
   entries_row h = eqb-true (kind_of k).entries many (suit (code "F") h)
 
   entries_words : Has k (code "F") → edges_fit many (drop entries_place y) ≡ true
-  unfolding good if◌then◌else◌
+  unfolding good if◌then◌or_else◌
   entries_words h = g (code "F") h
 
   exit_row : Has k (code "X") → (kind_of k).exits ≡ one
-  unfolding suits if◌then◌else◌
+  unfolding suits if◌then◌or_else◌
   exit_row h = eqb-true (kind_of k).exits one (suit (code "X") h)
 
   exit_words : Has k (code "X") → edges_fit one (drop exits_place y) ≡ true
-  unfolding good if◌then◌else◌
+  unfolding good if◌then◌or_else◌
   exit_words h = g (code "X") h
 
   exits_row : Has k (code "Y") → (kind_of k).exits ≡ many
-  unfolding suits if◌then◌else◌
+  unfolding suits if◌then◌or_else◌
   exits_row h = eqb-true (kind_of k).exits many (suit (code "Y") h)
 
   exits_words : Has k (code "Y") → edges_fit many (drop exits_place y) ≡ true
-  unfolding good if◌then◌else◌
+  unfolding good if◌then◌or_else◌
   exits_words h = g (code "Y") h
 
   task_row : Has k (code "N") → ((kind_of k).task ≡ one) × ((kind_of k).conditions ≡ one)
-  unfolding suits if◌then◌else◌
+  unfolding suits if◌then◌or_else◌
   task_row h = both_eq (kind_of k).task one (kind_of k).conditions one (suit (code "N") h)
 
   task_words : Has k (code "N") → (task_fits one y ≡ true) × ((condition_fits one (drop (condition_place 0) y) ≡ true) × (things (drop (assignment_place 0) y) assignment_words assignments (at y assignments_place) assignment_fits ≡ true))
-  unfolding good if◌then◌else◌
+  unfolding good if◌then◌or_else◌
   task_words h =
       let q = both_true (task_fits one y) (condition_fits one (drop (condition_place 0) y) && things (drop (assignment_place 0) y) assignment_words assignments (at y assignments_place) assignment_fits) (g (code "N") h) in
       (q.0, both_true (condition_fits one (drop (condition_place 0) y)) (things (drop (assignment_place 0) y) assignment_words assignments (at y assignments_place) assignment_fits) q.1)
 
   template_row : Has k (code "T") → ((kind_of k).receives ≡ one) × ((kind_of k).sends ≡ none)
-  unfolding suits if◌then◌else◌
+  unfolding suits if◌then◌or_else◌
   template_row h = both_eq (kind_of k).receives one (kind_of k).sends none (suit (code "T") h)
 
   template_words : Has k (code "T") → message_fits (kind_of k).receives (drop (message_place 0) y) ≡ true
-  unfolding good if◌then◌else◌
+  unfolding good if◌then◌or_else◌
   template_words h = g (code "T") h
 
   output_row : Has k (code "S") → ((kind_of k).receives ≡ none) × ((kind_of k).sends ≡ one)
-  unfolding suits if◌then◌else◌
+  unfolding suits if◌then◌or_else◌
   output_row h = both_eq (kind_of k).receives none (kind_of k).sends one (suit (code "S") h)
 
   output_words : Has k (code "S") → message_fits (kind_of k).receives (drop (message_place 0) y) ≡ true
-  unfolding good if◌then◌else◌
+  unfolding good if◌then◌or_else◌
   output_words h = g (code "S") h
 
   guards_row : Has k (code "G") → ((kind_of k).exits ≡ many) × ((kind_of k).conditions ≡ many)
-  unfolding suits if◌then◌else◌
+  unfolding suits if◌then◌or_else◌
   guards_row h = both_eq (kind_of k).exits many (kind_of k).conditions many (suit (code "G") h)
 
   guards_words : Has k (code "G") → (edges_fit many (drop exits_place y) ≡ true) × (things (drop (condition_place 0) y) expression_words branches (at y exits_place) (condition_fits many) ≡ true)
-  unfolding good if◌then◌else◌
+  unfolding good if◌then◌or_else◌
   guards_words h = both_true (edges_fit many (drop exits_place y)) (things (drop (condition_place 0) y) expression_words branches (at y exits_place) (condition_fits many)) (g (code "G") h)
 
   receivers_row : Has k (code "B") → ((kind_of k).exits ≡ many) × (((kind_of k).receives ≡ many) × ((kind_of k).sends ≡ none))
-  unfolding suits if◌then◌else◌
+  unfolding suits if◌then◌or_else◌
   receivers_row h =
       let s = suit (code "B") h in (
         eqb-true (kind_of k).exits many (and_left (eqb (kind_of k).exits many) (eqb (kind_of k).receives many && eqb (kind_of k).sends none) s),
@@ -198,7 +198,7 @@ module _ (k : ℕ) (l : 0 < k) (u : k < kind_count + 1) (y : List ℕ) (g : Good
       )
 
   receivers_words : Has k (code "B") → (edges_fit many (drop exits_place y) ≡ true) × (things (drop (message_place 0) y) message_words branches (at y exits_place) (message_fits (kind_of k).receives) ≡ true)
-  unfolding good if◌then◌else◌
+  unfolding good if◌then◌or_else◌
   receivers_words h = both_true (edges_fit many (drop exits_place y)) (things (drop (message_place 0) y) message_words branches (at y exits_place) (message_fits (kind_of k).receives)) (g (code "B") h)
 
   -- the words of an empty list of edges
@@ -207,7 +207,7 @@ module _ (k : ℕ) (l : 0 < k) (u : k < kind_count + 1) (y : List ℕ) (g : Good
       let z = zeros_free list 9 p (and_right (eqb column 0) (free k list 9) t) in
       let c = eqb-true column 0 (and_left (eqb column 0) (free k list 9) t) in
       ap (λ (j : ℕ). edges_fit j (drop list y)) c
-      ∙ edges_of 0 list 0 y (z list (omega arith) (omega arith)) (omega arith) (unfold count_fits if◌then◌else◌ in refl) (λ j h. absurd (omega (arith, h))) (λ i a b. z i (omega (arith, a)) (omega (arith, b)))
+      ∙ edges_of 0 list 0 y (z list (omega arith) (omega arith)) (omega arith) (unfold count_fits if◌then◌or_else◌ in refl) (λ j h. absurd (omega (arith, h))) (λ i a b. z i (omega (arith, a)) (omega (arith, b)))
 
   pub entries_right : edges_fit (kind_of k).entries (drop entries_place y) ≡ true
   entries_right =

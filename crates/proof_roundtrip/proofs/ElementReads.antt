@@ -11,7 +11,7 @@ use lib.Dec.{eqb}
 use lib.ListN.{length, drop, take, length-append}
 use lib.Seq.{get_or-take, ext_get_or, length-take-le}
 use borrow.Author.Tests.{ne_eqb}
-use Rattle.base_words.specs.Pick.{if◌then◌else◌}
+use Rattle.base_words.specs.Pick.{if◌then◌or_else◌}
 use Rattle.base_words.specs.Words.{at, part, greatest}
 use Rattle.base_words.proofs.PickLaws.{pick_no}
 use Rattle.base_kinds.specs.Kinds.{kind_of, keyword_of}
@@ -89,9 +89,9 @@ module _ (el : List ℕ) (small : (i : ℕ) → at el i ≤ greatest) (fit : ele
   unfolding shown_row shown_parts
   row_stops rest = go (kind_of (kind_in el)).parts
     where
-      first : (c : ℕ) (cs : List ℕ) (b : Bool) → may_follow (((if b then [] else code "(" ∷ (shown_part c el ++ shown_parts (code ",") cs el)) ++ (code ")" ∷ [])) ++ rest) ≡ true
-      first c cs true = unfold if◌then◌else◌ may_follow is_word is_letter is_digit between in refl
-      first c cs false = unfold if◌then◌else◌ may_follow is_word is_letter is_digit between in refl
+      first : (c : ℕ) (cs : List ℕ) (b : Bool) → may_follow (((if b then [] or_else code "(" ∷ (shown_part c el ++ shown_parts (code ",") cs el)) ++ (code ")" ∷ [])) ++ rest) ≡ true
+      first c cs true = unfold if◌then◌or_else◌ may_follow is_word is_letter is_digit between in refl
+      first c cs false = unfold if◌then◌or_else◌ may_follow is_word is_letter is_digit between in refl
 
       go : (cs : List ℕ) → may_follow ((shown_parts (code "(") cs el ++ (code ")" ∷ [])) ++ rest) ≡ true
       go [] = unfold may_follow is_word is_letter is_digit between in refl

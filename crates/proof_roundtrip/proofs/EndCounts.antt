@@ -11,7 +11,7 @@ use borrow.Author.Tests.{leb-true}
 use Rattle.base_words.specs.All.{all}
 use Rattle.base_words.specs.Counts.{branches, edges}
 use Rattle.base_words.specs.Each.{total, each}
-use Rattle.base_words.specs.Pick.{if◌then◌else◌}
+use Rattle.base_words.specs.Pick.{if◌then◌or_else◌}
 use Rattle.base_words.specs.Sum.{sum, hit, one_if}
 use Rattle.base_words.specs.Words.{at}
 use Rattle.base_words.proofs.AllLaws.{and_right}
@@ -73,15 +73,15 @@ module _ (x : List ℕ) (r : Right x) (is : is_end_snd x ≡ true) (f : ℕ) whe
 
   -- names: it receives none; it sends the one that it sent
   none_received : received_count y ≡ 0
-  unfolding received_count kind_of used if◌then◌else◌
+  unfolding received_count kind_of used if◌then◌or_else◌
   none_received = ap (λ k. used (kind_of k).receives (exit_count y)) (kind_is x r is f)
 
   none_before : received_count x ≡ 0
-  unfolding received_count kind_of used if◌then◌else◌
+  unfolding received_count kind_of used if◌then◌or_else◌
   none_before = ap (λ k. used (kind_of k).receives (exit_count x)) (was x r is f)
 
   pub received_stay : (m : ℕ) → Stays (as_received m)
-  unfolding as_received sum received_count kind_of used if◌then◌else◌ end_of with_one
+  unfolding as_received sum received_count kind_of used if◌then◌or_else◌ end_of with_one
   received_stay m =
       record {
         send = ap (sum (λ j. hit (at y (message_place j)) m)) none_received ∙ sym (ap (sum (λ j. hit (at x (message_place j)) m)) none_before);
@@ -89,15 +89,15 @@ module _ (x : List ℕ) (r : Right x) (is : is_end_snd x ≡ true) (f : ℕ) whe
       }
 
   one_sent : sent_count y ≡ 1
-  unfolding sent_count kind_of used if◌then◌else◌
+  unfolding sent_count kind_of used if◌then◌or_else◌
   one_sent = ap (λ k. used (kind_of k).sends (exit_count y)) (kind_is x r is f)
 
   one_before : sent_count x ≡ 1
-  unfolding sent_count kind_of used if◌then◌else◌
+  unfolding sent_count kind_of used if◌then◌or_else◌
   one_before = ap (λ k. used (kind_of k).sends (exit_count x)) (was x r is f)
 
   pub sent_stay : (m : ℕ) → Stays (as_sent m)
-  unfolding as_sent sum sent_count kind_of used if◌then◌else◌ end_of with_one
+  unfolding as_sent sum sent_count kind_of used if◌then◌or_else◌ end_of with_one
   sent_stay m =
       record {
         send =
@@ -109,16 +109,16 @@ module _ (x : List ℕ) (r : Right x) (is : is_end_snd x ≡ true) (f : ℕ) whe
 
   -- it has no condition and no template
   pub one_default : (default_once y ≡ true) × (default_once x ≡ true) × (default_once z ≡ true)
-  unfolding default_once defaults condition_count sum kind_of used if◌then◌else◌ end_of with_one
+  unfolding default_once defaults condition_count sum kind_of used if◌then◌or_else◌ end_of with_one
   one_default = (rw (kind_is x r is f), rw (was x r is f), refl)
 
   pub one_bind : (bound_once y ≡ true) × (bound_once x ≡ true) × (bound_once z ≡ true)
-  unfolding bound_once all received_count kind_of used if◌then◌else◌ end_of with_one
+  unfolding bound_once all received_count kind_of used if◌then◌or_else◌ end_of with_one
   one_bind = (rw (kind_is x r is f), rw (was x r is f), refl)
 
   -- EDGES: f is an exit of the send and the entry of the end
   pub as_exit_lem : (e : ℕ) → (as_exit e y ≡ hit f e) × (as_exit e x ≡ 0) × (as_exit e z ≡ 0)
-  unfolding as_exit sum exit_count kind_of used if◌then◌else◌ end_of with_one
+  unfolding as_exit sum exit_count kind_of used if◌then◌or_else◌ end_of with_one
   as_exit_lem e = (
     ap (λ k. sum (λ j. hit (exit_at y j) e) (used (kind_of k).exits (at y exits_place))) (kind_is x r is f) ∙ zero-add (hit (exit_at y 0) e) ∙ ap (λ k. hit k e) (exit_is x r is f),
     ap (λ k. sum (λ j. hit (exit_at x j) e) (used (kind_of k).exits (at x exits_place))) (was x r is f),
@@ -126,7 +126,7 @@ module _ (x : List ℕ) (r : Right x) (is : is_end_snd x ≡ true) (f : ℕ) whe
   )
 
   pub as_entry_lem : (e : ℕ) → (as_entry e y ≡ as_entry e x) × (as_entry e z ≡ hit f e)
-  unfolding as_entry sum entry_count kind_of used if◌then◌else◌ end_of with_one
+  unfolding as_entry sum entry_count kind_of used if◌then◌or_else◌ end_of with_one
   as_entry_lem e = (
     ap (λ k. sum (λ j. hit (entry_at y j) e) (used (kind_of k).entries (at y entries_place))) (kind_is x r is f)
         ∙ ap (λ k. 0 + hit k e) (other x r is f (edge_place entries_place 0) (λ q. omega arith) (λ q. omega arith) (λ q. omega arith))

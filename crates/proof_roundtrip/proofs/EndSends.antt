@@ -12,7 +12,7 @@ use lib.Seq.{get_or-drop, get_or-set_same, get_or-set_other, drop-drop}
 use borrow.Author.Tests.{eqb-true, eq-eqb, le-leb}
 use Rattle.base_words.specs.All.{all}
 use Rattle.base_words.specs.Counts.{branches, edges}
-use Rattle.base_words.specs.Pick.{if◌then◌else◌}
+use Rattle.base_words.specs.Pick.{if◌then◌or_else◌}
 use Rattle.base_words.specs.Words.{at, greatest}
 use Rattle.base_words.proofs.AllLaws.{all_of, and_left, and_right}
 use Rattle.base_words.proofs.PickLaws.{and_true}
@@ -45,7 +45,7 @@ zeros_small (suc n) (suc i) = zeros_small n i
 -- THE END FOR IT
 module _ (f : ℕ) (l : 1 ≤ f) (u : f ≤ edges) where
   end_fits : element_fits (end_of f) ≡ true
-  unfolding all if◌then◌else◌ kind_of used zeros things count_fits edge_fits edges_fit task_fits conditions_fit messages_fit assignments_fit parts_fit element_fits with_one end_of
+  unfolding all if◌then◌or_else◌ kind_of used zeros things count_fits edge_fits edges_fit task_fits conditions_fit messages_fit assignments_fit parts_fit element_fits with_one end_of
   end_fits = rw (le-leb 1 f l, le-leb f edges u)
 
   pub end_right : Right (end_of f)
@@ -98,7 +98,7 @@ module _ (x : List ℕ) (r : Right x) (is : is_end_snd x ≡ true) (f : ℕ) whe
   parts_fit_lem = ap (λ k. parts_fit (kind_of k) x) (sym was) ∙ and_right (not (eqb (kind_of (kind_in x)).letters 0)) _ r.fits
 
   pub no_exits : (i : ℕ) → exits_place ≤ i → i < exits_place + 9 → at x i ≡ 0
-  unfolding kind_of count_fits if◌then◌else◌
+  unfolding kind_of count_fits if◌then◌or_else◌
   no_exits i a b =
       let e : edges_fit none (drop exits_place x) ≡ true = exits_fit (kind_of end_snd) x parts_fit_lem in
       let c : at x exits_place ≡ 0 = eqb-true (at x exits_place) 0 (edges_count x none exits_place e) in
@@ -119,21 +119,21 @@ module _ (x : List ℕ) (r : Right x) (is : is_end_snd x ≡ true) (f : ℕ) whe
   entry_fits = edges_same (drop entries_place x) (drop entries_place y) one (omega arith) (from entries_place 9 (omega arith) (inl (omega arith))) ∙ entries_fit (kind_of end_snd) x parts_fit_lem
 
   conditions_are : conditions_fit none y ≡ true
-  unfolding kind_of conditions_fit used if◌then◌else◌
+  unfolding kind_of conditions_fit used if◌then◌or_else◌
   conditions_are =
       things_same (drop (condition_place 0) x) (drop (condition_place 0) y) 5 branches 0 40 (condition_fits none) (λ j h. absurd (omega arith)) (omega arith) (λ c d s. condition_same c d none s)
       (from (condition_place 0) 40 (omega arith) (inr (omega arith)))
       ∙ conditions_fit_lem (kind_of end_snd) x parts_fit_lem
 
   messages_are : messages_fit none one y ≡ true
-  unfolding kind_of messages_fit used if◌then◌else◌
+  unfolding kind_of messages_fit used if◌then◌or_else◌
   messages_are =
       things_same (drop (message_place 0) x) (drop (message_place 0) y) 22 branches 1 176 (message_fits none) (λ j h. omega arith) (omega arith) (λ c d s. message_same c d none s)
       (from (message_place 0) 176 (omega arith) (inr (omega arith)))
       ∙ messages_fit_lem (kind_of end_snd) x parts_fit_lem
 
   none_assigned : at x assignments_place ≡ 0
-  unfolding kind_of task_fits if◌then◌else◌
+  unfolding kind_of task_fits if◌then◌or_else◌
   none_assigned = eqb-true (at x assignments_place) 0 (and_right (eqb (at x task_place) 0 && eqb (at x mode_place) 0) _ (task_fits_lem (kind_of end_snd) x parts_fit_lem))
 
   assignments_are : assignments_fit y ≡ true
@@ -148,7 +148,7 @@ module _ (x : List ℕ) (r : Right x) (is : is_end_snd x ≡ true) (f : ℕ) whe
     exits_are : edges_fit one (drop exits_place y) ≡ true
     unfolding edges_fit things edge_fits zeros all
     exits_are =
-        and_true _ _ (ap (λ n. count_fits one n) counts ∙ (unfold count_fits if◌then◌else◌ in refl))
+        and_true _ _ (ap (λ n. count_fits one n) counts ∙ (unfold count_fits if◌then◌or_else◌ in refl))
         (ap (λ n. things (drop 1 (drop exits_place y)) 1 branches n edge_fits) counts
         ∙ and_true _ _ first (all_of _ 7 (λ k h. eq-eqb _ 0 (get_or-drop 1 (drop 1 (drop exits_place y)) k 0 ∙ get_or-drop 1 (drop exits_place y) (1 + k) 0 ∙ get_or-drop exits_place y (1 + (1 + k)) 0 ∙ rest (exits_place + (1 + (1 + k))) (omega arith) (omega arith)))))
       where

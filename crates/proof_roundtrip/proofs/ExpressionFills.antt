@@ -12,7 +12,7 @@ use lib.ListN.{length, drop}
 use lib.Seq.{get_or-drop, drop-drop}
 use borrow.Author.Tests.{eq-eqb, ne_eqb, le-leb, lt-ltb}
 use Rattle.base_words.specs.Counts.{fields_named}
-use Rattle.base_words.specs.Pick.{if◌then◌else◌}
+use Rattle.base_words.specs.Pick.{if◌then◌or_else◌}
 use Rattle.base_words.specs.Text.{bytes}
 use Rattle.base_words.specs.Words.{at, greatest}
 use Rattle.base_words.proofs.AllLaws.{all_of, and_left}
@@ -55,11 +55,11 @@ fills_choice s {f} {g} a b =
 -- WITHIN THE LIMITS, by the form
 module _ (x : List ℕ) where
   expression_single : at x 0 ≡ 1 → operand_fits (drop 1 x) ≡ true → zeros (drop 3 x) 2 ≡ true → expression_fits x ≡ true
-  unfolding expression_fits if◌then◌else◌
+  unfolding expression_fits if◌then◌or_else◌
   expression_single e l z = rw (e, l, z)
 
   expression_pair : 2 ≤ at x 0 → at x 0 ≤ 3 → operand_fits (drop 1 x) ≡ true → operand_fits (drop 3 x) ≡ true → expression_fits x ≡ true
-  unfolding expression_fits if◌then◌else◌
+  unfolding expression_fits if◌then◌or_else◌
   expression_pair a b l r = rw (ne_eqb (at x 0) 1 (λ e. omega (arith, e, a)), le-leb 2 (at x 0) a, le-leb (at x 0) 3 b, l, r)
 
   expression_low : expression_fits x ≡ true → at x 0 ≤ 3
@@ -74,19 +74,19 @@ module _ (x : List ℕ) where
   item_expression receives f = sym (pick_no (eqb (at x 0) 4) _ _ _ (ne_eqb (at x 0) 4 (λ e. omega (arith, e, expression_low f))) refl) ∙ f
 
   item_bind : (receives : ℕ) → (receives ≡ none → ⊥) → at x 0 ≡ 4 → at x 1 ≡ 1 → at x 2 < fields_named → zeros (drop 3 x) 2 ≡ true → item_fits receives x ≡ true
-  unfolding item_fits bind_fits if◌then◌else◌
+  unfolding item_fits bind_fits if◌then◌or_else◌
   item_bind receives n e f d z = rw (e, f, ne_eqb receives none n, lt-ltb (at x 2) fields_named d, z)
 
   condition_plain : (conditions : ℕ) → at x 0 ≡ 1 → zeros (drop 1 x) 4 ≡ true → condition_fits conditions x ≡ true
-  unfolding condition_fits if◌then◌else◌
+  unfolding condition_fits if◌then◌or_else◌
   condition_plain conditions e z = rw (e, z)
 
   condition_default : (conditions : ℕ) → conditions ≡ many → at x 0 ≡ 2 → zeros (drop 1 x) 4 ≡ true → condition_fits conditions x ≡ true
-  unfolding condition_fits if◌then◌else◌
+  unfolding condition_fits if◌then◌or_else◌
   condition_default conditions c e z = rw (e, c, z)
 
   condition_pair : (conditions : ℕ) → 3 ≤ at x 0 → at x 0 ≤ 4 → operand_fits (drop 1 x) ≡ true → operand_fits (drop 3 x) ≡ true → condition_fits conditions x ≡ true
-  unfolding condition_fits if◌then◌else◌
+  unfolding condition_fits if◌then◌or_else◌
   condition_pair conditions a b l r =
       rw (ne_eqb (at x 0) 1 (λ e. omega (arith, e, a)), ne_eqb (at x 0) 2 (λ e. omega (arith, e, a)), le-leb 3 (at x 0) a, le-leb (at x 0) 4 b, l, r)
 
@@ -235,11 +235,11 @@ module _ (place : ℕ) (h : place + 5 ≤ element_words) where
         }
       where
         go : (text x : List ℕ) (from q : ℕ) (y : List ℕ) → length x ≡ element_words → ((i : ℕ) → Span place 5 i → at x i ≡ 0) → (b c : Bool) → (c ≡ true → conditions ≡ many)
-            → (if b then store (place + 0) 1 text (behind text from) x else if c then store (place + 0) 2 text (behind text from) x else (operand (place + 1) then comparison place) text from x) ≡ passed_to q y
+            → (if b then store (place + 0) 1 text (behind text from) x or_else if c then store (place + 0) 2 text (behind text from) x or_else (operand (place + 1) then comparison place) text from x) ≡ passed_to q y
             → Filled x y (Span place 5) Fit
-        go text x from q y l o true c m e = (alone 1 (omega arith) (λ x. condition_plain x conditions)).fills text x (behind text from) q y (unfold if◌then◌else◌ in e) l o
-        go text x from q y l o false true m e = (alone 2 (omega arith) (λ x. condition_default x conditions (m refl))).fills text x (behind text from) q y (unfold if◌then◌else◌ in e) l o
-        go text x from q y l o false false m e = compared_whole.fills text x from q y (unfold if◌then◌else◌ in e) l o
+        go text x from q y l o true c m e = (alone 1 (omega arith) (λ x. condition_plain x conditions)).fills text x (behind text from) q y (unfold if◌then◌or_else◌ in e) l o
+        go text x from q y l o false true m e = (alone 2 (omega arith) (λ x. condition_default x conditions (m refl))).fills text x (behind text from) q y (unfold if◌then◌or_else◌ in e) l o
+        go text x from q y l o false false m e = compared_whole.fills text x from q y (unfold if◌then◌or_else◌ in e) l o
 
 -- AN ASSIGNMENT: a field and an expression
 pub fills_assignment : (j : ℕ) → j < 4 → Fills (assignment j) (Span (assignment_place j) 6) (λ y. assignment_fits (drop (assignment_place j) y) ≡ true)

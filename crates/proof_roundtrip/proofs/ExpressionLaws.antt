@@ -10,7 +10,7 @@ use lib.ListN.{drop}
 use lib.Seq.{get_or-drop}
 use borrow.Author.Tests.{eq-eqb, ne_eqb, eqb-true, eqb-false, ltb-true, leb-true}
 use Rattle.base_words.specs.Counts.{fields_named}
-use Rattle.base_words.specs.Pick.{if◌then◌else◌}
+use Rattle.base_words.specs.Pick.{if◌then◌or_else◌}
 use Rattle.base_words.specs.Text.{bytes}
 use Rattle.base_words.specs.Words.{at, greatest}
 use Rattle.base_words.proofs.AllLaws.{all_at, and_left, and_right}
@@ -85,7 +85,7 @@ module _ (x : List ℕ) where
   unfolding item_fits bind_fits
   fits_bind receives fit e = go (eqb receives 0) refl (then_of _ _ _ _ fit (eq-eqb (at x 0) 4 e))
     where
-      go : (t : Bool) → eqb receives 0 ≡ t → (if eqb receives 0 then false else eqb (at x 1) 1 && ltb (at x 2) fields_named && zeros (drop 3 x) 2) ≡ true
+      go : (t : Bool) → eqb receives 0 ≡ t → (if eqb receives 0 then false or_else eqb (at x 1) 1 && ltb (at x 2) fields_named && zeros (drop 3 x) 2) ≡ true
           → (receives ≡ 0 → ⊥) × (at x 1 ≡ 1) × (at x 2 < fields_named) × (zeros (drop 3 x) 2 ≡ true)
       go true q h = absurd (false≢true (then_of _ _ _ _ h q))
       go false q h =

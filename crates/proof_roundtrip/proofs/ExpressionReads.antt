@@ -10,7 +10,7 @@ use lib.ListN.{length, drop, set}
 use lib.Seq.{get_or-drop, drop-drop}
 use Rattle.base_words.specs.Counts.{fields_named}
 use Rattle.base_words.specs.Each.{each}
-use Rattle.base_words.specs.Pick.{if◌then◌else◌}
+use Rattle.base_words.specs.Pick.{if◌then◌or_else◌}
 use Rattle.base_words.specs.Text.{bytes}
 use Rattle.base_words.specs.Words.{at, greatest}
 use Rattle.base_words.proofs.PickLaws.{pick_yes, pick_no, and_true, and_false_right}
@@ -167,8 +167,8 @@ module _ (el : List ℕ) (small : (i : ℕ) → at el i ≤ greatest) (place : �
     chosen : List ℕ → ℕ → List ℕ → ℕ → List ℕ → Parsed
     chosen text from w q x =
         if same_bytes w (bytes "true") then passed_to q (set x (place + form_place) 1)
-        else if defaults && same_bytes w (bytes "default") then passed_to q (set x (place + form_place) 2)
-        else (operand (place + left_place) then comparison place) text from x
+        or_else if defaults && same_bytes w (bytes "default") then passed_to q (set x (place + form_place) 2)
+        or_else (operand (place + left_place) then comparison place) text from x
 
     condition_taken : (text rest x w : List ℕ) (from : ℕ) → drop from text ≡ w ++ rest → Worded w → may_follow rest ≡ true → condition defaults place text from x ≡ chosen text from w (from + length w) x
     unfolding condition chosen

@@ -9,7 +9,7 @@ use lib.ListN.{length, get_or-eq_default}
 use borrow.Author.Tests.{eqb-true, eqb-false, ltb-true, not-true}
 use Rattle.base_words.specs.All.{all}
 use Rattle.base_words.specs.Each.{each}
-use Rattle.base_words.specs.Pick.{if◌then◌else◌}
+use Rattle.base_words.specs.Pick.{if◌then◌or_else◌}
 use Rattle.base_words.specs.Seek.{seek}
 use Rattle.base_words.proofs.AllLaws.{all_at}
 use Rattle.base_kinds.specs.declared.Kind.{Kind}
@@ -43,7 +43,7 @@ of_kind_lem f h k l u =
 
 -- A KEYWORD is a word, and names its row
 pub keyword_names : (k : ℕ) → 0 < k → k < kind_count + 1 → kind_named (keyword_of k) ≡ k
-unfolding all kind_named is_keyword same_bytes seek kind_of if◌then◌else◌
+unfolding all kind_named is_keyword same_bytes seek kind_of if◌then◌or_else◌
 keyword_names k l u = eqb-true (kind_named (keyword_of k)) k (of_kind_lem (λ j. eqb (kind_named (keyword_of j)) j) refl k l u)
 
 pub keyword_word : (k : ℕ) → 0 < k → k < kind_count + 1 → each is_word (keyword_of k) ≡ true

@@ -12,7 +12,7 @@ use lib.ListN.{length, drop, set}
 use lib.Seq.{drop-drop}
 use borrow.Author.Tests.{ltb-false, eqb-true}
 use Rattle.base_words.specs.All.{all}
-use Rattle.base_words.specs.Pick.{if◌then◌else◌}
+use Rattle.base_words.specs.Pick.{if◌then◌or_else◌}
 use Rattle.base_words.specs.Words.{at, greatest}
 use Rattle.base_words.proofs.AllLaws.{all_of}
 use Rattle.base_words.proofs.PickLaws.{and_true}
@@ -35,7 +35,7 @@ things_of y base w n k right r z =
 
 too_many_lem : (b : Bool) (p q : ℕ) (x y : List ℕ) → too_many b p x ≡ passed_to q y → ⊥
 unfolding too_many
-too_many_lem b p q x y e = refused_passed (if b then excessive else misplaced) p q x y e
+too_many_lem b p q x y e = refused_passed (if b then excessive or_else misplaced) p q x y e
 
 module _ (item : ℕ → Reader) (starting : List ℕ → ℕ → Bool) (least count top : ℕ) (I : ℕ → ℕ → Type 0) (Q : ℕ → List ℕ → Type 0)
     (each-fills : (j : ℕ) → j < top → Fills (item j) (I j) (Q j)) (apart : (j k i : ℕ) → j < k → k < top → I j i → I k i → ⊥)
@@ -104,12 +104,12 @@ module _ (item : ℕ → Reader) (starting : List ℕ → ℕ → Bool) (least c
         fills = λ text x from q y e l o. go (ltb k least) refl text x from q y e l;
       }
     where
-      go : (b : Bool) → ltb k least ≡ b → (text x : List ℕ) (from q : ℕ) (y : List ℕ) → (if b then refused_at misplaced (place_of text from) x else passed_to from (set x count k)) ≡ passed_to q y → length x ≡ element_words
+      go : (b : Bool) → ltb k least ≡ b → (text x : List ℕ) (from q : ℕ) (y : List ℕ) → (if b then refused_at misplaced (place_of text from) x or_else passed_to from (set x count k)) ≡ passed_to q y → length x ≡ element_words
           → Filled x y (λ i. i ≡ count) (λ y. (at y count ≡ k) × (least ≤ k))
-      go true t text x from q y e l = absurd (refused_passed misplaced (place_of text from) q x y (unfold if◌then◌else◌ in e))
+      go true t text x from q y e l = absurd (refused_passed misplaced (place_of text from) q x y (unfold if◌then◌or_else◌ in e))
       go false t text x from q y e l =
           let f = filled_set x count k l h (omega (arith, u, small)) in
-          subst (λ (z : List ℕ). Filled x z (λ i. i ≡ count) (λ y. (at y count ≡ k) × (least ≤ k))) (same_words from q (set x count k) y (unfold if◌then◌else◌ in e))
+          subst (λ (z : List ℕ). Filled x z (λ i. i ≡ count) (λ y. (at y count ≡ k) × (least ≤ k))) (same_words from q (set x count k) y (unfold if◌then◌or_else◌ in e))
           (record { same_length = f.same_length; others = f.others; small = f.small; good = (f.good, ltb-false k least t) })
 
   ends_here : (n k : ℕ) → k + n ≤ top → Fills (counted least count k) (Region k n) (Many k k n)

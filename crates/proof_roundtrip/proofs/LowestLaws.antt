@@ -9,7 +9,7 @@ use lib.ListN.{take}
 use lib.Seq.{get_or-take}
 use Rattle.base_words.specs.Counts.{pool_numbers, edges, tasks, names}
 use Rattle.base_words.specs.Each.{total, each, tab}
-use Rattle.base_words.specs.Pick.{if◌then◌else◌}
+use Rattle.base_words.specs.Pick.{if◌then◌or_else◌}
 use Rattle.base_words.specs.Sum.{hit, one_if}
 use Rattle.base_words.specs.Words.{at}
 use Rattle.base_words.proofs.EachLaws.{total-tab, each_append}
@@ -69,7 +69,7 @@ module _ (t : List ℕ) (p : ℕ) (fit : pool_fits t p ≡ true) where
 
   same3 : check3 (block_at t p) ≡ check3 (pool_at t p)
   unfolding check3
-  same3 = ap₂ (λ m n. if eqb m 0 then true else eqb n 0) limit_same (kinds_same start)
+  same3 = ap₂ (λ m n. if eqb m 0 then true or_else eqb n 0) limit_same (kinds_same start)
 
   edge_same : (e : ℕ) → edge_right (total (as_exit e) (block_at t p).elements) (total (as_entry e) (block_at t p).elements) (total (as_first e) (block_at t p).elements)
       ≡ edge_right (total (as_exit e) (pool_at t p).elements) (total (as_entry e) (pool_at t p).elements) (total (as_first e) (pool_at t p).elements)

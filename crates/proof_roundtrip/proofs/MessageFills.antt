@@ -11,7 +11,7 @@ use lib.ListN.{drop}
 use lib.Seq.{get_or-drop, drop-drop}
 use borrow.Author.Tests.{le-leb, lt-ltb}
 use Rattle.base_words.specs.Counts.{branches, names, values}
-use Rattle.base_words.specs.Pick.{if◌then◌else◌}
+use Rattle.base_words.specs.Pick.{if◌then◌or_else◌}
 use Rattle.base_words.specs.Words.{at, greatest}
 use Rattle.base_words.proofs.PickLaws.{and_true}
 use Rattle.base_kinds.specs.Kinds.{none}
@@ -104,10 +104,10 @@ module _ (b receives : ℕ) (h : b < branches) where
   fills_template n = fills_message a_template_item each
     where
       each : (j : ℕ) → j < values → Fills (item_of (tuple a_template_item b) j) (Span (item_place b j) 5) (λ y. item_fits receives (drop (item_place b j) y) ≡ true)
-      each j l = unfold item_of if◌then◌else◌ in fills_template_item (item_place b j) (omega (arith, h, l)) receives n
+      each j l = unfold item_of if◌then◌or_else◌ in fills_template_item (item_place b j) (omega (arith, h, l)) receives n
 
   pub fills_output : Fills (message a_message_item b) (Span (message_place b) 22) (λ y. message_fits receives (drop (message_place b) y) ≡ true)
   fills_output = fills_message a_message_item each
     where
       each : (j : ℕ) → j < values → Fills (item_of (tuple a_message_item b) j) (Span (item_place b j) 5) (λ y. item_fits receives (drop (item_place b j) y) ≡ true)
-      each j l = unfold item_of if◌then◌else◌ in fills_message_item (item_place b j) (omega (arith, h, l)) receives
+      each j l = unfold item_of if◌then◌or_else◌ in fills_message_item (item_place b j) (omega (arith, h, l)) receives

@@ -13,7 +13,7 @@ use lib.Seq.{get_or-drop, drop-append_seam}
 use borrow.Author.Tests.{lt-ltb, le-ltb}
 use Rattle.base_words.specs.Counts.{pools}
 use Rattle.base_words.specs.Each.{each, joined, tab}
-use Rattle.base_words.specs.Pick.{if◌then◌else◌}
+use Rattle.base_words.specs.Pick.{if◌then◌or_else◌}
 use Rattle.base_words.specs.Words.{at, greatest}
 use Rattle.base_words.proofs.JoinLaws.{joined_ext}
 use Rattle.base_words.proofs.PickLaws.{pick_yes, pick_no}
@@ -39,15 +39,15 @@ use Rattle.proof_roundtrip.proofs.ElementReads.{element_trip}
 use Rattle.proof_roundtrip.proofs.PoolReads.{pool_comes}
 
 -- the pieces that are in use, of m
-all_used : {A : Type 0} (f : ℕ → List A) (n : ℕ) → joined (λ k. if ltb k n then f k else []) n ≡ joined f n
-all_used f n = joined_ext (λ k. if ltb k n then f k else []) f n (λ k h. sym (pick_yes (ltb k n) (f k) (f k) [] (lt-ltb k n h) refl))
+all_used : {A : Type 0} (f : ℕ → List A) (n : ℕ) → joined (λ k. if ltb k n then f k or_else []) n ≡ joined f n
+all_used f n = joined_ext (λ k. if ltb k n then f k or_else []) f n (λ k h. sym (pick_yes (ltb k n) (f k) (f k) [] (lt-ltb k n h) refl))
 
-used_first : {A : Type 0} (f : ℕ → List A) (n m : ℕ) → n ≤ m → joined (λ k. if ltb k n then f k else []) m ≡ joined f n
-used_first f n zero l = ap (joined (λ k. if ltb k n then f k else [])) (let z : 0 ≡ n = omega (arith, l) in z) ∙ all_used f n
+used_first : {A : Type 0} (f : ℕ → List A) (n m : ℕ) → n ≤ m → joined (λ k. if ltb k n then f k or_else []) m ≡ joined f n
+used_first f n zero l = ap (joined (λ k. if ltb k n then f k or_else [])) (let z : 0 ≡ n = omega (arith, l) in z) ∙ all_used f n
 used_first {A} f n (suc m) l = go (dec_lt n (suc m)) (used_first f n m)
   where
     piece : ℕ → List A
-    piece k = if ltb k n then f k else []
+    piece k = if ltb k n then f k or_else []
 
     last : n ≤ m → joined piece (suc m) ≡ joined piece m
     last h =
@@ -63,7 +63,7 @@ used_first {A} f n (suc m) l = go (dec_lt n (suc m)) (used_first f n m)
 module _ (text : List ℕ) (from : ℕ) (e : token_at text from ≡ placed End (length text) (length text)) where
   no_bar : sign_at (code "|") text from ≡ Refused misplaced (length text)
   unfolding sign_at if_sign
-  no_bar = ap (λ (k : Token). if_sign k.form (λ c. if eqb c (code "|") then At k.next else Refused misplaced k.at) (Refused misplaced k.at)) e
+  no_bar = ap (λ (k : Token). if_sign k.form (λ c. if eqb c (code "|") then At k.next or_else Refused misplaced k.at) (Refused misplaced k.at)) e
 
   the_end : end_at text from ≡ At (length text)
   unfolding end_at if_end

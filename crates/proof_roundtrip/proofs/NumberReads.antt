@@ -13,7 +13,7 @@ use lib.Seq.{get_or-drop}
 use borrow.Author.Tests.{eq-eqb, ne_eqb, le-leb, eqb-true, ltb-true, ltb-false, not-true}
 use Rattle.base_words.specs.Counts.{fields, fields_named}
 use Rattle.base_words.specs.Each.{each}
-use Rattle.base_words.specs.Pick.{if◌then◌else◌}
+use Rattle.base_words.specs.Pick.{if◌then◌or_else◌}
 use Rattle.base_words.specs.Text.{bytes}
 use Rattle.base_words.specs.Words.{at, part, greatest, digits}
 use Rattle.base_words.proofs.AllLaws.{and_left, and_right}
@@ -106,9 +106,9 @@ field_either : (P : List ℕ → Type 0) (d : ℕ) → (d < fields → P (100 �
 unfolding shown_field
 field_either P d own store = go (ltb d fields) refl
   where
-    go : (b : Bool) → ltb d fields ≡ b → P (if b then 100 ∷ shown d else 115 ∷ shown (d - fields))
-    go true e = unfold if◌then◌else◌ in own (ltb-true d fields e)
-    go false e = unfold if◌then◌else◌ in store (ltb-false d fields e)
+    go : (b : Bool) → ltb d fields ≡ b → P (if b then 100 ∷ shown d or_else 115 ∷ shown (d - fields))
+    go true e = unfold if◌then◌or_else◌ in own (ltb-true d fields e)
+    go false e = unfold if◌then◌or_else◌ in store (ltb-false d fields e)
 
 pub field_worded : (d : ℕ) → d ≤ greatest → Worded (shown_field d)
 field_worded d h =
@@ -125,8 +125,8 @@ field_value d h =
 field-operand : (d : ℕ) → d < fields_named → operand_of (shown_field d) ≡ Field d
 field-operand d h =
     field_either (λ (w : List ℕ). operand_of w ≡ as_field (field_of w)) d
-    (λ l. unfold operand_of is_field_letter if◌then◌else◌ in refl)
-    (λ l. unfold operand_of is_field_letter if◌then◌else◌ in refl)
+    (λ l. unfold operand_of is_field_letter if◌then◌or_else◌ in refl)
+    (λ l. unfold operand_of is_field_letter if◌then◌or_else◌ in refl)
     ∙ ap as_field (field_value d h) ∙ (unfold as_field in refl)
 
 -- AN OPERAND, by its first word: its text, and what its limits say
@@ -139,10 +139,10 @@ unfolding shown_operand
 operand_field x e = sym (pick_yes _ _ _ _ (eq-eqb (at x 0) 1 e) refl)
 
 -- the arm that a test takes
-pub then_of : {A : Type 0} (b : Bool) (x y w : A) → (if b then x else y) ≡ w → b ≡ true → x ≡ w
+pub then_of : {A : Type 0} (b : Bool) (x y w : A) → (if b then x or_else y) ≡ w → b ≡ true → x ≡ w
 then_of b x y w h e = pick_yes b x x y e refl ∙ h
 
-pub else_of : {A : Type 0} (b : Bool) (x y w : A) → (if b then x else y) ≡ w → b ≡ false → y ≡ w
+pub else_of : {A : Type 0} (b : Bool) (x y w : A) → (if b then x or_else y) ≡ w → b ≡ false → y ≡ w
 else_of b x y w h e = pick_no b y x y e refl ∙ h
 
 operand-zero : (x : List ℕ) → operand_fits x ≡ true → (at x 0 ≡ 1 → ⊥) → 0 ≡ at x 0
@@ -160,15 +160,15 @@ operand_small x fit e =
 
 -- A MODE'S TEXT
 mode_a : (m : ℕ) → m ≡ 1 → bytes "a" ≡ shown_mode m
-unfolding shown_mode if◌then◌else◌
+unfolding shown_mode if◌then◌or_else◌
 mode_a m e = rw e
 
 mode_c : (m : ℕ) → m ≡ 2 → bytes "na_c" ≡ shown_mode m
-unfolding shown_mode if◌then◌else◌
+unfolding shown_mode if◌then◌or_else◌
 mode_c m e = rw e
 
 mode_nc : (m : ℕ) → m ≡ 3 → bytes "na_nc" ≡ shown_mode m
-unfolding shown_mode if◌then◌else◌
+unfolding shown_mode if◌then◌or_else◌
 mode_nc m e = rw e
 
 -- THE LAWS
@@ -283,14 +283,14 @@ module _ {el : List ℕ} where
       go : Dec (at el mode_place ≡ 1) → Dec (at el mode_place ≡ 2) → Reads el mode (shown_mode (at el mode_place)) may_follow (λ i. i ≡ mode_place)
       go (yes e) t =
           reads_text (mode_a (at el mode_place) e)
-          (mode_as (bytes "a") 1 (record { some = omega arith; plain = unfold each is_word is_letter is_digit between in refl }) (unfold mode_named same_bytes if◌then◌else◌ in refl) (λ z. omega (arith, z)) (sym e))
+          (mode_as (bytes "a") 1 (record { some = omega arith; plain = unfold each is_word is_letter is_digit between in refl }) (unfold mode_named same_bytes if◌then◌or_else◌ in refl) (λ z. omega (arith, z)) (sym e))
       go (no n) (yes e) =
           reads_text (mode_c (at el mode_place) e)
-          (mode_as (bytes "na_c") 2 (record { some = omega arith; plain = unfold each is_word is_letter is_digit between in refl }) (unfold mode_named same_bytes if◌then◌else◌ in refl) (λ z. omega (arith, z)) (sym e))
+          (mode_as (bytes "na_c") 2 (record { some = omega arith; plain = unfold each is_word is_letter is_digit between in refl }) (unfold mode_named same_bytes if◌then◌or_else◌ in refl) (λ z. omega (arith, z)) (sym e))
       go (no n) (no m) =
           let e : at el mode_place ≡ 3 = omega (arith, l, h, n, m) in
           reads_text (mode_nc (at el mode_place) e)
-          (mode_as (bytes "na_nc") 3 (record { some = omega arith; plain = unfold each is_word is_letter is_digit between in refl }) (unfold mode_named same_bytes if◌then◌else◌ in refl) (λ z. omega (arith, z)) (sym e))
+          (mode_as (bytes "na_nc") 3 (record { some = omega arith; plain = unfold each is_word is_letter is_digit between in refl }) (unfold mode_named same_bytes if◌then◌or_else◌ in refl) (λ z. omega (arith, z)) (sym e))
 
 -- an operand's text is a word, but neither `true` nor `default`
 pub operand_worded : (x : List ℕ) → at x 1 ≤ greatest → Worded (shown_operand x)

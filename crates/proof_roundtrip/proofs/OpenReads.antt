@@ -9,7 +9,7 @@ use lib.Dec.{leb}
 use lib.ListN.{length, drop, set}
 use borrow.Author.Tests.{le-leb}
 use Rattle.base_words.specs.Counts.{pool_numbers, instances}
-use Rattle.base_words.specs.Pick.{if◌then◌else◌}
+use Rattle.base_words.specs.Pick.{if◌then◌or_else◌}
 use Rattle.base_words.specs.Words.{greatest}
 use Rattle.base_words.proofs.PickLaws.{pick_yes, and_true}
 use Rattle.base_table.specs.Places.{limit_in}
@@ -78,10 +78,10 @@ module _ (text rest : List ℕ) (from : ℕ) where
 
   -- `)`, or `,n)`
   pub closing-plain : (x : List ℕ) → drop from text ≡ code ")" ∷ rest → closing plain text from x ≡ passed_to (from + 1) x
-  unfolding closing if◌then◌else◌
+  unfolding closing if◌then◌or_else◌
   closing-plain x d = sign_trip text rest from 41 x (unfold is_sign among in refl) d
 
   pub closing-multiple : (v n : ℕ) → 1 ≤ v → v ≤ instances → drop from text ≡ code "," ∷ (shown v ++ (code ")" ∷ rest)) → closing multiple text from (n ∷ 0 ∷ []) ≡ passed_to (from + (length (shown v) + 2)) (n ∷ v ∷ [])
-  unfolding closing if◌then◌else◌
+  unfolding closing if◌then◌or_else◌
   closing-multiple v n l m d =
       between_trip (code ",") (code ")") 1 instances limit_in v (n ∷ 0 ∷ []) (unfold is_sign among in refl) (unfold is_sign among in refl) l m (omega (arith, m)) d

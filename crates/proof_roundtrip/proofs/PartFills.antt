@@ -10,7 +10,7 @@ use lib.Dec.{eqb}
 use lib.ListN.{drop}
 use borrow.Author.Tests.{eqb-true}
 use Rattle.base_words.specs.Counts.{branches, assignments}
-use Rattle.base_words.specs.Pick.{if◌then◌else◌}
+use Rattle.base_words.specs.Pick.{if◌then◌or_else◌}
 use Rattle.base_words.specs.Words.{at}
 use Rattle.base_words.proofs.AllLaws.{and_left, and_right}
 use Rattle.base_words.proofs.PickLaws.{and_true}
@@ -34,27 +34,27 @@ use Rattle.proof_roundtrip.proofs.TaskFills.{Places, Tasked, fills_task, task_of
 unfoldable pub suits : Kind → ℕ → Bool
 suits r c =
     if eqb c (code "E") then eqb r.entries one
-    else if eqb c (code "X") then eqb r.exits one
-    else if eqb c (code "F") then eqb r.entries many
-    else if eqb c (code "Y") then eqb r.exits many
-    else if eqb c (code "N") then eqb r.task one && eqb r.conditions one
-    else if eqb c (code "T") then eqb r.receives one && eqb r.sends none
-    else if eqb c (code "S") then eqb r.receives none && eqb r.sends one
-    else if eqb c (code "G") then eqb r.exits many && eqb r.conditions many
-    else eqb c (code "B") && (eqb r.exits many && (eqb r.receives many && eqb r.sends none))
+    or_else if eqb c (code "X") then eqb r.exits one
+    or_else if eqb c (code "F") then eqb r.entries many
+    or_else if eqb c (code "Y") then eqb r.exits many
+    or_else if eqb c (code "N") then eqb r.task one && eqb r.conditions one
+    or_else if eqb c (code "T") then eqb r.receives one && eqb r.sends none
+    or_else if eqb c (code "S") then eqb r.receives none && eqb r.sends one
+    or_else if eqb c (code "G") then eqb r.exits many && eqb r.conditions many
+    or_else eqb c (code "B") && (eqb r.exits many && (eqb r.receives many && eqb r.sends none))
 
 -- when the words of a part are right
 unfoldable pub good : Kind → ℕ → List ℕ → Bool
 good r c y =
     if eqb c (code "E") then edges_fit one (drop entries_place y)
-    else if eqb c (code "X") then edges_fit one (drop exits_place y)
-    else if eqb c (code "F") then edges_fit many (drop entries_place y)
-    else if eqb c (code "Y") then edges_fit many (drop exits_place y)
-    else if eqb c (code "N") then task_fits one y && (condition_fits one (drop (condition_place 0) y) && things (drop (assignment_place 0) y) assignment_words assignments (at y assignments_place) assignment_fits)
-    else if eqb c (code "T") then message_fits r.receives (drop (message_place 0) y)
-    else if eqb c (code "S") then message_fits r.receives (drop (message_place 0) y)
-    else if eqb c (code "G") then edges_fit many (drop exits_place y) && things (drop (condition_place 0) y) expression_words branches (at y exits_place) (condition_fits many)
-    else edges_fit many (drop exits_place y) && things (drop (message_place 0) y) message_words branches (at y exits_place) (message_fits r.receives)
+    or_else if eqb c (code "X") then edges_fit one (drop exits_place y)
+    or_else if eqb c (code "F") then edges_fit many (drop entries_place y)
+    or_else if eqb c (code "Y") then edges_fit many (drop exits_place y)
+    or_else if eqb c (code "N") then task_fits one y && (condition_fits one (drop (condition_place 0) y) && things (drop (assignment_place 0) y) assignment_words assignments (at y assignments_place) assignment_fits)
+    or_else if eqb c (code "T") then message_fits r.receives (drop (message_place 0) y)
+    or_else if eqb c (code "S") then message_fits r.receives (drop (message_place 0) y)
+    or_else if eqb c (code "G") then edges_fit many (drop exits_place y) && things (drop (condition_place 0) y) expression_words branches (at y exits_place) (condition_fits many)
+    or_else edges_fit many (drop exits_place y) && things (drop (message_place 0) y) message_words branches (at y exits_place) (message_fits r.receives)
 
 -- a Bool's region
 pub test_region : (b : Bool) → Dec (b ≡ true)
@@ -72,27 +72,27 @@ module _ (r : Kind) where
   region c i = test_region (region_of c i)
 
   entry_part : Part (code "E")
-  unfolding part_of good if◌then◌else◌
+  unfolding part_of good if◌then◌or_else◌
   entry_part = fills_region (region (code "E")) (λ i s. region_entry i s.0 s.1) (fills_one entries_place (omega arith))
 
   exit_part : Part (code "X")
-  unfolding part_of good if◌then◌else◌
+  unfolding part_of good if◌then◌or_else◌
   exit_part = fills_region (region (code "X")) (λ i s. region_exit i s.0 s.1) (fills_one exits_place (omega arith))
 
   entries_part : Part (code "F")
-  unfolding part_of good if◌then◌else◌
+  unfolding part_of good if◌then◌or_else◌
   entries_part = fills_region (region (code "F")) (λ i s. region_entries i s.0 s.1) (fills_several entries_place (omega arith))
 
   exits_part : Part (code "Y")
-  unfolding part_of good if◌then◌else◌
+  unfolding part_of good if◌then◌or_else◌
   exits_part = fills_region (region (code "Y")) (λ i s. region_exits i s.0 s.1) (fills_several exits_place (omega arith))
 
   template_part : (r.receives ≡ none → ⊥) → Part (code "T")
-  unfolding part_of good if◌then◌else◌
+  unfolding part_of good if◌then◌or_else◌
   template_part n = fills_region (region (code "T")) (λ i s. region_template i s.0 s.1) (fills_template 0 r.receives (omega arith) n)
 
   output_part : Part (code "S")
-  unfolding part_of good if◌then◌else◌
+  unfolding part_of good if◌then◌or_else◌
   output_part = fills_region (region (code "S")) (λ i s. region_message i s.0 s.1) (fills_output 0 r.receives (omega arith))
 
   -- of several things that are right
@@ -103,13 +103,13 @@ module _ (r : Kind) where
       (λ y q z. and_true (a y) (b y) q.0 q.1) f
 
   guards_part : Part (code "G")
-  unfolding part_of good if◌then◌else◌
+  unfolding part_of good if◌then◌or_else◌
   guards_part =
       both_fill (λ y. edges_fit many (drop exits_place y)) (λ y. things (drop (condition_place 0) y) expression_words branches (at y exits_place) (condition_fits many))
       (region (code "G")) (λ i s. region_guarded i s.0 s.1) fills_guarded
 
   receivers_part : (r.receives ≡ none → ⊥) → Part (code "B")
-  unfolding part_of good if◌then◌else◌
+  unfolding part_of good if◌then◌or_else◌
   receivers_part n =
       both_fill (λ y. edges_fit many (drop exits_place y)) (λ y. things (drop (message_place 0) y) message_words branches (at y exits_place) (message_fits r.receives))
       (region (code "B")) (λ i. ⊎_elim (λ s. region_receiving_exits i s.0 s.1) (λ s. region_receiving_messages i s.0 s.1)) (fills_receiving r.receives n)
@@ -121,7 +121,7 @@ module _ (r : Kind) where
   assigned y = things (drop (assignment_place 0) y) assignment_words assignments (at y assignments_place) assignment_fits
 
   task_part : Part (code "N")
-  unfolding part_of good if◌then◌else◌
+  unfolding part_of good if◌then◌or_else◌
   task_part = fills_wider (region (code "N")) inner (λ y z s h. give z (fills_task.local y z (λ i q. s i (inner i q)) (back y h))) (λ y q z. give y q) fills_task
     where
       inner : (i : ℕ) → Places i → Stored (code "N") i
@@ -137,7 +137,7 @@ module _ (r : Kind) where
           ((t.0, t.1), ((t.2, t.3), (and_left (guard y) (assigned y) g, (t.4, and_right (guard y) (assigned y) g))))
 
   -- BY THE CODE
-  by_if : {P : Type 0} (b x y : Bool) → (if b then x else y) ≡ true → (b ≡ true → x ≡ true → P) → (y ≡ true → P) → P
+  by_if : {P : Type 0} (b x y : Bool) → (if b then x or_else y) ≡ true → (b ≡ true → x ≡ true → P) → (y ≡ true → P) → P
   by_if {P} b x y h f g = go b refl
     where
       go : (t : Bool) → b ≡ t → P

@@ -9,7 +9,7 @@ use native.Mathlib.Omega.{arith}
 use lib.ListN.{drop}
 use lib.Seq.{get_or-drop, drop-drop}
 use Rattle.base_words.specs.Counts.{branches, edges, tasks, names, values, assignments}
-use Rattle.base_words.specs.Pick.{if◌then◌else◌}
+use Rattle.base_words.specs.Pick.{if◌then◌or_else◌}
 use Rattle.base_words.specs.Words.{at, greatest}
 use Rattle.base_table.specs.Places.{expression_words, first_edge, message_words, assignment_words, exits_place, edge_place, condition_place, message_place, length_place, item_place, assignments_place, assignment_place, task_place, mode_place, element_words}
 use Rattle.base_table.specs.Table.{exit_at, condition_at, message_length, item_at, assignment_at}
@@ -72,7 +72,7 @@ module _ (el : List ℕ) (small : (i : ℕ) → at el i ≤ greatest) where
             go (no q) (no t) = inr (edges_none el column list fit i (omega (arith, q, t, e, s.0)) s.1)
 
     edge_item : (q : ℕ) → q < branches → q < at el list → Reads el (item_of (edge_list list) q) (shown (at el (edge_place list q))) may_close (λ i. i ≡ edge_place list q)
-    unfolding item_of if◌then◌else◌
+    unfolding item_of if◌then◌or_else◌
     edge_item q b l = reads_before closes_stops (reads_edge (edge_place list q) (omega (arith, h, b)) (edge_range el column list fit q l))
 
     pub reads_edges : 2 ≤ at el list → at el list ≤ branches → Reads el (series (edge_list list)) (enclosed_by 123 125 (commas (λ j. shown (at el (edge_place list j))) (at el list))) anything (Span list list_words)
@@ -137,13 +137,13 @@ module _ (el : List ℕ) (small : (i : ℕ) → at el i ≤ greatest) where
   reads_template b receives h fit = reads_message a_template_item b receives h fit template_one
     where
       template_one : (j : ℕ) → j < values → item_fits receives (drop (item_place b j) el) ≡ true → Reads el (item_of (tuple a_template_item b) j) (shown_item (item_at el b j)) may_close (Span (item_place b j) expression_words)
-      template_one j l f = unfold item_of if◌then◌else◌ in reads_item el small (item_place b j) (omega (arith, h, l)) receives f
+      template_one j l f = unfold item_of if◌then◌or_else◌ in reads_item el small (item_place b j) (omega (arith, h, l)) receives f
 
   pub reads_output : (b : ℕ) → b < branches → message_fits 0 (drop (message_place b) el) ≡ true → Reads el (message a_message_item b) (shown_message el b) anything (Span (message_place b) message_words)
   reads_output b h fit = reads_message a_message_item b 0 h fit message_one
     where
       message_one : (j : ℕ) → j < values → item_fits 0 (drop (item_place b j) el) ≡ true → Reads el (item_of (tuple a_message_item b) j) (shown_item (item_at el b j)) may_close (Span (item_place b j) expression_words)
-      message_one j l f = unfold item_of if◌then◌else◌ in reads_sent el small (item_place b j) (omega (arith, h, l)) f
+      message_one j l f = unfold item_of if◌then◌or_else◌ in reads_sent el small (item_place b j) (omega (arith, h, l)) f
 
   -- A BRANCH `(f,C)`, and branches
   pub reads_guarded : (b : ℕ) → b < branches → (1 ≤ exit_at el b) × (exit_at el b ≤ edges) → condition_fits 2 (condition_at el b) ≡ true
@@ -175,7 +175,7 @@ module _ (el : List ℕ) (small : (i : ℕ) → at el i ≤ greatest) where
 
     guarded_item : (conditions : things (drop (condition_place 0) el) expression_words branches (at el exits_place) (condition_fits 2) ≡ true) (q : ℕ) → q < at el exits_place
         → Reads el (item_of guarded_list q) (shown_guarded el q) may_close (Both (λ i. i ≡ edge_place exits_place q) (Span (condition_place q) expression_words))
-    unfolding item_of if◌then◌else◌
+    unfolding item_of if◌then◌or_else◌
     guarded_item c q z =
         reads_before (λ rest k. refl) (reads_guarded q (omega (arith, z, m)) (edge_range el 2 exits_place fit q z) (things_right el (condition_place 0) expression_words branches (at el exits_place) (condition_fits 2) c q z))
 
@@ -251,7 +251,7 @@ module _ (el : List ℕ) (small : (i : ℕ) → at el i ≤ greatest) where
 
   module _ (l : at el assignments_place ≤ assignments) (c : things (drop (assignment_place 0) el) assignment_words assignments (at el assignments_place) assignment_fits ≡ true) where
     assignment_item : (q : ℕ) → q < at el assignments_place → Reads el (item_of assignment_list q) (shown_assignment (assignment_at el q)) may_close (Span (assignment_place q) assignment_words)
-    unfolding item_of if◌then◌else◌
+    unfolding item_of if◌then◌or_else◌
     assignment_item q z = reads_assignment q (omega (arith, z, l)) (things_right el (assignment_place 0) assignment_words assignments (at el assignments_place) assignment_fits c q z)
 
     pub reads_assignments : Reads el (series assignment_list) (shown_assignments el) anything (Span assignments_place assignments_words)

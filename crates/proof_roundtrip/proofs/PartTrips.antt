@@ -9,7 +9,7 @@ use native.Mathlib.Omega.{arith}
 use lib.Dec.{eqb, leb, ltb}
 use lib.ListN.{drop}
 use borrow.Author.Tests.{eqb-true, leb-true, ltb-true}
-use Rattle.base_words.specs.Pick.{if◌then◌else◌}
+use Rattle.base_words.specs.Pick.{if◌then◌or_else◌}
 use Rattle.base_words.specs.Counts.{branches}
 use Rattle.base_words.specs.Words.{at, greatest}
 use Rattle.base_words.proofs.AllLaws.{and_left, and_right}
@@ -68,35 +68,35 @@ module _ (el : List ℕ) (small : (i : ℕ) → at el i ≤ greatest) (k : Kind)
   PartTrip c = Trip el (part_of c) (shown_part c el) (behind_part c) (region_of c)
 
   entry_trip : k.entries ≡ 1 → PartTrip (code "E")
-  unfolding part_of shown_part behind_part region_of if◌then◌else◌
+  unfolding part_of shown_part behind_part region_of if◌then◌or_else◌
   entry_trip e =
       let f = entries_as 1 e in
       trip_of (λ i h. inl (spanned entries_place exits_place list_words i refl h))
       (reads_before closes_stops (reads_one el small entries_place (omega arith) 1 f (count_one (at el entries_place) (edges_count el 1 entries_place f))))
 
   exit_trip : k.exits ≡ 1 → PartTrip (code "X")
-  unfolding part_of shown_part behind_part region_of if◌then◌else◌
+  unfolding part_of shown_part behind_part region_of if◌then◌or_else◌
   exit_trip e =
       let f = exits_as 1 e in
       trip_of (λ i h. inl (spanned exits_place (condition_place 0) list_words i refl h))
       (reads_before closes_stops (reads_one el small exits_place (omega arith) 1 f (count_one (at el exits_place) (edges_count el 1 exits_place f))))
 
   entries_trip : k.entries ≡ 2 → PartTrip (code "F")
-  unfolding part_of shown_part behind_part region_of if◌then◌else◌ shown_entries
+  unfolding part_of shown_part behind_part region_of if◌then◌or_else◌ shown_entries
   entries_trip e =
       let f = entries_as 2 e in
       let c = count_many (at el entries_place) (edges_count el 2 entries_place f) in
       trip_of (λ i h. inl (spanned entries_place exits_place list_words i refl h)) (reads_before any_closes (reads_edges el small entries_place (omega arith) 2 f c.0 c.1))
 
   exits_trip : k.exits ≡ 2 → PartTrip (code "Y")
-  unfolding part_of shown_part behind_part region_of if◌then◌else◌ shown_exits
+  unfolding part_of shown_part behind_part region_of if◌then◌or_else◌ shown_exits
   exits_trip e =
       let f = exits_as 2 e in
       let c = count_many (at el exits_place) (edges_count el 2 exits_place f) in
       trip_of (λ i h. inl (spanned exits_place (condition_place 0) list_words i refl h)) (reads_before any_closes (reads_edges el small exits_place (omega arith) 2 f c.0 c.1))
 
   task_trip : k.task ≡ 1 → k.conditions ≡ 1 → PartTrip (code "N")
-  unfolding part_of shown_part behind_part region_of if◌then◌else◌
+  unfolding part_of shown_part behind_part region_of if◌then◌or_else◌
   task_trip e c =
       let t : task_fits 1 el ≡ true = subst (λ (n : ℕ). task_fits n el ≡ true) e (task_fits_lem k el fit) in
       trip_of region (reads_before any_closes (reads_task el small (task_ranges el t).4 (assignments_fit_lem k el fit) t (condition_first c)))
@@ -107,19 +107,19 @@ module _ (el : List ℕ) (small : (i : ℕ) → at el i ≤ greatest) (k : Kind)
           inl (⊎_elim (λ a. inl (eqb-true i task_place a)) (λ a. inr (⊎_elim (λ b. inl (eqb-true i mode_place b)) (λ b. inr (⊎_elim (λ d. inl (spanned (condition_place 0) (condition_place 1) expression_words i refl d)) (λ d. inr (spanned assignments_place element_words assignments_words i refl d)) (or_either _ _ b))) (or_either _ _ a))) (or_either _ _ h))
 
   template_trip : k.receives + k.sends ≡ 1 → PartTrip (code "T")
-  unfolding part_of shown_part behind_part region_of if◌then◌else◌
+  unfolding part_of shown_part behind_part region_of if◌then◌or_else◌
   template_trip e =
       trip_of (λ i h. inl (spanned (message_place 0) (message_place 1) message_words i refl h)) (reads_before any_closes (reads_template el small 0 k.receives (omega arith) (message_first e)))
 
   output_trip : k.receives ≡ 0 → k.sends ≡ 1 → PartTrip (code "S")
-  unfolding part_of shown_part behind_part region_of if◌then◌else◌
+  unfolding part_of shown_part behind_part region_of if◌then◌or_else◌
   output_trip e s =
       trip_of (λ i h. inl (spanned (message_place 0) (message_place 1) message_words i refl h))
       (reads_before any_closes (reads_output el small 0 (omega arith)
       (subst (λ (n : ℕ). message_fits n (drop (message_place 0) el) ≡ true) e (message_first (omega (arith, e, s))))))
 
   guards_trip : k.exits ≡ 2 → k.conditions ≡ 2 → PartTrip (code "G")
-  unfolding part_of shown_part behind_part region_of if◌then◌else◌
+  unfolding part_of shown_part behind_part region_of if◌then◌or_else◌
   guards_trip e c =
       let f = exits_as 2 e in
       let n = count_many (at el exits_place) (edges_count el 2 exits_place f) in
@@ -128,7 +128,7 @@ module _ (el : List ℕ) (small : (i : ℕ) → at el i ≤ greatest) (k : Kind)
       (ap (λ (m : ℕ). things (drop (condition_place 0) el) expression_words branches m (condition_fits 2)) (sym (used-many (at el exits_place))) ∙ conditions_as 2 c)))
 
   receivers_trip : k.exits ≡ 2 → k.receives + k.sends ≡ 2 → PartTrip (code "B")
-  unfolding part_of shown_part behind_part region_of if◌then◌else◌
+  unfolding part_of shown_part behind_part region_of if◌then◌or_else◌
   receivers_trip e c =
       let f = exits_as 2 e in
       let n = count_many (at el exits_place) (edges_count el 2 exits_place f) in

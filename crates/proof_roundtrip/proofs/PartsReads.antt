@@ -9,7 +9,7 @@ use native.Mathlib.Omega.{arith}
 use lib.Dec.{eqb}
 use lib.ListN.{length}
 use borrow.Author.Tests.{eq-eqb, eqb-true, eqb-false}
-use Rattle.base_words.specs.Pick.{if◌then◌else◌}
+use Rattle.base_words.specs.Pick.{if◌then◌or_else◌}
 use Rattle.base_words.specs.Words.{at}
 use Rattle.base_words.proofs.AllLaws.{and_left, and_right}
 use Rattle.base_words.proofs.PickLaws.{pick_yes, pick_no}
@@ -39,11 +39,11 @@ PartTrips el cs = (c : ℕ) → listed cs c ≡ true → Trip el (part_of c) (sh
 -- the row from a part on
 module _ (c : ℕ) (cs : List ℕ) (n : eqb c (code " ") ≡ false) where
   pub listed_first : listed (c ∷ cs) c ≡ true
-  unfolding listed if◌then◌else◌
+  unfolding listed if◌then◌or_else◌
   listed_first = rw (n, eq-eqb c c refl)
 
   pub listed_later : (d : ℕ) → listed cs d ≡ true → listed (c ∷ cs) d ≡ true
-  unfolding listed if◌then◌else◌
+  unfolding listed if◌then◌or_else◌
   listed_later d h = rw n (or_right (eqb d c) (listed cs d) h)
 
   pub listed_cases : (d : ℕ) → listed (c ∷ cs) d ≡ true → (d ≡ c) ⊎ (listed cs d ≡ true)
@@ -93,17 +93,17 @@ unfolding shown_parts
 more_closes [] el rest e = ends_closes rest e
 more_closes (c ∷ cs) el rest e = go (eqb c (code " "))
   where
-    go : (b : Bool) → may_close ((if b then [] else code "," ∷ (shown_part c el ++ shown_parts (code ",") cs el)) ++ rest) ≡ true
-    go true = unfold if◌then◌else◌ in ends_closes rest e
-    go false = unfold if◌then◌else◌ may_close in refl
+    go : (b : Bool) → may_close ((if b then [] or_else code "," ∷ (shown_part c el ++ shown_parts (code ",") cs el)) ++ rest) ≡ true
+    go true = unfold if◌then◌or_else◌ in ends_closes rest e
+    go false = unfold if◌then◌or_else◌ may_close in refl
 
 part_followed : (c : ℕ) (cs el rest : List ℕ) → not (eqb c (code "B")) || bare cs ≡ true → ends rest ≡ true → behind_part c (shown_parts (code ",") cs el ++ rest) ≡ true
 unfolding behind_part
 part_followed c cs el rest h e = go (eqb c (code "B")) h
   where
-    go : (b : Bool) → not b || bare cs ≡ true → (if b then ends (shown_parts (code ",") cs el ++ rest) else may_close (shown_parts (code ",") cs el ++ rest)) ≡ true
-    go true h = unfold if◌then◌else◌ in ap (λ (w : List ℕ). ends (w ++ rest)) (none_shown cs el 44 h) ∙ e
-    go false h = unfold if◌then◌else◌ in more_closes cs el rest e
+    go : (b : Bool) → not b || bare cs ≡ true → (if b then ends (shown_parts (code ",") cs el ++ rest) or_else may_close (shown_parts (code ",") cs el ++ rest)) ≡ true
+    go true h = unfold if◌then◌or_else◌ in ap (λ (w : List ℕ). ends (w ++ rest)) (none_shown cs el 44 h) ∙ e
+    go false h = unfold if◌then◌or_else◌ in more_closes cs el rest e
 
 -- THE LAW
 module _ (el : List ℕ) where
@@ -116,7 +116,7 @@ module _ (el : List ℕ) where
   reads_parts s g (c ∷ cs) h t = go (eqb c (code " ")) refl (reads_parts (code ",") (unfold is_sign among in refl) cs)
     where
       go : (b : Bool) → eqb c (code " ") ≡ b → (lastly cs ≡ true → PartTrips el cs → Reads el (parts_from (code ",") cs) (shown_parts (code ",") cs el) ends (Stored cs))
-          → Reads el (if eqb c (code " ") then nothing else sign s then part_of c then parts_from (code ",") cs) (if eqb c (code " ") then [] else s ∷ (shown_part c el ++ shown_parts (code ",") cs el)) ends (Stored (c ∷ cs))
+          → Reads el (if eqb c (code " ") then nothing or_else sign s then part_of c then parts_from (code ",") cs) (if eqb c (code " ") then [] or_else s ∷ (shown_part c el ++ shown_parts (code ",") cs el)) ends (Stored (c ∷ cs))
       go true e k =
           reads_text (pick_yes (eqb c (code " ")) _ _ _ e refl)
           (reads_as (λ text rest x from d f. ap (λ (r : Reader). r text from x) (sym (pick_yes (eqb c (code " ")) _ _ _ e refl)))

@@ -11,7 +11,7 @@ use lib.ListN.{length, drop, length-append}
 use borrow.Author.Tests.{eq-eqb, ne_eqb}
 use Rattle.base_words.specs.Counts.{pool_numbers, instances, elements}
 use Rattle.base_words.specs.Each.{each, tab}
-use Rattle.base_words.specs.Pick.{if◌then◌else◌}
+use Rattle.base_words.specs.Pick.{if◌then◌or_else◌}
 use Rattle.base_words.specs.Text.{bytes}
 use Rattle.base_words.specs.Words.{at, part}
 use Rattle.base_words.proofs.PickLaws.{pick_yes, pick_no}
@@ -73,7 +73,7 @@ module _ (text rest : List ℕ) (from n : ℕ) (els : List (List ℕ)) (es : Lis
       → pool text from ≡ record { end = At (from + (4 + (length (shown n) + 2 + (length es + 1)))); value = block n 0 els }
   plain_trip d h =
       pool-at text (bytes "pool") (code "(" ∷ (shown n ++ (code "," ∷ (es ++ (code ")" ∷ rest))))) from 1 d (record { some = omega arith; plain = unfold each is_word is_letter is_digit between in refl })
-      (sign_stops (code "(") _ (unfold is_sign among in refl)) (unfold pool_word same_bytes if◌then◌else◌ in refl) (λ e. omega (arith, e))
+      (sign_stops (code "(") _ (unfold is_sign among in refl)) (unfold pool_word same_bytes if◌then◌or_else◌ in refl) (λ e. omega (arith, e))
       ∙ inside_at 1 text _ a (a + length es) (n ∷ 0 ∷ []) els (passed_to (a + length es + 1) (n ∷ 0 ∷ []))
       (opening_trip text (es ++ (code ")" ∷ rest)) (from + 4) n l u d₁) (h a d₂) (closing-plain text rest (a + length es) (n ∷ 0 ∷ []) (left_at text a es (code ")" ∷ rest) d₂))
       ∙ done
@@ -96,7 +96,7 @@ module _ (text rest : List ℕ) (from n : ℕ) (els : List (List ℕ)) (es : Lis
       → pool text from ≡ record { end = At (from + (6 + (length (shown n) + 2 + (length es + (length (shown m) + 2))))); value = block n m els }
   multiple_trip m lm um d h =
       pool-at text (bytes "miPool") (code "(" ∷ (shown n ++ (code "," ∷ (es ++ (code "," ∷ (shown m ++ (code ")" ∷ rest))))))) from 2 d (record { some = omega arith; plain = unfold each is_word is_letter is_digit between in refl })
-      (sign_stops (code "(") _ (unfold is_sign among in refl)) (unfold pool_word same_bytes if◌then◌else◌ in refl) (λ e. omega (arith, e))
+      (sign_stops (code "(") _ (unfold is_sign among in refl)) (unfold pool_word same_bytes if◌then◌or_else◌ in refl) (λ e. omega (arith, e))
       ∙ inside_at 2 text _ a (a + length es) (n ∷ 0 ∷ []) els (passed_to (a + length es + (length (shown m) + 2)) (n ∷ m ∷ []))
       (opening_trip text (es ++ (code "," ∷ (shown m ++ (code ")" ∷ rest)))) (from + 6) n l u d₁) (h a d₂)
       (closing-multiple text rest (a + length es) m n lm um (left_at text a es (code "," ∷ (shown m ++ (code ")" ∷ rest))) d₂))
@@ -138,7 +138,7 @@ module _ (t : List ℕ) (p : ℕ) (l : 1 ≤ at t (pool_place p)) (u : at t (poo
   unfolding shown_pool shown_limit
   text_plain rest e =
       let b : eqb (at t (limit_place p)) 0 ≡ true = eq-eqb (at t (limit_place p)) 0 e in
-      around (if eqb (at t (limit_place p)) 0 then bytes "pool" else bytes "miPool") (shown (at t (pool_place p))) (shown_elements t p) (shown_limit (at t (limit_place p))) rest
+      around (if eqb (at t (limit_place p)) 0 then bytes "pool" or_else bytes "miPool") (shown (at t (pool_place p))) (shown_elements t p) (shown_limit (at t (limit_place p))) rest
       ∙ ap (λ (w : List ℕ). w ++ (code "(" ∷ (shown (at t (pool_place p)) ++ (code "," ∷ (shown_elements t p ++ (shown_limit (at t (limit_place p)) ++ (code ")" ∷ rest)))))))
       (sym (pick_yes (eqb (at t (limit_place p)) 0) (bytes "pool") (bytes "pool") (bytes "miPool") b refl))
       ∙ ap (λ (w : List ℕ). bytes "pool" ++ (code "(" ∷ (shown (at t (pool_place p)) ++ (code "," ∷ (shown_elements t p ++ (w ++ (code ")" ∷ rest)))))))
@@ -148,7 +148,7 @@ module _ (t : List ℕ) (p : ℕ) (l : 1 ≤ at t (pool_place p)) (u : at t (poo
   unfolding shown_pool shown_limit
   text_multiple rest e =
       let b : eqb (at t (limit_place p)) 0 ≡ false = ne_eqb (at t (limit_place p)) 0 e in
-      around (if eqb (at t (limit_place p)) 0 then bytes "pool" else bytes "miPool") (shown (at t (pool_place p))) (shown_elements t p) (shown_limit (at t (limit_place p))) rest
+      around (if eqb (at t (limit_place p)) 0 then bytes "pool" or_else bytes "miPool") (shown (at t (pool_place p))) (shown_elements t p) (shown_limit (at t (limit_place p))) rest
       ∙ ap (λ (w : List ℕ). w ++ (code "(" ∷ (shown (at t (pool_place p)) ++ (code "," ∷ (shown_elements t p ++ (shown_limit (at t (limit_place p)) ++ (code ")" ∷ rest)))))))
       (sym (pick_no (eqb (at t (limit_place p)) 0) (bytes "miPool") (bytes "pool") (bytes "miPool") b refl))
       ∙ ap (λ (w : List ℕ). bytes "miPool" ++ (code "(" ∷ (shown (at t (pool_place p)) ++ (code "," ∷ (shown_elements t p ++ (w ++ (code ")" ∷ rest)))))))

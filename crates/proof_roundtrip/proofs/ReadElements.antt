@@ -10,7 +10,7 @@ use lib.Dec.{eqb, ltb}
 use lib.ListN.{length}
 use borrow.Author.Tests.{ltb-true, eqb-false, not-true}
 use Rattle.base_words.specs.All.{all}
-use Rattle.base_words.specs.Pick.{if◌then◌else◌}
+use Rattle.base_words.specs.Pick.{if◌then◌or_else◌}
 use Rattle.base_words.specs.Seek.{seek}
 use Rattle.base_words.specs.Words.{at, greatest}
 use Rattle.base_words.proofs.PickLaws.{and_true}
@@ -35,7 +35,7 @@ unfolding all kind_of
 row_letters k l u = of_kind_lem (λ j. not (eqb (kind_of j).letters 0)) refl k l u
 
 row_kind : (k : ℕ) → 0 < k → k < kind_count + 1 → stores (kind_of k).parts kind_place ≡ false
-unfolding all stores region_of spans kind_of if◌then◌else◌
+unfolding all stores region_of spans kind_of if◌then◌or_else◌
 row_kind k l u = not-true (stores (kind_of k).parts kind_place) (of_kind_lem (λ j. not (stores (kind_of j).parts kind_place)) refl k l u)
 
 -- a keyword is one of fifteen
@@ -43,9 +43,9 @@ named_most : (w : List ℕ) → kind_named w < kind_count + 1
 unfolding kind_named
 named_most w = go (ltb (seek (is_keyword w) kind_count) kind_count) refl
   where
-    go : (b : Bool) → ltb (seek (is_keyword w) kind_count) kind_count ≡ b → (if b then seek (is_keyword w) kind_count + 1 else 0) < kind_count + 1
-    go true e = unfold if◌then◌else◌ in let l = ltb-true (seek (is_keyword w) kind_count) kind_count e in omega (arith, l)
-    go false e = unfold if◌then◌else◌ in omega arith
+    go : (b : Bool) → ltb (seek (is_keyword w) kind_count) kind_count ≡ b → (if b then seek (is_keyword w) kind_count + 1 or_else 0) < kind_count + 1
+    go true e = unfold if◌then◌or_else◌ in let l = ltb-true (seek (is_keyword w) kind_count) kind_count e in omega (arith, l)
+    go false e = unfold if◌then◌or_else◌ in omega arith
 
 module _ (k : ℕ) (l : 0 < k) (u : k < kind_count + 1) where
   fills_parts : Fills (parts_of k) (λ i. stores (kind_of k).parts i ≡ true) (Good (kind_of k) (kind_of k).parts)
@@ -85,9 +85,9 @@ right_element : (k p : ℕ) (text x : List ℕ) (from q : ℕ) (y : List ℕ) �
 unfolding element_of
 right_element k p text x from q y u n e = go (eqb k 0) refl e
   where
-    go : (b : Bool) → eqb k 0 ≡ b → (if b then refused_at misplaced p (blank 0 x) else parts_of k text from (blank k x)) ≡ passed_to q y → Right y
-    go true z e = absurd (refused_passed misplaced p q (blank 0 x) y (unfold if◌then◌else◌ in e))
-    go false z e = let m = eqb-false k 0 z in right_parts k (omega (arith, m)) u text x from q y n (unfold if◌then◌else◌ in e)
+    go : (b : Bool) → eqb k 0 ≡ b → (if b then refused_at misplaced p (blank 0 x) or_else parts_of k text from (blank k x)) ≡ passed_to q y → Right y
+    go true z e = absurd (refused_passed misplaced p q (blank 0 x) y (unfold if◌then◌or_else◌ in e))
+    go false z e = let m = eqb-false k 0 z in right_parts k (omega (arith, m)) u text x from q y n (unfold if◌then◌or_else◌ in e)
 
 -- THE LAW
 pub element_right : (text x : List ℕ) (from q : ℕ) (y : List ℕ) → length x ≡ element_words → element text from x ≡ passed_to q y → Right y

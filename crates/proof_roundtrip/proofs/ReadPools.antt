@@ -8,7 +8,7 @@ use native.Mathlib.Omega.{arith}
 use lib.Dec.{eqb}
 use lib.ListN.{length, replicate, set, length-replicate}
 use Rattle.base_words.specs.Counts.{pools, elements, pool_numbers, instances}
-use Rattle.base_words.specs.Pick.{if◌then◌else◌}
+use Rattle.base_words.specs.Pick.{if◌then◌or_else◌}
 use Rattle.base_words.specs.Words.{at}
 use Rattle.base_table.specs.Places.{element_words, limit_in}
 use Rattle.text_lexer.specs.declared.Form.{Form}
@@ -106,9 +106,9 @@ closing_words : (k v : ℕ) (text : List ℕ) (from q : ℕ) (w : List ℕ) → 
 unfolding closing
 closing_words k v text from q w e = go (eqb k plain) e
   where
-    go : (b : Bool) → (if b then sign (code ")") else sign (code ",") then number 1 instances limit_in then sign (code ")")) text from (v ∷ 0 ∷ []) ≡ passed_to q w → Closed v w
-    go true e = unfold if◌then◌else◌ in subst (Closed v) (ap (λ (r : Parsed). r.words) e) (refl, omega arith)
-    go false e = unfold if◌then◌else◌ in let k = between_kept (code ",") (code ")") 1 instances limit_in text (v ∷ 0 ∷ []) from q w e in subst (Closed v) k.put (refl, k.high)
+    go : (b : Bool) → (if b then sign (code ")") or_else sign (code ",") then number 1 instances limit_in then sign (code ")")) text from (v ∷ 0 ∷ []) ≡ passed_to q w → Closed v w
+    go true e = unfold if◌then◌or_else◌ in subst (Closed v) (ap (λ (r : Parsed). r.words) e) (refl, omega arith)
+    go false e = unfold if◌then◌or_else◌ in let k = between_kept (code ",") (code ")") 1 instances limit_in text (v ∷ 0 ∷ []) from q w e in subst (Closed v) k.put (refl, k.high)
 
 -- what was read where reading passed
 passed_as : (r : Parsed) (q : ℕ) → r.end ≡ At q → r ≡ passed_to q r.words
@@ -150,10 +150,10 @@ pool_of_fit : (k p : ℕ) (text : List ℕ) (from q : ℕ) → (pool_of_word k t
 unfolding pool_of_word
 pool_of_fit k p text from q e = go (eqb k 0) e
   where
-    go : (b : Bool) → (if b then unread (Refused misplaced p) else inside_pool k text (opening text from (0 ∷ 0 ∷ []))).end ≡ At q
-        → Fit (if b then unread (Refused misplaced p) else inside_pool k text (opening text from (0 ∷ 0 ∷ []))).value
-    go true e = absurd (not_at misplaced p q (unfold if◌then◌else◌ in e))
-    go false e = unfold if◌then◌else◌ in inside_fit k text from q e
+    go : (b : Bool) → (if b then unread (Refused misplaced p) or_else inside_pool k text (opening text from (0 ∷ 0 ∷ []))).end ≡ At q
+        → Fit (if b then unread (Refused misplaced p) or_else inside_pool k text (opening text from (0 ∷ 0 ∷ []))).value
+    go true e = absurd (not_at misplaced p q (unfold if◌then◌or_else◌ in e))
+    go false e = unfold if◌then◌or_else◌ in inside_fit k text from q e
 
 word_got : (form : Form) (g : Got Pool) (n p q : ℕ) → (g.end ≡ At q → Fit g.value) → (if_word form g (unread (Refused n p))).end ≡ At q → Fit (if_word form g (unread (Refused n p))).value
 unfolding if_word

@@ -10,7 +10,7 @@ use borrow.Author.Tests.{leb-true, le-leb}
 use Rattle.base_words.specs.All.{all}
 use Rattle.base_words.specs.Counts.{elements, edges, tasks, names}
 use Rattle.base_words.specs.Each.{total, each}
-use Rattle.base_words.specs.Pick.{if◌then◌else◌}
+use Rattle.base_words.specs.Pick.{if◌then◌or_else◌}
 use Rattle.base_words.specs.Sum.{hit, one_if}
 use Rattle.base_words.proofs.AllLaws.{all_at, all_of, and_left, and_right}
 use Rattle.base_words.proofs.PickLaws.{and_true}
@@ -54,7 +54,7 @@ module _ (p : Pool) (every : Every Right p.elements) (room : has_room p ≡ true
 
   same_3 : check3 (rewritten p) ≡ check3 p
   unfolding check3
-  same_3 = ap₂ (λ (a b : ℕ). if eqb a 0 then true else eqb b 0) same_limit (alike.starts start (omega arith))
+  same_3 = ap₂ (λ (a b : ℕ). if eqb a 0 then true or_else eqb b 0) same_limit (alike.starts start (omega arith))
 
   kept_4 : check4 p ≡ true → check4 (rewritten p) ≡ true
   unfolding check4
@@ -146,10 +146,10 @@ every_plain (p ∷ ps) e r =
 
 -- the lowest of eight tests that fails
 abbrev chain : Bool → Bool → Bool → Bool → Bool → Bool → Bool → Bool → ℕ
-chain a b c d e f g h = if not a then 1 else if not b then 2 else if not c then 3 else if not d then 4 else if not e then 5 else if not f then 6 else if not g then 7 else if not h then 8 else 0
+chain a b c d e f g h = if not a then 1 or_else if not b then 2 or_else if not c then 3 or_else if not d then 4 or_else if not e then 5 or_else if not f then 6 or_else if not g then 7 or_else if not h then 8 or_else 0
 
 fourth : (a b c d e f g h n : Bool) → (d ≡ true → n ≡ true) → chain a b c d e f g h ≡ 0 → chain a b c n e f g h ≡ 0
-unfolding if◌then◌else◌
+unfolding if◌then◌or_else◌
 fourth false b c d e f g h n w q = absurd (omega (arith, q))
 fourth true false c d e f g h n w q = absurd (omega (arith, q))
 fourth true true false d e f g h n w q = absurd (omega (arith, q))

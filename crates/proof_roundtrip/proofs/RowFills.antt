@@ -10,7 +10,7 @@ use lib.Dec.{eqb, leb, ltb}
 use lib.ListN.{length}
 use borrow.Author.Tests.{eqb-true, ltb-true, not-true}
 use Rattle.base_words.specs.All.{all}
-use Rattle.base_words.specs.Pick.{if◌then◌else◌}
+use Rattle.base_words.specs.Pick.{if◌then◌or_else◌}
 use Rattle.base_words.specs.Words.{at}
 use Rattle.base_words.proofs.AllLaws.{all_at, and_left, and_right}
 use Rattle.base_words.proofs.PickLaws.{pick_yes, pick_no, and_true}
@@ -34,23 +34,23 @@ use Rattle.proof_roundtrip.proofs.PartFills.{test_region, good, suits, fills_par
 -- some part of a row stores the word i
 unfoldable pub stores : List ℕ → ℕ → Bool
 stores [] i = false
-stores (c ∷ cs) i = if eqb c (code " ") then false else region_of c i || stores cs i
+stores (c ∷ cs) i = if eqb c (code " ") then false or_else region_of c i || stores cs i
 
 -- no two parts store the same word; each part suits its row
 unfoldable pub clear : List ℕ → Bool
 clear [] = true
-clear (c ∷ cs) = if eqb c (code " ") then true else all (λ i. not (region_of c i && stores cs i)) element_words && clear cs
+clear (c ∷ cs) = if eqb c (code " ") then true or_else all (λ i. not (region_of c i && stores cs i)) element_words && clear cs
 
 unfoldable pub suiting : Kind → List ℕ → Bool
 suiting r [] = true
-suiting r (c ∷ cs) = if eqb c (code " ") then true else suits r c && suiting r cs
+suiting r (c ∷ cs) = if eqb c (code " ") then true or_else suits r c && suiting r cs
 
 pub row_clear : (k : ℕ) → 0 < k → k < kind_count + 1 → clear (kind_of k).parts ≡ true
-unfolding all clear stores region_of spans kind_of if◌then◌else◌
+unfolding all clear stores region_of spans kind_of if◌then◌or_else◌
 row_clear k l u = of_kind_lem (λ j. clear (kind_of j).parts) refl k l u
 
 pub row_suits : (k : ℕ) → 0 < k → k < kind_count + 1 → suiting (kind_of k) (kind_of k).parts ≡ true
-unfolding all suiting suits kind_of if◌then◌else◌
+unfolding all suiting suits kind_of if◌then◌or_else◌
 row_suits k l u = of_kind_lem (λ j. suiting (kind_of j) (kind_of j).parts) refl k l u
 
 -- a part stores words of an element
@@ -58,8 +58,8 @@ span_below : (from to i : ℕ) → to ≤ element_words → spans from to i ≡ 
 unfolding spans
 span_below from to i u h = let l = ltb-true i to (and_right (leb from i) (ltb i to) h) in omega (arith, u, l)
 
-arms : (b x y : Bool) → (if b then x else y) ≡ true → (x ≡ true) ⊎ (y ≡ true)
-unfolding if◌then◌else◌
+arms : (b x y : Bool) → (if b then x or_else y) ≡ true → (x ≡ true) ⊎ (y ≡ true)
+unfolding if◌then◌or_else◌
 arms true x y h = inl h
 arms false x y h = inr h
 

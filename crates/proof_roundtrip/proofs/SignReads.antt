@@ -9,7 +9,7 @@ use lib.Dec.{eqb}
 use lib.ListN.{drop}
 use borrow.Author.Tests.{eq-eqb, eqb-false, not-true}
 use Rattle.base_words.specs.Each.{each}
-use Rattle.base_words.specs.Pick.{if◌then◌else◌}
+use Rattle.base_words.specs.Pick.{if◌then◌or_else◌}
 use Rattle.base_words.specs.Words.{at}
 use Rattle.base_words.proofs.AllLaws.{and_left, and_right}
 use Rattle.base_words.proofs.PickLaws.{pick_yes, pick_no}
@@ -46,13 +46,13 @@ opens_on s (b ∷ w) rest e = e
 
 -- THE SIGN AT A PLACE
 module _ (text : List ℕ) (from : ℕ) where
-  by_sign : (s b p q : ℕ) → token_at text from ≡ placed (Sign b) p q → sign_at s text from ≡ (if eqb b s then At q else Refused misplaced p)
+  by_sign : (s b p q : ℕ) → token_at text from ≡ placed (Sign b) p q → sign_at s text from ≡ (if eqb b s then At q or_else Refused misplaced p)
   unfolding sign_at if_sign
-  by_sign s b p q e = ap (λ (k : Token). if_sign k.form (λ c. if eqb c s then At k.next else Refused misplaced k.at) (Refused misplaced k.at)) e
+  by_sign s b p q e = ap (λ (k : Token). if_sign k.form (λ c. if eqb c s then At k.next or_else Refused misplaced k.at) (Refused misplaced k.at)) e
 
   by_word : (s p q : ℕ) → token_at text from ≡ placed Word p q → sign_at s text from ≡ Refused misplaced p
   unfolding sign_at if_sign
-  by_word s p q e = ap (λ (k : Token). if_sign k.form (λ c. if eqb c s then At k.next else Refused misplaced k.at) (Refused misplaced k.at)) e
+  by_word s p q e = ap (λ (k : Token). if_sign k.form (λ c. if eqb c s then At k.next or_else Refused misplaced k.at) (Refused misplaced k.at)) e
 
   pub sign_hit : (s : ℕ) (rest : List ℕ) → drop from text ≡ s ∷ rest → is_sign s ≡ true → sign_at s text from ≡ At (from + 1)
   sign_hit s rest d e = by_sign s s from (from + 1) (sign_at_lem text from s rest d e) ∙ sym (pick_yes (eqb s s) _ _ _ (eq-eqb s s refl) refl)
@@ -73,7 +73,7 @@ module _ (text : List ℕ) (from : ℕ) where
       blank (is_blank b) (word_not_blank b e)
     where
       blank : (t : Bool) → is_blank b ≡ false → token_at text from ≡ placed Word from (past is_word rest (from + 1))
-      blank t n = unfold past if◌then◌else◌ in rw (d, n, d) (of_word b rest from e)
+      blank t n = unfold past if◌then◌or_else◌ in rw (d, n, d) (of_word b rest from e)
 
   pub sign_miss : (s : ℕ) (rest : List ℕ) → drop from text ≡ rest → opens s rest ≡ true → sign_at s text from ≡ Refused misplaced from
   unfolding opens

@@ -10,7 +10,7 @@ use lib.Dec.{leb}
 use lib.ListN.{drop}
 use borrow.Author.Tests.{le-leb}
 use Rattle.base_words.specs.Counts.{tasks, assignments}
-use Rattle.base_words.specs.Pick.{if◌then◌else◌}
+use Rattle.base_words.specs.Pick.{if◌then◌or_else◌}
 use Rattle.base_words.specs.Words.{at, greatest}
 use Rattle.base_words.proofs.PickLaws.{and_true}
 use Rattle.base_kinds.specs.Kinds.{one}
@@ -54,7 +54,7 @@ abbrev Right : ℕ → List ℕ → Type 0
 Right j y = assignment_fits (drop (assignment_place j) y) ≡ true
 
 each_assignment : (j : ℕ) → j < assignments → Fills (item_of assignment_list j) (Place j) (Right j)
-unfolding item_of if◌then◌else◌
+unfolding item_of if◌then◌or_else◌
 each_assignment j l = fills_assignment j l
 
 assignments_apart : (j k i : ℕ) → j < k → k < assignments → Place j i → Place k i → ⊥
@@ -98,7 +98,7 @@ fills_task =
     (λ i e. ⊎_elim (λ f. omega (arith, e, f)) (⊎_elim (λ s. omega (arith, e, s.0)) (λ s. omega (arith, e, s.0))))
 
 pub task_of : (y : List ℕ) → Tasked y → task_fits one y ≡ true
-unfolding task_fits if◌then◌else◌
+unfolding task_fits if◌then◌or_else◌
 task_of y t =
     and_true (within 1 tasks (at y task_place) && within a na_nc (at y mode_place)) (leb (at y assignments_place) assignments)
     (and_true (within 1 tasks (at y task_place)) (within a na_nc (at y mode_place))

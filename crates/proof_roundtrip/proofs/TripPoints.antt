@@ -10,7 +10,7 @@ use lib.ListN.{replicate, set}
 use borrow.Author.Tests.{leb-true}
 use Rattle.base_words.specs.All.{all}
 use Rattle.base_words.specs.Each.{each, joined}
-use Rattle.base_words.specs.Pick.{if◌then◌else◌}
+use Rattle.base_words.specs.Pick.{if◌then◌or_else◌}
 use Rattle.base_words.specs.Text.{bytes}
 use Rattle.base_words.specs.Words.{at, greatest}
 use Rattle.base_words.proofs.ListLaws.{each_at}
@@ -43,7 +43,7 @@ sample n =
     assignments_place (1 ∷ 0 ∷ plus ∷ a_field ∷ 1 ∷ 0 ∷ greatest ∷ [])
 
 pub sample_fits : element_fits (sample 7) ≡ true
-unfolding all if◌then◌else◌ kind_of used zeros things operand_fits expression_fits bind_fits item_fits condition_fits message_fits assignment_fits count_fits edge_fits edges_fit task_fits conditions_fit messages_fit assignments_fit parts_fit element_fits
+unfolding all if◌then◌or_else◌ kind_of used zeros things operand_fits expression_fits bind_fits item_fits condition_fits message_fits assignment_fits count_fits edge_fits edges_fit task_fits conditions_fit messages_fit assignments_fit parts_fit element_fits
 sample_fits = refl
 
 sample_words : each (λ w. leb w greatest) (sample 7) ≡ true
@@ -60,18 +60,18 @@ sample_trip =
     row = unfold kind_of in refl
 
 pub sample_text : shown_part (code "N") (sample 7) ≡ bytes "16,na_c,7=d15,{d0:=d1+4294967295}"
-unfolding if◌then◌else◌ joined shown_from shown lead separated shown_field shown_operand shown_pair shown_expression shown_condition shown_mode shown_assignment shown_assignments shown_task shown_part
+unfolding if◌then◌or_else◌ joined shown_from shown lead separated shown_field shown_operand shown_pair shown_expression shown_condition shown_mode shown_assignment shown_assignments shown_task shown_part
 sample_text = refl
 
 -- a number above the words: within the limits as they stand, but refused where it stands in its own text
 pub large_fits : element_fits (sample 4294967296) ≡ true
-unfolding all if◌then◌else◌ kind_of used zeros things operand_fits expression_fits bind_fits item_fits condition_fits message_fits assignment_fits count_fits edge_fits edges_fit task_fits conditions_fit messages_fit assignments_fit parts_fit element_fits
+unfolding all if◌then◌or_else◌ kind_of used zeros things operand_fits expression_fits bind_fits item_fits condition_fits message_fits assignment_fits count_fits edge_fits edges_fit task_fits conditions_fit messages_fit assignments_fit parts_fit element_fits
 large_fits = refl
 
 pub large_text : shown_part (code "N") (sample 4294967296) ≡ bytes "16,na_c,4294967296=d15,{d0:=d1+4294967295}"
-unfolding if◌then◌else◌ joined shown_from shown lead separated shown_field shown_operand shown_pair shown_expression shown_condition shown_mode shown_assignment shown_assignments shown_task shown_part
+unfolding if◌then◌or_else◌ joined shown_from shown lead separated shown_field shown_operand shown_pair shown_expression shown_condition shown_mode shown_assignment shown_assignments shown_task shown_part
 large_text = refl
 
 pub large_refused : (part_of (code "N") (bytes "16,na_c,4294967296=d15,{d0:=d1+4294967295},") 0 (replicate element_words 0)).end ≡ Refused 3 8
-unfolding if◌then◌else◌ among between is_blank is_word is_letter is_digit is_sign past token_of token_here token_at if_word if_sign if_assign value_from leading_zero number_of same_bytes is_field_letter field_behind field_from field_of as_number as_field operand_of if_at onward ◌then◌ sign_at assign_at keep_number number field keep_operand operand mode_named keep_mode mode condition task_part part_of
+unfolding if◌then◌or_else◌ among between is_blank is_word is_letter is_digit is_sign past token_of token_here token_at if_word if_sign if_assign value_from leading_zero number_of same_bytes is_field_letter field_behind field_from field_of as_number as_field operand_of if_at onward ◌then◌ sign_at assign_at keep_number number field keep_operand operand mode_named keep_mode mode condition task_part part_of
 large_refused = refl

@@ -11,7 +11,7 @@ use borrow.Author.Tests.{eqb-true, eq-eqb, ne_eqb, ltb-true, ltb-false}
 use Rattle.base_words.specs.Counts.{edges, elements}
 use Rattle.base_words.specs.Each.{total, each}
 use Rattle.base_words.specs.Iter.{iter}
-use Rattle.base_words.specs.Pick.{if◌then◌else◌}
+use Rattle.base_words.specs.Pick.{if◌then◌or_else◌}
 use Rattle.base_words.specs.Seek.{seek}
 use Rattle.base_words.specs.Sum.{sum, hit, one_if}
 use Rattle.base_words.proofs.SeekLaws.{sought}
@@ -170,7 +170,7 @@ module _ (els : List (List ℕ)) (every : Every Right els) (some : 0 < end_sends
           let a : total (as_exit e) (treated els) ≡ 1 = omega (arith, exits_after e, o, u, total_most (as_exit e) (mentioned e) els every (λ el r. exit_mentioned el r e)) in
           let b : total (as_entry e) (treated els) ≡ 1 = omega (arith, entries_after e, o, u, total_most (as_entry e) (mentioned e) els every (λ el r. entry_mentioned el r e)) in
           let c : total (as_first e) (treated els) ≡ 0 = omega (arith, firsts_after e, u, total_most (as_first e) (mentioned e) els every (λ el r. first_mentioned el r e)) in
-          (λ i. edge_right (a i) (b i) (c i)) ∙ (unfold edge_right if◌then◌else◌ in refl)
+          (λ i. edge_right (a i) (b i) (c i)) ∙ (unfold edge_right if◌then◌or_else◌ in refl)
 
   pub one_alike : Alike els (treated els)
   one_alike =

@@ -10,7 +10,7 @@ use lib.ListN.{length, drop, set, length-set}
 use lib.Seq.{get_or-drop, get_or-set_same, get_or-set_other}
 use borrow.Author.Tests.{leb-true, ltb-true, eqb-false, lt-ltb}
 use Rattle.base_words.specs.Counts.{fields, stores, fields_named}
-use Rattle.base_words.specs.Pick.{if◌then◌else◌}
+use Rattle.base_words.specs.Pick.{if◌then◌or_else◌}
 use Rattle.base_words.specs.Text.{bytes}
 use Rattle.base_words.specs.Words.{at, greatest}
 use Rattle.base_words.proofs.AllLaws.{and_left, and_right}
@@ -42,8 +42,8 @@ word_passed End u n p q x y e = absurd (refused_passed n p q x y e)
 word_passed Other u n p q x y e = absurd (refused_passed n p q x y e)
 
 -- a test is passed
-pub test_passed : (b : Bool) (u : Parsed) (n p q : ℕ) (x y : List ℕ) → (if b then u else refused_at n p x) ≡ passed_to q y → (b ≡ true) × (u ≡ passed_to q y)
-unfolding if◌then◌else◌
+pub test_passed : (b : Bool) (u : Parsed) (n p q : ℕ) (x y : List ℕ) → (if b then u or_else refused_at n p x) ≡ passed_to q y → (b ≡ true) × (u ≡ passed_to q y)
+unfolding if◌then◌or_else◌
 test_passed true u n p q x y e = (refl, e)
 test_passed false u n p q x y e = absurd (refused_passed n p q x y e)
 
@@ -61,23 +61,23 @@ value_small : (v : ℕ) (w : List ℕ) (n : ℕ) → value_from v w ≡ Value n 
 unfolding value_from
 value_small v [] n e = go (leb v greatest) refl e
   where
-    go : (b : Bool) → leb v greatest ≡ b → (if b then Value v else TooLarge) ≡ Value n → n ≤ greatest
-    go true h e = subst (λ (k : ℕ). k ≤ greatest) (same_value v n (unfold if◌then◌else◌ in e)) (leb-true v greatest h)
-    go false h e = absurd (no_value TooLarge n (unfold if_value in refl) (unfold if◌then◌else◌ in e))
+    go : (b : Bool) → leb v greatest ≡ b → (if b then Value v or_else TooLarge) ≡ Value n → n ≤ greatest
+    go true h e = subst (λ (k : ℕ). k ≤ greatest) (same_value v n (unfold if◌then◌or_else◌ in e)) (leb-true v greatest h)
+    go false h e = absurd (no_value TooLarge n (unfold if_value in refl) (unfold if◌then◌or_else◌ in e))
 value_small v (d ∷ w) n e = go (is_digit d) e (value_small (v * 10 + (d - 48)) w n)
   where
-    go : (b : Bool) → (if b then value_from (v * 10 + (d - 48)) w else NotANumber) ≡ Value n → (value_from (v * 10 + (d - 48)) w ≡ Value n → n ≤ greatest) → n ≤ greatest
-    go true e k = k (unfold if◌then◌else◌ in e)
-    go false e k = absurd (no_value NotANumber n (unfold if_value in refl) (unfold if◌then◌else◌ in e))
+    go : (b : Bool) → (if b then value_from (v * 10 + (d - 48)) w or_else NotANumber) ≡ Value n → (value_from (v * 10 + (d - 48)) w ≡ Value n → n ≤ greatest) → n ≤ greatest
+    go true e k = k (unfold if◌then◌or_else◌ in e)
+    go false e k = absurd (no_value NotANumber n (unfold if_value in refl) (unfold if◌then◌or_else◌ in e))
 
 number_small : (w : List ℕ) (n : ℕ) → number_of w ≡ Value n → n ≤ greatest
 unfolding number_of
 number_small w n e = go (eqb (length w) 0) (leading_zero w) e
   where
-    go : (b c : Bool) → (if b then NotANumber else if c then NotANumber else value_from 0 w) ≡ Value n → n ≤ greatest
-    go true c e = absurd (no_value NotANumber n (unfold if_value in refl) (unfold if◌then◌else◌ in e))
-    go false true e = absurd (no_value NotANumber n (unfold if_value in refl) (unfold if◌then◌else◌ in e))
-    go false false e = value_small 0 w n (unfold if◌then◌else◌ in e)
+    go : (b c : Bool) → (if b then NotANumber or_else if c then NotANumber or_else value_from 0 w) ≡ Value n → n ≤ greatest
+    go true c e = absurd (no_value NotANumber n (unfold if_value in refl) (unfold if◌then◌or_else◌ in e))
+    go false true e = absurd (no_value NotANumber n (unfold if_value in refl) (unfold if◌then◌or_else◌ in e))
+    go false false e = value_small 0 w n (unfold if◌then◌or_else◌ in e)
 
 -- what was kept of it
 pub record Kept (least most place : ℕ) (x y : List ℕ) : Type 0 where
@@ -156,9 +156,9 @@ sound_behind : (before count : ℕ) → before + count ≤ fields_named → (n :
 unfolding as_field field_behind
 sound_behind before count h (Value v) = go (ltb v count) refl
   where
-    go : (b : Bool) → ltb v count ≡ b → Sound (as_field (if b then Value (v + before) else TooLarge))
-    go true e = unfold if◌then◌else◌ as_field in omega (arith, h, ltb-true v count e)
-    go false e = unfold if◌then◌else◌ as_field in omega arith
+    go : (b : Bool) → ltb v count ≡ b → Sound (as_field (if b then Value (v + before) or_else TooLarge))
+    go true e = unfold if◌then◌or_else◌ as_field in omega (arith, h, ltb-true v count e)
+    go false e = unfold if◌then◌or_else◌ as_field in omega arith
 sound_behind before count h TooLarge = omega arith
 sound_behind before count h NotANumber = omega arith
 
@@ -166,18 +166,18 @@ sound_field : (letter : ℕ) (n : Number) → Sound (as_field (field_from letter
 unfolding field_from
 sound_field letter n = go (eqb letter 100) (eqb letter 115)
   where
-    go : (b c : Bool) → Sound (as_field (if b then field_behind 0 fields n else if c then field_behind fields stores n else NotANumber))
-    go true c = unfold if◌then◌else◌ in sound_behind 0 fields (omega arith) n
-    go false true = unfold if◌then◌else◌ in sound_behind fields stores (omega arith) n
-    go false false = unfold if◌then◌else◌ as_field in omega arith
+    go : (b c : Bool) → Sound (as_field (if b then field_behind 0 fields n or_else if c then field_behind fields stores n or_else NotANumber))
+    go true c = unfold if◌then◌or_else◌ in sound_behind 0 fields (omega arith) n
+    go false true = unfold if◌then◌or_else◌ in sound_behind fields stores (omega arith) n
+    go false false = unfold if◌then◌or_else◌ as_field in omega arith
 
 sound : (w : List ℕ) → Sound (operand_of w)
 unfolding operand_of field_of
 sound w = go (is_field_letter (at w 0))
   where
-    go : (b : Bool) → Sound (if b then as_field (field_from (at w 0) (number_of (drop 1 w))) else as_number (number_of w))
-    go true = unfold if◌then◌else◌ in sound_field (at w 0) (number_of (drop 1 w))
-    go false = unfold if◌then◌else◌ in sound_number (number_of w) (number_small w)
+    go : (b : Bool) → Sound (if b then as_field (field_from (at w 0) (number_of (drop 1 w))) or_else as_number (number_of w))
+    go true = unfold if◌then◌or_else◌ in sound_field (at w 0) (number_of (drop 1 w))
+    go false = unfold if◌then◌or_else◌ in sound_number (number_of w) (number_small w)
 
 -- two words stored
 module _ (x : List ℕ) (place u v : ℕ) (l : length x ≡ element_words) (h : place + 1 < element_words) where
@@ -206,7 +206,7 @@ module _ (x : List ℕ) (place u v : ℕ) (l : length x ≡ element_words) (h : 
       one i s (yes e) = subst (λ (k : ℕ). k ≤ greatest) (sym (ap (at stored) e ∙ first)) su
       one i s (no n) = subst (λ (k : ℕ). k ≤ greatest) (sym (ap (at stored) (let q : i ≡ place + 1 = omega (arith, s.0, s.1, n) in q) ∙ second)) sv
 
-operand_words : (x : List ℕ) (place u v : ℕ) → at x place ≡ u → at x (place + 1) ≡ v → operand_fits (drop place x) ≡ (if eqb u 0 then true else eqb u a_field && ltb v fields_named)
+operand_words : (x : List ℕ) (place u v : ℕ) → at x place ≡ u → at x (place + 1) ≡ v → operand_fits (drop place x) ≡ (if eqb u 0 then true or_else eqb u a_field && ltb v fields_named)
 unfolding operand_fits
 operand_words x place u v e f = rw (get_or-drop place x 0 0 ∙ ap (at x) (let q : place + 0 ≡ place = omega arith in q) ∙ e, get_or-drop place x 1 0 ∙ f)
 
@@ -214,11 +214,11 @@ filled_operand : (o : Operand) (place p q r : ℕ) (x y : List ℕ) → Sound o 
 unfolding keep_operand
 filled_operand (OfNumber v) place p q r x y s h l e =
     subst (λ (z : List ℕ). Filled x z (Span place 2) (λ y. operand_fits (drop place y) ≡ true)) (same_words q r _ y e)
-    (filled_two x place 0 v l h (omega arith) s (operand_words (stored x place 0 v l h) place 0 v (first x place 0 v l h) (second x place 0 v l h) ∙ (unfold if◌then◌else◌ in refl)))
+    (filled_two x place 0 v l h (omega arith) s (operand_words (stored x place 0 v l h) place 0 v (first x place 0 v l h) (second x place 0 v l h) ∙ (unfold if◌then◌or_else◌ in refl)))
 filled_operand (Field d) place p q r x y s h l e =
     subst (λ (z : List ℕ). Filled x z (Span place 2) (λ y. operand_fits (drop place y) ≡ true)) (same_words q r _ y e)
     (filled_two x place 1 d l h (omega arith) (omega (arith, s))
-    (operand_words (stored x place 1 d l h) place 1 d (first x place 1 d l h) (second x place 1 d l h) ∙ (unfold if◌then◌else◌ in lt-ltb d fields_named s)))
+    (operand_words (stored x place 1 d l h) place 1 d (first x place 1 d l h) (second x place 1 d l h) ∙ (unfold if◌then◌or_else◌ in lt-ltb d fields_named s)))
 filled_operand OutOfRange place p q r x y s h l e = absurd (refused_passed excessive p r x y e)
 filled_operand NotAnOperand place p q r x y s h l e = absurd (refused_passed misplaced p r x y e)
 
@@ -237,19 +237,19 @@ mode_most : (w : List ℕ) → mode_named w ≤ 3
 unfolding mode_named
 mode_most w = go (same_bytes w (bytes "a")) (same_bytes w (bytes "na_c")) (same_bytes w (bytes "na_nc"))
   where
-    go : (b c d : Bool) → (if b then a else if c then na_c else if d then na_nc else 0) ≤ 3
-    go true c d = unfold if◌then◌else◌ in omega arith
-    go false true d = unfold if◌then◌else◌ in omega arith
-    go false false true = unfold if◌then◌else◌ in omega arith
-    go false false false = unfold if◌then◌else◌ in omega arith
+    go : (b c d : Bool) → (if b then a or_else if c then na_c or_else if d then na_nc or_else 0) ≤ 3
+    go true c d = unfold if◌then◌or_else◌ in omega arith
+    go false true d = unfold if◌then◌or_else◌ in omega arith
+    go false false true = unfold if◌then◌or_else◌ in omega arith
+    go false false false = unfold if◌then◌or_else◌ in omega arith
 
 kept_mode : (m p q r : ℕ) (x y : List ℕ) → m ≤ 3 → keep_mode m p q x ≡ passed_to r y → Kept 1 3 mode_place x y
 unfolding keep_mode
 kept_mode m p q r x y h e = go (eqb m 0) refl e
   where
-    go : (b : Bool) → eqb m 0 ≡ b → (if b then refused_at misplaced p x else passed_to q (set x mode_place m)) ≡ passed_to r y → Kept 1 3 mode_place x y
-    go true z e = absurd (refused_passed misplaced p r x y (unfold if◌then◌else◌ in e))
-    go false z e = let n = eqb-false m 0 z in record { value = m; low = omega (arith, n); high = h; put = same_words q r (set x mode_place m) y (unfold if◌then◌else◌ in e) }
+    go : (b : Bool) → eqb m 0 ≡ b → (if b then refused_at misplaced p x or_else passed_to q (set x mode_place m)) ≡ passed_to r y → Kept 1 3 mode_place x y
+    go true z e = absurd (refused_passed misplaced p r x y (unfold if◌then◌or_else◌ in e))
+    go false z e = let n = eqb-false m 0 z in record { value = m; low = omega (arith, n); high = h; put = same_words q r (set x mode_place m) y (unfold if◌then◌or_else◌ in e) }
 
 pub fills_mode : Fills mode (λ i. i ≡ mode_place) (Ranged 1 3 mode_place)
 unfolding mode

@@ -1,7 +1,7 @@
 -- WHAT IT IS FOR A READER TO READ A TEXT BACK. el is an element's words, from which the text was written; x is words to which reading gives them back.
 use Prim.Native.Char.{code}
 use Rattle.std.specs.Prelude.{ℕ, ◌+◌, ◌≤◌, ◌<◌, Bool, true, false, not, ◌&&◌, ◌||◌, ◌≡◌, List, [], ◌∷◌, ◌++◌, ◌⊎◌, eqb, leb, ltb, length, drop}
-use Rattle.base_words.specs.Pick.{if◌then◌else◌}
+use Rattle.base_words.specs.Pick.{if◌then◌or_else◌}
 use Rattle.base_words.specs.Words.{at}
 use Rattle.base_table.specs.Places.{task_place, mode_place, entries_place, exits_place, condition_place, message_place, assignments_place, element_words}
 use Rattle.text_lexer.specs.Lexer.{is_word}
@@ -22,7 +22,7 @@ ends (b ∷ rest) = eqb b (code ")")
 
 -- behind the part with a code: branches that receive have no closing sign of their own
 unfoldable pub behind_part : ℕ → List ℕ → Bool
-behind_part c rest = if eqb c (code "B") then ends rest else may_close rest
+behind_part c rest = if eqb c (code "B") then ends rest or_else may_close rest
 
 -- the places from one up to another; those that the part with a code stores
 unfoldable pub spans : ℕ → ℕ → ℕ → Bool
@@ -31,11 +31,11 @@ spans from to i = leb from i && ltb i to
 unfoldable pub region_of : ℕ → ℕ → Bool
 region_of c i =
     if eqb c (code "E") || eqb c (code "F") then spans entries_place exits_place i
-    else if eqb c (code "X") || eqb c (code "Y") then spans exits_place (condition_place 0) i
-    else if eqb c (code "N") then eqb i task_place || (eqb i mode_place || (spans (condition_place 0) (condition_place 1) i || spans assignments_place element_words i))
-    else if eqb c (code "T") || eqb c (code "S") then spans (message_place 0) (message_place 1) i
-    else if eqb c (code "G") then spans exits_place (message_place 0) i
-    else spans exits_place (condition_place 0) i || spans (message_place 0) assignments_place i
+    or_else if eqb c (code "X") || eqb c (code "Y") then spans exits_place (condition_place 0) i
+    or_else if eqb c (code "N") then eqb i task_place || (eqb i mode_place || (spans (condition_place 0) (condition_place 1) i || spans assignments_place element_words i))
+    or_else if eqb c (code "T") || eqb c (code "S") then spans (message_place 0) (message_place 1) i
+    or_else if eqb c (code "G") then spans exits_place (message_place 0) i
+    or_else spans exits_place (condition_place 0) i || spans (message_place 0) assignments_place i
 
 -- each word of x is 0 or el's
 pub record Below (el x : List ℕ) : Type 0 where

@@ -12,7 +12,7 @@ use Rattle.base_words.specs.All.{all}
 use Rattle.base_words.specs.Counts.{pools, names, branches, edges}
 use Rattle.base_words.specs.Each.{total, each, tab}
 use Rattle.base_words.specs.Iter.{iter}
-use Rattle.base_words.specs.Pick.{if◌then◌else◌}
+use Rattle.base_words.specs.Pick.{if◌then◌or_else◌}
 use Rattle.base_words.specs.Seek.{seek}
 use Rattle.base_words.specs.Sum.{sum, hit, one_if}
 use Rattle.base_words.specs.Words.{at}
@@ -182,14 +182,14 @@ module _ (x : List ℕ) (r : Right x) (is : is_end_snd x ≡ true) (f k : ℕ) w
   send = sending_to f x
 
   entries_of : tab (λ j. token_place (entry_at send j)) (entry_count send) ≡ tab (λ j. token_place (entry_at x j)) (entry_count x)
-  unfolding entry_count kind_of used if◌then◌else◌
+  unfolding entry_count kind_of used if◌then◌or_else◌
   entries_of =
       ap (λ c. tab (λ j. token_place (entry_at send j)) (used (kind_of c).entries (at send entries_place))) (kind_is x r is f)
       ∙ tab_ext (λ j. token_place (entry_at send j)) (λ j. token_place (entry_at x j)) 1 (λ j l. ap token_place (other x r is f (edge_place entries_place j) (λ e. omega arith) (λ e. omega arith) (λ e. omega arith)))
       ∙ sym (ap (λ c. tab (λ j. token_place (entry_at x j)) (used (kind_of c).entries (at x entries_place))) (was x r is f))
 
   no_exit : tab (λ j. token_place (exit_at x j)) (exit_count x) ≡ []
-  unfolding exit_count kind_of used if◌then◌else◌ tab
+  unfolding exit_count kind_of used if◌then◌or_else◌ tab
   no_exit = ap (λ c. tab (λ j. token_place (exit_at x j)) (used (kind_of c).exits (at x exits_place))) (was x r is f)
 
   counts_of : count_places send ≡ count_places x
@@ -249,11 +249,11 @@ instance_more u w h more e =
     one : (k : ℕ) → k < defined_place 0 → place_fits u h k ≡ true → place_fits w h k ≡ true
     one k l e = unfold place_fits in go (eqb (at h k) 0) (unfold place_fits in e)
       where
-        go : (b : Bool) → (if b then true else eqb (at u k) 1 && leb (at h k) 255) ≡ true → (if b then true else eqb (at w k) 1 && leb (at h k) 255) ≡ true
-        go true e = unfold if◌then◌else◌ in refl
+        go : (b : Bool) → (if b then true or_else eqb (at u k) 1 && leb (at h k) 255) ≡ true → (if b then true or_else eqb (at w k) 1 && leb (at h k) 255) ≡ true
+        go true e = unfold if◌then◌or_else◌ in refl
         go false e =
-            unfold if◌then◌else◌ in
-            let q : eqb (at u k) 1 && leb (at h k) 255 ≡ true = unfold if◌then◌else◌ in e in
+            unfold if◌then◌or_else◌ in
+            let q : eqb (at u k) 1 && leb (at h k) 255 ≡ true = unfold if◌then◌or_else◌ in e in
             and_true (eqb (at w k) 1) (leb (at h k) 255) (eq-eqb (at w k) 1 (more k l (eqb-true (at u k) 1 (and_left (eqb (at u k) 1) _ q)))) (and_right (eqb (at u k) 1) _ q)
 
 -- THE STATE
@@ -327,7 +327,7 @@ module _ (ps : List Pool) (m : Model ps) (room : each has_room ps ≡ true) wher
 
     pub limit_same : limit_of t' p ≡ limit_of t p
     unfolding limit_of block_at rewritten
-    limit_same = ap (λ (b : Pool). if eqb b.limit 0 then 1 else b.limit) new ∙ sym (ap (λ (b : Pool). if eqb b.limit 0 then 1 else b.limit) old)
+    limit_same = ap (λ (b : Pool). if eqb b.limit 0 then 1 or_else b.limit) new ∙ sym (ap (λ (b : Pool). if eqb b.limit 0 then 1 or_else b.limit) old)
 
   made_past : (p n : ℕ) → leb (pool_count t) p ≡ true → made_fits t p n ≡ true → (n ≡ 0) × (made_fits t' p n ≡ true)
   unfolding made_fits
@@ -337,7 +337,7 @@ module _ (ps : List Pool) (m : Model ps) (room : each has_room ps ≡ true) wher
 
   made_same : (p n : ℕ) → p < length ps → made_fits t' p n ≡ made_fits t p n
   unfolding made_fits
-  made_same p n l = λ i. if leb ((counts' ∙ sym counts) i) p then eqb n 0 else if start_same p l i then eqb n 1 else leb n (limit_same p l i)
+  made_same p n l = λ i. if leb ((counts' ∙ sym counts) i) p then eqb n 0 or_else if start_same p l i then eqb n 1 or_else leb n (limit_same p l i)
 
   pool_on : (s : List ℕ) (p : ℕ) → p < pools → PoolFit t s p → PoolFit t' s p
   pool_on s p h f = go (leb (pool_count t) p) refl

@@ -9,7 +9,7 @@ use lib.Dec.{ltb}
 use lib.ListN.{length, length-map}
 use borrow.Author.Tests.{lt-ltb}
 use Rattle.base_words.specs.Each.{each, joined}
-use Rattle.base_words.specs.Pick.{if◌then◌else◌}
+use Rattle.base_words.specs.Pick.{if◌then◌or_else◌}
 use Rattle.base_words.proofs.AllLaws.{and_left, and_right}
 use Rattle.base_words.proofs.PickLaws.{and_true}
 use Rattle.text_readers.specs.Reading.{excessive}
@@ -55,11 +55,11 @@ each_both f (x ∷ xs) ys d e = and_true (f x) (each f (xs ++ ys)) (and_left (f 
 each-gathered : {A : Type 0} (f : A → Bool) (test : ℕ → Bool) (make : ℕ → A) (n : ℕ) → ((k : ℕ) → k < n → test k ≡ true → f (make k) ≡ true) → each f (gathered test make n) ≡ true
 unfolding joined
 each-gathered f test make zero h = unfold each in refl
-each-gathered f test make (suc n) h = each_both f (gathered test make n) (if test n then make n ∷ [] else []) (each-gathered f test make n (λ k l. h k (omega (arith, l)))) (last (test n) (h n (omega arith)))
+each-gathered f test make (suc n) h = each_both f (gathered test make n) (if test n then make n ∷ [] or_else []) (each-gathered f test make n (λ k l. h k (omega (arith, l)))) (last (test n) (h n (omega arith)))
   where
-    last : (b : Bool) → (b ≡ true → f (make n) ≡ true) → each f (if b then make n ∷ [] else []) ≡ true
-    last true p = unfold if◌then◌else◌ each in and_true (f (make n)) true (p refl) refl
-    last false p = unfold if◌then◌else◌ each in refl
+    last : (b : Bool) → (b ≡ true → f (make n) ≡ true) → each f (if b then make n ∷ [] or_else []) ≡ true
+    last true p = unfold if◌then◌or_else◌ each in and_true (f (make n)) true (p refl) refl
+    last false p = unfold if◌then◌or_else◌ each in refl
 
 module _ (t w : List ℕ) (n : ℕ) (drawn : is_drawing t w n ≡ true) (beyond : ltb (first_beyond t w n) n ≡ false) (settled : Settled w n) (placed : Placed w) (m : Model (content t w n)) where
   abbrev owned : Bool
@@ -69,10 +69,10 @@ module _ (t w : List ℕ) (n : ℕ) (drawn : is_drawing t w n ≡ true) (beyond 
   D = collaboration_in t w n
 
   pool_low : (k : ℕ) → k < n → is_pool owned w k ≡ true → 0 < length (elements_of t w n (process_of owned w k))
-  pool_low k l h = go (is_pool owned w k) h (unfold content pool_if in every_of Fit (λ k. if is_pool owned w k then pool_drawn owned t w n k ∷ [] else []) n k m.every l)
+  pool_low k l h = go (is_pool owned w k) h (unfold content pool_if in every_of Fit (λ k. if is_pool owned w k then pool_drawn owned t w n k ∷ [] or_else []) n k m.every l)
     where
-      go : (b : Bool) → b ≡ true → Every Fit (if b then pool_drawn owned t w n k ∷ [] else []) → 0 < length (elements_of t w n (process_of owned w k))
-      go true e f = unfold if◌then◌else◌ pool_drawn in f.0.low
+      go : (b : Bool) → b ≡ true → Every Fit (if b then pool_drawn owned t w n k ∷ [] or_else []) → 0 < length (elements_of t w n (process_of owned w k))
+      go true e f = unfold if◌then◌or_else◌ pool_drawn in f.0.low
       go false e f = absurd (false≢true e)
 
   pools_full : each (λ (p : Participant). ltb 0 (length (elements_in D p.process))) D.participants ≡ true

@@ -9,7 +9,7 @@ use lib.Dec.{eqb}
 use lib.ListN.{length, get_or, set, drop, length-set}
 use borrow.Author.Tests.{eqb-true, eq-eqb}
 use Rattle.base_words.specs.Each.{joined}
-use Rattle.base_words.specs.Pick.{if◌then◌else◌}
+use Rattle.base_words.specs.Pick.{if◌then◌or_else◌}
 use Rattle.base_words.specs.Text.{bytes}
 use Rattle.base_words.specs.Words.{at}
 use Rattle.base_words.proofs.AllLaws.{and_left, and_right}
@@ -108,12 +108,12 @@ module _ (t w : List ℕ) (n k : ℕ) (few : n ≤ room) (fits : element_fits (e
   head_workless : is_task (within w k) w k ≡ false → at head task_place ≡ 0
   head_workless h = head_low t w n k few task_place (omega arith) ∙ begun_at ∙ rest (is_start (within w k) w k)
     where
-      begun_at : at begun task_place ≡ at (if is_start (within w k) w k then with_edge entries_place (first_edge_of w n k) (only t w n k few) else only t w n k few) task_place
+      begun_at : at begun task_place ≡ at (if is_start (within w k) w k then with_edge entries_place (first_edge_of w n k) (only t w n k few) or_else only t w n k few) task_place
       begun_at = unfold with_first in ap (λ (z : List ℕ). at z task_place) (sym (pick_no (is_task (within w k) w k) _ _ _ h refl))
 
-      rest : (b : Bool) → at (if b then with_edge entries_place (first_edge_of w n k) (only t w n k few) else only t w n k few) task_place ≡ 0
-      rest true = unfold if◌then◌else◌ with_edge one_more in refl
-      rest false = unfold if◌then◌else◌ in refl
+      rest : (b : Bool) → at (if b then with_edge entries_place (first_edge_of w n k) (only t w n k few) or_else only t w n k few) task_place ≡ 0
+      rest true = unfold if◌then◌or_else◌ with_edge one_more in refl
+      rest false = unfold if◌then◌or_else◌ in refl
 
   -- PLAIN EXITS
   record Framed (y : List ℕ) : Type 0 where
@@ -202,7 +202,7 @@ module _ (t w : List ℕ) (n k : ℕ) (few : n ≤ room) (fits : element_fits (e
         go false e = absurd (omega (arith, task_some x fits r, frame.low task_place (omega arith), head_workless e))
 
     pub task_text_lem : (row_of x).task ≡ one → k ≤ n → shown_task x ≡ work (d t w n k few) (node_at w k)
-    unfolding shown_task shown_mode if◌then◌else◌
+    unfolding shown_task shown_mode if◌then◌or_else◌
     task_text_lem r l =
         ap₂ (λ (u v : ℕ). shown u ++ (code "," ∷ (shown_mode v ++ (code "," ∷ (shown_condition (condition_at x 0) ++ (code "," ∷ shown_assignments x)))))) (frame.low task_place (omega arith) ∙ h.0) (frame.low mode_place (omega arith) ∙ h.1)
         ∙ ap₂ (λ (u v : List ℕ). shown (task_of w k) ++ (code "," ∷ (shown_mode a ++ (code "," ∷ (u ++ (code "," ∷ v)))))) always_said nothing_assigned
@@ -212,7 +212,7 @@ module _ (t w : List ℕ) (n k : ℕ) (few : n ≤ room) (fits : element_fits (e
         h = head_task (is_task_lem r)
 
         always_said : shown_condition (condition_at x 0) ≡ bytes "true"
-        always_said = condition-at x (condition_place 0) ∙ ap (λ (f : ℕ). condition_text f (at x (condition_place 0 + 1)) (at x (condition_place 0 + 2)) (at x (condition_place 0 + 3)) (at x (condition_place 0 + 4))) (frame.high (condition_place 0) (omega arith) ∙ h.2) ∙ (unfold if◌then◌else◌ in refl)
+        always_said = condition-at x (condition_place 0) ∙ ap (λ (f : ℕ). condition_text f (at x (condition_place 0 + 1)) (at x (condition_place 0 + 2)) (at x (condition_place 0 + 3)) (at x (condition_place 0 + 4))) (frame.high (condition_place 0) (omega arith) ∙ h.2) ∙ (unfold if◌then◌or_else◌ in refl)
 
         nothing_assigned : shown_assignments x ≡ bytes "{}"
         nothing_assigned =
@@ -243,8 +243,8 @@ module _ (t w : List ℕ) (n k : ℕ) (few : n ≤ room) (fits : element_fits (e
       where
         here : get_or (first t w n k few ++ gathered (enters t w n k few) (edge_of w) n) 0 0 ≡ first_edge_of w n k
         here =
-            ap₂ (λ (b c : Bool). get_or ((if b then [] else if c then first_edge_of w n k ∷ [] else []) ++ gathered (enters t w n k few) (edge_of w) n) 0 0) (no_task r l) s
-            ∙ (unfold if◌then◌else◌ in refl)
+            ap₂ (λ (b c : Bool). get_or ((if b then [] or_else if c then first_edge_of w n k ∷ [] or_else []) ++ gathered (enters t w n k few) (edge_of w) n) 0 0) (no_task r l) s
+            ∙ (unfold if◌then◌or_else◌ in refl)
 
   -- CHOICES
   module _ (gate : eqb (kind w k) kinds.event_based ≡ false) (split : eqb (kind w k) kinds.xor_split ≡ true) where

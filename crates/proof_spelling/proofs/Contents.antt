@@ -12,7 +12,7 @@ use borrow.Author.Tests.{eqb-true, eq-eqb, ltb-true, ltb-false}
 use Rattle.base_words.specs.All.{all}
 use Rattle.base_words.specs.Counts.{pools, elements, pool_numbers, instances}
 use Rattle.base_words.specs.Each.{each, joined}
-use Rattle.base_words.specs.Pick.{if◌then◌else◌}
+use Rattle.base_words.specs.Pick.{if◌then◌or_else◌}
 use Rattle.base_words.specs.Seek.{seek}
 use Rattle.base_words.specs.Sum.{sum, one_if}
 use Rattle.base_words.specs.Text.{bytes}
@@ -57,10 +57,12 @@ use Rattle.proof_spelling.proofs.ReadBack.{Pairs, pairs_joined, pairs_one, pairs
 pub most_every : {A : Type 0} (P : A → Type 0) (m : ℕ) (xs : List A) → AtMost P m xs → Every P xs
 most_every P m [] none = omega arith
 most_every P (suc m) (x ∷ xs) (some p d) = (p, most_every P m xs d)
+most_every P zero (x ∷ xs) x3 = elim x3 [ ]
 
 pub most_length : {A : Type 0} (P : A → Type 0) (m : ℕ) (xs : List A) → AtMost P m xs → length xs ≤ m
 most_length P m [] none = omega arith
 most_length P (suc m) (x ∷ xs) (some p d) = let l = most_length P m xs d in omega (arith, l)
+most_length P zero (x ∷ xs) x3 = elim x3 [ ]
 
 pub pairs_with : {A B : Type 0} (R S : A → B → Type 0) (P : B → Type 0) (xs : List A) (ys : List B) → ((x : A) (y : B) → R x y → P y → S x y) → Pairs R xs ys → Every P ys → Pairs S xs ys
 pairs_with R S P [] [] h p e = p
@@ -77,10 +79,10 @@ each_append f (x ∷ xs) ys e =
 each-gathered : {A : Type 0} (f : A → Bool) (test : ℕ → Bool) (make : ℕ → A) (n k : ℕ) → each f (gathered test make n) ≡ true → k < n → test k ≡ true → f (make k) ≡ true
 unfolding joined
 each-gathered f test make zero k e l h = absurd (omega (arith, l))
-each-gathered {A} f test make (suc n) k e l h = go (dec_lt k n) (each-gathered f test make n k (each_append f (gathered test make n) (if test n then make n ∷ [] else []) e).0)
+each-gathered {A} f test make (suc n) k e l h = go (dec_lt k n) (each-gathered f test make n k (each_append f (gathered test make n) (if test n then make n ∷ [] or_else []) e).0)
   where
-    last : (b : Bool) → each f (if b then make n ∷ [] else []) ≡ true → b ≡ true → f (make n) ≡ true
-    last true u v = and_left (f (make n)) true (unfold each if◌then◌else◌ in u)
+    last : (b : Bool) → each f (if b then make n ∷ [] or_else []) ≡ true → b ≡ true → f (make n) ≡ true
+    last true u v = and_left (f (make n)) true (unfold each if◌then◌or_else◌ in u)
     last false u v = absurd (no_true v)
       where
         no_true : false ≡ true → ⊥
@@ -91,7 +93,7 @@ each-gathered {A} f test make (suc n) k e l h = go (dec_lt k n) (each-gathered f
     go (no u) before =
         let q : n ≡ k = omega (arith, l, u) in
         subst (λ (i : ℕ). f (make i) ≡ true) q
-        (last (test n) (each_append f (gathered test make n) (if test n then make n ∷ [] else []) e).1 (subst (λ (i : ℕ). test i ≡ true) (sym q) h))
+        (last (test n) (each_append f (gathered test make n) (if test n then make n ∷ [] or_else []) e).1 (subst (λ (i : ℕ). test i ≡ true) (sym q) h))
 
 -- the texts of pools, as they are gathered
 from_append : (d : Collaboration) (i : ℕ) (xs ys : List Participant) → pools_from d i (xs ++ ys) ≡ pools_from d i xs ++ pools_from d (i + length xs) ys
@@ -102,16 +104,16 @@ from_append d i (x ∷ xs) ys =
     (from_append d (suc i) xs ys ∙ ap (λ (v : ℕ). pools_from d (suc i) xs ++ pools_from d v ys) (let z : suc i + length xs ≡ i + suc (length xs) = omega arith in z))
 
 pools-gathered : (d : Collaboration) (test : ℕ → Bool) (make : ℕ → Participant) (n : ℕ)
-    → pools_from d 1 (gathered test make n) ≡ joined (λ k. if test k then pool_text d (1 + count_before test k) (make k) ∷ [] else []) n
+    → pools_from d 1 (gathered test make n) ≡ joined (λ k. if test k then pool_text d (1 + count_before test k) (make k) ∷ [] or_else []) n
 unfolding joined
 pools-gathered d test make zero = unfold pools_from in refl
 pools-gathered d test make (suc n) =
-    from_append d 1 (gathered test make n) (if test n then make n ∷ [] else [])
-    ∙ ap₂ ◌++◌ (pools-gathered d test make n) (ap (λ (v : ℕ). pools_from d (1 + v) (if test n then make n ∷ [] else [])) (as_many test make n) ∙ last (test n))
+    from_append d 1 (gathered test make n) (if test n then make n ∷ [] or_else [])
+    ∙ ap₂ ◌++◌ (pools-gathered d test make n) (ap (λ (v : ℕ). pools_from d (1 + v) (if test n then make n ∷ [] or_else [])) (as_many test make n) ∙ last (test n))
   where
-    last : (b : Bool) → pools_from d (1 + count_before test n) (if b then make n ∷ [] else []) ≡ (if b then pool_text d (1 + count_before test n) (make n) ∷ [] else [])
-    last true = unfold pools_from if◌then◌else◌ in refl
-    last false = unfold pools_from if◌then◌else◌ in refl
+    last : (b : Bool) → pools_from d (1 + count_before test n) (if b then make n ∷ [] or_else []) ≡ (if b then pool_text d (1 + count_before test n) (make n) ∷ [] or_else [])
+    last true = unfold pools_from if◌then◌or_else◌ in refl
+    last false = unfold pools_from if◌then◌or_else◌ in refl
 
 -- A DRAWING in which nothing is amiss or beyond the limits
 module _ (t w : List ℕ) (n : ℕ) (drawn : is_drawing t w n ≡ true) (beyond : ltb (first_beyond t w n) n ≡ false) (settled : Settled w n) (placed : Placed w) where
@@ -186,8 +188,8 @@ module _ (t w : List ℕ) (n : ℕ) (drawn : is_drawing t w n ≡ true) (beyond 
   pub elements_pair : (p : ℕ) → Pairs (Comes element_alone) (map (element D) (elements_in D p)) (elements_of t w n p)
   unfolding elements_of element_if
   elements_pair p =
-      subst (λ (z : List (List ℕ)). Pairs (Comes element_alone) z (joined (λ k. if is_element p w k then element_drawn t w n k ∷ [] else []) n)) (sym (texts_are p))
-      (pairs_joined (Comes element_alone) (λ k. if is_element p w k then shown_element (element_drawn t w n k) ∷ [] else []) (λ k. if is_element p w k then element_drawn t w n k ∷ [] else []) n
+      subst (λ (z : List (List ℕ)). Pairs (Comes element_alone) z (joined (λ k. if is_element p w k then element_drawn t w n k ∷ [] or_else []) n)) (sym (texts_are p))
+      (pairs_joined (Comes element_alone) (λ k. if is_element p w k then shown_element (element_drawn t w n k) ∷ [] or_else []) (λ k. if is_element p w k then element_drawn t w n k ∷ [] or_else []) n
       (λ k l. pairs_one (Comes element_alone) (is_element p w k) (shown_element (element_drawn t w n k)) (element_drawn t w n k)
       (λ h. element_comes (element_drawn t w n k) (element_right t w n (omega (arith, few)) k (fits p k l h)))))
 
@@ -198,7 +200,7 @@ module _ (t w : List ℕ) (n : ℕ) (drawn : is_drawing t w n ≡ true) (beyond 
       (let z : 1 + count_before (is_pool owned w) k ≡ count_before (is_pool owned w) k + 1 = omega arith in z)
       ∙ sym (more_is (count_before (is_pool owned w) k) (omega (arith, count_most_lem (is_pool owned w) k, l, few)))
 
-  pub texts : pools_from D 1 D.participants ≡ joined (λ k. if is_pool owned w k then pool_text D (1 + count_before (is_pool owned w) k) (participant_at owned t w n k) ∷ [] else []) n
+  pub texts : pools_from D 1 D.participants ≡ joined (λ k. if is_pool owned w k then pool_text D (1 + count_before (is_pool owned w) k) (participant_at owned t w n k) ∷ [] or_else []) n
   texts = ap (pools_from D 1) drawn_are ∙ pools-gathered D (is_pool owned w) (participant_at owned t w n) n
     where
       drawn_are : D.participants ≡ gathered (is_pool owned w) (participant_at owned t w n) n
@@ -240,14 +242,14 @@ module _ (t w : List ℕ) (n : ℕ) (drawn : is_drawing t w n ≡ true) (beyond 
         go : (b : Bool) → ltb (multiplicity_of w n k) n ≡ b
             → Comes pool
             (if b then bytes "miPool" ++ enclosed_by (code "(") (code ")") (shown (number_of owned w k) ++ (code "," ∷ (parted (code "|") (map (element D) (elements_in D (process_of owned w k))) ++ (code "," ∷ shown (maximum_of t w (multiplicity_of w n k))))))
-            else bytes "pool" ++ enclosed_by (code "(") (code ")") (shown (number_of owned w k) ++ (code "," ∷ parted (code "|") (map (element D) (elements_in D (process_of owned w k))))))
-            (record { number = number_of owned w k; limit = if b then maximum_of t w (multiplicity_of w n k) else 0; elements = elements_of t w n (process_of owned w k) })
+            or_else bytes "pool" ++ enclosed_by (code "(") (code ")") (shown (number_of owned w k) ++ (code "," ∷ parted (code "|") (map (element D) (elements_in D (process_of owned w k))))))
+            (record { number = number_of owned w k; limit = if b then maximum_of t w (multiplicity_of w n k) or_else 0; elements = elements_of t w n (process_of owned w k) })
         go true e =
-            unfold if◌then◌else◌ in
+            unfold if◌then◌or_else◌ in
             many_comes (map (element D) (elements_in D (process_of owned w k))) (elements_of t w n (process_of owned w k)) pair (pool_full k l h) most (number_of owned w k) low high (maximum_of t w (multiplicity_of w n k))
             (its_low t w n drawn beyond settled placed k h (ltb-true (multiplicity_of w n k) n e)) (its_limit t w n drawn beyond settled placed k h (ltb-true (multiplicity_of w n k) n e))
         go false e =
-            unfold if◌then◌else◌ in
+            unfold if◌then◌or_else◌ in
             plain_comes (map (element D) (elements_in D (process_of owned w k))) (elements_of t w n (process_of owned w k)) pair (pool_full k l h) most (number_of owned w k) low high
 
     pools_pair : Pairs (Comes pool) (pools_from D 1 D.participants) (content t w n)
@@ -256,10 +258,10 @@ module _ (t w : List ℕ) (n : ℕ) (drawn : is_drawing t w n ≡ true) (beyond 
         (subst (λ (z : List (List ℕ)). Pairs Reading z (content t w n)) (sym texts) pairs)
         (most_every Fits pools (content t w n) (content_fits t w n beyond))
       where
-        pairs : Pairs Reading (joined (λ k. if is_pool owned w k then pool_text D (1 + count_before (is_pool owned w) k) (participant_at owned t w n k) ∷ [] else []) n) (content t w n)
+        pairs : Pairs Reading (joined (λ k. if is_pool owned w k then pool_text D (1 + count_before (is_pool owned w) k) (participant_at owned t w n k) ∷ [] or_else []) n) (content t w n)
         pairs =
             unfold content pool_if in
-            pairs_joined Reading (λ k. if is_pool owned w k then pool_text D (1 + count_before (is_pool owned w) k) (participant_at owned t w n k) ∷ [] else []) (λ k. if is_pool owned w k then pool_drawn owned t w n k ∷ [] else []) n
+            pairs_joined Reading (λ k. if is_pool owned w k then pool_text D (1 + count_before (is_pool owned w) k) (participant_at owned t w n k) ∷ [] or_else []) (λ k. if is_pool owned w k then pool_drawn owned t w n k ∷ [] or_else []) n
             (λ k l. pairs_one Reading (is_pool owned w k) (pool_text D (1 + count_before (is_pool owned w) k) (participant_at owned t w n k)) (pool_drawn owned t w n k) (pool_reads k l))
 
     -- THE LAW

@@ -8,7 +8,7 @@ use mathlib.Core.List.{List, [], ◌∷◌, ◌++◌, append-nil}
 use native.Mathlib.Omega.{arith}
 use lib.Dec.{eqb}
 use borrow.Author.Tests.{eq-eqb}
-use Rattle.base_words.specs.Pick.{if◌then◌else◌}
+use Rattle.base_words.specs.Pick.{if◌then◌or_else◌}
 use Rattle.base_words.specs.Text.{bytes}
 use Rattle.base_words.specs.Words.{at}
 use Rattle.base_words.proofs.PickLaws.{and_true, and_false_right}
@@ -133,7 +133,7 @@ module _ (t w : List ℕ) (n k : ℕ) (few : n ≤ room) (l : k < n) (node : is_
   left c e g s r = one_exit t w n k few fits (apart c kinds.event_based e g) (apart c kinds.xor_split e s) (exit_one c e r)
 
   as_start : kind w k ≡ kinds.start → shown_element x ≡ element_by kinds.start D N
-  unfolding kind_of shown_parts shown_part if◌then◌else◌ element_by
+  unfolding kind_of shown_parts shown_part if◌then◌or_else◌ element_by
   as_start e =
       text_by kinds.start e
       ∙ two_called "start"
@@ -141,7 +141,7 @@ module _ (t w : List ℕ) (n k : ℕ) (few : n ≤ room) (l : k < n) (node : is_
       (left kinds.start e refl refl (unfold kind_of in refl))
 
   as_start_rcv : kind w k ≡ kinds.start_rcv → shown_element x ≡ element_by kinds.start_rcv D N
-  unfolding kind_of shown_parts shown_part if◌then◌else◌ element_by
+  unfolding kind_of shown_parts shown_part if◌then◌or_else◌ element_by
   as_start_rcv e =
       text_by kinds.start_rcv e
       ∙ two_called "startRcv"
@@ -149,19 +149,19 @@ module _ (t w : List ℕ) (n k : ℕ) (few : n ≤ room) (l : k < n) (node : is_
       (left kinds.start_rcv e refl refl (unfold kind_of in refl))
 
   as_end : kind w k ≡ kinds.end → shown_element x ≡ element_by kinds.end D N
-  unfolding kind_of shown_parts shown_part if◌then◌else◌ element_by
+  unfolding kind_of shown_parts shown_part if◌then◌or_else◌ element_by
   as_end e =
       text_by kinds.end e
       ∙ one-called "end" (entered kinds.end e refl (unfold kind_of in refl))
 
   as_terminate : kind w k ≡ kinds.terminate → shown_element x ≡ element_by kinds.terminate D N
-  unfolding kind_of shown_parts shown_part if◌then◌else◌ element_by
+  unfolding kind_of shown_parts shown_part if◌then◌or_else◌ element_by
   as_terminate e =
       text_by kinds.terminate e
       ∙ one-called "terminate" (entered kinds.terminate e refl (unfold kind_of in refl))
 
   as_end_snd : kind w k ≡ kinds.end_snd → shown_element x ≡ element_by kinds.end_snd D N
-  unfolding kind_of shown_parts shown_part if◌then◌else◌ element_by
+  unfolding kind_of shown_parts shown_part if◌then◌or_else◌ element_by
   as_end_snd e =
       text_by kinds.end_snd e
       ∙ two_called "endSnd"
@@ -169,7 +169,7 @@ module _ (t w : List ℕ) (n k : ℕ) (few : n ≤ room) (l : k < n) (node : is_
       (sends_text t w n k few fits (apart kinds.end_snd kinds.event_based e refl) (apart kinds.end_snd kinds.xor_split e refl) (no_receiver kinds.end_snd e (unfold receives in refl)) (sender kinds.end_snd e (unfold sends in refl)))
 
   as_inter_rcv : kind w k ≡ kinds.inter_rcv → shown_element x ≡ element_by kinds.inter_rcv D N
-  unfolding kind_of shown_parts shown_part if◌then◌else◌ element_by
+  unfolding kind_of shown_parts shown_part if◌then◌or_else◌ element_by
   as_inter_rcv e =
       text_by kinds.inter_rcv e
       ∙ three_called "interRcv"
@@ -178,7 +178,7 @@ module _ (t w : List ℕ) (n k : ℕ) (few : n ≤ room) (l : k < n) (node : is_
       (left kinds.inter_rcv e refl refl (unfold kind_of in refl))
 
   as_inter_snd : kind w k ≡ kinds.inter_snd → shown_element x ≡ element_by kinds.inter_snd D N
-  unfolding kind_of shown_parts shown_part if◌then◌else◌ element_by
+  unfolding kind_of shown_parts shown_part if◌then◌or_else◌ element_by
   as_inter_snd e =
       text_by kinds.inter_snd e
       ∙ three_called "interSnd"
@@ -187,7 +187,7 @@ module _ (t w : List ℕ) (n k : ℕ) (few : n ≤ room) (l : k < n) (node : is_
       (left kinds.inter_snd e refl refl (unfold kind_of in refl))
 
   as_event_based : kind w k ≡ kinds.event_based → shown_element x ≡ element_by kinds.event_based D N
-  unfolding kind_of shown_parts shown_part if◌then◌else◌ element_by
+  unfolding kind_of shown_parts shown_part if◌then◌or_else◌ element_by
   as_event_based e =
       text_by kinds.event_based e
       ∙ two_called "eventBased"
@@ -195,7 +195,7 @@ module _ (t w : List ℕ) (n k : ℕ) (few : n ≤ room) (l : k < n) (node : is_
       (catches_text t w n k few fits (ap (λ (v : ℕ). eqb v kinds.event_based) e) (branch_goes_on e))
 
   as_and_split : kind w k ≡ kinds.and_split → shown_element x ≡ element_by kinds.and_split D N
-  unfolding kind_of shown_parts shown_part if◌then◌else◌ element_by
+  unfolding kind_of shown_parts shown_part if◌then◌or_else◌ element_by
   as_and_split e =
       text_by kinds.and_split e
       ∙ two_called "andSplit"
@@ -203,7 +203,7 @@ module _ (t w : List ℕ) (n k : ℕ) (few : n ≤ room) (l : k < n) (node : is_
       (many_exits t w n k few fits (apart kinds.and_split kinds.event_based e refl) (apart kinds.and_split kinds.xor_split e refl))
 
   as_and_join : kind w k ≡ kinds.and_join → shown_element x ≡ element_by kinds.and_join D N
-  unfolding kind_of shown_parts shown_part if◌then◌else◌ element_by
+  unfolding kind_of shown_parts shown_part if◌then◌or_else◌ element_by
   as_and_join e =
       text_by kinds.and_join e
       ∙ two_called "andJoin"
@@ -211,7 +211,7 @@ module _ (t w : List ℕ) (n k : ℕ) (few : n ≤ room) (l : k < n) (node : is_
       (left kinds.and_join e refl refl (unfold kind_of in refl))
 
   as_xor_join : kind w k ≡ kinds.xor_join → shown_element x ≡ element_by kinds.xor_join D N
-  unfolding kind_of shown_parts shown_part if◌then◌else◌ element_by
+  unfolding kind_of shown_parts shown_part if◌then◌or_else◌ element_by
   as_xor_join e =
       text_by kinds.xor_join e
       ∙ two_called "xorJoin"
@@ -219,7 +219,7 @@ module _ (t w : List ℕ) (n k : ℕ) (few : n ≤ room) (l : k < n) (node : is_
       (left kinds.xor_join e refl refl (unfold kind_of in refl))
 
   as_xor_split : kind w k ≡ kinds.xor_split → shown_element x ≡ element_by kinds.xor_split D N
-  unfolding kind_of shown_parts shown_part if◌then◌else◌ element_by
+  unfolding kind_of shown_parts shown_part if◌then◌or_else◌ element_by
   as_xor_split e =
       text_by kinds.xor_split e
       ∙ two_called "xorSplit"
@@ -227,7 +227,7 @@ module _ (t w : List ℕ) (n k : ℕ) (few : n ≤ room) (l : k < n) (node : is_
       (choices_text t w n k few fits (apart kinds.xor_split kinds.event_based e refl) (ap (λ (v : ℕ). eqb v kinds.xor_split) e))
 
   as_task : kind w k ≡ kinds.task → shown_element x ≡ element_by kinds.task D N
-  unfolding kind_of shown_parts shown_part if◌then◌else◌ element_by
+  unfolding kind_of shown_parts shown_part if◌then◌or_else◌ element_by
   as_task e =
       text_by kinds.task e
       ∙ three_called "task"
@@ -236,7 +236,7 @@ module _ (t w : List ℕ) (n k : ℕ) (few : n ≤ room) (l : k < n) (node : is_
       (left kinds.task e refl refl (unfold kind_of in refl))
 
   as_task_rcv : kind w k ≡ kinds.task_rcv → shown_element x ≡ element_by kinds.task_rcv D N
-  unfolding kind_of shown_parts shown_part if◌then◌else◌ element_by
+  unfolding kind_of shown_parts shown_part if◌then◌or_else◌ element_by
   as_task_rcv e =
       text_by kinds.task_rcv e
       ∙ four_called "taskRcv"
@@ -246,7 +246,7 @@ module _ (t w : List ℕ) (n k : ℕ) (few : n ≤ room) (l : k < n) (node : is_
       (left kinds.task_rcv e refl refl (unfold kind_of in refl))
 
   as_task_snd : kind w k ≡ kinds.task_snd → shown_element x ≡ element_by kinds.task_snd D N
-  unfolding kind_of shown_parts shown_part if◌then◌else◌ element_by
+  unfolding kind_of shown_parts shown_part if◌then◌or_else◌ element_by
   as_task_snd e =
       text_by kinds.task_snd e
       ∙ four_called "taskSnd"

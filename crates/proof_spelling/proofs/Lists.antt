@@ -11,7 +11,7 @@ use lib.Dec.{eqb, ltb}
 use lib.ListN.{length, get_or}
 use borrow.Author.Tests.{ltb-true, ltb-false, lt-ltb, le-ltb}
 use Rattle.base_words.specs.Each.{joined, those}
-use Rattle.base_words.specs.Pick.{if◌then◌else◌}
+use Rattle.base_words.specs.Pick.{if◌then◌or_else◌}
 use Rattle.base_words.specs.Seek.{seek}
 use Rattle.base_words.specs.Sum.{sum, one_if}
 use Rattle.base_words.proofs.AllLaws.{and_left}
@@ -27,28 +27,28 @@ use Rattle.proof_spelling.specs.Spelling.{gathered, parted, first_at, foremost}
 -- THE FIRST THAT PASSES A TEST
 module _ {A : Type 0} (g : A → Bool) where
   first_in : (xs ys : List A) → first_at g xs < length xs → first_at g (xs ++ ys) ≡ first_at g xs
-  unfolding first_at if◌then◌else◌
+  unfolding first_at if◌then◌or_else◌
   first_in [] ys h = absurd (omega (arith, h))
   first_in (x ∷ xs) ys h = go (g x) h (first_in xs ys)
     where
-      go : (b : Bool) → (if b then 0 else suc (first_at g xs)) < suc (length xs) → (first_at g xs < length xs → first_at g (xs ++ ys) ≡ first_at g xs)
-          → (if b then 0 else suc (first_at g (xs ++ ys))) ≡ (if b then 0 else suc (first_at g xs))
+      go : (b : Bool) → (if b then 0 or_else suc (first_at g xs)) < suc (length xs) → (first_at g xs < length xs → first_at g (xs ++ ys) ≡ first_at g xs)
+          → (if b then 0 or_else suc (first_at g (xs ++ ys))) ≡ (if b then 0 or_else suc (first_at g xs))
       go true h k = refl
       go false h k = ap suc (k (le_of_suc-le-suc h))
 
   first_out : (xs ys : List A) → first_at g xs ≡ length xs → first_at g (xs ++ ys) ≡ length xs + first_at g ys
-  unfolding first_at if◌then◌else◌
+  unfolding first_at if◌then◌or_else◌
   first_out [] ys h = (let z : first_at g ys ≡ 0 + first_at g ys = omega arith in z)
   first_out (x ∷ xs) ys h = go (g x) h (first_out xs ys)
     where
-      go : (b : Bool) → (if b then 0 else suc (first_at g xs)) ≡ suc (length xs) → (first_at g xs ≡ length xs → first_at g (xs ++ ys) ≡ length xs + first_at g ys)
-          → (if b then 0 else suc (first_at g (xs ++ ys))) ≡ suc (length xs) + first_at g ys
+      go : (b : Bool) → (if b then 0 or_else suc (first_at g xs)) ≡ suc (length xs) → (first_at g xs ≡ length xs → first_at g (xs ++ ys) ≡ length xs + first_at g ys)
+          → (if b then 0 or_else suc (first_at g (xs ++ ys))) ≡ suc (length xs) + first_at g ys
       go true h k = absurd (omega (arith, h))
       go false h k = let e : first_at g xs ≡ length xs = omega (arith, h) in let z = k e in omega (arith, z)
 
 module _ {A : Type 0} (test : ℕ → Bool) (make : ℕ → A) where
   abbrev one : ℕ → List A
-  one k = if test k then make k ∷ [] else []
+  one k = if test k then make k ∷ [] or_else []
 
   pub fewer : (n k : ℕ) → k < n → test k ≡ true → count_before test k < count_before test n
   unfolding count_before sum
@@ -71,13 +71,13 @@ module _ {A : Type 0} (test : ℕ → Bool) (make : ℕ → A) where
       long : length (gathered test make n) ≡ count_before test n
       long = as_many test make n
 
-      first_one : (b : Bool) (x : A) → first_at g (if b then x ∷ [] else []) ≡ one_if (b && not (g x))
-      first_one true x = unfold first_at if◌then◌else◌ in chosen (g x)
+      first_one : (b : Bool) (x : A) → first_at g (if b then x ∷ [] or_else []) ≡ one_if (b && not (g x))
+      first_one true x = unfold first_at if◌then◌or_else◌ in chosen (g x)
         where
-          chosen : (c : Bool) → (if c then 0 else suc 0) ≡ one_if (not c)
-          chosen true = unfold if◌then◌else◌ in refl
-          chosen false = unfold if◌then◌else◌ in refl
-      first_one false x = unfold first_at if◌then◌else◌ in refl
+          chosen : (c : Bool) → (if c then 0 or_else suc 0) ≡ one_if (not c)
+          chosen true = unfold if◌then◌or_else◌ in refl
+          chosen false = unfold if◌then◌or_else◌ in refl
+      first_one false x = unfold first_at if◌then◌or_else◌ in refl
 
       more : count_before test (suc n) ≡ count_before test n + one_if (test n)
       more = unfold count_before sum in refl
@@ -101,20 +101,20 @@ module _ {A : Type 0} (test : ℕ → Bool) (make : ℕ → A) where
 
   -- those that pass a further test, and what is made of them
   pub those-gathered : (g : A → Bool) (n : ℕ) → those g (gathered test make n) ≡ gathered (λ k. test k && g (make k)) make n
-  those-gathered g n = those-joined g one n ∙ joined_ext (λ k. those g (one k)) (λ k. if test k && g (make k) then make k ∷ [] else []) n (λ k h. here (test k) (make k))
+  those-gathered g n = those-joined g one n ∙ joined_ext (λ k. those g (one k)) (λ k. if test k && g (make k) then make k ∷ [] or_else []) n (λ k h. here (test k) (make k))
     where
-      here : (b : Bool) (x : A) → those g (if b then x ∷ [] else []) ≡ (if b && g x then x ∷ [] else [])
-      here true x = unfold those if◌then◌else◌ in refl
-      here false x = unfold those if◌then◌else◌ in refl
+      here : (b : Bool) (x : A) → those g (if b then x ∷ [] or_else []) ≡ (if b && g x then x ∷ [] or_else [])
+      here true x = unfold those if◌then◌or_else◌ in refl
+      here false x = unfold those if◌then◌or_else◌ in refl
 
   pub map-gathered : {B : Type 0} (g : A → B) (n : ℕ) → map g (gathered test make n) ≡ gathered test (λ k. g (make k)) n
   unfolding joined
   map-gathered g zero = refl
   map-gathered g (suc n) = map-append g (gathered test make n) (one n) ∙ ap₂ ◌++◌ (map-gathered g n) (here (test n) (make n))
     where
-      here : (b : Bool) (x : A) → map g (if b then x ∷ [] else []) ≡ (if b then g x ∷ [] else [])
-      here true x = unfold if◌then◌else◌ in refl
-      here false x = unfold if◌then◌else◌ in refl
+      here : (b : Bool) (x : A) → map g (if b then x ∷ [] or_else []) ≡ (if b then g x ∷ [] or_else [])
+      here true x = unfold if◌then◌or_else◌ in refl
+      here false x = unfold if◌then◌or_else◌ in refl
 
 module _ (test : ℕ → Bool) (make : ℕ → List ℕ) where
   -- the first that is gathered
@@ -126,8 +126,8 @@ module _ (test : ℕ → Bool) (make : ℕ → List ℕ) where
       long : length (gathered test make n) ≡ count_before test n
       long = as_many test make n
 
-      last : (b : Bool) → test n ≡ b → seek test n ≡ n → cond b n (suc n) < suc n → foremost (gathered test make n ++ (if b then make n ∷ [] else [])) ≡ make (cond b n (suc n))
-      last true q m u = unfold if◌then◌else◌ in alone (gathered test make n) (omega (arith, long, none))
+      last : (b : Bool) → test n ≡ b → seek test n ≡ n → cond b n (suc n) < suc n → foremost (gathered test make n ++ (if b then make n ∷ [] or_else [])) ≡ make (cond b n (suc n))
+      last true q m u = unfold if◌then◌or_else◌ in alone (gathered test make n) (omega (arith, long, none))
         where
           none : count_before test n ≡ 0
           none = unfold count_before in sum-zero (λ j. one_if (test j)) n (λ j l. ap one_if ((sought test n).2 j (omega (arith, l, m))))
@@ -142,20 +142,20 @@ module _ (test : ℕ → Bool) (make : ℕ → List ℕ) where
       front (x ∷ xs) ys l = unfold foremost in refl
 
       go : (b : Bool) → ltb (seek test n) n ≡ b → cond b (seek test n) (cond (test n) n (suc n)) < suc n → (seek test n < n → foremost (gathered test make n) ≡ make (seek test n))
-          → foremost (gathered test make n ++ (if test n then make n ∷ [] else [])) ≡ make (cond b (seek test n) (cond (test n) n (suc n)))
+          → foremost (gathered test make n ++ (if test n then make n ∷ [] or_else [])) ≡ make (cond b (seek test n) (cond (test n) n (suc n)))
       go true e u k =
           let l = ltb-true (seek test n) n e in
           let f = fewer test make n (seek test n) l ((sought test n).1 l) in
-          front (gathered test make n) (if test n then make n ∷ [] else []) (omega (arith, f, long)) ∙ k l
+          front (gathered test make n) (if test n then make n ∷ [] or_else []) (omega (arith, f, long)) ∙ k l
       go false e u k = last (test n) refl (omega (arith, ltb-false (seek test n) n e, (sought test n).0)) u
 
 -- the same by equal tests and equal things
 pub gathered_same : {A : Type 0} (f g : ℕ → Bool) (u v : ℕ → A) (n : ℕ) → ((k : ℕ) → k < n → f k ≡ g k) → ((k : ℕ) → k < n → g k ≡ true → u k ≡ v k) → gathered f u n ≡ gathered g v n
-gathered_same {A} f g u v n h e = joined_ext (λ k. if f k then u k ∷ [] else []) (λ k. if g k then v k ∷ [] else []) n (λ k l. ap (λ (b : Bool). if b then u k ∷ [] else []) (h k l) ∙ go (g k) (u k) (v k) (e k l))
+gathered_same {A} f g u v n h e = joined_ext (λ k. if f k then u k ∷ [] or_else []) (λ k. if g k then v k ∷ [] or_else []) n (λ k l. ap (λ (b : Bool). if b then u k ∷ [] or_else []) (h k l) ∙ go (g k) (u k) (v k) (e k l))
   where
-    go : (b : Bool) (x y : A) → (b ≡ true → x ≡ y) → (if b then x ∷ [] else []) ≡ (if b then y ∷ [] else [])
-    go true x y q = ap (λ (z : A). if true then z ∷ [] else []) (q refl)
-    go false x y q = unfold if◌then◌else◌ in refl
+    go : (b : Bool) (x y : A) → (b ≡ true → x ≡ y) → (if b then x ∷ [] or_else []) ≡ (if b then y ∷ [] or_else [])
+    go true x y q = ap (λ (z : A). if true then z ∷ [] or_else []) (q refl)
+    go false x y q = unfold if◌then◌or_else◌ in refl
 
 -- how many pass a test before j
 pub count_before_lem : (f : ℕ → Bool) (n j : ℕ) → j ≤ n → count_before (λ i. f i && ltb i j) n ≡ count_before f j

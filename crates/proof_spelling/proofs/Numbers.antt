@@ -8,7 +8,7 @@ use lib.Dec.{eqb, leb, ltb}
 use lib.ListN.{length}
 use borrow.Author.Tests.{eqb-true, leb-true, le-leb}
 use Rattle.base_words.specs.Each.{joined, those}
-use Rattle.base_words.specs.Pick.{if◌then◌else◌}
+use Rattle.base_words.specs.Pick.{if◌then◌or_else◌}
 use Rattle.base_words.specs.Seek.{seek}
 use Rattle.base_words.specs.Sum.{sum, one_if}
 use Rattle.base_words.specs.Text.{bytes}
@@ -87,7 +87,7 @@ module _ (t w : List ℕ) (n : ℕ) (few : n ≤ room) where
       ∙ count_before_lem (λ i. of_sort sequence_flow w i && (eqb (within w i) (within w j) && not (is_of_kind kinds.event_based w (source w i)))) n j l
 
   edge_number : (j : ℕ) → edge_of w j ≡ one_more (count_before (is_edge (within w j) w) j)
-  unfolding edge_of is_of if◌then◌else◌
+  unfolding edge_of is_of if◌then◌or_else◌
   edge_number j = refl
 
   pub edge_is : (j : ℕ) → j ≤ n → edge d (flow_at t w n j) ≡ shown (edge_of w j)
@@ -170,7 +170,7 @@ module _ (t w : List ℕ) (n : ℕ) (few : n ≤ room) where
       ∙ count_before_lem (λ i. leb task (sort w i) && (leb (sort w i) receive_task && eqb (within w i) (within w k))) n k l
 
   task_number : (k : ℕ) → task_of w k ≡ one_more (count_before (is_task (within w k) w) k)
-  unfolding task_of is_of if◌then◌else◌
+  unfolding task_of is_of if◌then◌or_else◌
   task_number k = refl
 
   pub work_is : (k : ℕ) → k ≤ n → work d (node_at w k) ≡ shown (task_of w k) ++ bytes ",a,true,{}"

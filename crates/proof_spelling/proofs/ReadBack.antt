@@ -11,7 +11,7 @@ use lib.ListN.{length, get_or, drop, take, replicate, length-append, length-repl
 use lib.Seq.{take_all, drop-append_seam}
 use Rattle.base_words.specs.Counts.{pools, elements, pool_numbers, instances}
 use Rattle.base_words.specs.Each.{each, joined, tab}
-use Rattle.base_words.specs.Pick.{if◌then◌else◌}
+use Rattle.base_words.specs.Pick.{if◌then◌or_else◌}
 use Rattle.base_words.specs.Text.{bytes}
 use Rattle.base_words.specs.Words.{at}
 use Rattle.base_table.specs.Places.{element_words}
@@ -55,8 +55,8 @@ module _ {A B : Type 0} (R : A → B → Type 0) where
   pairs_joined f g zero h = omega arith
   pairs_joined f g (suc n) h = pairs_append (joined f n) (f n) (joined g n) (g n) (pairs_joined f g n (λ k l. h k (omega (arith, l)))) (h n (omega arith))
 
-  pub pairs_one : (b : Bool) (x : A) (y : B) → (b ≡ true → R x y) → Pairs R (if b then x ∷ [] else []) (if b then y ∷ [] else [])
-  unfolding if◌then◌else◌
+  pub pairs_one : (b : Bool) (x : A) (y : B) → (b ≡ true → R x y) → Pairs R (if b then x ∷ [] or_else []) (if b then y ∷ [] or_else [])
+  unfolding if◌then◌or_else◌
   pairs_one true x y h = (h refl, omega arith)
   pairs_one false x y h = omega arith
 
@@ -178,7 +178,7 @@ module _ (xs : List (List ℕ)) (ps : List Pool) (p : Pairs (Comes pool) xs ps) 
 
   no_bar : sign_at (code "|") whole (length body) ≡ Refused misplaced (length whole)
   unfolding sign_at if_sign
-  no_bar = ap (λ (k : Token). if_sign k.form (λ c. if eqb c (code "|") then At k.next else Refused misplaced k.at) (Refused misplaced k.at)) ending
+  no_bar = ap (λ (k : Token). if_sign k.form (λ c. if eqb c (code "|") then At k.next or_else Refused misplaced k.at) (Refused misplaced k.at)) ending
 
   the_end : end_at whole (length body) ≡ At (length whole)
   unfolding end_at if_end

@@ -11,7 +11,7 @@ use lib.Seq.{get_or-set_same, get_or-set_other, get_or-append_seam}
 use borrow.Author.Tests.{lt-ltb}
 use Rattle.base_words.specs.Each.{joined}
 use Rattle.base_words.specs.Iter.{iter}
-use Rattle.base_words.specs.Pick.{if◌then◌else◌}
+use Rattle.base_words.specs.Pick.{if◌then◌or_else◌}
 use Rattle.base_words.specs.Sum.{sum, one_if}
 use Rattle.base_words.specs.Words.{at}
 use Rattle.base_words.proofs.PickLaws.{pick_yes}
@@ -37,8 +37,8 @@ pub more_is : (v : ℕ) → v ≤ room → one_more v ≡ v + 1
 unfolding one_more
 more_is v h = sym (pick_yes (ltb v greatest_note) (v + 1) (v + 1) greatest_note (lt-ltb v greatest_note (omega (arith, h))) refl)
 
-pub either : {A : Type 0} (P : A → Type 0) (b : Bool) (x y : A) → P x → P y → P (if b then x else y)
-unfolding if◌then◌else◌
+pub either : {A : Type 0} (P : A → Type 0) (b : Bool) (x y : A) → P x → P y → P (if b then x or_else y)
+unfolding if◌then◌or_else◌
 either P true x y p q = p
 either P false x y p q = q
 
@@ -150,20 +150,20 @@ module _ (t w : List ℕ) (n k : ℕ) (few : n ≤ room) where
   leaves j = of_sort sequence_flow w j && eqb (source w j) k
 
   abbrev into : ℕ → List ℕ → List ℕ
-  into j x = if enters j then with_edge entries_place (edge_of w j) x else x
+  into j x = if enters j then with_edge entries_place (edge_of w j) x or_else x
 
   abbrev out : ℕ → List ℕ → List ℕ
-  out j x = if leaves j then exit_by t w n k j x else x
+  out j x = if leaves j then exit_by t w n k j x or_else x
 
   flow_is : (j : ℕ) (x : List ℕ) → by_flow t w n k j x ≡ out j (into j x)
   unfolding by_flow leaving_by entering_by
   flow_is j x = go (of_sort sequence_flow w j)
     where
       go : (b : Bool)
-          → (if b then (if eqb (source w j) k then exit_by t w n k j (if eqb (target w j) k then with_edge entries_place (edge_of w j) x else x) else (if eqb (target w j) k then with_edge entries_place (edge_of w j) x else x)) else x)
-          ≡ (if b && eqb (source w j) k then exit_by t w n k j (if b && eqb (target w j) k then with_edge entries_place (edge_of w j) x else x) else (if b && eqb (target w j) k then with_edge entries_place (edge_of w j) x else x))
-      go true = unfold if◌then◌else◌ in refl
-      go false = unfold if◌then◌else◌ in refl
+          → (if b then (if eqb (source w j) k then exit_by t w n k j (if eqb (target w j) k then with_edge entries_place (edge_of w j) x or_else x) or_else (if eqb (target w j) k then with_edge entries_place (edge_of w j) x or_else x)) or_else x)
+          ≡ (if b && eqb (source w j) k then exit_by t w n k j (if b && eqb (target w j) k then with_edge entries_place (edge_of w j) x or_else x) or_else (if b && eqb (target w j) k then with_edge entries_place (edge_of w j) x or_else x))
+      go true = unfold if◌then◌or_else◌ in refl
+      go false = unfold if◌then◌or_else◌ in refl
 
   -- after the first m
   abbrev pub after : ℕ → List ℕ
@@ -182,9 +182,9 @@ module _ (t w : List ℕ) (n k : ℕ) (few : n ≤ room) where
   into_count : (j : ℕ) (x : List ℕ) → length x ≡ element_words → at x entries_place ≤ room → at (into j x) entries_place ≡ at x entries_place + one_if (enters j)
   into_count j x l h = go (enters j)
     where
-      go : (b : Bool) → at (if b then with_edge entries_place (edge_of w j) x else x) entries_place ≡ at x entries_place + one_if b
-      go true = unfold if◌then◌else◌ in edge_count entries_place (edge_of w j) x (omega (arith, l)) h
-      go false = unfold if◌then◌else◌ in (let z : at x entries_place ≡ at x entries_place + 0 = omega arith in z)
+      go : (b : Bool) → at (if b then with_edge entries_place (edge_of w j) x or_else x) entries_place ≡ at x entries_place + one_if b
+      go true = unfold if◌then◌or_else◌ in edge_count entries_place (edge_of w j) x (omega (arith, l)) h
+      go false = unfold if◌then◌or_else◌ in (let z : at x entries_place ≡ at x entries_place + 0 = omega arith in z)
 
   module _ (long : length (head_of w n k) ≡ element_words) (bare : at (head_of w n k) entries_place ≤ 1) (none : at (head_of w n k) exits_place ≡ 0) where
     abbrev a0 : ℕ
@@ -211,16 +211,16 @@ module _ (t w : List ℕ) (n k : ℕ) (few : n ≤ room) where
       into_other : (m i : ℕ) → m < n → entries_place + 9 ≤ i → at (into m (after m)) i ≡ at (after m) i
       into_other m i h l = go (enters m) refl
         where
-          go : (b : Bool) → enters m ≡ b → at (if b then with_edge entries_place (edge_of w m) (after m) else after m) i ≡ at (after m) i
-          go true e = unfold if◌then◌else◌ in let r = entry_room m h e in edge_other entries_place (edge_of w m) (after m) i (λ q. omega (arith, q, l)) (λ q. omega (arith, q, l, r))
-          go false e = unfold if◌then◌else◌ in refl
+          go : (b : Bool) → enters m ≡ b → at (if b then with_edge entries_place (edge_of w m) (after m) or_else after m) i ≡ at (after m) i
+          go true e = unfold if◌then◌or_else◌ in let r = entry_room m h e in edge_other entries_place (edge_of w m) (after m) i (λ q. omega (arith, q, l)) (λ q. omega (arith, q, l, r))
+          go false e = unfold if◌then◌or_else◌ in refl
 
       out_count : (m : ℕ) (x : List ℕ) → length x ≡ element_words → at x exits_place ≤ room → at (out m x) exits_place ≡ at x exits_place + one_if (leaves m)
       out_count m x l h = go (leaves m)
         where
-          go : (b : Bool) → at (if b then exit_by t w n k m x else x) exits_place ≡ at x exits_place + one_if b
-          go true = unfold if◌then◌else◌ in counted_exit t w n k m x l h
-          go false = unfold if◌then◌else◌ in (let z : at x exits_place ≡ at x exits_place + 0 = omega arith in z)
+          go : (b : Bool) → at (if b then exit_by t w n k m x or_else x) exits_place ≡ at x exits_place + one_if b
+          go true = unfold if◌then◌or_else◌ in counted_exit t w n k m x l h
+          go false = unfold if◌then◌or_else◌ in (let z : at x exits_place ≡ at x exits_place + 0 = omega arith in z)
 
       -- its exits are counted
       pub after_exits : (m : ℕ) → m ≤ n → at (after m) exits_place ≡ count_before leaves m
@@ -243,17 +243,17 @@ module _ (t w : List ℕ) (n k : ℕ) (few : n ≤ room) where
         into_is : (m i : ℕ) → m < n → i < a0 + count_before enters (suc m) → ((i : ℕ) → i < a0 + count_before enters m → at (after m) (entries_place + 1 + i) ≡ get_or (entered m) i 0)
             → at (into m (after m)) (entries_place + 1 + i) ≡ get_or (entered (suc m)) i 0
         unfolding joined
-        into_is m i h l before = go (enters m) refl ∙ ap (λ (z : List ℕ). get_or z i 0) (append_assoc first (gathered enters (edge_of w) m) (if enters m then edge_of w m ∷ [] else []))
+        into_is m i h l before = go (enters m) refl ∙ ap (λ (z : List ℕ). get_or z i 0) (append_assoc first (gathered enters (edge_of w) m) (if enters m then edge_of w m ∷ [] or_else []))
           where
             a : at (after m) entries_place ≡ a0 + count_before enters m
             a = after_entries m (omega (arith, h))
 
-            go : (b : Bool) → enters m ≡ b → at (if b then with_edge entries_place (edge_of w m) (after m) else after m) (entries_place + 1 + i) ≡ get_or (entered m ++ (if b then edge_of w m ∷ [] else [])) i 0
+            go : (b : Bool) → enters m ≡ b → at (if b then with_edge entries_place (edge_of w m) (after m) or_else after m) (entries_place + 1 + i) ≡ get_or (entered m ++ (if b then edge_of w m ∷ [] or_else [])) i 0
             go false e =
-                unfold if◌then◌else◌ in
+                unfold if◌then◌or_else◌ in
                 let u : i < a0 + count_before enters m = omega (arith, l, count_more enters m, ap one_if e) in
                 before i u ∙ sym (ap (λ (z : List ℕ). get_or z i 0) (append-nil (entered m)))
-            go true e = unfold if◌then◌else◌ in new (dec_lt i (a0 + count_before enters m))
+            go true e = unfold if◌then◌or_else◌ in new (dec_lt i (a0 + count_before enters m))
               where
                 r : at (after m) entries_place < 8
                 r = entry_room m h e
@@ -304,24 +304,24 @@ module _ (t w : List ℕ) (n k : ℕ) (few : n ≤ room) where
         into_piece : (m i : ℕ) → m < n → i < 8 → piece (into m (after m)) i ≡ piece (after m) i
         into_piece m i h l = go (enters m) refl
           where
-            go : (b : Bool) → enters m ≡ b → piece (if b then with_edge entries_place (edge_of w m) (after m) else after m) i ≡ piece (after m) i
-            go true e = unfold if◌then◌else◌ in in-piece (edge_of w m) i (after m) (after_long m) (entry_room m h e) l
-            go false e = unfold if◌then◌else◌ in refl
+            go : (b : Bool) → enters m ≡ b → piece (if b then with_edge entries_place (edge_of w m) (after m) or_else after m) i ≡ piece (after m) i
+            go true e = unfold if◌then◌or_else◌ in in-piece (edge_of w m) i (after m) (after_long m) (entry_room m h e) l
+            go false e = unfold if◌then◌or_else◌ in refl
 
         into_frame : (m : ℕ) → m < n → F (after m) → F (into m (after m))
         into_frame m h f = go (enters m) refl
           where
-            go : (b : Bool) → enters m ≡ b → F (if b then with_edge entries_place (edge_of w m) (after m) else after m)
-            go true e = unfold if◌then◌else◌ in in_frame (edge_of w m) (after m) (after_long m) (entry_room m h e) f
-            go false e = unfold if◌then◌else◌ in f
+            go : (b : Bool) → enters m ≡ b → F (if b then with_edge entries_place (edge_of w m) (after m) or_else after m)
+            go true e = unfold if◌then◌or_else◌ in in_frame (edge_of w m) (after m) (after_long m) (entry_room m h e) f
+            go false e = unfold if◌then◌or_else◌ in f
 
         pub after_frame : F (head_of w n k) → (m : ℕ) → m ≤ n → F (after m)
         after_frame f zero h = unfold iter in f
         after_frame f (suc m) h = subst F (sym (after_more m)) (go (leaves m) refl (into_frame m (omega (arith, h)) (after_frame f m (omega (arith, h)))))
           where
-            go : (b : Bool) → leaves m ≡ b → F (into m (after m)) → F (if b then exit_by t w n k m (into m (after m)) else into m (after m))
-            go true e here = unfold if◌then◌else◌ in out_frame m (into m (after m)) (into_long m (after m) ∙ after_long m) (exit_room m (omega (arith, h)) e) here
-            go false e here = unfold if◌then◌else◌ in here
+            go : (b : Bool) → leaves m ≡ b → F (into m (after m)) → F (if b then exit_by t w n k m (into m (after m)) or_else into m (after m))
+            go true e here = unfold if◌then◌or_else◌ in out_frame m (into m (after m)) (into_long m (after m) ∙ after_long m) (exit_room m (omega (arith, h)) e) here
+            go false e here = unfold if◌then◌or_else◌ in here
 
         pub after_left : (m : ℕ) → m ≤ n → (i : ℕ) → i < count_before leaves m → piece (after m) i ≡ get_or (left m) i []
         unfolding joined
@@ -335,12 +335,12 @@ module _ (t w : List ℕ) (n k : ℕ) (few : n ≤ room) where
             c = into_other m exits_place u (omega arith) ∙ after_exits m (omega (arith, h))
 
             go : (b : Bool) → leaves m ≡ b → ((i : ℕ) → i < count_before leaves m → piece (after m) i ≡ get_or (left m) i [])
-                → piece (if b then exit_by t w n k m (into m (after m)) else into m (after m)) i ≡ get_or (left m ++ (if b then new m ∷ [] else [])) i []
+                → piece (if b then exit_by t w n k m (into m (after m)) or_else into m (after m)) i ≡ get_or (left m ++ (if b then new m ∷ [] or_else [])) i []
             go false e before =
-                unfold if◌then◌else◌ in
+                unfold if◌then◌or_else◌ in
                 let v : i < count_before leaves m = omega (arith, l, count_more leaves m, ap one_if e) in
                 into_piece m i u (omega (arith, v, exit_few m u)) ∙ before i v ∙ sym (ap (λ (z : List (List ℕ)). get_or z i []) (append-nil (left m)))
-            go true e before = unfold if◌then◌else◌ in last (dec_lt i (count_before leaves m))
+            go true e before = unfold if◌then◌or_else◌ in last (dec_lt i (count_before leaves m))
               where
                 r : at (into m (after m)) exits_place < 8
                 r = exit_room m u e

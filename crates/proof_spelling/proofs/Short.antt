@@ -9,7 +9,7 @@ use lib.Dec.{eqb, ltb}
 use lib.ListN.{length, get_or, length-append, length-map}
 use Rattle.base_words.specs.Counts.{text_most, pools, elements, fields}
 use Rattle.base_words.specs.Each.{each, joined}
-use Rattle.base_words.specs.Pick.{if◌then◌else◌}
+use Rattle.base_words.specs.Pick.{if◌then◌or_else◌}
 use Rattle.base_words.specs.Text.{bytes}
 use Rattle.write_decimals.specs.Decimals.{shown}
 use Rattle.write_decimals.proofs.DecimalLaws.{shown_short}
@@ -193,9 +193,9 @@ unfolding joined
 every_gathered P test make zero h = omega arith
 every_gathered P test make (suc n) h = every_append P (gathered test make n) _ (every_gathered P test make n (λ k l. h k (omega (arith, l)))) (last (test n) (h n (omega arith)))
   where
-    last : (b : Bool) → (b ≡ true → P (make n)) → Every P (if b then make n ∷ [] else [])
-    last true p = unfold if◌then◌else◌ in (p refl, omega arith)
-    last false p = unfold if◌then◌else◌ in omega arith
+    last : (b : Bool) → (b ≡ true → P (make n)) → Every P (if b then make n ∷ [] or_else [])
+    last true p = unfold if◌then◌or_else◌ in (p refl, omega arith)
+    last false p = unfold if◌then◌or_else◌ in omega arith
 
 module _ (t w : List ℕ) (n : ℕ) (drawn : is_drawing t w n ≡ true) (beyond : ltb (first_beyond t w n) n ≡ false) (settled : Settled w n) (placed : Placed w) where
   abbrev D : Collaboration
@@ -271,10 +271,10 @@ module _ (t w : List ℕ) (n : ℕ) (drawn : is_drawing t w n ≡ true) (beyond 
   pools_small : Pairs Small (pools_from D 1 D.participants) (content t w n)
   pools_small = subst (λ (z : List (List ℕ)). Pairs Small z (content t w n)) (sym (texts t w n drawn beyond settled placed)) pairs
     where
-      pairs : Pairs Small (joined (λ k. if is_pool owned w k then pool_text D (1 + count_before (is_pool owned w) k) (participant_at owned t w n k) ∷ [] else []) n) (content t w n)
+      pairs : Pairs Small (joined (λ k. if is_pool owned w k then pool_text D (1 + count_before (is_pool owned w) k) (participant_at owned t w n k) ∷ [] or_else []) n) (content t w n)
       pairs =
           unfold content pool_if in
-          pairs_joined Small (λ k. if is_pool owned w k then pool_text D (1 + count_before (is_pool owned w) k) (participant_at owned t w n k) ∷ [] else []) (λ k. if is_pool owned w k then pool_drawn owned t w n k ∷ [] else []) n
+          pairs_joined Small (λ k. if is_pool owned w k then pool_text D (1 + count_before (is_pool owned w) k) (participant_at owned t w n k) ∷ [] or_else []) (λ k. if is_pool owned w k then pool_drawn owned t w n k ∷ [] or_else []) n
           (λ k l. pairs_one Small (is_pool owned w k) (pool_text D (1 + count_before (is_pool owned w) k) (participant_at owned t w n k)) (pool_drawn owned t w n k) (λ h. pool_small (1 + count_before (is_pool owned w) k) k))
 
   abbrev Few : List ℕ → Pool → Type 0

@@ -9,7 +9,7 @@ use lib.ListN.{length}
 use borrow.Author.Tests.{eqb-true, le-ltb}
 use Rattle.base_words.specs.Counts.{text_most}
 use Rattle.base_words.specs.Each.{each}
-use Rattle.base_words.specs.Pick.{if◌then◌else◌}
+use Rattle.base_words.specs.Pick.{if◌then◌or_else◌}
 use Rattle.base_words.proofs.PickLaws.{pick_no}
 use Rattle.check_model.specs.Checks.{Pool, lowest}
 use Rattle.text_readers.specs.Reading.{excessive}
@@ -37,19 +37,19 @@ pub record Judged (text w : List ℕ) (n : ℕ) (a : Reading) : Type 0 where
 
 module _ (text w : List ℕ) (n : ℕ) where
   abbrev meaning : Bool → Bool → Reading
-  meaning a b = if not a then answer not_run 0 else if b then answer excessive (beyond_at text w (first_beyond text w n)) else checked_as (content text w n)
+  meaning a b = if not a then answer not_run 0 or_else if b then answer excessive (beyond_at text w (first_beyond text w n)) or_else checked_as (content text w n)
 
   meant_judged : ((meant_by text w n).number ≡ not_run → ⊥) → ((meant_by text w n).number ≡ excessive → ⊥) → Judged text w n (meant_by text w n)
   unfolding meant_by
   meant_judged = go (is_drawing text w n) (ltb (first_beyond text w n) n) refl refl
     where
       go : (a b : Bool) → is_drawing text w n ≡ a → ltb (first_beyond text w n) n ≡ b → ((meaning a b).number ≡ not_run → ⊥) → ((meaning a b).number ≡ excessive → ⊥) → Judged text w n (meaning a b)
-      go false b d q no-21 no-3 = absurd (no-21 (unfold if◌then◌else◌ in refl))
-      go true true d q no-21 no-3 = absurd (no-3 (unfold if◌then◌else◌ in refl))
-      go true false d q no-21 no-3 = record { drawn = d; beyond = q; is = unfold if◌then◌else◌ in refl }
+      go false b d q no-21 no-3 = absurd (no-21 (unfold if◌then◌or_else◌ in refl))
+      go true true d q no-21 no-3 = absurd (no-3 (unfold if◌then◌or_else◌ in refl))
+      go true false d q no-21 no-3 = record { drawn = d; beyond = q; is = unfold if◌then◌or_else◌ in refl }
 
 abbrev given : List ℕ → Bool → Reached → Reading
-given text b e = if b then answer too_long 0 else unless_fault e (meant_by text (things_of text) (walked_text text).count)
+given text b e = if b then answer too_long 0 or_else unless_fault e (meant_by text (things_of text) (walked_text text).count)
 
 answered-judged : (text : List ℕ) → ((answered text).number ≡ too_long → ⊥) → ((answered text).number ≡ not_xml → ⊥) → ((answered text).number ≡ not_run → ⊥) → ((answered text).number ≡ excessive → ⊥)
     → Judged text (things_of text) (walked_text text).count (answered text)
@@ -57,9 +57,9 @@ unfolding answered
 answered-judged text = go (ltb drawing_most (length text)) (walked_text text).end
   where
     go : (b : Bool) (e : Reached) → ((given text b e).number ≡ too_long → ⊥) → ((given text b e).number ≡ not_xml → ⊥) → ((given text b e).number ≡ not_run → ⊥) → ((given text b e).number ≡ excessive → ⊥) → Judged text (things_of text) (walked_text text).count (given text b e)
-    go true e no-1 no-20 no-21 no-3 = absurd (no-1 (unfold if◌then◌else◌ in refl))
-    go false (Past q) no-1 no-20 no-21 no-3 = unfold if◌then◌else◌ unless_fault in meant_judged text (things_of text) (walked_text text).count no-21 no-3
-    go false (Fault q) no-1 no-20 no-21 no-3 = absurd (no-20 (unfold if◌then◌else◌ unless_fault in refl))
+    go true e no-1 no-20 no-21 no-3 = absurd (no-1 (unfold if◌then◌or_else◌ in refl))
+    go false (Past q) no-1 no-20 no-21 no-3 = unfold if◌then◌or_else◌ unless_fault in meant_judged text (things_of text) (walked_text text).count no-21 no-3
+    go false (Fault q) no-1 no-20 no-21 no-3 = absurd (no-20 (unfold if◌then◌or_else◌ unless_fault in refl))
 
 -- the same of a text that is walked to its end, of a drawing in which nothing is amiss or beyond
 pub passed_judged : (text : List ℕ) (q : ℕ) → ltb drawing_most (length text) ≡ false → (walked_text text).end ≡ Past q → is_drawing text (things_of text) (walked_text text).count ≡ true
@@ -85,11 +85,11 @@ checked_same ps t = go (eqb (lowest ps) 0) refl (each has_room ps)
   where
     go : (b : Bool) → eqb (lowest ps) 0 ≡ b → (c : Bool)
         → ◌≡◌ {A = ReadInto}
-        (if b then (if c then record { number = 0; beside = 0; table = table_of (map rewritten ps) } else record { number = 28; beside = 0; table = t }) else record { number = 4; beside = lowest ps; table = t })
-        (record { number = if b then (if c then 0 else 28) else 4; beside = lowest ps; table = if eqb (if b then (if c then 0 else 28) else 4) 0 then table_of (map rewritten ps) else t })
-    go true e true = unfold if◌then◌else◌ in ap (λ (v : ℕ). record { number = 0; beside = v; table = table_of (map rewritten ps) }) (sym (eqb-true (lowest ps) 0 e))
-    go true e false = unfold if◌then◌else◌ in ap (λ (v : ℕ). record { number = 28; beside = v; table = t }) (sym (eqb-true (lowest ps) 0 e))
-    go false e c = unfold if◌then◌else◌ in refl
+        (if b then (if c then record { number = 0; beside = 0; table = table_of (map rewritten ps) } or_else record { number = 28; beside = 0; table = t }) or_else record { number = 4; beside = lowest ps; table = t })
+        (record { number = if b then (if c then 0 or_else 28) or_else 4; beside = lowest ps; table = if eqb (if b then (if c then 0 or_else 28) or_else 4) 0 then table_of (map rewritten ps) or_else t })
+    go true e true = unfold if◌then◌or_else◌ in ap (λ (v : ℕ). record { number = 0; beside = v; table = table_of (map rewritten ps) }) (sym (eqb-true (lowest ps) 0 e))
+    go true e false = unfold if◌then◌or_else◌ in ap (λ (v : ℕ). record { number = 28; beside = v; table = t }) (sym (eqb-true (lowest ps) 0 e))
+    go false e c = unfold if◌then◌or_else◌ in refl
 
 -- A DRAWING
 module _ (text t : List ℕ) where

@@ -11,7 +11,7 @@ use lib.Seq.{get_or-drop}
 use borrow.Author.Tests.{eqb-true, eq-eqb}
 use Rattle.base_words.specs.Each.{joined}
 use Rattle.base_words.specs.Iter.{iter}
-use Rattle.base_words.specs.Pick.{if◌then◌else◌}
+use Rattle.base_words.specs.Pick.{if◌then◌or_else◌}
 use Rattle.base_words.specs.Text.{bytes}
 use Rattle.base_words.specs.Words.{at, greatest}
 use Rattle.base_words.proofs.AllLaws.{and_left, and_right}
@@ -44,23 +44,23 @@ use Rattle.proof_spelling.proofs.Numbers.{edge_is, into_is, from_is, behind_is, 
 
 -- ONE PIECE
 pub one_piece : (s : ℕ) (f : ℕ → List ℕ) → separated s f 1 ≡ f 0
-unfolding separated joined lead if◌then◌else◌
+unfolding separated joined lead if◌then◌or_else◌
 one_piece s f = refl
 
 pub one_fits : (v : ℕ) → count_fits one v ≡ true → v ≡ 1
-unfolding count_fits if◌then◌else◌
+unfolding count_fits if◌then◌or_else◌
 one_fits v h = eqb-true v 1 h
 
 -- THE TEXT OF A CONDITION, by its five words
 abbrev pub operand_text : ℕ → ℕ → List ℕ
-operand_text f v = if eqb f a_field then shown_field v else shown v
+operand_text f v = if eqb f a_field then shown_field v or_else shown v
 
 abbrev pub condition_text : ℕ → ℕ → ℕ → ℕ → ℕ → List ℕ
 condition_text f l m r s =
     if eqb f always then bytes "true"
-    else if eqb f default then bytes "default"
-    else if eqb f equals then operand_text l m ++ (code "=" ∷ operand_text r s)
-    else operand_text l m ++ (code "<" ∷ operand_text r s)
+    or_else if eqb f default then bytes "default"
+    or_else if eqb f equals then operand_text l m ++ (code "=" ∷ operand_text r s)
+    or_else operand_text l m ++ (code "<" ∷ operand_text r s)
 
 operand_words : (y : List ℕ) (m : ℕ) → shown_operand (drop m y) ≡ operand_text (at y m) (at y (m + 1))
 unfolding shown_operand
@@ -69,7 +69,7 @@ operand_words y m = ap₂ operand_text (get_or-drop m y 0 0 ∙ ap (at y) (let z
 condition_words : (y : List ℕ) → shown_condition y ≡ condition_text (at y 0) (at y 1) (at y 2) (at y 3) (at y 4)
 unfolding shown_condition shown_pair
 condition_words y =
-    ap₂ (λ (l r : List ℕ). if eqb (at y 0) always then bytes "true" else if eqb (at y 0) default then bytes "default" else if eqb (at y 0) equals then l ++ (code "=" ∷ r) else l ++ (code "<" ∷ r))
+    ap₂ (λ (l r : List ℕ). if eqb (at y 0) always then bytes "true" or_else if eqb (at y 0) default then bytes "default" or_else if eqb (at y 0) equals then l ++ (code "=" ∷ r) or_else l ++ (code "<" ∷ r))
     (operand_words y 1) (operand_words y 3)
 
 pub five : (f f₁ l l₁ m m₁ r r₁ s s₁ : ℕ) → f ≡ f₁ → l ≡ l₁ → m ≡ m₁ → r ≡ r₁ → s ≡ s₁ → condition_text f l m r s ≡ condition_text f₁ l₁ m₁ r₁ s₁
@@ -105,10 +105,10 @@ module _ (x : List ℕ) (c : ℕ) (long : length x ≡ element_words) (low : c <
       y = set x (p + form_place) v
 
   true_said : shown_condition (drop p (with_form c always x)) ≡ bytes "true"
-  true_said = form_said always (bytes "true") (λ l m r s. unfold if◌then◌else◌ in refl)
+  true_said = form_said always (bytes "true") (λ l m r s. unfold if◌then◌or_else◌ in refl)
 
   default_said : shown_condition (drop p (with_form c default x)) ≡ bytes "default"
-  default_said = form_said default (bytes "default") (λ l m r s. unfold if◌then◌else◌ in refl)
+  default_said = form_said default (bytes "default") (λ l m r s. unfold if◌then◌or_else◌ in refl)
 
   compared_said : (z : Condition) → shown_condition (drop p (with_condition z c x)) ≡ condition_text z.form z.left.flag z.left.number z.right.flag z.right.number
   unfolding with_condition with_term with_form
@@ -156,27 +156,27 @@ module _ (x : List ℕ) (c : ℕ) (long : length x ≡ element_words) (low : c <
   unfolding said_or_true condition comparison operand
   condition_said z = go (eqb z.form absent)
     where
-      go : (b : Bool) → shown_condition (drop p (if b then with_form c always x else with_condition z c x)) ≡ (if b then bytes "true" else condition_text z.form z.left.flag z.left.number z.right.flag z.right.number)
-      go true = unfold if◌then◌else◌ in true_said
-      go false = (unfold if◌then◌else◌ in compared_said z)
+      go : (b : Bool) → shown_condition (drop p (if b then with_form c always x or_else with_condition z c x)) ≡ (if b then bytes "true" or_else condition_text z.form z.left.flag z.left.number z.right.flag z.right.number)
+      go true = unfold if◌then◌or_else◌ in true_said
+      go false = (unfold if◌then◌or_else◌ in compared_said z)
 
   pub guard_said : (t w : List ℕ) (n k j : ℕ) → source w j ≡ k → shown_condition (drop p (with_guard t w n k j c x)) ≡ guard (flow_at t w n j)
   unfolding with_guard guard
   guard_said t w n k j e =
-      ap (λ (i : ℕ). shown_condition (drop p (if eqb (default_of t w n i) j then with_form c default x else guarded_by t w n j c x))) (sym e)
+      ap (λ (i : ℕ). shown_condition (drop p (if eqb (default_of t w n i) j then with_form c default x or_else guarded_by t w n j c x))) (sym e)
       ∙ go (eqb (default_of t w n (source w j)) j)
     where
       plain : guarded_by t w n j c x ≡ said_or_true (said_on t w n j) c x
       plain = unfold guarded_by said_on in same (ltb (first_with condition_expression within_in j w n) n)
         where
-          same : (b : Bool) → (if b then said_or_true (conditionSaid t (place w (first_with condition_expression within_in j w n))) c x else with_form c always x)
-              ≡ said_or_true (if b then conditionSaid t (place w (first_with condition_expression within_in j w n)) else bare absent) c x
-          same true = unfold if◌then◌else◌ in refl
-          same false = unfold if◌then◌else◌ said_or_true in refl
+          same : (b : Bool) → (if b then said_or_true (conditionSaid t (place w (first_with condition_expression within_in j w n))) c x or_else with_form c always x)
+              ≡ said_or_true (if b then conditionSaid t (place w (first_with condition_expression within_in j w n)) or_else bare absent) c x
+          same true = unfold if◌then◌or_else◌ in refl
+          same false = unfold if◌then◌or_else◌ said_or_true in refl
 
-      go : (b : Bool) → shown_condition (drop p (if b then with_form c default x else guarded_by t w n j c x)) ≡ (if b then bytes "default" else condition (said_on t w n j))
-      go true = unfold if◌then◌else◌ in default_said
-      go false = unfold if◌then◌else◌ in ap (λ (z : List ℕ). shown_condition (drop p z)) plain ∙ condition_said (said_on t w n j)
+      go : (b : Bool) → shown_condition (drop p (if b then with_form c default x or_else guarded_by t w n j c x)) ≡ (if b then bytes "default" or_else condition (said_on t w n j))
+      go true = unfold if◌then◌or_else◌ in default_said
+      go false = unfold if◌then◌or_else◌ in ap (λ (z : List ℕ). shown_condition (drop p z)) plain ∙ condition_said (said_on t w n j)
 
 -- A NODE
 module _ (t w : List ℕ) (n k : ℕ) (few : n ≤ room) where
@@ -191,7 +191,7 @@ module _ (t w : List ℕ) (n k : ℕ) (few : n ≤ room) where
   only = set (replicate element_words 0) kind_place (kind w k)
 
   abbrev pub first : List ℕ
-  first = if is_task (within w k) w k then [] else if is_start (within w k) w k then first_edge_of w n k ∷ [] else []
+  first = if is_task (within w k) w k then [] or_else if is_start (within w k) w k then first_edge_of w n k ∷ [] or_else []
 
   message_kept : (y : List ℕ) → Kept (message_place 0) y (with_message w n k y)
   unfolding with_message
@@ -221,44 +221,44 @@ module _ (t w : List ℕ) (n k : ℕ) (few : n ≤ room) where
   unfolding with_first with_task with_form with_edge one_more
   first_count_lem = go (is_task (within w k) w k) (is_start (within w k) w k)
     where
-      go : (b c : Bool) → at (if b then with_task w k only else if c then with_edge entries_place (first_edge_of w n k) only else only) entries_place ≡ length (if b then [] else if c then first_edge_of w n k ∷ [] else [])
-      go true c = unfold if◌then◌else◌ in refl
-      go false true = unfold if◌then◌else◌ in refl
-      go false false = unfold if◌then◌else◌ in refl
+      go : (b c : Bool) → at (if b then with_task w k only or_else if c then with_edge entries_place (first_edge_of w n k) only or_else only) entries_place ≡ length (if b then [] or_else if c then first_edge_of w n k ∷ [] or_else [])
+      go true c = unfold if◌then◌or_else◌ in refl
+      go false true = unfold if◌then◌or_else◌ in refl
+      go false false = unfold if◌then◌or_else◌ in refl
 
   first_exits : at (with_first w n k only) exits_place ≡ 0
   unfolding with_first with_task with_form with_edge one_more
   first_exits = go (is_task (within w k) w k) (is_start (within w k) w k)
     where
-      go : (b c : Bool) → at (if b then with_task w k only else if c then with_edge entries_place (first_edge_of w n k) only else only) exits_place ≡ 0
-      go true c = unfold if◌then◌else◌ in refl
-      go false true = unfold if◌then◌else◌ in refl
-      go false false = unfold if◌then◌else◌ in refl
+      go : (b c : Bool) → at (if b then with_task w k only or_else if c then with_edge entries_place (first_edge_of w n k) only or_else only) exits_place ≡ 0
+      go true c = unfold if◌then◌or_else◌ in refl
+      go false true = unfold if◌then◌or_else◌ in refl
+      go false false = unfold if◌then◌or_else◌ in refl
 
   first_few : length first ≤ 1
   first_few = go (is_task (within w k) w k) (is_start (within w k) w k)
     where
-      go : (b c : Bool) → length (if b then [] else if c then first_edge_of w n k ∷ [] else []) ≤ 1
-      go true c = unfold if◌then◌else◌ in omega arith
-      go false true = unfold if◌then◌else◌ in omega arith
-      go false false = unfold if◌then◌else◌ in omega arith
+      go : (b c : Bool) → length (if b then [] or_else if c then first_edge_of w n k ∷ [] or_else []) ≤ 1
+      go true c = unfold if◌then◌or_else◌ in omega arith
+      go false true = unfold if◌then◌or_else◌ in omega arith
+      go false false = unfold if◌then◌or_else◌ in omega arith
 
   first_at : (i : ℕ) → i < length first → at (with_first w n k only) (entries_place + 1 + i) ≡ get_or first i 0
   unfolding with_first with_task with_form with_edge one_more
   first_at i l = go (is_task (within w k) w k) (is_start (within w k) w k) i l
     where
-      go : (b c : Bool) (i : ℕ) → i < length (if b then [] else if c then first_edge_of w n k ∷ [] else [])
-          → at (if b then with_task w k only else if c then with_edge entries_place (first_edge_of w n k) only else only) (entries_place + 1 + i) ≡ get_or (if b then [] else if c then first_edge_of w n k ∷ [] else []) i 0
-      go true c i l = absurd (none_below i (unfold if◌then◌else◌ in l))
+      go : (b c : Bool) (i : ℕ) → i < length (if b then [] or_else if c then first_edge_of w n k ∷ [] or_else [])
+          → at (if b then with_task w k only or_else if c then with_edge entries_place (first_edge_of w n k) only or_else only) (entries_place + 1 + i) ≡ get_or (if b then [] or_else if c then first_edge_of w n k ∷ [] or_else []) i 0
+      go true c i l = absurd (none_below i (unfold if◌then◌or_else◌ in l))
         where
           none_below : (i : ℕ) → i < 0 → ⊥
           none_below i l = omega (arith, l)
-      go false true zero l = unfold if◌then◌else◌ in refl
-      go false true (suc i) l = absurd (more_one i (unfold if◌then◌else◌ in l))
+      go false true zero l = unfold if◌then◌or_else◌ in refl
+      go false true (suc i) l = absurd (more_one i (unfold if◌then◌or_else◌ in l))
         where
           more_one : (i : ℕ) → suc i < 1 → ⊥
           more_one i l = omega (arith, l)
-      go false false i l = absurd (none_below i (unfold if◌then◌else◌ in l))
+      go false false i l = absurd (none_below i (unfold if◌then◌or_else◌ in l))
         where
           none_below : (i : ℕ) → i < 0 → ⊥
           none_below i l = omega (arith, l)
@@ -319,12 +319,12 @@ module _ (t w : List ℕ) (n k : ℕ) (few : n ≤ room) where
 
     pub not_start : eqb (kind w k) kinds.start ≡ false → first ≡ []
     unfolding is_start is_of_kind
-    not_start e = ap (λ (b : Bool). if is_task (within w k) w k then [] else if (is_node (sort w k) && b) && eqb (within w k) (within w k) then first_edge_of w n k ∷ [] else []) e ∙ go (is_task (within w k) w k) (is_node (sort w k))
+    not_start e = ap (λ (b : Bool). if is_task (within w k) w k then [] or_else if (is_node (sort w k) && b) && eqb (within w k) (within w k) then first_edge_of w n k ∷ [] or_else []) e ∙ go (is_task (within w k) w k) (is_node (sort w k))
       where
-        go : (b c : Bool) → (if b then [] else if (c && false) && eqb (within w k) (within w k) then first_edge_of w n k ∷ [] else []) ≡ []
-        go true c = unfold if◌then◌else◌ in refl
-        go false true = unfold if◌then◌else◌ in refl
-        go false false = unfold if◌then◌else◌ in refl
+        go : (b c : Bool) → (if b then [] or_else if (c && false) && eqb (within w k) (within w k) then first_edge_of w n k ∷ [] or_else []) ≡ []
+        go true c = unfold if◌then◌or_else◌ in refl
+        go false true = unfold if◌then◌or_else◌ in refl
+        go false false = unfold if◌then◌or_else◌ in refl
 
     pub one_entry : eqb (kind w k) kinds.start ≡ false → at el entries_place ≡ 1 → shown (entry_at el 0) ≡ entries d (node_at w k)
     one_entry e h =

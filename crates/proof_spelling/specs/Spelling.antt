@@ -5,7 +5,7 @@ use Rattle.std.specs.Prelude.{ℕ, suc, ◌+◌, Bool, not, ◌&&◌, List, [], 
 use Prim.Native.String.{String}
 use Rattle.base_words.specs.Blocks.{Bytes, Drawing}
 use Rattle.base_words.specs.Each.{joined, those}
-use Rattle.base_words.specs.Pick.{if◌then◌else◌}
+use Rattle.base_words.specs.Pick.{if◌then◌or_else◌}
 use Rattle.base_words.specs.Text.{bytes}
 use Rattle.base_kinds.specs.Kinds as kinds
 use Rattle.base_table.specs.Places.{a_field, always, default, equals}
@@ -59,7 +59,7 @@ pub record Collaboration : Type 0 where
 
 -- AS THE WALK FINDS THEM: t is the text, w the things, n their count. Those of n things that pass a test, as what is made of them.
 abbrev pub gathered : {A : Type 0} → (ℕ → Bool) → (ℕ → A) → ℕ → List A
-gathered test make n = joined (λ k. if test k then make k ∷ [] else []) n
+gathered test make n = joined (λ k. if test k then make k ∷ [] or_else []) n
 
 abbrev pub multiplicity_of : Drawing → ℕ → ℕ → ℕ
 multiplicity_of w n k = first_with participant_multiplicity within_in k w n
@@ -73,7 +73,7 @@ node_at w k = record { name = k; process = within w k; sort = sort w k; kind = k
 -- "Blank text is no condition" (R21)
 unfoldable pub said_on : Bytes → Drawing → ℕ → ℕ → Condition
 said_on t w n j =
-    if ltb (first_with condition_expression within_in j w n) n then condition_at t (place w (first_with condition_expression within_in j w n)) else bare absent
+    if ltb (first_with condition_expression within_in j w n) n then condition_at t (place w (first_with condition_expression within_in j w n)) or_else bare absent
 
 abbrev pub flow_at : Bytes → Drawing → ℕ → ℕ → Flow
 flow_at t w n j =
@@ -110,7 +110,7 @@ parted s (x ∷ y ∷ ys) = x ++ (s ∷ parted s (y ∷ ys))
 
 unfoldable pub first_at : {A : Type 0} → (A → Bool) → List A → ℕ
 first_at f [] = 0
-first_at f (x ∷ xs) = if f x then 0 else suc (first_at f xs)
+first_at f (x ∷ xs) = if f x then 0 or_else suc (first_at f xs)
 
 unfoldable pub foremost : List Bytes → Bytes
 foremost [] = []
@@ -162,7 +162,7 @@ exits d k = parted (code ",") (map (edge d) (flows_from d k.name))
 
 -- "conditionExpression text is our condition, `true` if an exclusive split's flow has none, and its default flow is `default`"
 unfoldable pub operand : Term → Bytes
-operand o = if eqb o.flag a_field then shown_field o.number else shown o.number
+operand o = if eqb o.flag a_field then shown_field o.number or_else shown o.number
 
 unfoldable pub comparison : ℕ → Condition → Bytes
 comparison s c = operand c.left ++ (s ∷ operand c.right)
@@ -170,13 +170,13 @@ comparison s c = operand c.left ++ (s ∷ operand c.right)
 unfoldable pub condition : Condition → Bytes
 condition c =
     if eqb c.form absent then bytes "true"
-    else if eqb c.form always then bytes "true"
-    else if eqb c.form default then bytes "default"
-    else if eqb c.form equals then comparison (code "=") c
-    else comparison (code "<") c
+    or_else if eqb c.form always then bytes "true"
+    or_else if eqb c.form default then bytes "default"
+    or_else if eqb c.form equals then comparison (code "=") c
+    or_else comparison (code "<") c
 
 unfoldable pub guard : Flow → Bytes
-guard f = if f.is_default then bytes "default" else condition f.condition
+guard f = if f.is_default then bytes "default" or_else condition f.condition
 
 unfoldable pub guarded : Collaboration → Flow → Bytes
 guarded d f = enclosed_by (code "(") (code ")") (edge d f ++ (code "," ∷ guard f))
@@ -201,20 +201,20 @@ called word parts = bytes word ++ enclosed_by (code "(") (code ")") (parted (cod
 unfoldable pub element_by : ℕ → Collaboration → Node → Bytes
 element_by c d k =
     if eqb c kinds.start then called "start" (first_edge d k ∷ exits d k ∷ [])
-    else if eqb c kinds.start_rcv then called "startRcv" (received d k.name ∷ exits d k ∷ [])
-    else if eqb c kinds.end then called "end" (entries d k ∷ [])
-    else if eqb c kinds.terminate then called "terminate" (entries d k ∷ [])
-    else if eqb c kinds.end_snd then called "endSnd" (entries d k ∷ sent d k.name ∷ [])
-    else if eqb c kinds.inter_rcv then called "interRcv" (entries d k ∷ received d k.name ∷ exits d k ∷ [])
-    else if eqb c kinds.inter_snd then called "interSnd" (entries d k ∷ sent d k.name ∷ exits d k ∷ [])
-    else if eqb c kinds.event_based then called "eventBased" (entries d k ∷ catches d k ∷ [])
-    else if eqb c kinds.and_split then called "andSplit" (entries d k ∷ braced (exits d k) ∷ [])
-    else if eqb c kinds.and_join then called "andJoin" (braced (entries d k) ∷ exits d k ∷ [])
-    else if eqb c kinds.xor_join then called "xorJoin" (braced (entries d k) ∷ exits d k ∷ [])
-    else if eqb c kinds.xor_split then called "xorSplit" (entries d k ∷ choices d k ∷ [])
-    else if eqb c kinds.task then called "task" (entries d k ∷ work d k ∷ exits d k ∷ [])
-    else if eqb c kinds.task_rcv then called "taskRcv" (entries d k ∷ work d k ∷ received d k.name ∷ exits d k ∷ [])
-    else called "taskSnd" (entries d k ∷ work d k ∷ sent d k.name ∷ exits d k ∷ [])
+    or_else if eqb c kinds.start_rcv then called "startRcv" (received d k.name ∷ exits d k ∷ [])
+    or_else if eqb c kinds.end then called "end" (entries d k ∷ [])
+    or_else if eqb c kinds.terminate then called "terminate" (entries d k ∷ [])
+    or_else if eqb c kinds.end_snd then called "endSnd" (entries d k ∷ sent d k.name ∷ [])
+    or_else if eqb c kinds.inter_rcv then called "interRcv" (entries d k ∷ received d k.name ∷ exits d k ∷ [])
+    or_else if eqb c kinds.inter_snd then called "interSnd" (entries d k ∷ sent d k.name ∷ exits d k ∷ [])
+    or_else if eqb c kinds.event_based then called "eventBased" (entries d k ∷ catches d k ∷ [])
+    or_else if eqb c kinds.and_split then called "andSplit" (entries d k ∷ braced (exits d k) ∷ [])
+    or_else if eqb c kinds.and_join then called "andJoin" (braced (entries d k) ∷ exits d k ∷ [])
+    or_else if eqb c kinds.xor_join then called "xorJoin" (braced (entries d k) ∷ exits d k ∷ [])
+    or_else if eqb c kinds.xor_split then called "xorSplit" (entries d k ∷ choices d k ∷ [])
+    or_else if eqb c kinds.task then called "task" (entries d k ∷ work d k ∷ exits d k ∷ [])
+    or_else if eqb c kinds.task_rcv then called "taskRcv" (entries d k ∷ work d k ∷ received d k.name ∷ exits d k ∷ [])
+    or_else called "taskSnd" (entries d k ∷ work d k ∷ sent d k.name ∷ exits d k ∷ [])
 
 unfoldable pub element : Collaboration → Node → Bytes
 element d k = element_by k.kind d k
@@ -229,7 +229,7 @@ elements d p = parted (code "|") (map (element d) (elements_in d p.process))
 unfoldable pub pool : Collaboration → ℕ → Participant → Bytes
 pool d i p =
     if p.is_many then bytes "miPool" ++ enclosed_by (code "(") (code ")") (shown i ++ (code "," ∷ (elements d p ++ (code "," ∷ shown p.maximum))))
-    else bytes "pool" ++ enclosed_by (code "(") (code ")") (shown i ++ (code "," ∷ elements d p))
+    or_else bytes "pool" ++ enclosed_by (code "(") (code ")") (shown i ++ (code "," ∷ elements d p))
 
 unfoldable pub pools_from : Collaboration → ℕ → List Participant → List Bytes
 pools_from d i [] = []

@@ -4,7 +4,7 @@ use mathlib.Core.Path.{◌≡◌, refl}
 use mathlib.Core.Bool.{Bool, true, false, ◌||◌}
 use mathlib.Core.List.{List, [], ◌∷◌}
 use native.Mathlib.Omega.{arith}
-use Rattle.base_words.specs.Pick.{if◌then◌else◌}
+use Rattle.base_words.specs.Pick.{if◌then◌or_else◌}
 use Rattle.meaning.specs.declared.Name.{Name}
 use Rattle.meaning.specs.Requirements.{counts_permit, granted, below_limit, roomy}
 use Rattle.meaning.specs.Refusals.{Refusal, ◌unless◌, first_refusal}
@@ -12,12 +12,12 @@ use Rattle.meaning.specs.Step.{Site, site_of, exists, receives, template, define
 
 -- one condition of a list of refusals
 pub first_holds : (k : ℕ) (b : Bool) (rs : List Refusal) → (k ≡ 0 → ⊥) → first_refusal (k unless b ∷ rs) ≡ 0 → (b ≡ true) × (first_refusal rs ≡ 0)
-unfolding first_refusal if◌then◌else◌
+unfolding first_refusal if◌then◌or_else◌
 first_holds k true rs n e = (refl, e)
 first_holds k false rs n e = absurd (n e)
 
 first_passes : (k : ℕ) (b : Bool) (rs : List Refusal) → b ≡ true → first_refusal rs ≡ 0 → first_refusal (k unless b ∷ rs) ≡ 0
-unfolding first_refusal if◌then◌else◌
+unfolding first_refusal if◌then◌or_else◌
 first_passes k b rs h e = rw h e
 
 first_none : first_refusal [] ≡ 0

@@ -8,7 +8,7 @@ use lib.Dec.{eqb, leb, ltb}
 use lib.ListN.{set, drop}
 use lib.Seq.{set-get_or}
 use borrow.Author.Tests.{eqb-true, eqb-false, ltb-true, leb-false}
-use Rattle.base_words.specs.Pick.{if◌then◌else◌}
+use Rattle.base_words.specs.Pick.{if◌then◌or_else◌}
 use Rattle.base_words.specs.Words.{at}
 use Rattle.base_words.specs.Counts.{values, assignments, count_most, fields_named}
 use Rattle.base_words.proofs.IterLaws.{iter_keeps}
@@ -32,10 +32,10 @@ use Rattle.proof_steps.proofs.InstanceFits.{Fit, count_most_lem, fit_set, fit_fi
 
 -- NUMBERS: the edges that a cell means are among the n there are; a count stays at most 255
 pub touched_within : (cell b n j : ℕ) → (cell ≡ branch → b < n) → j < touched cell n → first_touched cell b + j < n
-unfolding touched first_touched if◌then◌else◌
+unfolding touched first_touched if◌then◌or_else◌
 touched_within cell b n j few l = go (eqb cell every) refl (eqb cell branch) refl l
   where
-    go : (c : Bool) → eqb cell every ≡ c → (d : Bool) → eqb cell branch ≡ d → j < (if c then n else if d then 1 else 0) → (if d then b else 0) + j < n
+    go : (c : Bool) → eqb cell every ≡ c → (d : Bool) → eqb cell branch ≡ d → j < (if c then n or_else if d then 1 or_else 0) → (if d then b or_else 0) + j < n
     go true e true f l = let y = eqb-true cell every e in let z = eqb-true cell branch f in absurd (omega arith)
     go true e false f l = omega arith
     go false e true f l = let z = few (eqb-true cell branch f) in omega arith
@@ -52,7 +52,7 @@ counted_most cell n h =
     (λ e. by_choice (λ k. k ≤ count_most) (eqb cell down) (n - 1) n (λ f. omega arith) (λ f. h))
 
 counted_none : (n : ℕ) → count_changed 0 n ≡ n
-unfolding count_changed if◌then◌else◌
+unfolding count_changed if◌then◌or_else◌
 counted_none n = refl
 
 module _ (u el : List ℕ) where

@@ -4,7 +4,7 @@ use mathlib.Core.Path.{◌≡◌, ◌∙◌, sym}
 use mathlib.Core.Bool.{true}
 use mathlib.Core.List.{List}
 use borrow.Author.Tests.{eq-eqb}
-use Rattle.base_words.specs.Pick.{if◌then◌else◌}
+use Rattle.base_words.specs.Pick.{if◌then◌or_else◌}
 use Rattle.meaning.specs.declared.Name.{Name}
 use Rattle.meaning.specs.Refusals.{first_refusal}
 use Rattle.meaning.specs.Step.{Site, site_of, queued, space, refusals, instances_after, step}
@@ -28,7 +28,7 @@ other_queues x q q' w p a =
 
 module _ (t s : List ℕ) (n : Name) where
   pub accepted_instances : (q : List ℕ) → first_refusal (refusals t s q n) ≡ 0 → (step t s q n).instances ≡ instances_after t s n
-  unfolding step if◌then◌else◌
+  unfolding step if◌then◌or_else◌
   accepted_instances q e = rw (eq-eqb (first_refusal (refusals t s q n)) 0 e)
 
   module _ (q q' : List ℕ) (accepted : first_refusal (refusals t s q n) ≡ 0) (waiting : queued (site_of t s n) q' ≡ true) (spacious : space (site_of t s n) q' ≡ true) where

@@ -10,7 +10,7 @@ use lib.ListN.{length, set, drop, length-set}
 use lib.Seq.{get_or-drop, get_or-set_same, get_or-set_other}
 use borrow.Author.Tests.{eqb-true, leb-true, eq-eqb, le-leb}
 use Rattle.base_words.specs.All.{all}
-use Rattle.base_words.specs.Pick.{if◌then◌else◌}
+use Rattle.base_words.specs.Pick.{if◌then◌or_else◌}
 use Rattle.base_words.specs.Words.{at}
 use Rattle.base_words.specs.Counts.{fields, count_most, fields_named}
 use Rattle.base_words.proofs.AllLaws.{and_left, and_right, all_at, all_of}
@@ -62,11 +62,11 @@ module _ (h : List ℕ) (d : ℕ) where
   value_is = let e : defined_place 0 + (2 * d + 1) ≡ value_place d = omega arith in get_or-drop (defined_place 0) h (2 * d + 1) 0 ∙ ap (at h) e
 
   field_defined : at h (defined_place d) ≡ 1 → seen_fits h d ≡ true
-  unfolding field_fits if◌then◌else◌
+  unfolding field_fits if◌then◌or_else◌
   field_defined e = rw (flag_is ∙ e)
 
   field_blank : at h (defined_place d) ≡ 0 → at h (value_place d) ≡ 0 → seen_fits h d ≡ true
-  unfolding field_fits if◌then◌else◌
+  unfolding field_fits if◌then◌or_else◌
   field_blank e v = rw (flag_is ∙ e, value_is ∙ v)
 
 field_same : (h : List ℕ) (d : ℕ) (g : List ℕ) → at g (defined_place d) ≡ at h (defined_place d) → at g (value_place d) ≡ at h (value_place d) → seen_fits h d ≡ true → seen_fits g d ≡ true

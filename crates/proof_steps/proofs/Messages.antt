@@ -5,7 +5,7 @@ use mathlib.Core.Bool.{true, false, ◌||◌}
 use mathlib.Core.List.{List}
 use lib.Dec.{eqb}
 use borrow.Author.Tests.{eqb-true, eqb-false, ne_eqb}
-use Rattle.base_words.specs.Pick.{if◌then◌else◌}
+use Rattle.base_words.specs.Pick.{if◌then◌or_else◌}
 use Rattle.base_words.specs.Words.{at}
 use Rattle.base_kinds.specs.declared.Kind.{Kind}
 use Rattle.base_kinds.specs.declared.moves.Move.{Move}
@@ -25,7 +25,7 @@ module _ (el : List ℕ) (p : ℕ) where
   row = kind_of (kind_in el)
 
   pub branch_message : (m.kind ≡ 0 → ⊥) → eqb m.receives on || eqb m.sends on ≡ true → (b : ℕ) → b < branch_count el m → b < used (row.receives + row.sends) (at el exits_place)
-  unfolding branch_count exit_count used if◌then◌else◌
+  unfolding branch_count exit_count used if◌then◌or_else◌
   branch_message there talks b l =
       let k : m.kind ≡ kind_in el = row_kind (kind_in el) (mode_in el) p there in
       by_test (eqb m.puts branch)

@@ -9,7 +9,7 @@ use lib.Dec.{eqb, ltb}
 use lib.ListN.{length, length-set}
 use lib.Seq.{get_or-set_same, get_or-set_other}
 use borrow.Author.Tests.{eqb-true, eq-eqb, ltb-true}
-use Rattle.base_words.specs.Pick.{if◌then◌else◌}
+use Rattle.base_words.specs.Pick.{if◌then◌or_else◌}
 use Rattle.base_words.specs.Words.{at}
 use Rattle.base_words.specs.Counts.{tasks, edges, count_most}
 use Rattle.base_words.proofs.AllLaws.{all_at, and_left, and_right}
@@ -172,7 +172,7 @@ module _ (t s q : List ℕ) (n : Name) (fits : table_fits t ≡ true) (state : s
   clears_none e = row_clearing (kind_in (element_named t n)) (mode_in (element_named t n)) n.phase (eqb-true (move_named t n).also clearing e)
 
   none_touched : (cell k : ℕ) → cell ≡ 0 → touched cell k ≡ 0
-  unfolding touched if◌then◌else◌
+  unfolding touched if◌then◌or_else◌
   none_touched cell k e = rw e
 
   pub no_saturation : ExitsApart (element_named t n)

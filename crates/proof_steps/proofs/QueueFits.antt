@@ -10,7 +10,7 @@ use lib.Seq.{get_or-drop}
 use borrow.Author.Tests.{eqb-true, leb-true, eq-eqb, ne_eqb, le-leb, le-ltb}
 use Rattle.base_words.specs.All.{all}
 use Rattle.base_words.specs.Each.{each, tab}
-use Rattle.base_words.specs.Pick.{if◌then◌else◌}
+use Rattle.base_words.specs.Pick.{if◌then◌or_else◌}
 use Rattle.base_words.specs.Words.{at}
 use Rattle.base_words.specs.Counts.{values, messages}
 use Rattle.base_words.proofs.AllLaws.{and_left, and_right, all_at, all_of}
@@ -56,23 +56,23 @@ short_without g (x ∷ xs) h =
 
 -- WORDS behind the last message are 0
 messages_behind : (ms : List Tuple) (i : ℕ) → slot_words * length ms ≤ i → messages_word ms i ≡ 0
-unfolding messages_word if◌then◌else◌
+unfolding messages_word if◌then◌or_else◌
 messages_behind [] i h = refl
 messages_behind (g ∷ gs) i h = rw (le-ltb i slot_words (omega arith)) (messages_behind gs (i - slot_words) (omega arith))
 
 queue_behind : (ms : List Tuple) (i : ℕ) → slot_words * length ms ≤ i → queue_word ms (1 + i) ≡ 0
-unfolding queue_word if◌then◌else◌
+unfolding queue_word if◌then◌or_else◌
 queue_behind ms i h =
     let e : 1 + i - 1 ≡ i = omega arith in
     rw (ne_eqb (1 + i) 0 (λ z. omega arith), e) (messages_behind ms i h)
 
 -- word d of a message
 word_first : (g : Tuple) → message_word g 0 ≡ g.length
-unfolding message_word if◌then◌else◌
+unfolding message_word if◌then◌or_else◌
 word_first g = refl
 
 word_next : (g : Tuple) (j : ℕ) → message_word g (suc j) ≡ value_of g j
-unfolding message_word if◌then◌else◌
+unfolding message_word if◌then◌or_else◌
 word_next g j = let e : suc j - 1 ≡ j = omega arith in rw (ne_eqb (suc j) 0 (λ z. omega arith), e)
 
 module _ (q : List ℕ) (m : ℕ) where

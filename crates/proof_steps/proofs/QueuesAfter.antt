@@ -3,7 +3,7 @@ use mathlib.Core.Path.{◌≡◌}
 use mathlib.Core.Bool.{true, false}
 use mathlib.Core.List.{List}
 use Prim.Native.Nat.{ℕ}
-use Rattle.base_words.specs.Pick.{if◌then◌else◌}
+use Rattle.base_words.specs.Pick.{if◌then◌or_else◌}
 use Rattle.meaning.specs.Queues.{sending, consuming}
 use Rattle.meaning.specs.Step.{Site, receives, sends, message_named, sent, queues_after}
 use Rattle.proof_steps.proofs.Choices.{by_choice, chosen}
@@ -22,5 +22,5 @@ module _ (x : Site) (q : List ℕ) where
   after_receiving e = chosen (receives x) _ _ e
 
   pub after_sending : receives x ≡ false → sends x ≡ true → queues_after x q ≡ sending q (message_named x) (sent x).tuple
-  unfolding queues_after if◌then◌else◌
+  unfolding queues_after if◌then◌or_else◌
   after_sending e f = rw (e, f)

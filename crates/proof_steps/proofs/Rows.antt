@@ -8,7 +8,7 @@ use lib.Dec.{eqb, ltb}
 use lib.ListN.{get_or}
 use borrow.Author.Tests.{eqb-true, eqb-false, ltb-true, not-true, eq-eqb, ne_eqb}
 use Rattle.base_words.specs.Each.{each}
-use Rattle.base_words.specs.Pick.{if◌then◌else◌}
+use Rattle.base_words.specs.Pick.{if◌then◌or_else◌}
 use Rattle.base_words.proofs.AllLaws.{and_left, and_right}
 use Rattle.base_words.proofs.ListLaws.{each_at}
 use Rattle.base_words.proofs.SeekLaws.{sought}
@@ -50,59 +50,59 @@ module _ (k m p : ℕ) where
 
   -- no row takes and puts at the branch
   pub row_branch : (move_of k m p).puts ≡ branch → (move_of k m p).takes ≡ branch → ⊥
-  unfolding each if◌then◌else◌
+  unfolding each if◌then◌or_else◌
   row_branch e f =
-      let h = every_row (λ r. if eqb r.puts branch then not (eqb r.takes branch) else true) refl refl in
+      let h = every_row (λ r. if eqb r.puts branch then not (eqb r.takes branch) or_else true) refl refl in
       eqb-false _ branch (not-true _ (chosen_true _ _ true h (eq-eqb _ branch e))) f
 
   -- counts are of tasks that are not atomic, ready counts of those that receive or send
   pub row_active : ((move_of k m p).active ≡ 0 → ⊥) → a < (move_of k m p).mode
-  unfolding each if◌then◌else◌
+  unfolding each if◌then◌or_else◌
   row_active n =
-      let h = every_row (λ r. if eqb r.active 0 then true else ltb a r.mode) refl refl in
+      let h = every_row (λ r. if eqb r.active 0 then true or_else ltb a r.mode) refl refl in
       ltb-true a _ (passed_true _ true _ h (ne_eqb _ 0 n))
 
   pub row_ready : ((move_of k m p).ready ≡ 0 → ⊥) → a < (move_of k m p).mode
-  unfolding each if◌then◌else◌
+  unfolding each if◌then◌or_else◌
   row_ready n =
-      let h = every_row (λ r. if eqb r.ready 0 then true else ltb a r.mode) refl refl in
+      let h = every_row (λ r. if eqb r.ready 0 then true or_else ltb a r.mode) refl refl in
       ltb-true a _ (passed_true _ true _ h (ne_eqb _ 0 n))
 
   pub row_speaks : ((move_of k m p).ready ≡ 0 → ⊥) → 0 < (kind_of (move_of k m p).kind).receives + (kind_of (move_of k m p).kind).sends
-  unfolding each if◌then◌else◌ kind_of
+  unfolding each if◌then◌or_else◌ kind_of
   row_speaks n =
-      let h = every_row (λ r. if eqb r.ready 0 then true else ltb 0 ((kind_of r.kind).receives + (kind_of r.kind).sends)) refl refl in
+      let h = every_row (λ r. if eqb r.ready 0 then true or_else ltb 0 ((kind_of r.kind).receives + (kind_of r.kind).sends)) refl refl in
       ltb-true 0 _ (passed_true _ true _ h (ne_eqb _ 0 n))
 
   -- what makes an instance is a startRcv
   pub row_making : (move_of k m p).also ≡ making → (move_of k m p).kind ≡ start_rcv
-  unfolding each if◌then◌else◌
+  unfolding each if◌then◌or_else◌
   row_making e =
-      let h = every_row (λ r. if eqb r.also making then eqb r.kind start_rcv else true) refl refl in
+      let h = every_row (λ r. if eqb r.also making then eqb r.kind start_rcv or_else true) refl refl in
       eqb-true _ start_rcv (chosen_true _ _ true h (eq-eqb _ making e))
 
   -- what clears puts no token and raises no count
   pub row_clearing : (move_of k m p).also ≡ clearing → ((move_of k m p).puts ≡ 0) × ((move_of k m p).active ≡ 0) × ((move_of k m p).ready ≡ 0)
-  unfolding each if◌then◌else◌
+  unfolding each if◌then◌or_else◌
   row_clearing e =
-      let h = every_row (λ r. if eqb r.also clearing then eqb r.puts 0 else true) refl refl in
-      let g = every_row (λ r. if eqb r.also clearing then eqb r.active 0 else true) refl refl in
-      let f = every_row (λ r. if eqb r.also clearing then eqb r.ready 0 else true) refl refl in
+      let h = every_row (λ r. if eqb r.also clearing then eqb r.puts 0 or_else true) refl refl in
+      let g = every_row (λ r. if eqb r.also clearing then eqb r.active 0 or_else true) refl refl in
+      let f = every_row (λ r. if eqb r.also clearing then eqb r.ready 0 or_else true) refl refl in
       let c = eq-eqb _ clearing e in
       (eqb-true _ 0 (chosen_true _ _ true h c), eqb-true _ 0 (chosen_true _ _ true g c), eqb-true _ 0 (chosen_true _ _ true f c))
 
   -- what receives is of a kind that does
   pub row_receives : (move_of k m p).receives ≡ on → 0 < (kind_of (move_of k m p).kind).receives
-  unfolding each if◌then◌else◌ kind_of
+  unfolding each if◌then◌or_else◌ kind_of
   row_receives e =
-      let h = every_row (λ r. if eqb r.receives on then ltb 0 (kind_of r.kind).receives else true) refl refl in
+      let h = every_row (λ r. if eqb r.receives on then ltb 0 (kind_of r.kind).receives or_else true) refl refl in
       ltb-true 0 _ (chosen_true _ _ true h (eq-eqb _ on e))
 
   -- a step that receives does not send
   pub row_one_way : (move_of k m p).receives ≡ on → (move_of k m p).sends ≡ on → ⊥
-  unfolding each if◌then◌else◌
+  unfolding each if◌then◌or_else◌
   row_one_way e f =
-      let h = every_row (λ r. if eqb r.receives on then not (eqb r.sends on) else true) refl refl in
+      let h = every_row (λ r. if eqb r.receives on then not (eqb r.sends on) or_else true) refl refl in
       eqb-false _ on (not-true _ (chosen_true _ _ true h (eq-eqb _ on e))) f
 
   -- what receives or sends has one message and no branches, or a message for each exit and the exits as branches
@@ -110,19 +110,19 @@ module _ (k m p : ℕ) where
   Talks = eqb (move_of k m p).receives on || eqb (move_of k m p).sends on ≡ true
 
   pub row_alone : Talks → ((move_of k m p).puts ≡ branch → ⊥) → ((move_of k m p).takes ≡ branch → ⊥) × ((kind_of (move_of k m p).kind).receives + (kind_of (move_of k m p).kind).sends ≡ one)
-  unfolding each if◌then◌else◌ kind_of
+  unfolding each if◌then◌or_else◌ kind_of
   row_alone e n =
-      let h = every_row (λ r. if eqb r.receives on || eqb r.sends on then (if eqb r.puts branch then true else not (eqb r.takes branch)) else true) refl refl in
-      let g = every_row (λ r. if eqb r.receives on || eqb r.sends on then (if eqb r.puts branch then true else eqb ((kind_of r.kind).receives + (kind_of r.kind).sends) one) else true) refl refl in (
+      let h = every_row (λ r. if eqb r.receives on || eqb r.sends on then (if eqb r.puts branch then true or_else not (eqb r.takes branch)) or_else true) refl refl in
+      let g = every_row (λ r. if eqb r.receives on || eqb r.sends on then (if eqb r.puts branch then true or_else eqb ((kind_of r.kind).receives + (kind_of r.kind).sends) one) or_else true) refl refl in (
         eqb-false _ branch (not-true _ (passed_true _ true _ (chosen_true _ _ true h e) (ne_eqb _ branch n))),
         eqb-true _ one (passed_true _ true _ (chosen_true _ _ true g e) (ne_eqb _ branch n)),
       )
 
   pub row_each : Talks → (move_of k m p).puts ≡ branch → ((kind_of (move_of k m p).kind).exits ≡ many) × ((kind_of (move_of k m p).kind).receives + (kind_of (move_of k m p).kind).sends ≡ many)
-  unfolding each if◌then◌else◌ kind_of
+  unfolding each if◌then◌or_else◌ kind_of
   row_each e n =
-      let h = every_row (λ r. if eqb r.receives on || eqb r.sends on then (if eqb r.puts branch then eqb (kind_of r.kind).exits many else true) else true) refl refl in
-      let g = every_row (λ r. if eqb r.receives on || eqb r.sends on then (if eqb r.puts branch then eqb ((kind_of r.kind).receives + (kind_of r.kind).sends) many else true) else true) refl refl in (
+      let h = every_row (λ r. if eqb r.receives on || eqb r.sends on then (if eqb r.puts branch then eqb (kind_of r.kind).exits many or_else true) or_else true) refl refl in
+      let g = every_row (λ r. if eqb r.receives on || eqb r.sends on then (if eqb r.puts branch then eqb ((kind_of r.kind).receives + (kind_of r.kind).sends) many or_else true) or_else true) refl refl in (
         eqb-true _ many (chosen_true _ _ true (chosen_true _ _ true h e) (eq-eqb _ branch n)),
         eqb-true _ many (chosen_true _ _ true (chosen_true _ _ true g e) (eq-eqb _ branch n)),
       )

@@ -8,7 +8,7 @@ use lib.Dec.{ltb}
 use lib.ListN.{length, drop}
 use borrow.Author.Tests.{ltb-true, eqb-true, ne_eqb}
 use Rattle.base_words.specs.All.{all}
-use Rattle.base_words.specs.Pick.{if◌then◌else◌}
+use Rattle.base_words.specs.Pick.{if◌then◌or_else◌}
 use Rattle.base_words.specs.Counts.{pools, names, fields, values, messages}
 use Rattle.base_words.proofs.AllLaws.{and_left, and_right, all_at}
 use Rattle.base_kinds.specs.Moves.{on}
@@ -84,5 +84,5 @@ module _ (t s q : List ℕ) (n : Name) (fits : table_fits t ≡ true) (accepted 
     sent-space = ltb-true (length (messages_of q (message_named x))) messages (chosen_true (sends x) (ltb (length (messages_of q (message_named x))) messages) true site.spacious e)
 
     pub sent_short : (sent x).tuple.length ≤ values
-    unfolding sent message_sent evaluated gathered site_of if◌then◌else◌
+    unfolding sent message_sent evaluated gathered site_of if◌then◌or_else◌
     sent_short = rw e (length_few t s n fits here (or_right (receives x) (sends x) e))

@@ -12,7 +12,7 @@ use lib.Seq.{get_or-set_same, get_or-set_other}
 use borrow.Author.Tests.{ne_eqb, lt-leb}
 use Rattle.base_words.specs.Each.{tab}
 use Rattle.base_words.specs.Iter.{iter}
-use Rattle.base_words.specs.Pick.{if◌then◌else◌}
+use Rattle.base_words.specs.Pick.{if◌then◌or_else◌}
 use Rattle.base_words.specs.Words.{at}
 use Rattle.base_kinds.specs.Kinds.{kind_of}
 use Rattle.base_kinds.specs.Moves.{a}
@@ -102,10 +102,10 @@ module _ (el w : List ℕ) where
 
   module _ (lasting : a < mode_in el) where
     count_active : (v : List ℕ) → active_place (task_in el) < length v → at (all_marked v (count_places el)) (active_place (task_in el)) ≡ 1
-    unfolding count_places if◌then◌else◌
+    unfolding count_places if◌then◌or_else◌
     count_active v l = rw (lt-leb (mode_in el) a lasting) (go (eqb ((kind_of (kind_in el)).receives + (kind_of (kind_in el)).sends) 0))
       where
-        go : (b : Bool) → at (all_marked v (if b then active_place (task_in el) ∷ [] else active_place (task_in el) ∷ ready_place (task_in el) ∷ [])) (active_place (task_in el)) ≡ 1
+        go : (b : Bool) → at (all_marked v (if b then active_place (task_in el) ∷ [] or_else active_place (task_in el) ∷ ready_place (task_in el) ∷ [])) (active_place (task_in el)) ≡ 1
         go true = marked_first (active_place (task_in el)) v [] l
         go false = marked_first (active_place (task_in el)) v (ready_place (task_in el) ∷ []) l
 
@@ -114,7 +114,7 @@ module _ (el w : List ℕ) where
 
     module _ (speaks : 0 < (kind_of (kind_in el)).receives + (kind_of (kind_in el)).sends) where
       count_ready : (v : List ℕ) → ready_place (task_in el) < length v → at (all_marked v (count_places el)) (ready_place (task_in el)) ≡ 1
-      unfolding count_places if◌then◌else◌
+      unfolding count_places if◌then◌or_else◌
       count_ready v l =
           rw (lt-leb (mode_in el) a lasting, ne_eqb ((kind_of (kind_in el)).receives + (kind_of (kind_in el)).sends) 0 (λ e. omega arith))
           (marked_second (ready_place (task_in el)) v [] (active_place (task_in el)) l)

@@ -5,7 +5,7 @@ use mathlib.Core.Bool.{Bool, true, false}
 use mathlib.Core.List.{List, ◌++◌}
 use lib.Dec.{eqb}
 use borrow.Author.Tests.{eqb-true}
-use Rattle.base_words.specs.Pick.{if◌then◌else◌}
+use Rattle.base_words.specs.Pick.{if◌then◌or_else◌}
 use Rattle.base_state.specs.Instances.{instances_of, queues_of}
 use Rattle.meaning.specs.declared.Name.{Name}
 use Rattle.meaning.specs.declared.Tuple.{Tuple}
@@ -38,24 +38,24 @@ post_number q name g =
     (λ e. refl)
 
 -- THE NUMBER of a step and of a post: 10 or 25 where table or state are bad, else that of the first condition that does not hold, 0 where all hold
-pub stepped_number : (t z : List ℕ) (n : Name) → (stepped t z n).answer.number ≡ (if fitting t z then first_refusal (refusals t (instances_of z) (queues_of z) n) else lent_number t z)
-unfolding stepped leaving if◌then◌else◌
+pub stepped_number : (t z : List ℕ) (n : Name) → (stepped t z n).answer.number ≡ (if fitting t z then first_refusal (refusals t (instances_of z) (queues_of z) n) or_else lent_number t z)
+unfolding stepped leaving if◌then◌or_else◌
 stepped_number t z n = go (fitting t z)
   where
     o : Bool → Stepped
-    o b = if b then leaving (step t (instances_of z) (queues_of z) n) else record { answer = record { number = lent_number t z; traffic = Nothing; name = 0; tuple = empty }; state = z }
+    o b = if b then leaving (step t (instances_of z) (queues_of z) n) or_else record { answer = record { number = lent_number t z; traffic = Nothing; name = 0; tuple = empty }; state = z }
 
-    go : (b : Bool) → (o b).answer.number ≡ (if b then first_refusal (refusals t (instances_of z) (queues_of z) n) else lent_number t z)
+    go : (b : Bool) → (o b).answer.number ≡ (if b then first_refusal (refusals t (instances_of z) (queues_of z) n) or_else lent_number t z)
     go true = step_number t (instances_of z) (queues_of z) n
     go false = refl
 
-pub posted_number : (t z : List ℕ) (name : ℕ) (g : Tuple) → (posted_to t z name g).number ≡ (if fitting t z then first_refusal (post_refusals (queues_of z) name g) else lent_number t z)
-unfolding posted_to if◌then◌else◌
+pub posted_number : (t z : List ℕ) (name : ℕ) (g : Tuple) → (posted_to t z name g).number ≡ (if fitting t z then first_refusal (post_refusals (queues_of z) name g) or_else lent_number t z)
+unfolding posted_to if◌then◌or_else◌
 posted_number t z name g = go (fitting t z)
   where
     o : Bool → Left
-    o b = if b then record { number = (post (queues_of z) name g).number; state = instances_of z ++ (post (queues_of z) name g).queues } else record { number = lent_number t z; state = z }
+    o b = if b then record { number = (post (queues_of z) name g).number; state = instances_of z ++ (post (queues_of z) name g).queues } or_else record { number = lent_number t z; state = z }
 
-    go : (b : Bool) → (o b).number ≡ (if b then first_refusal (post_refusals (queues_of z) name g) else lent_number t z)
+    go : (b : Bool) → (o b).number ≡ (if b then first_refusal (post_refusals (queues_of z) name g) or_else lent_number t z)
     go true = post_number (queues_of z) name g
     go false = refl

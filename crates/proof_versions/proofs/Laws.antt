@@ -9,15 +9,15 @@ use lib.Seq.{set_comm}
 use Rattle.base_words.specs.All.{all}
 use Rattle.base_words.specs.Each.{tab}
 use Rattle.base_words.specs.Iter.{iter}
-use Rattle.base_words.specs.Pick.{if◌then◌else◌}
+use Rattle.base_words.specs.Pick.{if◌then◌or_else◌}
 use Rattle.base_words.specs.Writes.{writes}
 
-pub choice_along : {A B : Type 0} (u : A → B) (b : Bool) (x y : A) (x' y' : B) → (b ≡ true → x' ≡ u x) → (b ≡ false → y' ≡ u y) → (if b then x' else y') ≡ u (if b then x else y)
-unfolding if◌then◌else◌
+pub choice_along : {A B : Type 0} (u : A → B) (b : Bool) (x y : A) (x' y' : B) → (b ≡ true → x' ≡ u x) → (b ≡ false → y' ≡ u y) → (if b then x' or_else y') ≡ u (if b then x or_else y)
+unfolding if◌then◌or_else◌
 choice_along u true x y x' y' f g = f refl
 choice_along u false x y x' y' f g = g refl
 
-pub choice_same : {A : Type 0} (b : Bool) (x y x' y' : A) → (b ≡ true → x' ≡ x) → (b ≡ false → y' ≡ y) → (if b then x' else y') ≡ (if b then x else y)
+pub choice_same : {A : Type 0} (b : Bool) (x y x' y' : A) → (b ≡ true → x' ≡ x) → (b ≡ false → y' ≡ y) → (if b then x' or_else y') ≡ (if b then x or_else y)
 choice_same b x y x' y' f g = choice_along (λ a. a) b x y x' y' f g
 
 pub iter_along : {A : Type 0} (u : A → A) (f : ℕ → A → A) (n : ℕ) → ((j : ℕ) → j < n → (a : A) → f j (u a) ≡ u (f j a)) → (a : A) → iter f (u a) n ≡ u (iter f a n)

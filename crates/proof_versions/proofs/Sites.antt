@@ -5,7 +5,7 @@ use mathlib.Core.Bool.{true, ◌&&◌, ◌||◌}
 use mathlib.Core.List.{List}
 use lib.Dec.{eqb}
 use lib.ListN.{length}
-use Rattle.base_words.specs.Pick.{if◌then◌else◌}
+use Rattle.base_words.specs.Pick.{if◌then◌or_else◌}
 use Rattle.base_words.specs.Words.{at}
 use Rattle.base_kinds.specs.declared.moves.Move.{Move}
 use Rattle.base_kinds.specs.Kinds.{kind_of, used}
@@ -98,14 +98,14 @@ module _ (v : ℕ) (x : Site) (row : Process.Site x.element x.move x.branch)
 
   pub queues_same : (q : List ℕ) → queues_after (sited v x) q ≡ queues_after x q
   unfolding queues_after
-  queues_same q = λ i. if receives x then consuming q (message_named x) g else if sends x then sending q (message_named x) (sent_same i).tuple else q
+  queues_same q = λ i. if receives x then consuming q (message_named x) g or_else if sends x then sending q (message_named x) (sent_same i).tuple or_else q
 
   pub traffic_same : traffic (sited v x) ≡ traffic x
   unfolding traffic
   traffic_same = λ i.
       if receives x then record { number = 0; traffic = Consumed; name = message_named x; tuple = (template_same i).tuple }
-      else if sends x then record { number = 0; traffic = Sent; name = message_named x; tuple = (sent_same i).tuple }
-      else record { number = 0; traffic = Nothing; name = 0; tuple = empty }
+      or_else if sends x then record { number = 0; traffic = Sent; name = message_named x; tuple = (sent_same i).tuple }
+      or_else record { number = 0; traffic = Nothing; name = 0; tuple = empty }
 
   pub accepted_along : length h ≡ copy_words → (v ≡ former → ⊥) → (q : List ℕ) → Accepted x q → Accepted (sited v x) q
   unfolding matches queued space

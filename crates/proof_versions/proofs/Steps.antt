@@ -9,7 +9,7 @@ use lib.Dec.{eqb, ltb}
 use lib.ListN.{length, replicate, length-replicate, length-set}
 use lib.Seq.{get_or-set_same, get_or-set_other, set_comm, ext_get_or}
 use borrow.Author.Tests.{eq-eqb}
-use Rattle.base_words.specs.Pick.{if◌then◌else◌}
+use Rattle.base_words.specs.Pick.{if◌then◌or_else◌}
 use Rattle.base_words.specs.Words.{at}
 use Rattle.base_words.specs.Counts.{pools, instances}
 use Rattle.base_kinds.specs.Kinds.{kind_of, used}
@@ -134,8 +134,8 @@ module _ (t s q : List ℕ) (good : valid t ≡ true) (fit : Fitting t s q) (v :
   before_along =
       let c : Bool = eqb (move_named t n).also making in
       let zeros : List ℕ = replicate instance_words 0 in
-      ap (λ o. (if c then zeros else o) ++ shared_of (under v s)) own_same
-      ∙ seen_along v s (if c then zeros else instance_of s p i) fit.long
+      ap (λ o. (if c then zeros or_else o) ++ shared_of (under v s)) own_same
+      ∙ seen_along v s (if c then zeros or_else instance_of s p i) fit.long
       (by_choice (λ (y : List ℕ). length y ≡ instance_words) c zeros (instance_of s p i) (λ e. length-replicate {A = ℕ} instance_words 0) (λ e. instance_long s p i))
 
   site_along : site_of t (under v s) n ≡ sited v x

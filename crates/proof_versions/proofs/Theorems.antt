@@ -11,7 +11,7 @@ use lib.Seq.{get_or-take, get_or-drop, get_or-set_same, get_or-set_other, set-se
 use borrow.Author.Tests.{eqb-true, eq-eqb}
 use Rattle.base_words.specs.All.{all}
 use Rattle.base_words.specs.Iter.{iter}
-use Rattle.base_words.specs.Pick.{if◌then◌else◌}
+use Rattle.base_words.specs.Pick.{if◌then◌or_else◌}
 use Rattle.base_words.specs.Words.{at}
 use Rattle.base_words.specs.Counts.{pools, names, fields}
 use Rattle.base_words.proofs.AllLaws.{and_left, and_right, all_of}
@@ -51,7 +51,7 @@ queues_same : (v : ℕ) (z : List ℕ) → queues_of (under v z) ≡ queues_of z
 queues_same v z = drop-set-lt instances_words z version_at v (omega arith)
 
 -- what is accepted, by its number
-first_none : (k : ℕ) (o w : Outcome) → o.answer.number ≡ k → (if eqb k 0 then w else o).answer.number ≡ 0 → k ≡ 0
+first_none : (k : ℕ) (o w : Outcome) → o.answer.number ≡ k → (if eqb k 0 then w or_else o).answer.number ≡ 0 → k ≡ 0
 first_none k o w e h = by_test (eqb k 0) (λ y. eqb-true k 0 y) (λ y. sym e ∙ sym (ap (λ (u : Outcome). u.answer.number) (passed (eqb k 0) w o y)) ∙ h)
 
 module _ (t z : List ℕ) (s : Valid t z) where

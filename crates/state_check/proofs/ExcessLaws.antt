@@ -12,7 +12,7 @@ use lib.ListN.{length, get_or-eq_default}
 use borrow.Author.Tests.{eqb-true, leb-false}
 use Rattle.base_words.specs.All.{all}
 use Rattle.base_words.specs.Counts.{count_most}
-use Rattle.base_words.specs.Pick.{if◌then◌else◌}
+use Rattle.base_words.specs.Pick.{if◌then◌or_else◌}
 use Rattle.base_words.specs.Words.{at}
 use Rattle.base_state.specs.Places.{defined_place}
 use Rattle.check_limits.specs.Bits.{bits_of}
@@ -20,8 +20,8 @@ use Rattle.check_limits.proofs.BitLaws.{bits_more, bits_zero}
 use Rattle.state_fits.specs.Fits.{place_fits}
 use Rattle.state_check.specs.Places.{excess_of, excess_at}
 
-by_cases : (a n : ℕ) (b c d : Bool) → eqb a 1 ≡ b → leb n count_most ≡ c → eqb n 0 ≡ d → eqb (excess_of a n) 0 ≡ (if eqb n 0 then true else eqb a 1 && leb n count_most)
-unfolding excess_of if◌then◌else◌
+by_cases : (a n : ℕ) (b c d : Bool) → eqb a 1 ≡ b → leb n count_most ≡ c → eqb n 0 ≡ d → eqb (excess_of a n) 0 ≡ (if eqb n 0 then true or_else eqb a 1 && leb n count_most)
+unfolding excess_of if◌then◌or_else◌
 by_cases a n false c true e f g = rw (e, g)
 by_cases a n false c false e f g = rw (e, g)
 by_cases a n true true true e f g = rw (e, f, g)
@@ -57,7 +57,7 @@ module _ (u h : List ℕ) where
 
   -- behind its end an instance reads 0
   none : (k : ℕ) → length h ≤ k → place_fits u h k ≡ true
-  unfolding place_fits if◌then◌else◌
+  unfolding place_fits if◌then◌or_else◌
   none k l = rw (get_or-eq_default h 0 {n = k} l)
 
   pub counts_by : (e r : ℕ) → e ≡ defined_place 0 → r ≡ bits_of (excess_at u h) e → eqb r 0 ≡ all (place_fits u h) (defined_place 0)

@@ -12,7 +12,7 @@ use lib.Seq.{take-suc, take_all, drop-cons, set_at, set_out}
 use borrow.Author.Tests.{eq-eqb, ne_eqb, eqb-true}
 use Rattle.base_words.specs.All.{all}
 use Rattle.base_words.specs.Each.{tab}
-use Rattle.base_words.specs.Pick.{if◌then◌else◌}
+use Rattle.base_words.specs.Pick.{if◌then◌or_else◌}
 use Rattle.base_words.specs.Words.{at}
 use Rattle.base_words.proofs.AllLaws.{and_left, and_right, all_none, all_more, all_fails}
 use Rattle.base_words.proofs.ListLaws.{length-tab, get_d_in}
@@ -128,11 +128,11 @@ counted_by t s rs y n p e l h k i = fill_done (record_of s) rs y n p l h k i ∙
 -- ONE RECORD after a step
 module _ (r : List ℕ) (made : ℕ) where
   pub after_done : (done : Bool) (left rest : ℕ) → done ≡ true → left ≡ at r 1 - 1 → rest ≡ made - left → ◌≡◌ {A = List ℕ} (made ∷ left ∷ rest ∷ []) (record_after r made done)
-  unfolding record_after if◌then◌else◌
+  unfolding record_after if◌then◌or_else◌
   after_done done left rest d l e = rw (d, e, l)
 
   pub after_going : (done : Bool) (left : ℕ) → done ≡ false → left ≡ made - at r 2 → ◌≡◌ {A = List ℕ} (made ∷ left ∷ at r 2 ∷ []) (record_after r made done)
-  unfolding record_after if◌then◌else◌
+  unfolding record_after if◌then◌or_else◌
   after_going done left d l = rw (d, l)
 
 -- THE RECORDS after a step of instance i of pool p, h its words as the code holds them

@@ -4,7 +4,7 @@ use Rattle.std.specs.Prelude.{ℕ, ◌-◌, Bool, not, ◌&&◌, List, [], ◌�
 use Rattle.base_words.specs.Blocks.{Records, Block, Table, Instances, Instance}
 use Rattle.base_words.specs.All.{all}
 use Rattle.base_words.specs.Each.{tab}
-use Rattle.base_words.specs.Pick.{if◌then◌else◌}
+use Rattle.base_words.specs.Pick.{if◌then◌or_else◌}
 use Rattle.base_words.specs.Sum.{sum, one_if}
 use Rattle.base_words.specs.Words.{at}
 use Rattle.base_table.specs.Table.{pool_count}
@@ -44,7 +44,7 @@ agree rs t s = eqb (length rs) (pool_count t) && all (λ p. same_record (record_
 unfoldable pub record_after : List ℕ → ℕ → Bool → List ℕ
 record_after r made done =
     if done then made ∷ (at r 1 - 1) ∷ (made - (at r 1 - 1)) ∷ []
-    else made ∷ (made - at r 2) ∷ at r 2 ∷ []
+    or_else made ∷ (made - at r 2) ∷ at r 2 ∷ []
 
 -- the records after a step of instance i of pool p, s the instances then: one is looked at and one is written
 unfoldable pub updated : Records → Instances → ℕ → ℕ → Records
@@ -52,15 +52,15 @@ updated rs s p i = set rs p (record_after (record_at rs p) (made_count s p) (is_
 
 -- and only where the step was accepted
 unfoldable pub followed : ℕ → Records → Instances → ℕ → ℕ → Records
-followed number rs s p i = if eqb number 0 then updated rs s p i else rs
+followed number rs s p i = if eqb number 0 then updated rs s p i or_else rs
 
 -- THE NUMBER of a call that is lent records: 26 "after 10", k being what table and state are refused with, or 0
 unfoldable pub desk_number : ℕ → Records → Table → Instances → ℕ
-desk_number k rs t s = if eqb k 0 then (if agree rs t s then 0 else 26) else k
+desk_number k rs t s = if eqb k 0 then (if agree rs t s then 0 or_else 26) or_else k
 
 -- THE RECORDS that a call leaves, k being what it refuses its blocks with: those of the state that it leaves
 unfoldable pub records_left : ℕ → Records → Table → Instances → Records
-records_left k rs t s = if eqb k 0 then counted t s else rs
+records_left k rs t s = if eqb k 0 then counted t s or_else rs
 
 -- THE CALL that sets them by counting
 pub record Figured : Type 0 where
@@ -70,5 +70,5 @@ pub record Figured : Type 0 where
 unfoldable pub figured : ℕ → Records → Table → Instances → Figured
 figured k rs t s =
     if eqb k 0 then
-    if eqb (length rs) (pool_count t) then record { number = 0; records = counted t s } else record { number = 26; records = rs }
-    else record { number = k; records = rs }
+    if eqb (length rs) (pool_count t) then record { number = 0; records = counted t s } or_else record { number = 26; records = rs }
+    or_else record { number = k; records = rs }

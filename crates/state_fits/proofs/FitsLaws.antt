@@ -9,7 +9,7 @@ use lib.ListN.{length, drop, get_or, get_or-eq_default}
 use lib.Seq.{get_or-drop}
 use borrow.Author.Tests.{eqb-true, leb-true, ne_eqb, le-ltb}
 use Rattle.base_words.specs.All.{all}
-use Rattle.base_words.specs.Pick.{if◌then◌else◌}
+use Rattle.base_words.specs.Pick.{if◌then◌or_else◌}
 use Rattle.base_words.specs.Words.{at}
 use Rattle.base_words.specs.Counts.{values, messages}
 use Rattle.base_words.proofs.AllLaws.{and_left, and_right, all_at}
@@ -29,15 +29,15 @@ zeros_at x n i e h = eqb-true (at x i) 0 (all_at (λ k. eqb (at x k) 0) n e i h)
 
 -- THE WORDS of a message
 word_first : (g : Tuple) → message_word g 0 ≡ g.length
-unfolding message_word if◌then◌else◌
+unfolding message_word if◌then◌or_else◌
 word_first g = refl
 
 word_next : (g : Tuple) (j : ℕ) → message_word g (suc j) ≡ value_of g j
-unfolding message_word if◌then◌else◌
+unfolding message_word if◌then◌or_else◌
 word_next g j = let e : suc j - 1 ≡ j = omega arith in rw (ne_eqb (suc j) 0 (λ z. omega arith), e)
 
 value_empty : (j : ℕ) → value_of empty j ≡ 0
-unfolding value_of if◌then◌else◌
+unfolding value_of if◌then◌or_else◌
 value_empty j = rw (le-ltb j 0 (omega arith))
 
 word_empty : (d : ℕ) → message_word empty d ≡ 0

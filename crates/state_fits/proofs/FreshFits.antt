@@ -9,7 +9,7 @@ use lib.ListN.{drop, length, length-set}
 use lib.Seq.{get_or-drop, get_or-take, get_or-set_same, get_or-set_other, drop-drop}
 use borrow.Author.Tests.{eqb-true, eqb-false, leb-true, eq-eqb, ne_eqb, le-leb, lt-leb}
 use Rattle.base_words.specs.All.{all}
-use Rattle.base_words.specs.Pick.{if◌then◌else◌}
+use Rattle.base_words.specs.Pick.{if◌then◌or_else◌}
 use Rattle.base_words.specs.Sum.{one_if, hit}
 use Rattle.base_words.specs.Words.{at}
 use Rattle.base_words.specs.Counts.{pools, elements, edges, names, instances, fields, branches, messages, pool_numbers}
@@ -37,29 +37,29 @@ zeros_of x n h = all_of (λ k. eqb (at x k) 0) n (λ k l. eq-eqb (at x k) 0 (h k
 -- HOW MANY INSTANCES a pool has made
 module _ (t : List ℕ) (p : ℕ) where
   made_behind : pool_count t ≤ p → made_fits t p 0 ≡ true
-  unfolding made_fits if◌then◌else◌
+  unfolding made_fits if◌then◌or_else◌
   made_behind l = rw (le-leb (pool_count t) p l)
 
   made_none : p < pool_count t → has_start t p ≡ false → made_fits t p 0 ≡ true
-  unfolding made_fits if◌then◌else◌
+  unfolding made_fits if◌then◌or_else◌
   made_none l e = rw (lt-leb (pool_count t) p l, e) (le-leb 0 (limit_of t p) (omega arith))
 
   made_one : p < pool_count t → has_start t p ≡ true → made_fits t p 1 ≡ true
-  unfolding made_fits if◌then◌else◌
+  unfolding made_fits if◌then◌or_else◌
   made_one l e = rw (lt-leb (pool_count t) p l, e)
 
 -- A WORD of an instance
 module _ (u h : List ℕ) (k : ℕ) where
   count_none : at h k ≡ 0 → place_fits u h k ≡ true
-  unfolding place_fits if◌then◌else◌
+  unfolding place_fits if◌then◌or_else◌
   count_none e = rw e
 
   count_one : at h k ≡ 1 → at u k ≡ 1 → place_fits u h k ≡ true
-  unfolding place_fits if◌then◌else◌
+  unfolding place_fits if◌then◌or_else◌
   count_one e f = rw (e, f)
 
 field_none : (f : List ℕ) (d : ℕ) → at f (2 * d) ≡ 0 → at f (2 * d + 1) ≡ 0 → field_fits f d ≡ true
-unfolding field_fits if◌then◌else◌
+unfolding field_fits if◌then◌or_else◌
 field_none f d e v = rw (e, v)
 
 -- fields that stand from place k on, all words of which are 0
@@ -177,11 +177,11 @@ module _ (t : List ℕ) (v : ℕ) (ask : Startable t) where
 -- A TABLE WITHIN THE LIMITS is such a table. An element of kind start has one entry, and that is an edge
 module _ (x : List ℕ) (fit : edges_fit 1 x ≡ true) where
   one_edge : at x 0 ≡ 1
-  unfolding edges_fit edgeCountFits if◌then◌else◌
+  unfolding edges_fit edgeCountFits if◌then◌or_else◌
   one_edge = eqb-true (at x 0) 1 (and_left (eqb (at x 0) 1) _ fit)
 
   edge_first : edge_fits (drop (1 * 0) (drop 1 x)) ≡ true
-  unfolding edges_fit edgeCountFits if◌then◌else◌ things
+  unfolding edges_fit edgeCountFits if◌then◌or_else◌ things
   edge_first =
       let listed : things (drop 1 x) 1 branches (at x 0) edge_fits ≡ true = and_right (eqb (at x 0) 1) _ fit in
       let firsts : all (λ j. edge_fits (drop (1 * j) (drop 1 x))) (at x 0) ≡ true = and_left (all (λ j. edge_fits (drop (1 * j) (drop 1 x))) (at x 0)) _ listed in

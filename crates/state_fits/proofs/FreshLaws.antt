@@ -11,7 +11,7 @@ use lib.ListN.{length, set, replicate, length-set, length-replicate}
 use lib.Seq.{get_or-set_same, get_or-set_other}
 use borrow.Author.Tests.{eqb-true, eqb-false}
 use Rattle.base_words.specs.Iter.{iter}
-use Rattle.base_words.specs.Pick.{if◌then◌else◌}
+use Rattle.base_words.specs.Pick.{if◌then◌or_else◌}
 use Rattle.base_words.specs.Sum.{one_if, hit}
 use Rattle.base_words.specs.Words.{at}
 use Rattle.base_words.specs.Counts.{pools, edges, instances}
@@ -42,11 +42,11 @@ pub record Startable (t : List ℕ) : Type 0 where
 -- A POOL BEGUN
 module _ (t : List ℕ) (p : ℕ) (z : List ℕ) where
   begun_no : has_start t p ≡ false → pool_begun t p z ≡ z
-  unfolding pool_begun if◌then◌else◌
+  unfolding pool_begun if◌then◌or_else◌
   begun_no e = rw e
 
   begun_yes : has_start t p ≡ true → pool_begun t p z ≡ set (set z (made_place p) 1) (instance_place p 0 + first_place t p) 1
-  unfolding pool_begun if◌then◌else◌
+  unfolding pool_begun if◌then◌or_else◌
   begun_yes e = rw e
 
   begun_length : length (pool_begun t p z) ≡ length z

@@ -12,7 +12,7 @@ use lib.Seq.{get_or-set_same, get_or-set_other}
 use borrow.Author.Tests.{eqb-true, eqb-false, ltb-true}
 use Rattle.base_words.specs.Each.{tab}
 use Rattle.base_words.specs.Iter.{iter}
-use Rattle.base_words.specs.Pick.{if◌then◌else◌}
+use Rattle.base_words.specs.Pick.{if◌then◌or_else◌}
 use Rattle.base_words.specs.Words.{at}
 use Rattle.base_words.specs.Counts.{edges}
 use Rattle.base_words.proofs.IterLaws.{iter_keeps}
@@ -53,7 +53,7 @@ marked_keeps w (x ∷ xs) k l h = marked_keeps (set w x 1) xs k (omega (arith, l
 
 -- AN ELEMENT of kind start marks its first edge
 start_entries : (el : List ℕ) → kind_in el ≡ start → entry_count el ≡ 1
-unfolding entry_count used kind_of if◌then◌else◌
+unfolding entry_count used kind_of if◌then◌or_else◌
 start_entries el e = rw e
 
 start_places : (el : List ℕ) → kind_in el ≡ start → places_of el ≡ token_place (entry_at el 0) ∷ (tab (λ j. token_place (exit_at el j)) (exit_count el) ++ count_places el)

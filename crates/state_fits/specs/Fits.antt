@@ -5,7 +5,7 @@ use Rattle.base_words.specs.Blocks.{Block, Table, Element, Instances, Queues, In
 use Rattle.base_words.specs.All.{all}
 use Rattle.base_words.specs.Each.{tab}
 use Rattle.base_words.specs.Iter.{iter}
-use Rattle.base_words.specs.Pick.{if◌then◌else◌}
+use Rattle.base_words.specs.Pick.{if◌then◌or_else◌}
 use Rattle.base_words.specs.Seek.{seek}
 use Rattle.base_words.specs.Words.{at}
 use Rattle.base_words.specs.Counts.{pools, names, instances, fields, values, messages, count_most}
@@ -31,15 +31,15 @@ has_start t p = ltb (start_place t p) (element_count t p)
 unfoldable pub made_fits : Table → ℕ → ℕ → Bool
 made_fits t p made =
     if leb (pool_count t) p then eqb made 0
-    else if has_start t p then eqb made 1
-    else leb made (limit_of t p)
+    or_else if has_start t p then eqb made 1
+    or_else leb made (limit_of t p)
 
 -- THE PLACES that an element lets an instance use: the tokens of its edges; of an na task the active count, and the ready count where it receives or sends
 unfoldable pub count_places : Element → List ℕ
 count_places el =
     if leb (mode_in el) a then []
-    else if eqb ((kind_of (kind_in el)).receives + (kind_of (kind_in el)).sends) 0 then active_place (task_in el) ∷ []
-    else active_place (task_in el) ∷ ready_place (task_in el) ∷ []
+    or_else if eqb ((kind_of (kind_in el)).receives + (kind_of (kind_in el)).sends) 0 then active_place (task_in el) ∷ []
+    or_else active_place (task_in el) ∷ ready_place (task_in el) ∷ []
 
 unfoldable pub places_of : Element → List ℕ
 places_of el =
@@ -55,14 +55,14 @@ usable t p = iter (λ e w. all_marked w (places_of (element_at t p e))) (replica
 
 -- FIELDS, f the words from the first one on, of an instance or the stores: each is defined or not, an undefined one's value 0
 unfoldable pub field_fits : List ℕ → ℕ → Bool
-field_fits f d = if eqb (at f (2 * d)) 0 then eqb (at f (2 * d + 1)) 0 else eqb (at f (2 * d)) 1
+field_fits f d = if eqb (at f (2 * d)) 0 then eqb (at f (2 * d + 1)) 0 or_else eqb (at f (2 * d)) 1
 
 unfoldable pub fields_fit : List ℕ → Bool
 fields_fit f = all (field_fits f) fields
 
 -- AN INSTANCE, u the places it may use: tokens and counts at most 255, and none elsewhere; its fields
 unfoldable pub place_fits : List ℕ → Instance → ℕ → Bool
-place_fits u h k = if eqb (at h k) 0 then true else eqb (at u k) 1 && leb (at h k) count_most
+place_fits u h k = if eqb (at h k) 0 then true or_else eqb (at u k) 1 && leb (at h k) count_most
 
 unfoldable pub instance_fits : List ℕ → Instance → Bool
 instance_fits u h = all (place_fits u h) (defined_place 0) && fields_fit (drop (defined_place 0) h)

@@ -3,7 +3,7 @@
 use Rattle.std.specs.Prelude.{ℕ, ◌+◌, List, set, replicate}
 use Rattle.base_words.specs.Blocks.{Table, State}
 use Rattle.base_words.specs.Iter.{iter}
-use Rattle.base_words.specs.Pick.{if◌then◌else◌}
+use Rattle.base_words.specs.Pick.{if◌then◌or_else◌}
 use Rattle.base_table.specs.Table.{pool_count, element_at, entry_at}
 use Rattle.base_state.specs.Places.{token_place, made_place, instance_place, version_at, state_words}
 use Rattle.state_fits.specs.Fits.{start_place, has_start}
@@ -14,7 +14,7 @@ start_edge t p = entry_at (element_at t p (start_place t p)) 0
 
 -- pool p of a state z that holds 0 for it
 unfoldable pub pool_begun : Table → ℕ → State → State
-pool_begun t p z = if has_start t p then set (set z (made_place p) 1) (instance_place p 0 + token_place (start_edge t p)) 1 else z
+pool_begun t p z = if has_start t p then set (set z (made_place p) 1) (instance_place p 0 + token_place (start_edge t p)) 1 or_else z
 
 -- the fresh state for version v
 unfoldable pub fresh : Table → ℕ → State

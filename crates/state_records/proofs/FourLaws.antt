@@ -7,7 +7,7 @@ use native.Mathlib.Omega.{arith}
 use borrow.Author.Tests.{eqb-true, eq-eqb, ne_eqb, lt-ltb, le-ltb, ltb-true}
 use lib.Dec.{eqb, ltb, lit<}
 use lib.ListN.{length, get_or, length-map}
-use Rattle.base_words.specs.Pick.{if◌then◌else◌}
+use Rattle.base_words.specs.Pick.{if◌then◌or_else◌}
 use Rattle.base_words.proofs.AllLaws.{and_left}
 use Rattle.base_words.proofs.ListLaws.{get_d_tab, length-tab}
 use Rattle.base_words.proofs.PickLaws.{pick_yes, pick_no}
@@ -34,7 +34,7 @@ four_done ws n a b c d p q r s = λ i. record { first = p i; second = q i; third
 
 -- A LIST OF AT MOST FOUR is lent on whole
 pub lent_short : (rs : List Record) → length rs ≤ 4 → lent_words (four_of rs) ≡ triples rs
-unfolding four_of words_of lent_count triples if◌then◌else◌
+unfolding four_of words_of lent_count triples if◌then◌or_else◌
 lent_short [] h = refl
 lent_short (a ∷ []) h = refl
 lent_short (a ∷ b ∷ []) h = refl
@@ -50,7 +50,7 @@ five_long f h = rw h refl
 -- WHAT IS PUT BACK: the words, where they are as many as the list's records and those at most four
 pub put_left : (rs : List Record) (ws : List (List ℕ)) → length rs ≤ 4 → length ws ≡ length rs → ((i : ℕ) → i < length ws → get_or ws i [] ≡ triple_of (struct_of (get_or ws i [])))
     → triples (put_back rs (four_left (four_of rs) ws)) ≡ ws
-unfolding four_of words_of lent_count triples put_back four_from if◌then◌else◌
+unfolding four_of words_of lent_count triples put_back four_from if◌then◌or_else◌
 put_left [] [] h e t = refl
 put_left [] (v ∷ ws) h e t = absurd (omega (arith, e))
 put_left (a ∷ []) [] h e t = absurd (omega (arith, e))
@@ -87,7 +87,7 @@ unfolding four_of
 many a b c d e r = sym (count_many (four_of (a ∷ b ∷ c ∷ d ∷ e ∷ r)) (omega arith))
 
 pub put_same : (rs : List Record) → put_back rs (four_left (four_of rs) (lent_words (four_of rs))) ≡ rs
-unfolding four_of words_of lent_count put_back four_from if◌then◌else◌
+unfolding four_of words_of lent_count put_back four_from if◌then◌or_else◌
 put_same [] = refl
 put_same (a ∷ []) = refl
 put_same (a ∷ b ∷ []) = refl
@@ -116,15 +116,15 @@ disagree : (ws : List (List ℕ)) (t s : List ℕ) → (length ws ≡ pool_count
 unfolding agree
 disagree ws t s h = rw (ne_eqb (length ws) (pool_count t) h) refl
 
-by_flag : (b : Bool) (x y z : ℕ) → (b ≡ true → x ≡ y) → (if b then x else z) ≡ (if b then y else z)
-unfolding if◌then◌else◌
+by_flag : (b : Bool) (x y z : ℕ) → (b ≡ true → x ≡ y) → (if b then x or_else z) ≡ (if b then y or_else z)
+unfolding if◌then◌or_else◌
 by_flag true x y z h = h refl
 by_flag false x y z h = refl
 
 long_number : (k : ℕ) (ws vs : List (List ℕ)) (t s : List ℕ) → (k ≡ 0 → (length ws ≡ pool_count t → ⊥) × (length vs ≡ pool_count t → ⊥)) → desk_number k ws t s ≡ desk_number k vs t s
 unfolding desk_number
 long_number k ws vs t s h =
-    by_flag (eqb k 0) _ _ k (λ e. ap (λ (b : Bool). if b then 0 else 26) (disagree ws t s (h (eqb-true k 0 e)).0 ∙ sym (disagree vs t s (h (eqb-true k 0 e)).1)))
+    by_flag (eqb k 0) _ _ k (λ e. ap (λ (b : Bool). if b then 0 or_else 26) (disagree ws t s (h (eqb-true k 0 e)).0 ∙ sym (disagree vs t s (h (eqb-true k 0 e)).1)))
 
 pub number_same : (k : ℕ) (rs : List Record) (t s : List ℕ) → (k ≡ 0 → pool_count t ≤ 4) → desk_number k (lent_words (four_of rs)) t s ≡ desk_number k (triples rs) t s
 number_same k [] t s h = ap (λ (ws : List (List ℕ)). desk_number k ws t s) (lent_short [] (omega arith))
@@ -136,8 +136,8 @@ number_same k (a ∷ b ∷ c ∷ d ∷ e ∷ r) t s h =
     long_number k (lent_words (four_of (a ∷ b ∷ c ∷ d ∷ e ∷ r))) (triples (a ∷ b ∷ c ∷ d ∷ e ∷ r)) t s
     (λ z. (λ l. omega (arith, h z, l, five_long (four_of (a ∷ b ∷ c ∷ d ∷ e ∷ r)) (many a b c d e r)), λ l. omega (arith, h z, l, triples_long (a ∷ b ∷ c ∷ d ∷ e ∷ r))))
 
-by_numbers : (a b : Bool) (k : ℕ) → (if a then (if b then 0 else 26) else k) ≡ 0 → (a ≡ false → k ≡ 0 → ⊥) → (a ≡ true) × (b ≡ true)
-unfolding if◌then◌else◌
+by_numbers : (a b : Bool) (k : ℕ) → (if a then (if b then 0 or_else 26) or_else k) ≡ 0 → (a ≡ false → k ≡ 0 → ⊥) → (a ≡ true) × (b ≡ true)
+unfolding if◌then◌or_else◌
 by_numbers true true k h f = (refl, refl)
 by_numbers true false k h f = absurd (omega (arith, h))
 by_numbers false b k h f = absurd (f refl h)
@@ -166,8 +166,8 @@ pub words_long : (f : Four) → length (words_of f) ≡ 5
 unfolding words_of
 words_long f = refl
 
-by_five : (b : Bool) (n : ℕ) → (b ≡ true → n < 5) → (if b then n else 5) ≤ 5
-unfolding if◌then◌else◌
+by_five : (b : Bool) (n : ℕ) → (b ≡ true → n < 5) → (if b then n or_else 5) ≤ 5
+unfolding if◌then◌or_else◌
 by_five true n h = omega (arith, h refl)
 by_five false n h = omega arith
 

@@ -1,7 +1,7 @@
 -- THE LIST OF POOL RECORDS THAT THE DESK LENDS: what a list of structs stands for, and how its first four are taken out and put back.
 use Rattle.std.specs.Prelude.{ℕ, List, [], ◌∷◌, ◌++◌, map, ltb, length, get_or, set, take, drop}
 use Rattle.base_words.specs.Blocks.{Block}
-use Rattle.base_words.specs.Pick.{if◌then◌else◌}
+use Rattle.base_words.specs.Pick.{if◌then◌or_else◌}
 use Rattle.base_words.specs.Words.{at}
 use Rattle.state_figures.specs.Figures.{record_at}
 use Rattle.state_records.specs.declared.Record.{Record}
@@ -30,7 +30,7 @@ unfoldable pub words_of : Four → List (List ℕ)
 words_of f = triple_of f.first ∷ triple_of f.second ∷ triple_of f.third ∷ triple_of f.fourth ∷ (0 ∷ 0 ∷ 0 ∷ []) ∷ []
 
 unfoldable pub lent_count : Four → ℕ
-lent_count f = if ltb f.count 5 then f.count else 5
+lent_count f = if ltb f.count 5 then f.count or_else 5
 
 abbrev pub lent_words : Four → List (List ℕ)
 lent_words f = take (lent_count f) (words_of f)

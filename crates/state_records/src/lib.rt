@@ -103,6 +103,7 @@ pub fn words_of(f: Four) -> [[Word; RECORD_WORDS]; LENT]
 }
 
 // How many of them: as many as the desk's records, five at most.
+#[tactic(auto, using(crate::proofs::FourLaws::count_few, crate::proofs::FourLaws::count_many))]
 pub fn lent_count(f: Four) -> usize
     ensures { result ≡ lent_count f }
 {

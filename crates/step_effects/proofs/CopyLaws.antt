@@ -10,7 +10,7 @@ use lib.Dec.{eqb}
 use lib.ListN.{length, set, replicate, length-replicate, get_or-replicate, length-append, get_or-append}
 use lib.Seq.{ext_get_or, get_or-append-add}
 use Rattle.base_words.specs.Each.{tab}
-use Rattle.base_words.specs.Pick.{if◌then◌else◌}
+use Rattle.base_words.specs.Pick.{if◌then◌or_else◌}
 use Rattle.base_words.specs.Words.{at}
 use Rattle.base_words.specs.Writes.{writes}
 use Rattle.base_words.proofs.ListLaws.{length-tab, get_d_tab}
@@ -72,13 +72,13 @@ committed s h y v w p i to q made e₁ e₂ e₃ e₄ e₅ = e₅ ∙ rw (e₄, 
 module _ (s : List ℕ) (m : Move) (p i : ℕ) (r : List ℕ) where
   sees_made : eqb m.also making ≡ true → r ≡ writes (λ k. at s (shared_place + k)) (replicate copy_words 0) instance_words shared_words
       → r ≡ before m (instance_of s p i) (shared_of s)
-  unfolding before shared_of if◌then◌else◌
+  unfolding before shared_of if◌then◌or_else◌
   sees_made e h = h ∙ seen_blank (λ k. at s (shared_place + k)) (λ k. at s (shared_place + k)) instance_words shared_words ∙ rw e
 
   sees_own : eqb m.also making ≡ false → (own : List ℕ) → own ≡ writes (λ k. at s (instance_place p i + k)) (replicate copy_words 0) 0 instance_words
       → r ≡ writes (λ k. at s (shared_place + k)) own instance_words shared_words
       → r ≡ before m (instance_of s p i) (shared_of s)
-  unfolding before shared_of instance_of if◌then◌else◌
+  unfolding before shared_of instance_of if◌then◌or_else◌
   sees_own e own o h =
       h ∙ ap (λ (l : List ℕ). writes (λ k. at s (shared_place + k)) l instance_words shared_words) o
       ∙ seen_own (λ k. at s (instance_place p i + k)) (λ k. at s (shared_place + k)) instance_words shared_words

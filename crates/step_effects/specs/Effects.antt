@@ -1,7 +1,7 @@
 -- What a move writes into the instances and into the queues, and its answer.
 use Rattle.std.specs.Prelude.{ℕ, ◌+◌, List, eqb, set}
 use Rattle.base_words.specs.Blocks.{Instances, Queues, Instance}
-use Rattle.base_words.specs.Pick.{if◌then◌else◌}
+use Rattle.base_words.specs.Pick.{if◌then◌or_else◌}
 use Rattle.base_words.specs.Words.{at}
 use Rattle.base_words.specs.Writes.{writes}
 use Rattle.base_kinds.specs.declared.moves.Move.{Move}
@@ -20,17 +20,17 @@ stored_in s p i h made =
     set (writes (λ k. at h (instance_words + k)) (writes (at h) s (instance_place p i) instance_words) shared_place store_words) (made_place p) made
 
 unfoldable pub made_by : Move → ℕ → ℕ
-made_by m made = if eqb m.also making then more made else made
+made_by m made = if eqb m.also making then more made or_else made
 
 -- the queues after a move, and its answer
 unfoldable pub delivered_by : Move → ℕ → Tuple → Tuple → Queues → Queues
 delivered_by m name g sent q =
     if eqb m.receives on then removed q name (oldest q name g)
-    else if eqb m.sends on then extended q name sent
-    else q
+    or_else if eqb m.sends on then extended q name sent
+    or_else q
 
 unfoldable pub answer_by : Move → ℕ → Tuple → Tuple → Answer
 answer_by m name expected sent =
     if eqb m.receives on then record { number = 0; traffic = Consumed; name = name; tuple = expected }
-    else if eqb m.sends on then record { number = 0; traffic = Sent; name = name; tuple = sent }
-    else record { number = 0; traffic = Nothing; name = 0; tuple = empty }
+    or_else if eqb m.sends on then record { number = 0; traffic = Sent; name = name; tuple = sent }
+    or_else record { number = 0; traffic = Nothing; name = 0; tuple = empty }

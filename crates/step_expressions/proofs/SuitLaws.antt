@@ -6,7 +6,7 @@ use mathlib.Core.List.{List}
 use lib.Dec.{eqb}
 use borrow.Author.Tests.{eq-eqb, eqb-true}
 use Rattle.base_words.specs.All.{all}
-use Rattle.base_words.specs.Pick.{if◌then◌else◌}
+use Rattle.base_words.specs.Pick.{if◌then◌or_else◌}
 use Rattle.base_words.specs.Words.{at}
 use Rattle.base_words.proofs.AllLaws.{and_left, and_right, all_at, all_of}
 use Rattle.base_kinds.specs.declared.moves.Move.{Move}
@@ -39,7 +39,7 @@ and_both false b e d = e
 module _ (el : List ℕ) (b : ℕ) (h : List ℕ) (g : Tuple) where
   -- an item that does not bind comes to the same whatever is given
   free : (v : Tuple) (j : ℕ) → binds el b j ≡ false → at (evaluated el b h v).tuple.values j ≡ at (evaluated el b h g).tuple.values j
-  unfolding evaluated gathered item_value if◌then◌else◌
+  unfolding evaluated gathered item_value if◌then◌or_else◌
   free v zero o = rw o
   free v (suc zero) o = rw o
   free v (suc (suc zero)) o = rw o
@@ -70,10 +70,10 @@ module _ (el : List ℕ) (b : ℕ) (h : List ℕ) (g : Tuple) where
 
   -- the same of what a move expects
   pub unsuited : (m : Move) → suited el b (expected el h m b empty).tuple g ≡ false → same_tuple (expected el h m b g).tuple g ≡ false
-  unfolding expected if◌then◌else◌ suited same_tuple all
+  unfolding expected if◌then◌or_else◌ suited same_tuple all
   unsuited m = go (eqb m.receives on)
     where
-      go : (r : Bool) → suited el b (if r then evaluated el b h empty else record { defined = true; tuple = empty }).tuple g ≡ false
-          → same_tuple (if r then evaluated el b h g else record { defined = true; tuple = empty }).tuple g ≡ false
+      go : (r : Bool) → suited el b (if r then evaluated el b h empty or_else record { defined = true; tuple = empty }).tuple g ≡ false
+          → same_tuple (if r then evaluated el b h g or_else record { defined = true; tuple = empty }).tuple g ≡ false
       go true o = unsuited_evaluated o
       go false o = o

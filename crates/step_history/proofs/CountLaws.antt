@@ -7,7 +7,7 @@ use native.Mathlib.Numerals.{add-one}
 use native.Mathlib.Omega.{arith}
 use lib.ListN.{take}
 use Rattle.base_words.specs.Each.{total}
-use Rattle.base_words.specs.Pick.{if◌then◌else◌}
+use Rattle.base_words.specs.Pick.{if◌then◌or_else◌}
 use Rattle.base_words.specs.Sum.{one_if}
 use Rattle.base_words.proofs.EachLaws.{total_append}
 use Rattle.step_history.specs.History.{Entry, how_many}
@@ -69,12 +69,12 @@ module _ (f : Entry → Bool) where
       })
 
   pub place_at : (h : List Entry) (k i : ℕ) → k < how_many f (take i h) → Place k i (place_among f k h) h
-  unfolding place_among holds_at if◌then◌else◌
+  unfolding place_among holds_at if◌then◌or_else◌
   place_at h k zero l = absurd (omega (arith, l, counted_none))
   place_at [] k (suc i) l = absurd (omega (arith, l, counted_none))
   place_at (e ∷ h) zero (suc i) l = go (f e) refl (place_at h zero i)
     where
-      go : (b : Bool) → f e ≡ b → (0 < how_many f (take i h) → Place 0 i (place_among f zero h) h) → Place 0 (suc i) (if b then 0 else place_among f zero h + 1) (e ∷ h)
+      go : (b : Bool) → f e ≡ b → (0 < how_many f (take i h) → Place 0 i (place_among f zero h) h) → Place 0 (suc i) (if b then 0 or_else place_among f zero h + 1) (e ∷ h)
       go true q later = record { low = omega arith; holds = q; before = counted_none }
       go false q later =
           let none : one_if (f e) ≡ 0 = ap one_if q in
@@ -82,7 +82,7 @@ module _ (f : Entry → Bool) where
   place_at (e ∷ h) (suc k) (suc i) l = go (f e) refl (place_at h k i) (place_at h (suc k) i)
     where
       go : (b : Bool) → f e ≡ b → (k < how_many f (take i h) → Place k i (place_among f k h) h) → (suc k < how_many f (take i h) → Place (suc k) i (place_among f (suc k) h) h)
-          → Place (suc k) (suc i) (if b then place_among f k h + 1 else place_among f (suc k) h + 1) (e ∷ h)
+          → Place (suc k) (suc i) (if b then place_among f k h + 1 or_else place_among f (suc k) h + 1) (e ∷ h)
       go true q later other =
           let one : one_if (f e) ≡ 1 = ap one_if q in
           place_next e h k i (place_among f k h) (suc k) (omega (arith, one)) (later (omega (arith, l, one, counted_next e (take i h))))

@@ -3,7 +3,7 @@
 use Rattle.std.specs.Prelude.{ℕ, ◌+◌, ◌≡◌, Bool, true, false, ◌&&◌, List, [], ◌∷◌, eqb}
 use Rattle.base_words.specs.Blocks.{State}
 use Rattle.base_words.specs.Each.{total}
-use Rattle.base_words.specs.Pick.{if◌then◌else◌}
+use Rattle.base_words.specs.Pick.{if◌then◌or_else◌}
 use Rattle.base_words.specs.Sum.{one_if}
 use Rattle.base_state.specs.Instances.{queues_of}
 use Rattle.meaning.specs.declared.Name.{Name}
@@ -99,8 +99,8 @@ abbrev pub nothing_moved : Moved
 nothing_moved = record { some = false; name = 0; tuple = empty }
 
 unfoldable pub moved_by : Entry → Moved
-moved_by (step_gave n a) = if eqb a.number 0 then (if is_quiet a.traffic then nothing_moved else record { some = true; name = a.name; tuple = a.tuple }) else nothing_moved
-moved_by (post_gave m g k) = if eqb k 0 then record { some = true; name = m; tuple = g } else nothing_moved
+moved_by (step_gave n a) = if eqb a.number 0 then (if is_quiet a.traffic then nothing_moved or_else record { some = true; name = a.name; tuple = a.tuple }) or_else nothing_moved
+moved_by (post_gave m g k) = if eqb k 0 then record { some = true; name = m; tuple = g } or_else nothing_moved
 
 -- both, of one entry
 unfoldable pub entry_noted : ℕ → Tuple → Entry → Noted

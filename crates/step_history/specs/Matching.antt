@@ -1,6 +1,6 @@
 -- NOTHING IS USED TWICE: each message that was consumed is one that a call before had posted or sent, and no two are the same. Places of a history are counted from 0.
 use Rattle.std.specs.Prelude.{ℕ, zero, suc, ◌+◌, ◌<◌, ◌≡◌, Bool, true, false, ◌||◌, List, [], ◌∷◌, take, drop}
-use Rattle.base_words.specs.Pick.{if◌then◌else◌}
+use Rattle.base_words.specs.Pick.{if◌then◌or_else◌}
 use Rattle.meaning.specs.declared.Tuple.{Tuple}
 use Rattle.step_history.specs.History.{Entry, step_gave, post_gave, posts, sends, consumes, how_many}
 
@@ -17,8 +17,8 @@ holds_at f (suc i) (e ∷ h) = holds_at f i h
 -- the place of the k-th entry, from 0, of which f holds
 unfoldable pub place_among : (Entry → Bool) → ℕ → List Entry → ℕ
 place_among f k [] = 0
-place_among f zero (e ∷ h) = if f e then 0 else place_among f zero h + 1
-place_among f (suc k) (e ∷ h) = if f e then place_among f k h + 1 else place_among f (suc k) h + 1
+place_among f zero (e ∷ h) = if f e then 0 or_else place_among f zero h + 1
+place_among f (suc k) (e ∷ h) = if f e then place_among f k h + 1 or_else place_among f (suc k) h + 1
 
 -- an accepted step that consumes, whatever the message
 unfoldable pub consumes_own : Entry → Bool

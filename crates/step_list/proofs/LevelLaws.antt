@@ -6,7 +6,7 @@ use Prim.Native.Nat.{ℕ, zero, suc, ◌+◌}
 use lib.Dec.{eqb}
 use borrow.Author.Tests.{eq-eqb, ne_eqb}
 use Rattle.base_words.specs.Each.{joined, those}
-use Rattle.base_words.specs.Pick.{if◌then◌else◌}
+use Rattle.base_words.specs.Pick.{if◌then◌or_else◌}
 use Rattle.base_words.proofs.JoinLaws.{joined_ext, those-joined}
 use Rattle.base_kinds.specs.declared.moves.Move.{Move}
 use Rattle.base_kinds.specs.Moves.{on, phases}
@@ -42,11 +42,11 @@ module _ (t q : List ℕ) (p i e f b : ℕ) where
 
   module _ (test : eqb (move_at t p e f).receives on ≡ true) where
     as_many : queue_places (move_at t p e f) q (message_name (element_at t p e) b) ≡ message_count q (message_name (element_at t p e) b)
-    unfolding queue_places if◌then◌else◌
+    unfolding queue_places if◌then◌or_else◌
     as_many = rw test
 
     at_place : (k : ℕ) → by_place t q p i e f b k ≡ by_message q (step_name t p i e f b empty) (message_name (element_at t p e) b) k
-    unfolding by_place by_message values_at if◌then◌else◌
+    unfolding by_place by_message values_at if◌then◌or_else◌
     at_place k =
         rw test (named_ext (step_name t p i e f b) (with_values (step_name t p i e f b empty)) (offered q (message_name (element_at t p e) b) k) values_put)
 
@@ -58,11 +58,11 @@ module _ (t q : List ℕ) (p i e f b : ℕ) where
 
   module _ (test : eqb (move_at t p e f).receives on ≡ false) where
     one_place : queue_places (move_at t p e f) q (message_name (element_at t p e) b) ≡ 1
-    unfolding queue_places if◌then◌else◌
+    unfolding queue_places if◌then◌or_else◌
     one_place = rw test
 
     one_name : by_place t q p i e f b 0 ≡ step_name t p i e f b empty ∷ []
-    unfolding by_place values_at named_by if◌then◌else◌
+    unfolding by_place values_at named_by if◌then◌or_else◌
     one_name = rw test
 
     plain_is : by_branch t q p i e f b ≡ step_name t p i e f b empty ∷ []
@@ -87,21 +87,21 @@ module _ (t q : List ℕ) (p i e : ℕ) (g : Name → Bool) where
 -- A PHASE, passed over or not; m is its move
 module _ (t s q : List ℕ) (p i e f : ℕ) (m : Move) (m-is : m ≡ move_at t p e f) where
   pub phase_none : (k : ℕ) (r : Scan) → m.kind ≡ 0 → r ≡ scan [] k → r ≡ scan (scan_phase t s q p i e f) k
-  unfolding scan_phase if◌then◌else◌
+  unfolding scan_phase if◌then◌or_else◌
   phase_none k r o w = rw (eq-eqb _ _ (ap (λ (x : Move). x.kind) (sym m-is) ∙ o)) w
 
   pub phase_some : (m.kind ≡ 0 → ⊥) → scan_phase t s q p i e f ≡ joined (λ b. those (accepted t s q) (by_branch t q p i e f b)) (branch_count (element_at t p e) (move_at t p e f))
-  unfolding scan_phase if◌then◌else◌
+  unfolding scan_phase if◌then◌or_else◌
   phase_some o = rw (ne_eqb _ _ (λ y. o (ap (λ (x : Move). x.kind) m-is ∙ y))) (phase_is t q p i e (accepted t s q) f)
 
 -- AN ELEMENT, passed over or not
 module _ (t s q : List ℕ) (p i e k : ℕ) (r : Scan) where
   pub element_idle : stirs (element_at t p e) (instance_at s p i) i (made_count s p) ≡ false → r ≡ scan [] k → r ≡ scan (scan_element t s q p i e) k
-  unfolding scan_element if◌then◌else◌
+  unfolding scan_element if◌then◌or_else◌
   element_idle test w = rw test w
 
   pub element_stirs : stirs (element_at t p e) (instance_at s p i) i (made_count s p) ≡ true → r ≡ scan (joined (scan_phase t s q p i e) phases) k → r ≡ scan (scan_element t s q p i e) k
-  unfolding scan_element if◌then◌else◌
+  unfolding scan_element if◌then◌or_else◌
   element_stirs test w = rw test w
 
 -- A LOOP'S NEXT ELEMENT, scanned or passed over: left is what is left of k behind it
@@ -116,11 +116,11 @@ module _ (t s q : List ℕ) (p i e k m left : ℕ) (before : Passed (scan_elemen
 -- AN INSTANCE, passed over or not
 module _ (t s q : List ℕ) (p i k : ℕ) (r : Scan) (b : Bool) (e : b ≡ still s p i) where
   pub made_still : b ≡ true → r ≡ scan [] k → r ≡ scan (scan_made t s q p i) k
-  unfolding scan_made if◌then◌else◌
+  unfolding scan_made if◌then◌or_else◌
   made_still o w = rw (sym e ∙ o) w
 
   pub made_moves : b ≡ false → r ≡ scan (scan_instance t s q p i) k → r ≡ scan (scan_made t s q p i) k
-  unfolding scan_made if◌then◌else◌
+  unfolding scan_made if◌then◌or_else◌
   made_moves o w = rw (sym e ∙ o) w
 
 -- BY ELEMENT, INSTANCE, POOL

@@ -3,7 +3,7 @@
 use Rattle.std.specs.Prelude.{ℕ, zero, suc, ◌+◌, List, [], ◌∷◌, eqb}
 use Rattle.base_words.specs.Blocks.{Table, Instances, Queues}
 use Rattle.base_words.specs.Each.{joined, those}
-use Rattle.base_words.specs.Pick.{if◌then◌else◌}
+use Rattle.base_words.specs.Pick.{if◌then◌or_else◌}
 use Rattle.base_kinds.specs.declared.moves.Move.{Move}
 use Rattle.base_kinds.specs.Moves.{on, phases, move_of}
 use Rattle.base_table.specs.Table.{pool_count, element_count, element_at, kind_in, mode_in, message_name}
@@ -18,10 +18,10 @@ use Rattle.step_list.specs.declared.Listed.{Listed}
 
 -- "The values are the message consumed, else empty": how many queue places a move looks at, and the values at place k (RULES: list)
 unfoldable pub queue_places : Move → Queues → ℕ → ℕ
-queue_places m q name = if eqb m.receives on then message_count q name else 1
+queue_places m q name = if eqb m.receives on then message_count q name or_else 1
 
 unfoldable pub values_at : Move → Queues → ℕ → ℕ → List Tuple
-values_at m q name k = if eqb m.receives on then offered q name k else empty ∷ []
+values_at m q name k = if eqb m.receives on then offered q name k or_else empty ∷ []
 
 abbrev pub move_at : Table → ℕ → ℕ → ℕ → Move
 move_at t p e f = move_of (kind_in (element_at t p e)) (mode_in (element_at t p e)) f

@@ -1,4 +1,6 @@
 // The accepted steps of a state, in the order of the listing.
+#![tactic(auto)]
+
 ghost use Rattle.std.specs.Prelude.{◌≡◌};
 ghost use Rattle.base_state.specs.Instances.{instances_of, queues_of};
 ghost use Rattle.step_list.specs.Listing.{chosen};

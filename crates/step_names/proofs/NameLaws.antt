@@ -10,7 +10,7 @@ use native.Mathlib.Omega.{arith}
 use lib.Dec.{eqb, ltb}
 use borrow.Author.Tests.{ltb-true, ltb-false}
 use Rattle.base_words.specs.Each.{tab, joined, those}
-use Rattle.base_words.specs.Pick.{if◌then◌else◌}
+use Rattle.base_words.specs.Pick.{if◌then◌or_else◌}
 use Rattle.base_words.specs.Seek.{seek}
 use Rattle.base_words.proofs.JoinLaws.{those-joined}
 use Rattle.base_words.proofs.SeekLaws.{sought}
@@ -30,15 +30,15 @@ use Rattle.step_names.specs.Parts.{scan, with_values, by_message}
 -- ONE NAME, the step being accepted or not
 module _ (t s q : List ℕ) (n : Name) (k : ℕ) (b : Bool) (e : b ≡ eqb (first_refusal (refusals t s q n)) 0) where
   pub name_refused : (r : Scan) → b ≡ false → r ≡ scan [] k → r ≡ scan (those (accepted t s q) (n ∷ [])) k
-  unfolding those if◌then◌else◌ accepted
+  unfolding those if◌then◌or_else◌ accepted
   name_refused r h d = rw (sym e ∙ h) d
 
   pub name_first : b ≡ true → k ≡ 0 → record { found = true; left = 0; name = n } ≡ scan (those (accepted t s q) (n ∷ [])) k
-  unfolding those if◌then◌else◌ accepted scan
+  unfolding those if◌then◌or_else◌ accepted scan
   name_first h d = rw (sym e ∙ h, d)
 
   pub name_next : (r : Scan) → b ≡ true → (k ≡ 0 → ⊥) → r ≡ scan [] (k - 1) → r ≡ scan (those (accepted t s q) (n ∷ [])) k
-  unfolding those if◌then◌else◌ accepted scan
+  unfolding those if◌then◌or_else◌ accepted scan
   name_next r h d w = rw (sym e ∙ h) (w ∙ behind k d)
     where
       behind : (k : ℕ) → (k ≡ 0 → ⊥) → scan [] (k - 1) ≡ scan (n ∷ []) k
@@ -98,11 +98,11 @@ module _ (q : List ℕ) (m k : ℕ) (h : k < message_count q m) where
     sought_is = d ∙ ap (λ (x : List ℕ). oldest x m g) same ∙ ap (λ (x : Tuple). oldest q m x) given_is
 
     offered-oldest : o ≡ k → offered q m k ≡ g ∷ []
-    unfolding offered if◌then◌else◌
+    unfolding offered if◌then◌or_else◌
     offered-oldest p = rw (older, first_is equals (message_count q m) k h at_itself (sym sought_is ∙ p)) (ap (λ (x : Tuple). x ∷ []) (sym given_is))
 
     offered_again : (o ≡ k → ⊥) → offered q m k ≡ []
-    unfolding offered if◌then◌else◌
+    unfolding offered if◌then◌or_else◌
     offered_again p = rw (older, first_before equals (message_count q m) k h at_itself (λ j. p (sought_is ∙ j)))
 
     module _ (f : Name → Bool) (n : Name) (i : ℕ) (r : Scan) where
@@ -124,6 +124,6 @@ pub those-joined_nothing : {A : Type 0} (f : A → Bool) (g : ℕ → List A) (n
 those-joined_nothing f g n h = those-joined f g n ∙ joined_nothing (λ k. those f (g k)) n h
 
 pub those_named_nothing : (f : Name → Bool) (name : Tuple → Name) (gs : List Tuple) → ((g : Tuple) → f (name g) ≡ false) → those f (named_by name gs) ≡ []
-unfolding those named_by if◌then◌else◌
+unfolding those named_by if◌then◌or_else◌
 those_named_nothing f name [] h = refl
 those_named_nothing f name (g ∷ gs) h = rw (h g) (those_named_nothing f name gs h)

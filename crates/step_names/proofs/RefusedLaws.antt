@@ -7,7 +7,7 @@ use lib.Dec.{eqb}
 use lib.ListN.{get_or}
 use borrow.Author.Tests.{eqb-true}
 use Rattle.base_words.specs.Each.{each, joined, tab, those}
-use Rattle.base_words.specs.Pick.{if◌then◌else◌}
+use Rattle.base_words.specs.Pick.{if◌then◌or_else◌}
 use Rattle.meaning.specs.declared.Tuple.{Tuple}
 use Rattle.meaning.specs.declared.Name.{Name}
 use Rattle.meaning.specs.Messages.{has}
@@ -42,7 +42,7 @@ module _ (t s q : List ℕ) where
     above_refused o g = refused_at (with_values n g) 8 o
 
     accepted_ready : (g : Tuple) → accepted t s q (with_values n g) ≡ true → ready_for t (instance_for t s n) n ≡ true
-    unfolding ready_for instance_for before_fields listed first_refusal if◌then◌else◌ refusals refusals_at site_of with_values move_named element_named
+    unfolding ready_for instance_for before_fields listed first_refusal if◌then◌or_else◌ refusals refusals_at site_of with_values move_named element_named
     accepted_ready g a = rw (accepted_holds (with_values n g) a 1, accepted_holds (with_values n g) a 2)
 
     unready_refused : ready_for t (instance_for t s n) n ≡ false → (g : Tuple) → accepted t s q (with_values n g) ≡ false
@@ -74,10 +74,10 @@ module _ (t s q : List ℕ) where
     -- a message that does not suit
     module _ (m i k : ℕ) (r : Scan) (w : r ≡ scan [] k) where
       message_refused : accepted t s q (with_values n (message_at q m i)) ≡ false → r ≡ scan (those (accepted t s q) (by_message q n m i)) k
-      unfolding by_message offered named_by those if◌then◌else◌
+      unfolding by_message offered named_by those if◌then◌or_else◌
       message_refused o = rw (none (has (message_at q m i) (tab (message_at q m) i))) w
         where
-          none : (b : Bool) → those (accepted t s q) (named_by (with_values n) (if b then [] else message_at q m i ∷ [])) ≡ []
+          none : (b : Bool) → those (accepted t s q) (named_by (with_values n) (if b then [] or_else message_at q m i ∷ [])) ≡ []
           none true = refl
           none false = rw o
 

@@ -2,7 +2,7 @@
 use Rattle.std.specs.Prelude.{ℕ, Bool, List, [], ◌∷◌, eqb}
 use Rattle.base_words.specs.Blocks.{Table, Instances, Queues}
 use Rattle.base_words.specs.Each.{tab}
-use Rattle.base_words.specs.Pick.{if◌then◌else◌}
+use Rattle.base_words.specs.Pick.{if◌then◌or_else◌}
 use Rattle.base_words.specs.Words.{at}
 use Rattle.base_table.specs.Places.{pool_place}
 use Rattle.meaning.specs.declared.Tuple.{Tuple}
@@ -24,7 +24,7 @@ named_by f (g ∷ gs) = f g ∷ named_by f gs
 
 -- "equal messages appear once, at the oldest": message k of the queue of a name, where no older one is equal to it (RULES: list)
 unfoldable pub offered : Queues → ℕ → ℕ → List Tuple
-offered q name k = if has (message_at q name k) (tab (message_at q name) k) then [] else message_at q name k ∷ []
+offered q name k = if has (message_at q name k) (tab (message_at q name) k) then [] or_else message_at q name k ∷ []
 
 -- accepted: nothing refuses the step
 unfoldable pub accepted : Table → Instances → Queues → Name → Bool

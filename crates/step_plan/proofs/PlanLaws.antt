@@ -6,7 +6,7 @@ use mathlib.Core.List.{List, [], ◌∷◌, ◌++◌}
 use native.Mathlib.Omega.{arith}
 use lib.Dec.{eqb}
 use borrow.Author.Tests.{eq-eqb, ne_eqb}
-use Rattle.base_words.specs.Pick.{if◌then◌else◌}
+use Rattle.base_words.specs.Pick.{if◌then◌or_else◌}
 use Rattle.base_words.specs.Each.{each}
 use Rattle.base_words.proofs.PickLaws.{pick_yes, pick_no}
 use Rattle.base_kinds.specs.declared.moves.Move.{Move}
@@ -99,7 +99,7 @@ module _ (x : Site) where
 
       module _ (v : Evaluated) (f : v ≡ expected x.element x.instance x.move x.branch x.given) where
         pub prepared_undefined : (r : Plan) (h : List ℕ) → v.defined ≡ false → r ≡ refused_plan 13 → h ≡ x.instance → Prepared x r h
-        unfolding first_refusal if◌then◌else◌ template later
+        unfolding first_refusal if◌then◌or_else◌ template later
         prepared_undefined r h u q same =
             record {
               number = ap number q ∙ sym (past ∙ rw (← f, u));
@@ -113,7 +113,7 @@ module _ (x : Site) where
             never z = omega arith
 
         pub prepared_whole : (r : Plan) (h : List ℕ) → v.defined ≡ true → Matched x v.tuple r h → Prepared x r h
-        unfolding first_refusal if◌then◌else◌ template later matches
+        unfolding first_refusal if◌then◌or_else◌ template later matches
         prepared_whole r h u d =
             record {
               number = d.number ∙ sym (past ∙ rw (← f, u));

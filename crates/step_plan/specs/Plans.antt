@@ -1,7 +1,7 @@
 -- What a plan says of the step that a name finds, and what the copy of the instance holds then.
 use Rattle.std.specs.Prelude.{ℕ, ◌≡◌, List, [], eqb, take}
 use Rattle.base_words.specs.Blocks.{Element, Instance}
-use Rattle.base_words.specs.Pick.{if◌then◌else◌}
+use Rattle.base_words.specs.Pick.{if◌then◌or_else◌}
 use Rattle.base_kinds.specs.declared.moves.Move.{Move}
 use Rattle.meaning.specs.declared.Tuple.{Tuple}
 use Rattle.meaning.specs.Tuples.{empty, same_tuple}
@@ -23,7 +23,7 @@ unfoldable pub of_guard : Site → List Refusal
 of_guard x = take 3 (refusals_at x [])
 
 unfoldable pub copy_after : Site → Instance
-copy_after x = if eqb (first_refusal (of_guard x)) 0 then after_taking x else x.instance
+copy_after x = if eqb (first_refusal (of_guard x)) 0 then after_taking x or_else x.instance
 
 abbrev pub refused_plan : ℕ → Plan
 refused_plan n = record { number = n; expected = empty; sent = empty }

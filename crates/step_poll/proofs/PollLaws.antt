@@ -8,7 +8,7 @@ use borrow.Author.Tests.{eq-eqb, ne_eqb, eqb-true, lt-ltb, le-ltb}
 use lib.Dec.{eqb, ltb}
 use lib.ListN.{drop, take-append-drop}
 use lib.Seq.{drop-drop}
-use Rattle.base_words.specs.Pick.{if◌then◌else◌}
+use Rattle.base_words.specs.Pick.{if◌then◌or_else◌}
 use Rattle.base_words.specs.Words.{at}
 use Rattle.base_state.specs.Places.{instances_words}
 use Rattle.base_state.specs.Instances.{instances_of, queues_of}
@@ -41,12 +41,12 @@ module _ (t z w y : List ℕ) (x : ℕ) (first : x ≡ at w 0) where
   pub post_taken : (name : ℕ) (g : Tuple) (r : ℕ) → x ≡ 1 → name ≡ at w 1 → g ≡ given_in w
       → (◌≡◌ {A = Posted} (record { number = r; queues = queues_of y }) (posted (queues_of z) name g)) × (instances_of y ≡ instances_of z)
       → ◌≡◌ {A = Left} (record { number = r; state = y }) (settled_act t (act_in w) z)
-  unfolding settled_act act_in if◌then◌else◌
+  unfolding settled_act act_in if◌then◌or_else◌
   post_taken name g r one e h d = rw (eq-eqb (at w 0) 1 (sym first ∙ one), ← e, ← h) (post_left z y name g r d)
 
   pub step_taken : (n : Name) (r : Answer) → (x ≡ 1 → ⊥) → n ≡ name_in w → Done (settled t (instances_of z) (queues_of z) n) r y
       → ◌≡◌ {A = Left} (record { number = r.number; state = y }) (settled_act t (act_in w) z)
-  unfolding settled_act act_in if◌then◌else◌
+  unfolding settled_act act_in if◌then◌or_else◌
   step_taken n r other e d =
       rw (ne_eqb (at w 0) 1 (λ (h : at w 0 ≡ 1). other (first ∙ h)), ← e)
       (ap (λ (x : Stepped). record { number = x.answer.number; state = x.state }) (step_left t z y n r d))
@@ -54,11 +54,11 @@ module _ (t z w y : List ℕ) (x : ℕ) (first : x ≡ at w 0) where
 -- THE FIRST OF SOME ITEMS: k is the number that it gives, y the state that it leaves
 module _ (give : Act → List ℕ → Left) (a : Act) (rest : List Act) (z : List ℕ) (k : ℕ) (y : List ℕ) (e : ◌≡◌ {A = Left} (record { number = k; state = y }) (give a z)) where
   pub first_accepted : k ≡ 0 → polled_by give (a ∷ rest) z ≡ one_before (polled_by give rest y)
-  unfolding polled_by if◌then◌else◌
+  unfolding polled_by if◌then◌or_else◌
   first_accepted h = rw (← e, h)
 
   pub first_refused : (k ≡ 0 → ⊥) → polled_by give (a ∷ rest) z ≡ record { number = k; accepted = 0; state = y }
-  unfolding polled_by if◌then◌else◌
+  unfolding polled_by if◌then◌or_else◌
   first_refused h = rw (← e, ne_eqb k 0 h)
 
 -- d accepted before a poll
@@ -116,26 +116,26 @@ module _ (give : Act → List ℕ → Left) (w : List ℕ) (count : ℕ) where
 -- THE WHOLE POLL
 module _ (give : Act → List ℕ → Left) (right : ℕ) (w : List ℕ) (count : ℕ) (z : List ℕ) where
   pub too_many_lem : items_most < count → record { number = 22; accepted = 0; state = z } ≡ polled_from give right w count z
-  unfolding polled_from if◌then◌else◌
+  unfolding polled_from if◌then◌or_else◌
   too_many_lem h = rw (lt-ltb items_most count h)
 
   module _ (few : count ≤ items_most) where
     pub not_right : (right ≡ 0 → ⊥) → record { number = right; accepted = 0; state = z } ≡ polled_from give right w count z
-    unfolding polled_from if◌then◌else◌
+    unfolding polled_from if◌then◌or_else◌
     not_right h = rw (le-ltb items_most count few, ne_eqb right 0 h)
 
     pub all_right_lem : right ≡ 0 → polled_by give (acts_in w count) z ≡ polled_from give right w count z
-    unfolding polled_from if◌then◌else◌
+    unfolding polled_from if◌then◌or_else◌
     all_right_lem h = rw (le-ltb items_most count few, h)
 
 -- two ways that come to the same where table and state are right
 pub same_poll : (give take : Act → List ℕ → Left) (right : ℕ) (w : List ℕ) (count : ℕ) (z : List ℕ) → (right ≡ 0 → polled_by give (acts_in w count) z ≡ polled_by take (acts_in w count) z)
     → polled_from give right w count z ≡ polled_from take right w count z
-unfolding polled_from if◌then◌else◌
+unfolding polled_from if◌then◌or_else◌
 same_poll give take right w count z same =
-    ap (λ (p : Polling). if ltb items_most count then record { number = 22; accepted = 0; state = z } else p) (go (eqb right 0) (λ (h : eqb right 0 ≡ true). same (eqb-true right 0 h)))
+    ap (λ (p : Polling). if ltb items_most count then record { number = 22; accepted = 0; state = z } or_else p) (go (eqb right 0) (λ (h : eqb right 0 ≡ true). same (eqb-true right 0 h)))
   where
     go : (b : Bool) → (b ≡ true → polled_by give (acts_in w count) z ≡ polled_by take (acts_in w count) z)
-        → (if b then polled_by give (acts_in w count) z else record { number = right; accepted = 0; state = z }) ≡ (if b then polled_by take (acts_in w count) z else record { number = right; accepted = 0; state = z })
+        → (if b then polled_by give (acts_in w count) z or_else record { number = right; accepted = 0; state = z }) ≡ (if b then polled_by take (acts_in w count) z or_else record { number = right; accepted = 0; state = z })
     go true e = e refl
     go false e = refl

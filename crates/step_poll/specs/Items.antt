@@ -2,7 +2,7 @@
 -- values". What a post does not use is ignored. (RULES: poll)
 use Rattle.std.specs.Prelude.{ℕ, zero, suc, List, [], ◌∷◌, eqb, drop}
 use Rattle.base_words.specs.Blocks.{Block}
-use Rattle.base_words.specs.Pick.{if◌then◌else◌}
+use Rattle.base_words.specs.Pick.{if◌then◌or_else◌}
 use Rattle.base_words.specs.Words.{at}
 use Rattle.meaning.specs.declared.Name.{Name}
 use Rattle.meaning.specs.declared.Tuple.{Tuple}
@@ -26,7 +26,7 @@ abbrev pub name_in : Block → Name
 name_in w = record { pool = at w 1; instance = at w 2; element = at w 3; phase = at w 4; branch = at w 5; given = given_in w }
 
 unfoldable pub act_in : Block → Act
-act_in w = if eqb (at w 0) 1 then a_post (at w 1) (given_in w) else a_step (name_in w)
+act_in w = if eqb (at w 0) 1 then a_post (at w 1) (given_in w) or_else a_step (name_in w)
 
 -- the first n items; what stands behind them is ignored
 unfoldable pub acts_in : Block → ℕ → List Act

@@ -2,7 +2,7 @@
 -- accepted and that refusal's number, 0 if there was none". (RULES: poll)
 use Rattle.std.specs.Prelude.{ℕ, ◌+◌, List, [], ◌∷◌, ◌++◌, eqb, ltb}
 use Rattle.base_words.specs.Blocks.{Block, Table, State}
-use Rattle.base_words.specs.Pick.{if◌then◌else◌}
+use Rattle.base_words.specs.Pick.{if◌then◌or_else◌}
 use Rattle.base_state.specs.Instances.{instances_of, queues_of}
 use Rattle.meaning.specs.declared.Name.{Name}
 use Rattle.meaning.specs.declared.Tuple.{Tuple}
@@ -33,14 +33,14 @@ unfoldable pub polled_by : (Act → State → Left) → List Act → State → P
 polled_by give [] z = record { number = 0; accepted = 0; state = z }
 polled_by give (a ∷ rest) z =
     if eqb (give a z).number 0 then one_before (polled_by give rest (give a z).state)
-    else record { number = (give a z).number; accepted = 0; state = (give a z).state }
+    or_else record { number = (give a z).number; accepted = 0; state = (give a z).state }
 
 -- "22 more than 64 items, checked first, nothing done; then 10, with no items too": right is 0, or the number that table and state are refused with (RULES: poll)
 unfoldable pub polled_from : (Act → State → Left) → ℕ → Block → ℕ → State → Polling
 polled_from give right w count z =
     if ltb items_most count then record { number = 22; accepted = 0; state = z }
-    else if eqb right 0 then polled_by give (acts_in w count) z
-    else record { number = right; accepted = 0; state = z }
+    or_else if eqb right 0 then polled_by give (acts_in w count) z
+    or_else record { number = right; accepted = 0; state = z }
 
 -- a step and a post as the code makes them
 unfoldable pub settled_step : Table → State → Name → Stepped

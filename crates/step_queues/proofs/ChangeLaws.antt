@@ -9,7 +9,7 @@ use lib.Dec.{eqb}
 use lib.ListN.{length, length-append}
 use borrow.Author.Tests.{eq-eqb, lt-ltb}
 use Rattle.base_words.specs.All.{all}
-use Rattle.base_words.specs.Pick.{if◌then◌else◌}
+use Rattle.base_words.specs.Pick.{if◌then◌or_else◌}
 use Rattle.base_words.specs.Sum.{one_if}
 use Rattle.base_words.specs.Words.{at}
 use Rattle.base_words.specs.Counts.{values, messages, names}
@@ -27,7 +27,7 @@ use Rattle.step_queues.proofs.ReadLaws.{messages_with, tidy_with}
 
 -- A TIDIED MESSAGE is equal to the one that it was, where that has at most 4 values
 value_in_lem : (g : Tuple) (j : ℕ) → j < g.length → value_of g j ≡ at g.values j
-unfolding value_of if◌then◌else◌
+unfolding value_of if◌then◌or_else◌
 value_in_lem g j h = rw (lt-ltb j g.length h)
 
 pub tidied_same : (g : Tuple) → g.length ≤ values → same_tuple (tidied g) g ≡ true
@@ -51,20 +51,20 @@ tidied_same g l =
 
 -- what is left of tidied messages is tidied, and no more
 without-tidied : (g : Tuple) (ms : List Tuple) → map tidied ms ≡ ms → map tidied (without g ms) ≡ without g ms
-unfolding without if◌then◌else◌
+unfolding without if◌then◌or_else◌
 without-tidied g [] e = refl
 without-tidied g (x ∷ xs) e = go (same_tuple x g) (without-tidied g xs (cc))
   where
-    go : (b : Bool) → map tidied (without g xs) ≡ without g xs → map tidied (if b then xs else x ∷ without g xs) ≡ (if b then xs else x ∷ without g xs)
+    go : (b : Bool) → map tidied (without g xs) ≡ without g xs → map tidied (if b then xs or_else x ∷ without g xs) ≡ (if b then xs or_else x ∷ without g xs)
     go true ih = cc
     go false ih = cc
 
 without_le : (g : Tuple) (ms : List Tuple) → length (without g ms) ≤ length ms
-unfolding without if◌then◌else◌
+unfolding without if◌then◌or_else◌
 without_le g [] = omega arith
 without_le g (x ∷ xs) = go (same_tuple x g) (without_le g xs)
   where
-    go : (b : Bool) → length (without g xs) ≤ length xs → length (if b then xs else x ∷ without g xs) ≤ suc (length xs)
+    go : (b : Bool) → length (without g xs) ≤ length xs → length (if b then xs or_else x ∷ without g xs) ≤ suc (length xs)
     go true ih = omega arith
     go false ih = omega arith
 

@@ -11,7 +11,7 @@ use lib.ListN.{length, get_or, length-append, get_or-append}
 use lib.Seq.{get_or_at}
 use borrow.Author.Tests.{lt-ltb, le-ltb, ltb-true}
 use Rattle.base_words.specs.Each.{tab}
-use Rattle.base_words.specs.Pick.{if◌then◌else◌}
+use Rattle.base_words.specs.Pick.{if◌then◌or_else◌}
 use Rattle.base_words.specs.Seek.{seek}
 use Rattle.base_words.specs.Sum.{one_if}
 use Rattle.meaning.specs.declared.Tuple.{Tuple}
@@ -20,20 +20,20 @@ use Rattle.step_values.proofs.TupleLaws.{same_sym, same_trans}
 use Rattle.meaning.specs.Messages.{has, without, times}
 
 -- WHETHER ONE IS THERE
-pub has_append : (g : Tuple) (xs ys : List Tuple) → has g (xs ++ ys) ≡ (if has g xs then true else has g ys)
-unfolding has if◌then◌else◌
+pub has_append : (g : Tuple) (xs ys : List Tuple) → has g (xs ++ ys) ≡ (if has g xs then true or_else has g ys)
+unfolding has if◌then◌or_else◌
 has_append g [] ys = refl
 has_append g (x ∷ xs) ys = go (same_tuple x g) (has_append g xs ys)
   where
-    go : (b : Bool) → has g (xs ++ ys) ≡ (if has g xs then true else has g ys)
-        → (if b then true else has g (xs ++ ys)) ≡ (if (if b then true else has g xs) then true else has g ys)
+    go : (b : Bool) → has g (xs ++ ys) ≡ (if has g xs then true or_else has g ys)
+        → (if b then true or_else has g (xs ++ ys)) ≡ (if (if b then true or_else has g xs) then true or_else has g ys)
     go true e = refl
     go false e = e
 
 -- the search comes to an end before n just where one of the first n is equal
 module _ (g : Tuple) (f : ℕ → Tuple) where
   pub seek-has : (n : ℕ) → ltb (seek (λ k. same_tuple (f k) g) n) n ≡ has g (tab f n)
-  unfolding seek tab has if◌then◌else◌
+  unfolding seek tab has if◌then◌or_else◌
   seek-has zero = refl
   seek-has (suc n) = go (ltb k n) refl (same_tuple (f n) g) (seek-has n) ∙ sym (has_append g (tab f n) (f n ∷ []))
     where
@@ -41,7 +41,7 @@ module _ (g : Tuple) (f : ℕ → Tuple) where
       k = seek (λ k. same_tuple (f k) g) n
 
       go : (b : Bool) → ltb k n ≡ b → (c : Bool) → ltb k n ≡ has g (tab f n)
-          → ltb (cond b k (cond c n (suc n))) (suc n) ≡ (if has g (tab f n) then true else (if c then true else false))
+          → ltb (cond b k (cond c n (suc n))) (suc n) ≡ (if has g (tab f n) then true or_else (if c then true or_else false))
       go true e c ih = rw (← ih, e) (lt-ltb k (suc n) (omega (arith, ltb-true k n e)))
       go false e true ih = rw (← ih, e) (lt-ltb n (suc n) (omega arith))
       go false e false ih = rw (← ih, e) (le-ltb (suc n) (suc n) (omega arith))
@@ -49,15 +49,15 @@ module _ (g : Tuple) (f : ℕ → Tuple) where
 -- WITHOUT THE OLDEST EQUAL ONE: it is first, or further on
 module _ (g x : Tuple) (xs : List Tuple) where
   without_here : same_tuple x g ≡ true → without g (x ∷ xs) ≡ xs
-  unfolding without if◌then◌else◌
+  unfolding without if◌then◌or_else◌
   without_here e = rw e
 
   without_later : same_tuple x g ≡ false → without g (x ∷ xs) ≡ x ∷ without g xs
-  unfolding without if◌then◌else◌
+  unfolding without if◌then◌or_else◌
   without_later e = rw e
 
   has_later : same_tuple x g ≡ false → has g (x ∷ xs) ≡ true → has g xs ≡ true
-  unfolding has if◌then◌else◌
+  unfolding has if◌then◌or_else◌
   has_later e h = rw e at h
 
 has_none : (g : Tuple) → has g [] ≡ true → ⊥

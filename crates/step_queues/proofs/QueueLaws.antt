@@ -8,7 +8,7 @@ use lib.Dec.{ltb}
 use lib.ListN.{length, get_or, length-set, length-append, get_or-append, get_or-eq_default}
 use lib.Seq.{get_or_at, get_or-set_same, get_or-set_other}
 use borrow.Author.Tests.{lt-ltb, ltb-true}
-use Rattle.base_words.specs.Pick.{if◌then◌else◌}
+use Rattle.base_words.specs.Pick.{if◌then◌or_else◌}
 use Rattle.base_words.specs.Words.{at}
 use Rattle.base_words.specs.Counts.{messages, names}
 use Rattle.base_words.proofs.SeekLaws.{sought}
@@ -59,7 +59,7 @@ module _ (q : List ℕ) (m : ℕ) (long : length q ≡ queue_words * names) (nam
 
   -- appending puts a message behind the others
   pub extended_is : (g : Tuple) → message_count q m < messages → extended q m g ≡ sending q m g
-  unfolding extended one_more if◌then◌else◌
+  unfolding extended one_more if◌then◌or_else◌
   extended_is g room =
       is_with q m (ms ++ (g ∷ [])) (extended q m g) fits
       (length-set s (queue_place m) (one_more n) ∙ length_stored q m n g)

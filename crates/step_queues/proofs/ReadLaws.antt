@@ -9,7 +9,7 @@ use lib.ListN.{length, get_or, length-map, get_or-map}
 use lib.Seq.{ext_get_or}
 use borrow.Author.Tests.{ne_eqb}
 use Rattle.base_words.specs.Each.{tab}
-use Rattle.base_words.specs.Pick.{if◌then◌else◌}
+use Rattle.base_words.specs.Pick.{if◌then◌or_else◌}
 use Rattle.base_words.specs.Words.{at}
 use Rattle.base_words.specs.Counts.{values, messages, names}
 use Rattle.meaning.specs.declared.Tuple.{Tuple}
@@ -21,11 +21,11 @@ use Rattle.step_queues.proofs.QueueLaws.{count_is, message_is_lem}
 
 -- A MESSAGE READ BACK
 word_next : (g : Tuple) (j : ℕ) → message_word g (suc j) ≡ value_of g j
-unfolding message_word if◌then◌else◌
+unfolding message_word if◌then◌or_else◌
 word_next g j = let e : suc j - 1 ≡ j = omega arith in rw (ne_eqb (suc j) 0 (λ z. omega arith), e)
 
 word_first : (g : Tuple) → message_word g 0 ≡ g.length
-unfolding message_word if◌then◌else◌
+unfolding message_word if◌then◌or_else◌
 word_first g = refl
 
 -- a message read from words that are those of g
@@ -39,10 +39,10 @@ read_back q m k g h =
 
 -- its words are as they were
 value_tidied : (g : Tuple) (j : ℕ) → j < values → value_of (tidied g) j ≡ value_of g j
-unfolding tidied value_of if◌then◌else◌
+unfolding tidied value_of if◌then◌or_else◌
 value_tidied g j h = each j h
   where
-    twice : (b : Bool) (x : ℕ) → (if b then if b then x else 0 else 0) ≡ (if b then x else 0)
+    twice : (b : Bool) (x : ℕ) → (if b then if b then x or_else 0 or_else 0) ≡ (if b then x or_else 0)
     twice true x = refl
     twice false x = refl
 
@@ -59,7 +59,7 @@ word_tidied g zero h = word_first (tidied g) ∙ sym (word_first g)
 word_tidied g (suc j) h = word_next (tidied g) j ∙ value_tidied g j (omega arith) ∙ sym (word_next g j)
 
 tidied-empty : tidied empty ≡ empty
-unfolding tidied value_of if◌then◌else◌
+unfolding tidied value_of if◌then◌or_else◌
 tidied-empty = refl
 
 tidied-at : (ms : List Tuple) (k : ℕ) → get_or (map tidied ms) k empty ≡ tidied (get_or ms k empty)
@@ -133,12 +133,12 @@ module _ (q : List ℕ) (m : ℕ) (ms : List Tuple) (n : ℕ) (other : n ≡ m �
 
 -- A QUEUE OF ZEROS is tidy: it holds no message
 pub tidy_blank : (q : List ℕ) (m : ℕ) → ((i : ℕ) → i < queue_words → at q (queue_place m + i) ≡ 0) → Tidy q m
-unfolding messages_of tab queue_word messages_word if◌then◌else◌
+unfolding messages_of tab queue_word messages_word if◌then◌or_else◌
 tidy_blank q m blank = record { room = omega (arith, count); words = λ i h. rw count (blank i h ∙ zero_word (eqb i 0)) }
   where
     count : message_count q m ≡ 0
     count = let e : queue_place m + 0 ≡ queue_place m = omega arith in rw e at (blank 0 (omega arith))
 
-    zero_word : (b : Bool) → ◌≡◌ {A = ℕ} 0 (if b then 0 else 0)
+    zero_word : (b : Bool) → ◌≡◌ {A = ℕ} 0 (if b then 0 or_else 0)
     zero_word true = refl
     zero_word false = refl

@@ -10,7 +10,7 @@ use lib.Dec.{ltb, eqb}
 use lib.ListN.{length, get_or, set, length-set}
 use lib.Seq.{ext_get_or, get_or-set_same, get_or-set_other}
 use borrow.Author.Tests.{lt-ltb, le-ltb, ne_eqb, ltb-true, ltb-false}
-use Rattle.base_words.specs.Pick.{if◌then◌else◌}
+use Rattle.base_words.specs.Pick.{if◌then◌or_else◌}
 use Rattle.base_words.specs.Words.{at}
 use Rattle.base_words.specs.Counts.{values, messages}
 use Rattle.base_words.proofs.WritesLaws.{length-writes, writes_in, writes_below, writes_above}
@@ -33,15 +33,15 @@ by_order a b l e r = by_below a b l (λ h. ⊎_elim e r (eq-or-lt_of_le h))
 
 -- THE WORDS OF MESSAGES: word d of message k; where there is no message k, of the empty one, which is 0
 word_empty : (d : ℕ) → 0 ≡ message_word empty d
-unfolding message_word value_of if◌then◌else◌
+unfolding message_word value_of if◌then◌or_else◌
 word_empty d = go (eqb d 0) (ltb (d - 1) 0) (le-ltb (d - 1) 0 (omega arith))
   where
-    go : (b c : Bool) → c ≡ false → 0 ≡ (if b then 0 else if c then at empty.values (d - 1) else 0)
+    go : (b c : Bool) → c ≡ false → 0 ≡ (if b then 0 or_else if c then at empty.values (d - 1) or_else 0)
     go true c e = refl
     go false c e = rw e
 
 pub messages_word_lem : (ms : List Tuple) (k d : ℕ) → d < slot_words → messages_word ms (slot_words * k + d) ≡ message_word (get_or ms k empty) d
-unfolding messages_word if◌then◌else◌
+unfolding messages_word if◌then◌or_else◌
 messages_word_lem [] k d h = word_empty d
 messages_word_lem (g ∷ gs) zero d h =
     let e : 5 * 0 + d ≡ d = omega arith in
@@ -51,11 +51,11 @@ messages_word_lem (g ∷ gs) (suc k) d h =
     rw (le-ltb (5 * suc k + d) 5 (omega arith), e) (messages_word_lem gs k d h)
 
 pub queue_count : (ms : List Tuple) → queue_word ms 0 ≡ length ms
-unfolding queue_word if◌then◌else◌
+unfolding queue_word if◌then◌or_else◌
 queue_count ms = refl
 
 pub queue_word_lem : (ms : List Tuple) (k d : ℕ) → d < slot_words → queue_word ms (1 + slot_words * k + d) ≡ message_word (get_or ms k empty) d
-unfolding queue_word if◌then◌else◌
+unfolding queue_word if◌then◌or_else◌
 queue_word_lem ms k d h =
     let e : 1 + 5 * k + d - 1 ≡ 5 * k + d = omega arith in
     rw (ne_eqb (1 + 5 * k + d) 0 (λ z. omega arith), e) (messages_word_lem ms k d h)
@@ -123,7 +123,7 @@ module _ (q : List ℕ) (m k : ℕ) (g : Tuple) where
   length_stored = length-writes (value_of g) (set q (slot_place m k) g.length) (slot_place m k + 1) values ∙ length-set q (slot_place m k) g.length
 
   pub stored_word : slot_place m k + slot_words ≤ length q → (d : ℕ) → d < slot_words → at (stored q m k g) (slot_place m k + d) ≡ message_word g d
-  unfolding stored message_word if◌then◌else◌
+  unfolding stored message_word if◌then◌or_else◌
   stored_word l zero h =
       let e : slot_place m k + 0 ≡ slot_place m k = omega arith in
       rw e

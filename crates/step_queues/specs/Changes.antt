@@ -2,7 +2,7 @@
 -- not in use, they are the operations on lists of messages (proofs/QueueLaws.antt).
 use Rattle.std.specs.Prelude.{ℕ, ◌+◌, ◌-◌, ◌*◌, Bool, List, ltb, set}
 use Rattle.base_words.specs.Blocks.{Queues}
-use Rattle.base_words.specs.Pick.{if◌then◌else◌}
+use Rattle.base_words.specs.Pick.{if◌then◌or_else◌}
 use Rattle.base_words.specs.Seek.{seek}
 use Rattle.base_words.specs.Words.{at}
 use Rattle.base_words.specs.Writes.{writes}
@@ -25,7 +25,7 @@ stored q m k g = writes (value_of g) (set q (slot_place m k) g.length) (slot_pla
 
 -- a queue holds at most 64
 unfoldable pub one_more : ℕ → ℕ
-one_more n = if ltb n messages then n + 1 else n
+one_more n = if ltb n messages then n + 1 or_else n
 
 unfoldable pub extended : Queues → ℕ → Tuple → Queues
 extended q m g = set (stored q m (message_count q m) g) (queue_place m) (one_more (message_count q m))

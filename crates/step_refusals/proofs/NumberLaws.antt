@@ -7,7 +7,7 @@ use native.Mathlib.Omega.{arith}
 use lib.Dec.{eqb, ltb}
 use lib.ListN.{length, get_or}
 use borrow.Author.Tests.{lt-ltb, le-ltb, eqb-false}
-use Rattle.base_words.specs.Pick.{if◌then◌else◌}
+use Rattle.base_words.specs.Pick.{if◌then◌or_else◌}
 use Rattle.base_words.specs.Each.{each}
 use Rattle.base_words.specs.Counts.{messages}
 use Rattle.base_words.proofs.AllLaws.{and_left, and_right}
@@ -40,17 +40,17 @@ place_by q m r e = rw (e, count_is q m)
 -- 15 to 18, where nothing refuses
 pub none_after : (el h : List ℕ) (m : Move) (b : ℕ) (message_count below space : Bool) → message_count ≡ true → below ≡ true → space ≡ true → roomy el h m b ≡ true
     → 0 ≡ first_refusal (of_queues el h m b message_count below space)
-unfolding first_refusal if◌then◌else◌ number_at listed of_queues refusals_at
+unfolding first_refusal if◌then◌or_else◌ number_at listed of_queues refusals_at
 none_after el h m b message_count below space e₁ e₂ e₃ e₄ = rw (e₁, e₂, e₃, e₄)
 
 -- Refusals in two parts: the first that does not hold stands in the first part, or all of that hold.
 pub stops : (us vs : List Refusal) → (first_refusal us ≡ 0 → ⊥) → first_refusal (us ++ vs) ≡ first_refusal us
-unfolding first_refusal if◌then◌else◌
+unfolding first_refusal if◌then◌or_else◌
 stops [] vs h = absurd (h refl)
 stops (a ∷ us) vs h = go a.holds h (λ k. stops us vs k)
   where
-    go : (b : Bool) → ((if b then first_refusal us else a.number) ≡ 0 → ⊥) → ((first_refusal us ≡ 0 → ⊥) → first_refusal (us ++ vs) ≡ first_refusal us)
-        → (if b then first_refusal (us ++ vs) else a.number) ≡ (if b then first_refusal us else a.number)
+    go : (b : Bool) → ((if b then first_refusal us or_else a.number) ≡ 0 → ⊥) → ((first_refusal us ≡ 0 → ⊥) → first_refusal (us ++ vs) ≡ first_refusal us)
+        → (if b then first_refusal (us ++ vs) or_else a.number) ≡ (if b then first_refusal us or_else a.number)
     go true k f = f k
     go false k f = refl
 
@@ -63,26 +63,26 @@ not_back false h = refl
 not_back true h = absurd (false≢true h)
 
 pub passes : (us vs : List Refusal) → numbered us ≡ true → first_refusal us ≡ 0 → first_refusal (us ++ vs) ≡ first_refusal vs
-unfolding first_refusal if◌then◌else◌ numbered each
+unfolding first_refusal if◌then◌or_else◌ numbered each
 passes [] vs k e = refl
 passes (a ∷ us) vs k e =
     go a.holds e (λ f. passes us vs (and_right (not (eqb a.number 0)) (numbered us) k) f)
     (eqb-false a.number 0 (not_back (eqb a.number 0) (and_left (not (eqb a.number 0)) (numbered us) k)))
   where
-    go : (b : Bool) → (if b then first_refusal us else a.number) ≡ 0 → (first_refusal us ≡ 0 → first_refusal (us ++ vs) ≡ first_refusal vs)
-        → (a.number ≡ 0 → ⊥) → (if b then first_refusal (us ++ vs) else a.number) ≡ first_refusal vs
+    go : (b : Bool) → (if b then first_refusal us or_else a.number) ≡ 0 → (first_refusal us ≡ 0 → first_refusal (us ++ vs) ≡ first_refusal vs)
+        → (a.number ≡ 0 → ⊥) → (if b then first_refusal (us ++ vs) or_else a.number) ≡ first_refusal vs
     go true e f n = f e
     go false e f n = absurd (n e)
 
 -- where nothing is refused, all hold
 pub all_hold : (us : List Refusal) → numbered us ≡ true → first_refusal us ≡ 0 → each (λ (a : Refusal). a.holds) us ≡ true
-unfolding first_refusal if◌then◌else◌ numbered each
+unfolding first_refusal if◌then◌or_else◌ numbered each
 all_hold [] k e = refl
 all_hold (a ∷ us) k e =
     go a.holds e (λ f. all_hold us (and_right (not (eqb a.number 0)) (numbered us) k) f)
     (eqb-false a.number 0 (not_back (eqb a.number 0) (and_left (not (eqb a.number 0)) (numbered us) k)))
   where
-    go : (b : Bool) → (if b then first_refusal us else a.number) ≡ 0 → (first_refusal us ≡ 0 → each (λ (a : Refusal). a.holds) us ≡ true)
+    go : (b : Bool) → (if b then first_refusal us or_else a.number) ≡ 0 → (first_refusal us ≡ 0 → each (λ (a : Refusal). a.holds) us ≡ true)
         → (a.number ≡ 0 → ⊥) → b && each (λ (a : Refusal). a.holds) us ≡ true
     go true e f n = f e
     go false e f n = absurd (n e)

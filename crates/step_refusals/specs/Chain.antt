@@ -1,7 +1,7 @@
 -- The refusals of a step, in the pieces that the code looks at one after the other.
 use Rattle.std.specs.Prelude.{ℕ, ◌+◌, Bool, true, not, ◌&&◌, ◌||◌, List, [], ◌∷◌, eqb, ltb, length, get_or}
 use Rattle.base_words.specs.Blocks.{Table, Element, Queues, Instance}
-use Rattle.base_words.specs.Pick.{if◌then◌else◌}
+use Rattle.base_words.specs.Pick.{if◌then◌or_else◌}
 use Rattle.base_words.specs.Counts.{messages}
 use Rattle.base_kinds.specs.declared.moves.Move.{Move}
 use Rattle.base_kinds.specs.Moves.{on, no_move}
@@ -40,10 +40,10 @@ unfoldable pub of_fields : Move → Bool → Bool → List Refusal
 of_fields m defined matches = listed 3 ((eqb m.receives on || defined) ∷ matches ∷ defined ∷ [])
 
 unfoldable pub queued_for : Move → Queues → ℕ → Tuple → Bool
-queued_for m q name g = if eqb m.receives on then has g (messages_of q name) else true
+queued_for m q name g = if eqb m.receives on then has g (messages_of q name) or_else true
 
 unfoldable pub space_for : Move → Queues → ℕ → Bool
-space_for m q name = if eqb m.sends on then ltb (length (messages_of q name)) messages else true
+space_for m q name = if eqb m.sends on then ltb (length (messages_of q name)) messages or_else true
 
 unfoldable pub of_queues : Element → Instance → Move → ℕ → Bool → Bool → Bool → List Refusal
 of_queues el h m b queued below space = listed 6 (queued ∷ below ∷ space ∷ roomy el h m b ∷ [])

@@ -6,7 +6,7 @@ use Prim.Native.Nat.{ℕ, zero, suc, ◌+◌, ◌-◌, ◌*◌}
 use native.Mathlib.Omega.{arith}
 use lib.Dec.{eqb}
 use lib.ListN.{length, take, drop, length-set}
-use Rattle.base_words.specs.Pick.{if◌then◌else◌}
+use Rattle.base_words.specs.Pick.{if◌then◌or_else◌}
 use Rattle.base_words.specs.Words.{at}
 use Rattle.base_words.proofs.WritesLaws.{length-writes}
 use Rattle.base_state.specs.Places.{instance_words, instance_place, store_words, shared_place, instances_words, slot_place, slot_words}
@@ -52,8 +52,8 @@ long_removed q m k =
     (length_stored (closed_up q m k) m (message_count q m - 1) empty
     ∙ length-writes (λ i. at q (slot_place m k + i + slot_words)) q (slot_place m k) (slot_words * (message_count q m - 1 - k)))
 
-long_choice : {A : Type 0} (f : A → ℕ) (b : Bool) (x y : A) (l : ℕ) → f x ≡ l → f y ≡ l → f (if b then x else y) ≡ l
-unfolding if◌then◌else◌
+long_choice : {A : Type 0} (f : A → ℕ) (b : Bool) (x y : A) (l : ℕ) → f x ≡ l → f y ≡ l → f (if b then x or_else y) ≡ l
+unfolding if◌then◌or_else◌
 long_choice f true x y l e d = e
 long_choice f false x y l e d = d
 

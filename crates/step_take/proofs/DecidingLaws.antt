@@ -6,7 +6,7 @@ use mathlib.Core.List.{List}
 use lib.Dec.{eqb}
 use borrow.Author.Tests.{eqb-true}
 use Rattle.base_words.specs.Each.{each}
-use Rattle.base_words.specs.Pick.{if◌then◌else◌}
+use Rattle.base_words.specs.Pick.{if◌then◌or_else◌}
 use Rattle.base_kinds.specs.declared.moves.Move.{Move}
 use Rattle.base_kinds.specs.Moves.{move_of}
 use Rattle.base_table.specs.Table.{kind_in, mode_in, element_at, pool_of, limit_of, message_name}
@@ -34,13 +34,13 @@ module _ (t z : List ℕ) (n : Name) (p : ℕ) (el : List ℕ) (m : Move) (made 
     (e₄ : made ≡ made_count (instances_of z) p) where
   number_nowhere : is_in_table t p n.element && offered el m n.branch n.instance made ≡ false
       → 11 ≡ first_refusal (refusals t (instances_of z) (queues_of z) n)
-  unfolding refusals first_refusal if◌then◌else◌
+  unfolding refusals first_refusal if◌then◌or_else◌
   number_nowhere k = rw (there_is t z n p el m made e₁ e₂ e₃ e₄ ∙ k)
 
   number_there : (limit r : ℕ) → is_in_table t p n.element && offered el m n.branch n.instance made ≡ true → limit ≡ limit_of t p
       → r ≡ first_refusal (refusals_at (site_at el (before m (instance_of (instances_of z) p n.instance) (shared_of (instances_of z))) m n.branch n.given made limit) (queues_of z))
       → r ≡ first_refusal (refusals t (instances_of z) (queues_of z) n)
-  unfolding refusals first_refusal if◌then◌else◌ site_of element_named move_named
+  unfolding refusals first_refusal if◌then◌or_else◌ site_of element_named move_named
   number_there limit r k e d = rw (there_is t z n p el m made e₁ e₂ e₃ e₄ ∙ k) (rw (e, e₄, e₃, e₂, e₁) at d)
 
   pub accepted_nowhere : is_in_table t p n.element && offered el m n.branch n.instance made ≡ false

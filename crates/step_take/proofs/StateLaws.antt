@@ -8,7 +8,7 @@ use lib.Dec.{eqb, ltb, leb}
 use lib.ListN.{length, take, drop, length-set, length-drop, drop_of_length-le, take-append-drop}
 use lib.Seq.{take_at, drop_at, length-take-le}
 use borrow.Author.Tests.{eq-eqb, ne_eqb}
-use Rattle.base_words.specs.Pick.{if◌then◌else◌}
+use Rattle.base_words.specs.Pick.{if◌then◌or_else◌}
 use Rattle.base_words.specs.Counts.{names, values, messages}
 use Rattle.base_words.specs.Words.{at}
 use Rattle.base_words.specs.Writes.{writes}
@@ -99,14 +99,14 @@ module _ (el h h₀ : List ℕ) (same : h ≡ h₀) (m : Move) (made limit p : �
     (d : Decided (site_at el h m n.branch n.given made limit) (queues_of z) plan copy) where
   pub refused_at : (plan.number ≡ 0 → ⊥) → r ≡ record { number = plan.number; traffic = Nothing; name = 0; tuple = empty }
       → Done (settled_at (site_at el h₀ m n.branch n.given made limit) p n.instance (instances_of z) (queues_of z)) r z
-  unfolding settled_at if◌then◌else◌
+  unfolding settled_at if◌then◌or_else◌
   refused_at k e =
       rw (← same, ne_eqb _ _ (λ q. k (d.number ∙ q)))
       (record { answer = e ∙ rw d.number; state = sym (take-append-drop instances_words z) })
 
   pub accepted_at : (w : List ℕ) → plan.number ≡ 0 → Applied el copy z m p n made plan r w
       → Done (settled_at (site_at el h₀ m n.branch n.given made limit) p n.instance (instances_of z) (queues_of z)) r w
-  unfolding settled_at if◌then◌else◌ queues_changed traffic made_after made_by delivered_by answer_by
+  unfolding settled_at if◌then◌or_else◌ queues_changed traffic made_after made_by delivered_by answer_by
   accepted_at w k a =
       rw (← same, eq-eqb _ _ (sym d.number ∙ k))
       (record {
@@ -135,7 +135,7 @@ module _ (t z : List ℕ) (n : Name) (p : ℕ) (el : List ℕ) (m : Move) (made 
   pub refused_there : (r : Answer) → is_in_table t p n.element && offered el m n.branch n.instance made ≡ false
       → r ≡ record { number = 11; traffic = Nothing; name = 0; tuple = empty }
       → Done (settled t (instances_of z) (queues_of z) n) r z
-  unfolding settled refusals first_refusal if◌then◌else◌
+  unfolding settled refusals first_refusal if◌then◌or_else◌
   refused_there r k e =
       rw (there_is ∙ k) (record { answer = e; state = sym (take-append-drop instances_words z) })
 
@@ -143,20 +143,20 @@ module _ (t z : List ℕ) (n : Name) (p : ℕ) (el : List ℕ) (m : Move) (made 
       → limit ≡ limit_of t p
       → Done (settled_at (site_at el (before m (instance_of (instances_of z) p n.instance) (shared_of (instances_of z))) m n.branch n.given made limit) p n.instance (instances_of z) (queues_of z)) r w
       → Done (settled t (instances_of z) (queues_of z) n) r w
-  unfolding settled settled_at refusals first_refusal if◌then◌else◌ site_of element_named move_named instances_after
+  unfolding settled settled_at refusals first_refusal if◌then◌or_else◌ site_of element_named move_named instances_after
   found limit r w k e d = rw (there_is ∙ k) (rw (e, e₄, e₃, e₂, e₁) at d)
 
 module _ (q : List ℕ) (name : ℕ) (g : Tuple) where
   pub post_unknown : ltb name names && leb g.length values ≡ false → ◌≡◌ {A = Posted} (record { number = 19; queues = q }) (posted q name g)
-  unfolding posted post_refusals first_refusal if◌then◌else◌
+  unfolding posted post_refusals first_refusal if◌then◌or_else◌
   post_unknown k = rw k
 
   pub post_full : ltb name names && leb g.length values ≡ true → ltb (length (messages_of q name)) messages ≡ false
       → ◌≡◌ {A = Posted} (record { number = 17; queues = q }) (posted q name g)
-  unfolding posted post_refusals first_refusal if◌then◌else◌
+  unfolding posted post_refusals first_refusal if◌then◌or_else◌
   post_full k l = rw (k, l)
 
   pub post_done : (w : List ℕ) → ltb name names && leb g.length values ≡ true → ltb (length (messages_of q name)) messages ≡ true
       → w ≡ extended q name g → ◌≡◌ {A = Posted} (record { number = 0; queues = w }) (posted q name g)
-  unfolding posted post_refusals first_refusal if◌then◌else◌
+  unfolding posted post_refusals first_refusal if◌then◌or_else◌
   post_done w k l e = rw (k, l, e)

@@ -7,7 +7,7 @@ use native.Mathlib.Omega.{arith}
 use lib.Dec.{eqb, ltb, leb}
 use lib.ListN.{length}
 use borrow.Author.Tests.{eqb-true, ltb-true}
-use Rattle.base_words.specs.Pick.{if◌then◌else◌}
+use Rattle.base_words.specs.Pick.{if◌then◌or_else◌}
 use Rattle.base_words.specs.Each.{each}
 use Rattle.base_words.specs.Counts.{names, values, messages}
 use Rattle.base_words.proofs.AllLaws.{and_left}
@@ -32,13 +32,13 @@ module _ (q : List ℕ) (long : length q ≡ queue_words * names) (tidy : (m : �
 
   changed_is : (x : Site) → (receives x ≡ true → message_named x < names) → (sends x ≡ true → message_named x < names) → queued x q ≡ true → space x q ≡ true
       → queues_changed x q ≡ queues_after x q
-  unfolding queues_changed queues_after queued space if◌then◌else◌
+  unfolding queues_changed queues_after queued space if◌then◌or_else◌
   changed_is x f h a b = go (receives x) (sends x) f h a b
     where
-      go : (r s : Bool) → (r ≡ true → message_named x < names) → (s ≡ true → message_named x < names) → (if r then has x.given (messages_of q (message_named x)) else true) ≡ true
-          → (if s then ltb (length (messages_of q (message_named x))) messages else true) ≡ true
-          → (if r then removed q (message_named x) (oldest q (message_named x) x.given) else if s then extended q (message_named x) (sent x).tuple else q)
-          ≡ (if r then consuming q (message_named x) x.given else if s then sending q (message_named x) (sent x).tuple else q)
+      go : (r s : Bool) → (r ≡ true → message_named x < names) → (s ≡ true → message_named x < names) → (if r then has x.given (messages_of q (message_named x)) or_else true) ≡ true
+          → (if s then ltb (length (messages_of q (message_named x))) messages or_else true) ≡ true
+          → (if r then removed q (message_named x) (oldest q (message_named x) x.given) or_else if s then extended q (message_named x) (sent x).tuple or_else q)
+          ≡ (if r then consuming q (message_named x) x.given or_else if s then sending q (message_named x) (sent x).tuple or_else q)
       go true s f h a b = removed_is q (message_named x) long (f refl) (tidy (message_named x) (f refl)) x.given a
       go false true f h a b = sending_is (message_named x) (sent x).tuple (h refl) b
       go false false f h a b = refl
@@ -60,16 +60,16 @@ module _ (q : List ℕ) (long : length q ≡ queue_words * names) (tidy : (m : �
     space_there e = hold_at (refusals t s q n) all_numbered e 9
 
     pub settled_is : settled t s q n ≡ step t s q n
-    unfolding settled step if◌then◌else◌
+    unfolding settled step if◌then◌or_else◌
     settled_is = go (eqb (first_refusal (refusals t s q n)) 0) (λ k. eqb-true (first_refusal (refusals t s q n)) 0 k) refl
       where
         go : (b : Bool) → (eqb (first_refusal (refusals t s q n)) 0 ≡ true → first_refusal (refusals t s q n) ≡ 0)
             → eqb (first_refusal (refusals t s q n)) 0 ≡ b
             → ◌≡◌ {A = Outcome}
             (if b then record { answer = traffic (site_of t s n); instances = instances_after t s n; queues = queues_changed (site_of t s n) q }
-            else refused (first_refusal (refusals t s q n)) s q)
+            or_else refused (first_refusal (refusals t s q n)) s q)
             (if b then record { answer = traffic (site_of t s n); instances = instances_after t s n; queues = queues_after (site_of t s n) q }
-            else refused (first_refusal (refusals t s q n)) s q)
+            or_else refused (first_refusal (refusals t s q n)) s q)
         go true f e =
             ap (λ (w : List ℕ). record { answer = traffic (site_of t s n); instances = instances_after t s n; queues = w })
             (changed_is (site_of t s n) (received (f e)) (delivered (f e)) (queued_there (f e)) (space_there (f e)))
@@ -89,14 +89,14 @@ module _ (q : List ℕ) (long : length q ≡ queue_words * names) (tidy : (m : �
     place_there e = hold_at (post_refusals q name g) post-numbered e 1
 
     pub posted_is : posted q name g ≡ post q name g
-    unfolding posted post if◌then◌else◌
+    unfolding posted post if◌then◌or_else◌
     posted_is = go (eqb (first_refusal (post_refusals q name g)) 0) (λ k. eqb-true (first_refusal (post_refusals q name g)) 0 k) refl
       where
         go : (b : Bool) → (eqb (first_refusal (post_refusals q name g)) 0 ≡ true → first_refusal (post_refusals q name g) ≡ 0)
             → eqb (first_refusal (post_refusals q name g)) 0 ≡ b
             → ◌≡◌ {A = Posted}
-            (if b then record { number = 0; queues = extended q name g } else record { number = first_refusal (post_refusals q name g); queues = q })
-            (if b then record { number = 0; queues = sending q name g } else record { number = first_refusal (post_refusals q name g); queues = q })
+            (if b then record { number = 0; queues = extended q name g } or_else record { number = first_refusal (post_refusals q name g); queues = q })
+            (if b then record { number = 0; queues = sending q name g } or_else record { number = first_refusal (post_refusals q name g); queues = q })
         go true f e =
             ap (λ (w : List ℕ). record { number = 0; queues = w })
             (sending_is name g (ltb-true name names (and_left (ltb name names) (leb g.length values) (known (f e)))) (place_there (f e)))

@@ -1,7 +1,7 @@
 -- A step from its plan, whose name has found its place; with the finding it is the step of Settled (proofs/StateLaws.antt).
 use Rattle.std.specs.Prelude.{ℕ, ◌≡◌, List, ◌++◌, eqb}
 use Rattle.base_words.specs.Blocks.{Instances, Queues}
-use Rattle.base_words.specs.Pick.{if◌then◌else◌}
+use Rattle.base_words.specs.Pick.{if◌then◌or_else◌}
 use Rattle.base_kinds.specs.declared.moves.Move.{Move}
 use Rattle.base_state.specs.Instances.{instances_of, queues_of}
 use Rattle.base_table.specs.Table.{message_name}
@@ -23,4 +23,4 @@ unfoldable pub settled_at : Site → ℕ → ℕ → Instances → Queues → Ou
 settled_at x p i s q =
     if eqb (first_refusal (refusals_at x q)) 0 then
     record { answer = traffic x; instances = stored_in s p i (instance_after x) (made_after x); queues = queues_changed x q }
-    else refused (first_refusal (refusals_at x q)) s q
+    or_else refused (first_refusal (refusals_at x q)) s q

@@ -6,7 +6,7 @@ use Prim.Native.Nat.{ℕ, zero, suc, ◌<◌}
 use native.Mathlib.Omega.{arith}
 use lib.Dec.{ltb, eqb}
 use borrow.Author.Tests.{eq-eqb, ne_eqb, eqb-true, ltb-true}
-use Rattle.base_words.specs.Pick.{if◌then◌else◌}
+use Rattle.base_words.specs.Pick.{if◌then◌or_else◌}
 use Rattle.base_words.specs.All.{all}
 use Rattle.base_words.specs.Words.{at}
 use Rattle.base_words.proofs.AllLaws.{all_at, all_of, and_left, and_right}
@@ -37,7 +37,7 @@ module _ (g h : Tuple) where
 
   -- the values, within the length and behind it
   pub same_value : same_tuple g h ≡ true → (j : ℕ) → value_of g j ≡ value_of h j
-  unfolding value_of if◌then◌else◌
+  unfolding value_of if◌then◌or_else◌
   same_value e j = go (ltb j g.length) refl
     where
       go : (b : Bool) → ltb j g.length ≡ b → value_of g j ≡ value_of h j

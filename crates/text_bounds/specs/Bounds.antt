@@ -2,7 +2,7 @@
 use Prim.Native.Char.{code}
 use Rattle.std.specs.Prelude.{ℕ, Bool, ◌||◌, List, eqb, ltb, set}
 use Rattle.base_words.specs.Blocks.{Block, Bytes}
-use Rattle.base_words.specs.Pick.{if◌then◌else◌}
+use Rattle.base_words.specs.Pick.{if◌then◌or_else◌}
 use Rattle.text_readers.specs.declared.Read.{Read}
 use Rattle.text_readers.specs.declared.Read.TheVariants.{Refused}
 use Rattle.text_readers.specs.Reading.{Parsed, Reader, misplaced, excessive, passed_to, refused_at, place_of, starts_number, starts_field, starts_sign}
@@ -31,18 +31,18 @@ starts_operand text at = starts_field text at || starts_number text at
 unfoldable pub starts : ℕ → Bytes → ℕ → Bool
 starts item text at =
     if eqb item an_edge then starts_number text at
-    else if eqb item a_template_item then starts_sign (code "?") text at || starts_operand text at
-    else if eqb item a_message_item then starts_operand text at
-    else if eqb item an_assignment then starts_field text at
-    else starts_sign (code "(") text at
+    or_else if eqb item a_template_item then starts_sign (code "?") text at || starts_operand text at
+    or_else if eqb item a_message_item then starts_operand text at
+    or_else if eqb item an_assignment then starts_field text at
+    or_else starts_sign (code "(") text at
 
 -- "3: the place of the first item too many", where the token there can start such an item; else it is 2
 unfoldable pub one_too_many : Bool → ℕ → Read
-one_too_many item p = Refused (if item then excessive else misplaced) p
+one_too_many item p = Refused (if item then excessive or_else misplaced) p
 
 unfoldable pub too_many : Bool → ℕ → Block → Parsed
-too_many item p x = refused_at (if item then excessive else misplaced) p x
+too_many item p x = refused_at (if item then excessive or_else misplaced) p x
 
 -- the count stored behind k items; "a list that closes too early is 2 at the closing sign" (RULES: places)
 unfoldable pub counted : ℕ → ℕ → ℕ → Reader
-counted least count k text at x = if ltb k least then refused_at misplaced (place_of text at) x else passed_to at (set x count k)
+counted least count k text at x = if ltb k least then refused_at misplaced (place_of text at) x or_else passed_to at (set x count k)

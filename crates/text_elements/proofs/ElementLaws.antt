@@ -12,7 +12,7 @@ use lib.ListN.{length, set, drop, take, get_or, replicate, length-set, length-re
 use lib.Seq.{drop-cons}
 use borrow.Author.Tests.{eq-eqb, ne_eqb, eqb-true}
 use Rattle.base_words.specs.Each.{each}
-use Rattle.base_words.specs.Pick.{if◌then◌else◌}
+use Rattle.base_words.specs.Pick.{if◌then◌or_else◌}
 use Rattle.base_words.specs.Seek.{seek}
 use Rattle.base_words.specs.Words.{part}
 use Rattle.base_words.proofs.AllLaws.{lt_ltb_by, le_ltb_by}
@@ -69,12 +69,12 @@ module _ (s : ℕ) (cs text : List ℕ) (at i : ℕ) (x : List ℕ) (W : Parsed)
 
   module _ (h : i < length cs) where
     pub parts_blank : get_or cs i 0 ≡ 32 → passed_to at x ≡ W
-    unfolding parts_from if◌then◌else◌
+    unfolding parts_from if◌then◌or_else◌
     parts_blank e = (rw (drop-cons cs i 0 h, e)) ∙ inv
 
     module _ (n : get_or cs i 0 ≡ 32 → ⊥) (r : Read) (y : List ℕ) (e : record { end = r; words = y } ≡ (sign s then part_of (get_or cs i 0)) text at x) where
       turn : ((sign s then part_of (get_or cs i 0)) then parts_from 44 (drop (i + 1) cs)) text at x ≡ W
-      unfolding parts_from if◌then◌else◌
+      unfolding parts_from if◌then◌or_else◌
       turn =
           then_then (sign s) (part_of (get_or cs i 0)) (parts_from 44 (drop (i + 1) cs)) text at x
           ∙ (rw (drop-cons cs i 0 h, ne_eqb (get_or cs i 0) 32 n, add-one)) ∙ inv

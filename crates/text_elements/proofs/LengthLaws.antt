@@ -6,7 +6,7 @@ use mathlib.Core.Bool.{Bool, true, false, ◌&&◌}
 use mathlib.Core.List.{List, [], ◌∷◌}
 use lib.Dec.{eqb, ltb}
 use lib.ListN.{length, length-set, length-replicate}
-use Rattle.base_words.specs.Pick.{if◌then◌else◌}
+use Rattle.base_words.specs.Pick.{if◌then◌or_else◌}
 use Rattle.base_words.specs.Text.{bytes}
 use Rattle.base_kinds.specs.declared.Kind.{Kind}
 use Rattle.base_kinds.specs.Kinds.{kind_of}
@@ -22,8 +22,8 @@ use Rattle.text_elements.specs.Elements.{kind_named, blank, parts_from, parts_of
 
 -- a choice keeps what both sides keep
 module _ (n : ℕ) where
-  either : (b : Bool) (r s : Parsed) → length r.words ≡ n → length s.words ≡ n → length (if b then r else s).words ≡ n
-  unfolding if◌then◌else◌
+  either : (b : Bool) (r s : Parsed) → length r.words ≡ n → length s.words ≡ n → length (if b then r or_else s).words ≡ n
+  unfolding if◌then◌or_else◌
   either true r s h k = h
   either false r s h k = k
 
@@ -32,8 +32,8 @@ module _ (n : ℕ) where
   placed (At q) go s h k = h q
   placed (Refused m p) go s h k = k
 
-either_reader : (b : Bool) (f g : Reader) → Keeps f → Keeps g → Keeps (if b then f else g)
-unfolding if◌then◌else◌
+either_reader : (b : Bool) (f g : Reader) → Keeps f → Keeps g → Keeps (if b then f or_else g)
+unfolding if◌then◌or_else◌
 either_reader true f g h k = h
 either_reader false f g h k = k
 

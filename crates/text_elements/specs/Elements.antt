@@ -2,7 +2,7 @@
 use Prim.Native.Char.{code}
 use Rattle.std.specs.Prelude.{ℕ, zero, suc, ◌+◌, Bool, true, false, not, List, [], ◌∷◌, eqb, ltb, length, set, replicate}
 use Rattle.base_words.specs.Blocks.{Block, Bytes}
-use Rattle.base_words.specs.Pick.{if◌then◌else◌}
+use Rattle.base_words.specs.Pick.{if◌then◌or_else◌}
 use Rattle.base_words.specs.Seek.{seek}
 use Rattle.base_kinds.specs.declared.Kind.{Kind}
 use Rattle.base_kinds.specs.Kinds.{kind_of, keyword_of}
@@ -21,7 +21,7 @@ unfoldable pub is_keyword : Bytes → ℕ → Bool
 is_keyword w j = same_bytes w (keyword_of (j + 1))
 
 unfoldable pub kind_named : Bytes → ℕ
-kind_named w = if ltb (seek (is_keyword w) kind_count) kind_count then seek (is_keyword w) kind_count + 1 else 0
+kind_named w = if ltb (seek (is_keyword w) kind_count) kind_count then seek (is_keyword w) kind_count + 1 or_else 0
 
 -- the words of an element of kind k with nothing else stored
 unfoldable pub blank : ℕ → Block → Block
@@ -30,14 +30,14 @@ blank k x = set (replicate (length x) 0) kind_place k
 -- parts behind a sign, then commas; a blank stands behind the last part of a row
 unfoldable pub parts_from : ℕ → List ℕ → Reader
 parts_from s [] = nothing
-parts_from s (c ∷ cs) = if eqb c (code " ") then nothing else sign s then part_of c then parts_from (code ",") cs
+parts_from s (c ∷ cs) = if eqb c (code " ") then nothing or_else sign s then part_of c then parts_from (code ",") cs
 
 unfoldable pub parts_of : ℕ → Reader
 parts_of k = parts_from (code "(") (kind_of k).parts then sign (code ")")
 
 -- the element of kind k whose keyword stands at p, its parts from q on
 unfoldable pub element_of : ℕ → ℕ → Reader
-element_of k p text q x = if eqb k 0 then refused_at misplaced p (blank 0 x) else parts_of k text q (blank k x)
+element_of k p text q x = if eqb k 0 then refused_at misplaced p (blank 0 x) or_else parts_of k text q (blank k x)
 
 unfoldable pub element : Reader
 element text at x =

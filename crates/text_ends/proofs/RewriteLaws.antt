@@ -14,7 +14,7 @@ use Rattle.base_words.specs.All.{all}
 use Rattle.base_words.specs.Counts.{edges}
 use Rattle.base_words.specs.Each.{total, each}
 use Rattle.base_words.specs.Iter.{iter}
-use Rattle.base_words.specs.Pick.{if◌then◌else◌}
+use Rattle.base_words.specs.Pick.{if◌then◌or_else◌}
 use Rattle.base_words.specs.Seek.{seek}
 use Rattle.base_words.specs.Sum.{sum, one_if}
 use Rattle.base_words.specs.Words.{at}
@@ -31,9 +31,9 @@ unfolding first_from
 first_from_lem f zero k s = sym s ∙ ap (seek f) (sym (add-zero k))
 first_from_lem f (suc n) k s = go (f k) refl (λ e. first_from_lem f n (k + 1) (seek_more f k s e))
   where
-    go : (b : Bool) → f k ≡ b → (f k ≡ false → first_from f n (k + 1) ≡ seek f (k + 1 + n)) → (if b then k else first_from f n (k + 1)) ≡ seek f (k + suc n)
-    go true e more = unfold if◌then◌else◌ in seek_found f (k + suc n) k (omega arith) s e
-    go false e more = unfold if◌then◌else◌ in more e ∙ ap (seek f) (let z : k + 1 + n ≡ k + suc n = omega arith in z)
+    go : (b : Bool) → f k ≡ b → (f k ≡ false → first_from f n (k + 1) ≡ seek f (k + 1 + n)) → (if b then k or_else first_from f n (k + 1)) ≡ seek f (k + suc n)
+    go true e more = unfold if◌then◌or_else◌ in seek_found f (k + suc n) k (omega arith) s e
+    go false e more = unfold if◌then◌or_else◌ in more e ∙ ap (seek f) (let z : k + 1 + n ≡ k + suc n = omega arith in z)
 
 pub first_is : (f : ℕ → Bool) (n : ℕ) → first_from f n 0 ≡ seek f n
 unfolding seek

@@ -11,7 +11,7 @@ use lib.Seq.{get_or-set_same, get_or-set_other}
 use borrow.Author.Tests.{le-leb, lt-leb, lt-ltb, eq-eqb, ne_eqb}
 use Rattle.base_words.specs.Counts.{elements, branches, edges}
 use Rattle.base_words.specs.Each.{total, each}
-use Rattle.base_words.specs.Pick.{if◌then◌else◌}
+use Rattle.base_words.specs.Pick.{if◌then◌or_else◌}
 use Rattle.base_words.specs.Sum.{sum, hit, one_if}
 use Rattle.base_words.specs.Words.{at, greatest}
 use Rattle.base_words.proofs.EachLaws.{total_append}
@@ -91,8 +91,8 @@ module _ (els : List (List ℕ)) (x s : List ℕ) (h : Noted els s) (few : lengt
   unfolding count_noted
   long₁ = length-set (set s count_in (length els + 1)) ends_in _ ∙ length-set s count_in _
 
-  one_more_lem : (b : Bool) → (if b then one_more (at s ends_in) else at s ends_in) ≡ end_sends els + one_if b
-  unfolding if◌then◌else◌ one_more
+  one_more_lem : (b : Bool) → (if b then one_more (at s ends_in) or_else at s ends_in) ≡ end_sends els + one_if b
+  unfolding if◌then◌or_else◌ one_more
   one_more_lem true =
       let l : end_sends els < greatest = omega (arith, few_ends els) in
       sym (pick_yes (ltb (at s ends_in) greatest) _ _ _ (lt-ltb (at s ends_in) greatest (omega (arith, h.ends))) refl) ∙ ap (λ n. n + 1) h.ends
@@ -135,7 +135,7 @@ module _ (els : List (List ℕ)) (x s : List ℕ) (h : Noted els s) (few : lengt
           unfold count_noted in
           get_or-set_other (set s count_in (length els + 1)) ends_in count_in _ 0 (λ e. omega arith) ∙ get_or-set_same s count_in (length els + 1) 0 (omega (arith, h.long))
 
-      second : at s₁ ends_in ≡ (if is_end_snd x then one_more (at s ends_in) else at s ends_in)
+      second : at s₁ ends_in ≡ (if is_end_snd x then one_more (at s ends_in) or_else at s ends_in)
       second = unfold count_noted ends_with in get_or-set_same (set s count_in (length els + 1)) ends_in _ 0 (omega (arith, h.long, length-set s count_in (length els + 1)))
 
       third : (e : ℕ) → 0 < e → e ≤ edges → at (element_noted (length els + 1) x s) (used_from + e) ≡ capped (total (mentioned e) (els ++ (x ∷ [])))

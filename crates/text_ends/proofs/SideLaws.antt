@@ -11,7 +11,7 @@ use lib.Seq.{get_or-set_same, get_or-set_other, get_or-take, set_out, take-set-l
 use borrow.Author.Tests.{ltb-true, ltb-false}
 use Rattle.base_words.specs.Counts.{branches, edges}
 use Rattle.base_words.specs.Each.{total, each, tab}
-use Rattle.base_words.specs.Pick.{if◌then◌else◌}
+use Rattle.base_words.specs.Pick.{if◌then◌or_else◌}
 use Rattle.base_words.specs.Sum.{hit}
 use Rattle.base_words.specs.Words.{at, greatest}
 use Rattle.base_words.proofs.AllLaws.{and_left, and_right}
@@ -60,9 +60,9 @@ place_from : (from most v : ℕ) → from ≤ place from most v
 unfolding place
 place_from from most v = go (leb v most)
   where
-    go : (b : Bool) → from ≤ (if b then from + v else from)
-    go true = unfold if◌then◌else◌ in omega arith
-    go false = unfold if◌then◌else◌ in omega arith
+    go : (b : Bool) → from ≤ (if b then from + v or_else from)
+    go true = unfold if◌then◌or_else◌ in omega arith
+    go false = unfold if◌then◌or_else◌ in omega arith
 
 out_tab : (s : List ℕ) (f : ℕ → ℕ) → ((j : ℕ) → length s ≤ f j) → (n : ℕ) → s ≡ tally s (tab f n)
 unfolding marked
@@ -185,16 +185,16 @@ module _ (ps : List Pool) (p : Pool) (w s : List ℕ) (h : Judged ps w) (k : Kep
       all_so true = refl
       all_so false = refl
 
-      go : (b : Bool) → has_room p ≡ b → Judged (ps ++ (p ∷ [])) (if b then w₁ else set w₁ room_in 1)
+      go : (b : Bool) → has_room p ≡ b → Judged (ps ++ (p ∷ [])) (if b then w₁ or_else set w₁ room_in 1)
       go true e =
-          unfold if◌then◌else◌ in
+          unfold if◌then◌or_else◌ in
           record {
             long = long_tally w pool_marks ∙ h.long;
             front = front_is;
             room = ap (λ n. eqb n 0) (untouched w pool_marks room_in before_room) ∙ h.room ∙ sym (one_more_lem true e ∙ all_so (each has_room ps));
           }
       go false e =
-          unfold if◌then◌else◌ in
+          unfold if◌then◌or_else◌ in
           record {
             long = length-set w₁ room_in 1 ∙ long_tally w pool_marks ∙ h.long;
             front = take-set-le model_words w₁ room_in 1 (omega arith) ∙ front_is;

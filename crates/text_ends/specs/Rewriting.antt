@@ -5,7 +5,7 @@ use Rattle.base_words.specs.Blocks.{Element}
 use Rattle.base_words.specs.Counts.{elements, branches, edges}
 use Rattle.base_words.specs.Each.{total, each}
 use Rattle.base_words.specs.Iter.{iter}
-use Rattle.base_words.specs.Pick.{if◌then◌else◌}
+use Rattle.base_words.specs.Pick.{if◌then◌or_else◌}
 use Rattle.base_words.specs.Sum.{sum, hit, one_if}
 use Rattle.base_words.specs.Words.{at}
 use Rattle.base_kinds.specs.Kinds.{end, end_snd, inter_snd}
@@ -30,7 +30,7 @@ is_unused els k = each (λ el. eqb (mentioned (k + 1) el) 0) els
 -- the first number from k on that passes a test, of n
 unfoldable pub first_from : (ℕ → Bool) → ℕ → ℕ → ℕ
 first_from f zero k = k
-first_from f (suc n) k = if f k then k else first_from f n (k + 1)
+first_from f (suc n) k = if f k then k or_else first_from f n (k + 1)
 
 unfoldable pub lowest_unused : List Element → ℕ
 lowest_unused els = first_from (is_unused els) edges 0 + 1

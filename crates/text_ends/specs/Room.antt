@@ -2,7 +2,7 @@
 use Rattle.std.specs.Prelude.{ℕ, ◌+◌, Bool, ◌&&◌, eqb, leb, set}
 use Rattle.base_words.specs.Blocks.{Element, Tally}
 use Rattle.base_words.specs.Counts.{elements, branches, edges}
-use Rattle.base_words.specs.Pick.{if◌then◌else◌}
+use Rattle.base_words.specs.Pick.{if◌then◌or_else◌}
 use Rattle.base_words.specs.Sum.{sum, one_if}
 use Rattle.base_words.specs.Words.{at, one_more}
 use Rattle.base_table.specs.Places.{entries_place, exits_place}
@@ -32,7 +32,7 @@ abbrev pub judged_words : ℕ
 judged_words = room_in + 1
 
 unfoldable pub ends_with : Element → Tally → ℕ
-ends_with el s = if is_end_snd el then one_more (at s ends_in) else at s ends_in
+ends_with el s = if is_end_snd el then one_more (at s ends_in) or_else at s ends_in
 
 unfoldable pub count_noted : ℕ → Element → Tally → Tally
 count_noted count el s = set (set s count_in count) ends_in (ends_with el s)
@@ -50,4 +50,4 @@ unfoldable pub room_by : Tally → Bool
 room_by s = leb (at s ends_in) (free_by s) && leb (at s count_in + at s ends_in) elements
 
 unfoldable pub room_noted : Tally → Tally → Tally
-room_noted s w = if room_by s then w else set w room_in 1
+room_noted s w = if room_by s then w or_else set w room_in 1

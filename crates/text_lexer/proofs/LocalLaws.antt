@@ -7,7 +7,7 @@ use native.Mathlib.Nat.{add-zero}
 use native.Mathlib.Omega.{arith}
 use lib.ListN.{length, take, drop, length-take, length-drop}
 use lib.Seq.{get_or-take, get_or-drop, take_all, take-take}
-use Rattle.base_words.specs.Pick.{if◌then◌else◌}
+use Rattle.base_words.specs.Pick.{if◌then◌or_else◌}
 use Rattle.base_words.specs.Words.{at}
 use Rattle.text_lexer.specs.declared.Token.{Token}
 use Rattle.text_lexer.specs.declared.Form.TheVariants.{Word, End}
@@ -25,7 +25,7 @@ record Passed (class : ℕ → Bool) (s : List ℕ) (p : ℕ) : Type 0 where
   next_not : n < length s → class (at s n) ≡ false
 
 passed : (class : ℕ → Bool) (s : List ℕ) (p : ℕ) → Passed class s p
-unfolding past if◌then◌else◌
+unfolding past if◌then◌or_else◌
 passed class [] p = record { n = 0; to = sym (add-zero p); each_is = λ i h. absurd (omega arith); next_not = λ h. absurd (omega arith) }
 passed class (b ∷ s) p = go (class b) refl (passed class s (p + 1))
   where

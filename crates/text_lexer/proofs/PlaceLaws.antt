@@ -7,7 +7,7 @@ use native.Mathlib.Omega.{arith}
 use lib.Dec.{eqb}
 use lib.ListN.{length, drop}
 use borrow.Author.Tests.{eq-eqb, ne_eqb}
-use Rattle.base_words.specs.Pick.{if◌then◌else◌}
+use Rattle.base_words.specs.Pick.{if◌then◌or_else◌}
 use Rattle.base_words.specs.Words.{at}
 use Rattle.text_lexer.specs.declared.Form.{Form}
 use Rattle.text_lexer.specs.declared.Form.TheVariants.{Word, Sign, Assign, End, Other}
@@ -49,7 +49,7 @@ worded t from p q e w =
 -- THE PLACE BEHIND A SIGN s, by the byte at p
 module _ (t : List ℕ) (p s : ℕ) where
   abbrev after : Token → ℕ
-  after k = if_sign k.form (λ b. if eqb b s then p + 1 else p) p
+  after k = if_sign k.form (λ b. if eqb b s then p + 1 or_else p) p
 
   by_token : (k : Token) → token_here (drop p t) p ≡ k → sign_behind s (drop p t) p ≡ after k
   unfolding sign_behind
@@ -60,7 +60,7 @@ module _ (t : List ℕ) (p s : ℕ) where
   behind_end h = sym (by_token _ (here_none t p h))
 
   pub behind_other : p < length t → (at t p ≡ s → ⊥) → p ≡ sign_behind s (drop p t) p
-  unfolding if_sign if◌then◌else◌
+  unfolding if_sign if◌then◌or_else◌
   behind_other h n = go (begun (at t p) (drop (p + 1) t) p)
     where
       go : Begun (at t p) (drop (p + 1) t) p → p ≡ sign_behind s (drop p t) p
@@ -72,7 +72,7 @@ module _ (t : List ℕ) (p s : ℕ) where
 
   module _ (h : p < length t) (e : at t p ≡ s) where
     pub behind_sign : is_sign s ≡ true → p + 1 ≡ sign_behind s (drop p t) p
-    unfolding if_sign if◌then◌else◌
+    unfolding if_sign if◌then◌or_else◌
     behind_sign g =
         sym (by_token _ (here_some t p h ∙ of_sign (at t p) (drop (p + 1) t) p (ap is_sign e ∙ g)) ∙ rw (eq-eqb (at t p) s e))
 
@@ -92,27 +92,27 @@ module _ (t : List ℕ) (p s : ℕ) where
     behind_assign m c q g = sym (by_token _ (here_assign t p m h (e ∙ c) q g))
 
     pub behind_colon : (m : ℕ) → s ≡ 58 → m ≡ at t (p + 1) → (m ≡ 61 → ⊥) → p + 1 ≡ sign_behind s (drop p t) p
-    unfolding if_sign if◌then◌else◌
+    unfolding if_sign if◌then◌or_else◌
     behind_colon m c q g = sym (by_token _ (here_colon t p m h (e ∙ c) q g) ∙ rw (eq-eqb (at t p) s e))
 
 -- WHAT A TOKEN GIVES WHERE THE SIGN s IS ASKED FOR, p where the blanks end, q the place behind the sign
 module _ {A : Type 0} (s : ℕ) (hit miss : ℕ → A) where
   abbrev pub signed : Token → A
-  signed k = if_sign k.form (λ b. if eqb b s then hit k.next else miss k.at) (miss k.at)
+  signed k = if_sign k.form (λ b. if eqb b s then hit k.next or_else miss k.at) (miss k.at)
 
   module _ (t : List ℕ) (from p q : ℕ) (e : p ≡ past is_blank (drop from t) from) (g : q ≡ sign_behind s (drop p t) p) where
     hits : p < q → Begun (at t p) (drop (p + 1) t) p → p < length t → hit q ≡ signed (token_at t from)
-    unfolding if_sign if◌then◌else◌
+    unfolding if_sign if◌then◌or_else◌
     hits l (word _ k) h = absurd (omega (arith, l, g ∙ by_token t p s _ (here_some t p h ∙ k)))
     hits l (sign _ k) h = told (eqb (at t p) s) (g ∙ by_token t p s _ (here_some t p h ∙ k)) ∙ ap signed (sym (at_some t from p (sym e) h ∙ k))
       where
-        told : (b : Bool) → q ≡ (if b then p + 1 else p) → hit q ≡ (if b then hit (p + 1) else miss p)
+        told : (b : Bool) → q ≡ (if b then p + 1 or_else p) → hit q ≡ (if b then hit (p + 1) or_else miss p)
         told true r = ap hit r
         told false r = absurd (omega (arith, l, r))
     hits l (assign _ _ k) h = absurd (omega (arith, l, g ∙ by_token t p s _ (here_some t p h ∙ k)))
     hits l (colon _ _ k) h = told (eqb (at t p) s) (g ∙ by_token t p s _ (here_some t p h ∙ k)) ∙ ap signed (sym (at_some t from p (sym e) h ∙ k))
       where
-        told : (b : Bool) → q ≡ (if b then p + 1 else p) → hit q ≡ (if b then hit (p + 1) else miss p)
+        told : (b : Bool) → q ≡ (if b then p + 1 or_else p) → hit q ≡ (if b then hit (p + 1) or_else miss p)
         told true r = ap hit r
         told false r = absurd (omega (arith, l, r))
     hits l (other _ _ _ k) h = absurd (omega (arith, l, g ∙ by_token t p s _ (here_some t p h ∙ k)))
@@ -125,17 +125,17 @@ module _ {A : Type 0} (s : ℕ) (hit miss : ℕ → A) where
         (λ h. hits l (begun (at t p) (drop (p + 1) t) p) h)
 
     misses : q ≤ p → Begun (at t p) (drop (p + 1) t) p → p < length t → miss p ≡ signed (token_at t from)
-    unfolding if_sign if◌then◌else◌
+    unfolding if_sign if◌then◌or_else◌
     misses l (word _ k) h = ap signed (sym (at_some t from p (sym e) h ∙ k))
     misses l (sign _ k) h = told (eqb (at t p) s) (g ∙ by_token t p s _ (here_some t p h ∙ k)) ∙ ap signed (sym (at_some t from p (sym e) h ∙ k))
       where
-        told : (b : Bool) → q ≡ (if b then p + 1 else p) → miss p ≡ (if b then hit (p + 1) else miss p)
+        told : (b : Bool) → q ≡ (if b then p + 1 or_else p) → miss p ≡ (if b then hit (p + 1) or_else miss p)
         told true r = absurd (omega (arith, l, r))
         told false r = refl
     misses l (assign _ _ k) h = ap signed (sym (at_some t from p (sym e) h ∙ k))
     misses l (colon _ _ k) h = told (eqb (at t p) s) (g ∙ by_token t p s _ (here_some t p h ∙ k)) ∙ ap signed (sym (at_some t from p (sym e) h ∙ k))
       where
-        told : (b : Bool) → q ≡ (if b then p + 1 else p) → miss p ≡ (if b then hit (p + 1) else miss p)
+        told : (b : Bool) → q ≡ (if b then p + 1 or_else p) → miss p ≡ (if b then hit (p + 1) or_else miss p)
         told true r = absurd (omega (arith, l, r))
         told false r = refl
     misses l (other _ _ _ k) h = ap signed (sym (at_some t from p (sym e) h ∙ k))

@@ -1,6 +1,6 @@
 -- Tokens tried on texts. Assumes nothing.
 use mathlib.Core.Path.{◌≡◌, refl}
-use Rattle.base_words.specs.Pick.{if◌then◌else◌}
+use Rattle.base_words.specs.Pick.{if◌then◌or_else◌}
 use Rattle.base_words.specs.Text.{bytes}
 use Rattle.text_lexer.specs.declared.Form.TheVariants.{Word, Sign, Assign, End, Other}
 use Rattle.text_lexer.specs.Lexer.{is_blank, is_word, is_sign, placed, token_of, token_here, token_at}
@@ -20,7 +20,7 @@ pub record Tokens : Type 0 where
   pub beyond : token_at (bytes "ab") 5 ≡ placed End 5 5
 
 pub tokens : Tokens
-unfolding if◌then◌else◌ among between is_blank is_digit is_letter is_word is_sign past token_of token_here token_at
+unfolding if◌then◌or_else◌ among between is_blank is_digit is_letter is_word is_sign past token_of token_here token_at
 tokens = record {
   longest_run = refl;
   blanks_before = refl;

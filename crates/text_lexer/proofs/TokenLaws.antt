@@ -12,7 +12,7 @@ use lib.ListN.{length, drop, drop_of_length-le, length-drop}
 use lib.Seq.{drop-cons, get_or-drop, drop-drop, drop-append_seam, take-append_seam}
 use borrow.Author.Tests.{ne_eqb, eqb-true, eqb-false}
 use Rattle.base_words.specs.Each.{each}
-use Rattle.base_words.specs.Pick.{if◌then◌else◌}
+use Rattle.base_words.specs.Pick.{if◌then◌or_else◌}
 use Rattle.base_words.specs.Words.{at, part}
 use Rattle.base_words.proofs.AllLaws.{and_left, and_right}
 use Rattle.text_lexer.specs.declared.Token.{Token}
@@ -38,23 +38,23 @@ colon_not_blank = refl
 -- the token that a byte begins
 module _ (b : ℕ) (s : List ℕ) (p : ℕ) where
   pub of_word : is_word b ≡ true → token_of b s p ≡ placed Word p (past is_word s (p + 1))
-  unfolding token_of if◌then◌else◌
+  unfolding token_of if◌then◌or_else◌
   of_word e = rw e
 
   pub of_sign : is_sign b ≡ true → token_of b s p ≡ placed (Sign b) p (p + 1)
-  unfolding token_of if◌then◌else◌
+  unfolding token_of if◌then◌or_else◌
   of_sign e = rw (sign_not_word b e, e)
 
   pub of_assign : b ≡ 58 → at s 0 ≡ 61 → token_of b s p ≡ placed Assign p (p + 2)
-  unfolding token_of if◌then◌else◌
+  unfolding token_of if◌then◌or_else◌
   of_assign e n = rw (e, colon_not_word, colon_not_sign, n)
 
   pub of_colon : b ≡ 58 → (at s 0 ≡ 61 → ⊥) → token_of b s p ≡ placed (Sign b) p (p + 1)
-  unfolding token_of if◌then◌else◌
+  unfolding token_of if◌then◌or_else◌
   of_colon e n = rw (e, colon_not_word, colon_not_sign, ne_eqb (at s 0) 61 n)
 
   pub of_other : is_word b ≡ false → is_sign b ≡ false → (b ≡ 58 → ⊥) → token_of b s p ≡ placed Other p (p + 1)
-  unfolding token_of if◌then◌else◌
+  unfolding token_of if◌then◌or_else◌
   of_other w g n = rw (w, g, ne_eqb b 58 n)
 
   -- which of the five it is
@@ -106,7 +106,7 @@ module _ (t : List ℕ) (from p : ℕ) (e : past is_blank (drop from t) from ≡
 -- WHAT IS LEFT OF THE TEXT at the place p, and the token there
 module _ (t : List ℕ) (p : ℕ) where
   begins : (b : ℕ) (s : List ℕ) → drop p t ≡ b ∷ s → is_blank b ≡ false → token_at t p ≡ token_of b s p
-  unfolding token_at token_here past if◌then◌else◌
+  unfolding token_at token_here past if◌then◌or_else◌
   begins b s e n = rw (e, n, e)
 
   pub sign_at_lem : (b : ℕ) (s : List ℕ) → drop p t ≡ b ∷ s → is_sign b ≡ true → token_at t p ≡ placed (Sign b) p (p + 1)

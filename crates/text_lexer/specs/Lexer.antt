@@ -4,7 +4,7 @@ use Prim.Native.Char.{code}
 use Rattle.std.specs.Prelude.{ℕ, ◌+◌, Bool, not, ◌||◌, List, [], ◌∷◌, eqb, drop}
 use Rattle.base_bytes.specs.Bytes.{among, is_digit, is_letter, past}
 use Rattle.base_words.specs.Blocks.{Bytes}
-use Rattle.base_words.specs.Pick.{if◌then◌else◌}
+use Rattle.base_words.specs.Pick.{if◌then◌or_else◌}
 use Rattle.base_words.specs.Text.{bytes}
 use Rattle.base_words.specs.Words.{at}
 use Rattle.text_lexer.specs.declared.Form.{Form}
@@ -34,10 +34,10 @@ placed form p q = record { form = form; at = p; next = q }
 unfoldable pub token_of : ℕ → Bytes → ℕ → Token
 token_of b s p =
     if is_word b then placed Word p (past is_word s (p + 1))
-    else if is_sign b then placed (Sign b) p (p + 1)
-    else if not (eqb b (code ":")) then placed Other p (p + 1)
-    else if eqb (at s 0) (code "=") then placed Assign p (p + 2)
-    else placed (Sign b) p (p + 1)
+    or_else if is_sign b then placed (Sign b) p (p + 1)
+    or_else if not (eqb b (code ":")) then placed Other p (p + 1)
+    or_else if eqb (at s 0) (code "=") then placed Assign p (p + 2)
+    or_else placed (Sign b) p (p + 1)
 
 -- the token that the bytes left begin with, no blank first
 unfoldable pub token_here : List ℕ → ℕ → Token
@@ -79,4 +79,4 @@ if_end Other a b = b
 
 -- the place behind a given sign, where it is the token that the bytes left begin with; else the place itself
 unfoldable pub sign_behind : ℕ → Bytes → ℕ → ℕ
-sign_behind s left p = if_sign (token_here left p).form (λ b. if eqb b s then p + 1 else p) p
+sign_behind s left p = if_sign (token_here left p).form (λ b. if eqb b s then p + 1 or_else p) p

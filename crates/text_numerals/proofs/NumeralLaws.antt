@@ -11,7 +11,7 @@ use lib.ListN.{length, take, drop, length-drop, drop_of_length-le}
 use lib.Seq.{drop-cons, get_or-drop, drop-drop, drop-append_seam, take-append_seam, take_all}
 use borrow.Author.Tests.{eqb-true, leb-true, leb-false}
 use Rattle.base_words.specs.Each.{each}
-use Rattle.base_words.specs.Pick.{if◌then◌else◌}
+use Rattle.base_words.specs.Pick.{if◌then◌or_else◌}
 use Rattle.base_words.specs.Words.{at, part, greatest}
 use Rattle.base_words.proofs.AllLaws.{and_left, and_right}
 use Rattle.base_words.proofs.PickLaws.{pick_yes, pick_no, and_true}
@@ -41,11 +41,11 @@ module _ (t : List ℕ) (v i : ℕ) (w : Decimal) (inv : digits_from v (drop i t
   digits_end h = sym (ap (λ s. digits_from v s i) (drop_of_length-le t h)) ∙ inv
 
   pub digits_stop : i < length t → is_digit (at t i) ≡ false → record { value = v; end = i } ≡ w
-  unfolding digits_from if◌then◌else◌
+  unfolding digits_from if◌then◌or_else◌
   digits_stop h e = sym (rw (drop-cons t i 0 h, e)) ∙ inv
 
   pub digits_more : (u : ℕ) → i < length t → is_digit (at t i) ≡ true → u ≡ grown v (at t i) → digits_from u (drop (i + 1) t) (i + 1) ≡ w
-  unfolding digits_from if◌then◌else◌
+  unfolding digits_from if◌then◌or_else◌
   digits_more u h e g = ap (λ z. digits_from z (drop (i + 1) t) (i + 1)) g ∙ sym (rw (drop-cons t i 0 h, e, add-one i)) ∙ inv
 
 -- WHERE DIGITS END: ds are they, r is what is left behind them
@@ -59,23 +59,23 @@ pub record Split (v : ℕ) (s : List ℕ) (p : ℕ) (d : Decimal) : Type 0 where
   pub value : value_from v ds ≡ value_from d.value []
 
 value_grown : (v d : ℕ) (w : List ℕ) → value_from (v * 10 + (d - 48)) w ≡ value_from (grown v d) w
-unfolding grown if◌then◌else◌
+unfolding grown if◌then◌or_else◌
 value_grown v d w = go (leb v greatest) refl
   where
-    go : (b : Bool) → leb v greatest ≡ b → value_from (v * 10 + (d - 48)) w ≡ value_from (if b then v * 10 + (d - 48) else v) w
+    go : (b : Bool) → leb v greatest ≡ b → value_from (v * 10 + (d - 48)) w ≡ value_from (if b then v * 10 + (d - 48) or_else v) w
     go true e = refl
     go false e = let l = leb-false v greatest e in value_large w (v * 10 + (d - 48)) v (omega (arith, l)) l
 
 value_first : (v d : ℕ) (w : List ℕ) → is_digit d ≡ true → value_from v (d ∷ w) ≡ value_from (v * 10 + (d - 48)) w
-unfolding value_from if◌then◌else◌
+unfolding value_from if◌then◌or_else◌
 value_first v d w e = rw e
 
 pub split : (v : ℕ) (s : List ℕ) (p : ℕ) → Split v s p (digits_from v s p)
-unfolding digits_from each is_digit between if◌then◌else◌
+unfolding digits_from each is_digit between if◌then◌or_else◌
 split v [] p = record { ds = []; r = []; whole = refl; digits = refl; last = refl; end = sym (add-zero p); value = refl }
 split v (d ∷ s) p = go (is_digit d) refl (split (grown v d) s (p + 1))
   where
-    go : (b : Bool) → is_digit d ≡ b → Split (grown v d) s (p + 1) (digits_from (grown v d) s (p + 1)) → Split v (d ∷ s) p (if b then digits_from (grown v d) s (p + 1) else record { value = v; end = p })
+    go : (b : Bool) → is_digit d ≡ b → Split (grown v d) s (p + 1) (digits_from (grown v d) s (p + 1)) → Split v (d ∷ s) p (if b then digits_from (grown v d) s (p + 1) or_else record { value = v; end = p })
     go true e k = record {
       ds = d ∷ k.ds;
       r = k.r;
@@ -89,7 +89,7 @@ split v (d ∷ s) p = go (is_digit d) refl (split (grown v d) s (p + 1))
 
 -- digits are letters of a word
 past_digits : (ds r : List ℕ) (p : ℕ) → each is_digit ds ≡ true → past is_word (ds ++ r) p ≡ past is_word r (p + length ds)
-unfolding past each if◌then◌else◌
+unfolding past each if◌then◌or_else◌
 past_digits [] r p h = ap (past is_word r) (sym (add-zero p))
 past_digits (d ∷ ds) r p h =
     rw (digit_word d (and_left (is_digit d) (each is_digit ds) h))
@@ -98,15 +98,15 @@ past_digits (d ∷ ds) r p h =
 
 -- with another letter behind them they are no number
 no_value : (ds r : List ℕ) (v m c : ℕ) → c ≡ length ds + suc m → each is_digit ds ≡ true → is_digit (at r 0) ≡ false → 0 < length r → value_from v (take c (ds ++ r)) ≡ NotANumber
-unfolding value_from each if◌then◌else◌
+unfolding value_from each if◌then◌or_else◌
 no_value [] [] v m c e h n l = absurd (omega arith)
 no_value [] (b ∷ r) v m c e h n l = let z : c ≡ suc m = omega arith in rw (z, n)
 no_value (d ∷ ds) r v m c e h n l =
     let z : c ≡ suc (length ds + suc m) = omega arith in
     rw (z, and_left (is_digit d) (each is_digit ds) h) (no_value ds r (v * 10 + (d - 48)) m (length ds + suc m) refl (and_right (is_digit d) (each is_digit ds) h) n l)
 
-chosen_none : (a b : Bool) (n : Number) → n ≡ NotANumber → (if a then NotANumber else if b then NotANumber else n) ≡ NotANumber
-unfolding if◌then◌else◌
+chosen_none : (a b : Bool) (n : Number) → n ≡ NotANumber → (if a then NotANumber or_else if b then NotANumber or_else n) ≡ NotANumber
+unfolding if◌then◌or_else◌
 chosen_none true b n e = refl
 chosen_none false true n e = refl
 chosen_none false false n e = e
@@ -151,7 +151,7 @@ module _ (t : List ℕ) (p v e n : ℕ) (d : record { value = v; end = e } ≡ d
       let same : e ≡ word_end t p = (let z : e ≡ n = omega (arith, l, g, past_from is_word (drop e t) e) in z) ∙ ends in
       let c : e - p ≡ length parts.ds = omega (arith, parts.end) in
       let letters : part t p e ≡ parts.ds = ap₂ take c parts.whole ∙ take-append_seam parts.ds parts.r in
-      let spelled : number_by v parts.ds ≡ number_of parts.ds = ap (λ (z : Number). if eqb (length parts.ds) 0 then NotANumber else if leading_zero parts.ds then NotANumber else z) (sym parts.value) in
+      let spelled : number_by v parts.ds ≡ number_of parts.ds = ap (λ (z : Number). if eqb (length parts.ds) 0 then NotANumber or_else if leading_zero parts.ds then NotANumber or_else z) (sym parts.value) in
       λ i. record { number = (h ∙ ap (number_by v) (q ∙ letters) ∙ spelled ∙ ap number_of (sym letters) ∙ ap (λ z. number_of (part t p z)) same) i; next = same i }
 
 -- AS A FIELD
@@ -175,16 +175,16 @@ letter_word b e = go (eqb b 100) refl e
     go false q k = rw (eqb-true b 115 k)
 
 by_number : (w : List ℕ) → is_field_letter (at w 0) ≡ false → as_number (number_of w) ≡ operand_of w
-unfolding operand_of if◌then◌else◌
+unfolding operand_of if◌then◌or_else◌
 by_number w e = rw e
 
 by_field : (b : ℕ) (w : List ℕ) → is_field_letter b ≡ true → as_field (field_from b (number_of w)) ≡ operand_of (b ∷ w)
-unfolding operand_of field_of if◌then◌else◌
+unfolding operand_of field_of if◌then◌or_else◌
 by_field b w e = rw e
 
 module _ (t : List ℕ) (p : ℕ) where
   pub operand_none : length t ≤ p → record { operand = NotAnOperand; next = p } ≡ operand_at t p
-  unfolding operand_at operand_of is_field_letter number_of as_number if◌then◌else◌
+  unfolding operand_at operand_of is_field_letter number_of as_number if◌then◌or_else◌
   operand_none h =
       let same : p ≡ word_end t p = sym (past_end is_word t p h) in
       let c : word_end t p - p ≡ 0 = omega (arith, same) in

@@ -1,7 +1,7 @@
 -- Numbers and operands tried on words. Assumes nothing.
 use mathlib.Core.Path.{◌≡◌, refl}
 use mathlib.Core.Bool.{true, false}
-use Rattle.base_words.specs.Pick.{if◌then◌else◌}
+use Rattle.base_words.specs.Pick.{if◌then◌or_else◌}
 use Rattle.base_words.specs.Text.{bytes}
 use Rattle.base_bytes.specs.Bytes.{between, is_digit}
 use Rattle.text_numerals.specs.declared.Number.TheVariants.{Value, TooLarge, NotANumber}
@@ -24,7 +24,7 @@ pub record Numbers : Type 0 where
   pub empty : number_of (bytes "") ≡ NotANumber
 
 pub numbers : Numbers
-unfolding if◌then◌else◌ between is_digit value_from leading_zero number_of
+unfolding if◌then◌or_else◌ between is_digit value_from leading_zero number_of
 numbers = record {
   zero = refl;
   inner = refl;
@@ -65,7 +65,7 @@ pub record Operands : Type 0 where
   pub empty : operand_of (bytes "") ≡ NotAnOperand
 
 pub operands : Operands
-unfolding if◌then◌else◌ between is_digit value_from leading_zero number_of is_field_letter field_behind field_from field_of as_number as_field operand_of
+unfolding if◌then◌or_else◌ between is_digit value_from leading_zero number_of is_field_letter field_behind field_from field_of as_number as_field operand_of
 operands = record {
   inner = refl;
   number = refl;

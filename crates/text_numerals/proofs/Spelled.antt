@@ -11,7 +11,7 @@ use lib.ListN.{length, length-append, get_or-append}
 use borrow.Author.Tests.{lt-ltb, le-leb, lt-leb, ne_eqb}
 use Rattle.base_words.specs.Counts.{fields, stores}
 use Rattle.base_words.specs.Each.{each}
-use Rattle.base_words.specs.Pick.{if◌then◌else◌}
+use Rattle.base_words.specs.Pick.{if◌then◌or_else◌}
 use Rattle.base_words.specs.Words.{at, greatest}
 use Rattle.base_words.proofs.EachLaws.{each_append}
 use Rattle.base_words.proofs.PickLaws.{and_true, and_false_right}
@@ -51,7 +51,7 @@ spelled_word (more n d w z h s) =
 
 -- reading on behind it is reading on from its value
 value_digit : (v d : ℕ) (s : List ℕ) → d < 10 → value_from v ((48 + d) ∷ s) ≡ value_from (v * 10 + d) s
-unfolding value_from if◌then◌else◌
+unfolding value_from if◌then◌or_else◌
 value_digit v d s h = rw (digit_is d h) (ap (λ (k : ℕ). value_from (v * 10 + k) s) (let e : 48 + d - 48 ≡ d = omega arith in e))
 
 pub spelled_value : {n : ℕ} {w : List ℕ} → Spelled n w → (s : List ℕ) → value_from 0 (w ++ s) ≡ value_from n s
@@ -76,7 +76,7 @@ spelled_plain (more n d w z h s) =
 
 module _ {n : ℕ} {w : List ℕ} (s : Spelled n w) where
   read : number_of w ≡ value_from n []
-  unfolding number_of if◌then◌else◌
+  unfolding number_of if◌then◌or_else◌
   read =
       rw (ne_eqb (length w) 0 (λ e. omega (arith, e, spelled_some s)), spelled_plain s)
       (sym (ap (value_from 0) (append-nil w)) ∙ spelled_value s [])
@@ -86,26 +86,26 @@ module _ {n : ℕ} {w : List ℕ} (s : Spelled n w) where
   number_spelled h = read ∙ within
     where
       within : value_from n [] ≡ Value n
-      within = unfold value_from if◌then◌else◌ in rw (le-leb n greatest h)
+      within = unfold value_from if◌then◌or_else◌ in rw (le-leb n greatest h)
 
   pub number_above : greatest < n → number_of w ≡ TooLarge
   number_above h = read ∙ above
     where
       above : value_from n [] ≡ TooLarge
-      above = unfold value_from if◌then◌else◌ in rw (lt-leb n greatest h)
+      above = unfold value_from if◌then◌or_else◌ in rw (lt-leb n greatest h)
 
   -- for fields and stores
   pub field_spelled : n < fields → field_of (100 ∷ w) ≡ Value n
-  unfolding field_of field_from field_behind if◌then◌else◌
+  unfolding field_of field_from field_behind if◌then◌or_else◌
   field_spelled h = rw (number_spelled (omega arith), lt-ltb n fields h, add-zero n)
 
   pub store_spelled : n < stores → field_of (115 ∷ w) ≡ Value (n + fields)
-  unfolding field_of field_from field_behind if◌then◌else◌
+  unfolding field_of field_from field_behind if◌then◌or_else◌
   store_spelled h = rw (number_spelled (omega arith), lt-ltb n stores h)
 
   -- and for operands
   pub constant_spelled : n ≤ greatest → operand_of w ≡ Constant n
-  unfolding operand_of is_field_letter as_number if◌then◌else◌
+  unfolding operand_of is_field_letter as_number if◌then◌or_else◌
   constant_spelled h = rw (ne_eqb (at w 0) 100 (λ e. omega (arith, e, (spelled_first s).2)), ne_eqb (at w 0) 115 (λ e. omega (arith, e, (spelled_first s).2)), number_spelled h)
 
 -- what a writer has to show of its digits: `digits n` are those of n, for every n below 10 to the k

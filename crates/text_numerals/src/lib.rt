@@ -1,4 +1,6 @@
 // Words as numbers and operands, and words compared.
+#![tactic(auto)]
+
 ghost use Rattle.std.specs.Prelude.{◌≡◌, true, ◌+◌, ◌≤◌, drop};
 ghost use Rattle.base_words.specs.Counts.{fields_named};
 ghost use Rattle.base_bytes.specs.Bytes.{is_digit};

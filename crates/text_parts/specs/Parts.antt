@@ -1,7 +1,7 @@
 -- THE PARTS OF AN ELEMENT'S TEXT, in the words of document 01. x is the words of the element, in which each part is stored at its place. (RULES: reading)
 use Prim.Native.Char.{code}
 use Rattle.std.specs.Prelude.{ℕ, zero, suc, ◌+◌, ◌-◌, Bool, false, List, eqb}
-use Rattle.base_words.specs.Pick.{if◌then◌else◌}
+use Rattle.base_words.specs.Pick.{if◌then◌or_else◌}
 use Rattle.base_words.specs.Counts.{fewest, branches, tasks, names, values, assignments}
 use Rattle.base_table.specs.Places.{task_place, entries_place, exits_place, edge_place, condition_place, message_place, length_place, item_place, assignments_place}
 use Rattle.text_readers.specs.Reading.{Parsed, Reader, if_at, onward, ◌then◌, nothing, place_of, sign_at, sign, number, mode, starts_sign}
@@ -29,10 +29,10 @@ tuple item b = record { item = item; opener = code "<"; closer = code ">"; least
 unfoldable pub item_of : Series → ℕ → Reader
 item_of s k =
     if eqb s.item an_edge then edge (edge_place s.count k)
-    else if eqb s.item a_template_item then template_item (item_place s.branch k)
-    else if eqb s.item a_message_item then expression (item_place s.branch k)
-    else if eqb s.item an_assignment then assignment k
-    else guarded k
+    or_else if eqb s.item a_template_item then template_item (item_place s.branch k)
+    or_else if eqb s.item a_message_item then expression (item_place s.branch k)
+    or_else if eqb s.item an_assignment then assignment k
+    or_else guarded k
 
 -- items with commas between them, from item k on, where n more are allowed
 unfoldable pub items_from : (ℕ → Reader) → (List ℕ → ℕ → Bool) → ℕ → ℕ → ℕ → ℕ → Reader
@@ -49,7 +49,7 @@ unfoldable pub inside : Series → Reader
 inside s text at x =
     if eqb s.least 0
     then if_at (sign_at s.closer text at) (λ q. store s.count 0 text q x) ((items s then sign s.closer) text at x)
-    else (items s then sign s.closer) text at x
+    or_else (items s then sign s.closer) text at x
 
 unfoldable pub series : Series → Reader
 series s = sign s.opener then inside s
@@ -80,12 +80,12 @@ task_part =
 unfoldable pub part_of : ℕ → Reader
 part_of c =
     if eqb c (code "E") then one_edge entries_place
-    else if eqb c (code "X") then one_edge exits_place
-    else if eqb c (code "F") then series (edge_list entries_place)
-    else if eqb c (code "Y") then series (edge_list exits_place)
-    else if eqb c (code "N") then task_part
-    else if eqb c (code "T") then message a_template_item 0
-    else if eqb c (code "S") then message a_message_item 0
-    else if eqb c (code "G") then series guarded_list
-    else if eqb c (code "B") then receiving_branches
-    else nothing
+    or_else if eqb c (code "X") then one_edge exits_place
+    or_else if eqb c (code "F") then series (edge_list entries_place)
+    or_else if eqb c (code "Y") then series (edge_list exits_place)
+    or_else if eqb c (code "N") then task_part
+    or_else if eqb c (code "T") then message a_template_item 0
+    or_else if eqb c (code "S") then message a_message_item 0
+    or_else if eqb c (code "G") then series guarded_list
+    or_else if eqb c (code "B") then receiving_branches
+    or_else nothing

@@ -7,7 +7,7 @@ use native.Mathlib.Numerals.{add-one}
 use native.Mathlib.Omega.{arith}
 use lib.ListN.{length, set, take, drop, get_or, replicate, length-append, length-replicate, length-take, replicate-append-replicate}
 use lib.Seq.{take-suc, drop-cons, set_at, set_out, take_all, length-take-le, append_snoc}
-use Rattle.base_words.specs.Pick.{if◌then◌else◌}
+use Rattle.base_words.specs.Pick.{if◌then◌or_else◌}
 use Rattle.base_words.specs.Words.{at}
 use Rattle.base_words.specs.Writes.{writes}
 use Rattle.base_words.specs.Counts.{pools, elements}
@@ -101,7 +101,7 @@ module _ (i n : ℕ) (pre done x post : List ℕ) (a b : ℕ) (ep : length pre �
       ∙ counted c (done ++ (x ++ post))
 
 keep_stores : (i n : ℕ) (x w : List ℕ) → kept_element true i n x w ≡ stored i n x w
-unfolding kept_element if◌then◌else◌
+unfolding kept_element if◌then◌or_else◌
 keep_stores i n x w = refl
 
 -- ALL ELEMENTS of a pool, where m more have room
@@ -114,6 +114,7 @@ module _ (i : ℕ) (pre post : List ℕ) (a b : ℕ) (ep : length pre ≡ pool_p
       let z : n ≡ n + 0 = omega arith in
       let k : m ≡ m - 0 = omega arith in
       ap₂ (λ c l. pre ++ (a ∷ b ∷ c ∷ (done ++ (zeros (element_words * l) ++ post)))) z k
+  elements-stored zero n (x ∷ els) done x4 ed = elim x4 [ ]
   elements-stored (suc m) n (x ∷ els) done (some ex rest) ed =
       let long : length (done ++ x) ≡ element_words * (n + 1) = length-append done x ∙ (let z : length done + length x ≡ element_words * (n + 1) = omega arith in z) in
       let count : n + 1 + length els ≡ n + suc (length els) = omega arith in
@@ -131,6 +132,7 @@ module _ (i : ℕ) (pre post : List ℕ) (a b : ℕ) (ep : length pre ≡ pool_p
 flat_long : (m w : ℕ) (P : List ℕ → Type 0) → ((x : List ℕ) → P x → length x ≡ w) → (xs : List (List ℕ)) → AtMost P m xs → length (flat xs) ≡ w * length xs
 unfolding flat
 flat_long m w P h [] none = omega arith
+flat_long zero w P h (x ∷ xs) x4 = elim x4 [ ]
 flat_long (suc m) w P h (x ∷ xs) (some e rest) =
     length-append x (flat xs)
     ∙ (let z : length x + length (flat xs) ≡ w * suc (length xs) = omega (arith, h x e, flat_long m w P h xs rest) in z)
@@ -179,7 +181,7 @@ module _ (i : ℕ) (p : Pool) (fits : Fits p) (done post : List ℕ) (ed : lengt
       ∙ ap (λ n. (c ∷ done) ++ (0 ∷ 0 ∷ n ∷ (flat els ++ (zeros (element_words * (elements - length els)) ++ post)))) z
 
   pool_stored : (c : ℕ) → kept_pool true i p (c ∷ (done ++ (zeros pool_words ++ post))) ≡ (i + 1) ∷ (done ++ (pool_table p ++ post))
-  unfolding kept_pool kept_head elements_placed if◌then◌else◌
+  unfolding kept_pool kept_head elements_placed if◌then◌or_else◌
   pool_stored c =
       ap (headed i p.number p.limit) (elements_in c)
       ∙ head_stored c (length els ∷ tail)
@@ -194,6 +196,7 @@ table_long p fits =
   where
     at_most : (m : ℕ) (xs : List (List ℕ)) → AtMost Block m xs → length xs ≤ m
     at_most m [] none = omega arith
+    at_most zero (x ∷ xs) x3 = elim x3 [ ]
     at_most (suc m) (x ∷ xs) (some e rest) = omega (arith, at_most m xs rest)
 
 -- ALL POOLS, where m more have room
@@ -205,6 +208,7 @@ pools-stored m i [] done none ed =
     let z : i ≡ i + 0 = omega arith in
     let k : m ≡ m - 0 = omega arith in
     ap₂ (λ c l. c ∷ (done ++ zeros (pool_words * l))) z k
+pools-stored zero i (p ∷ ps) done x3 ed = elim x3 [ ]
 pools-stored (suc m) i (p ∷ ps) done (some fits rest) ed =
     let long : length (done ++ pool_table p) ≡ pool_words * (i + 1) = length-append done (pool_table p) ∙ (let z : length done + length (pool_table p) ≡ pool_words * (i + 1) = omega (arith, table_long p fits) in z) in
     let count : i + 1 + length ps ≡ i + suc (length ps) = omega arith in
@@ -223,6 +227,7 @@ pools-stored (suc m) i (p ∷ ps) done (some fits rest) ed =
 pools_long : (m : ℕ) (ps : List Pool) → AtMost Fits m ps → length (flat (map pool_table ps)) ≡ pool_words * length ps
 unfolding flat
 pools_long m [] none = refl
+pools_long zero (p ∷ ps) x3 = elim x3 [ ]
 pools_long (suc m) (p ∷ ps) (some fits rest) =
     length-append (pool_table p) (flat (map pool_table ps))
     ∙ (let z : length (pool_table p) + length (flat (map pool_table ps)) ≡ pool_words * suc (length ps) = omega (arith, table_long p fits, pools_long m ps rest) in z)

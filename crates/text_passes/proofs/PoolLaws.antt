@@ -7,7 +7,7 @@ use denote.Enum.Declared.{tag_of}
 use lib.Dec.{eqb}
 use lib.ListN.{length, replicate, length-replicate}
 use borrow.Author.Tests.{eq-eqb, ne_eqb}
-use Rattle.base_words.specs.Pick.{if◌then◌else◌}
+use Rattle.base_words.specs.Pick.{if◌then◌or_else◌}
 use Rattle.base_words.specs.Text.{bytes}
 use Rattle.base_words.specs.Words.{at, part}
 use Rattle.base_words.specs.Counts.{pool_numbers, instances}
@@ -59,11 +59,11 @@ opened text at h w e = e
 
 module _ (k : ℕ) (text : List ℕ) (at : ℕ) (h : List ℕ) where
   pub closed-plain : (r : Read) → k ≡ plain → r ≡ sign_at 41 text at → record { end = r; words = h } ≡ closing k text at h
-  unfolding closing if◌then◌else◌
+  unfolding closing if◌then◌or_else◌
   closed-plain r e f = rw (eq-eqb k plain e) (sign_last 41 text at h r f)
 
   pub closed-multiple : (w : Parsed) → (k ≡ plain → ⊥) → w ≡ (sign 44 then number 1 instances limit_in then sign 41) text at h → w ≡ closing k text at h
-  unfolding closing if◌then◌else◌
+  unfolding closing if◌then◌or_else◌
   closed-multiple w n e = rw (ne_eqb k plain n) e
 
 -- THE ELEMENTS of pool i, in its summary or in the table

@@ -5,7 +5,7 @@ use mathlib.Core.Bool.{Bool, true, false}
 use mathlib.Core.List.{List, [], ◌∷◌}
 use lib.Dec.{eqb}
 use lib.ListN.{length, replicate, length-replicate}
-use Rattle.base_words.specs.Pick.{if◌then◌else◌}
+use Rattle.base_words.specs.Pick.{if◌then◌or_else◌}
 use Rattle.base_words.specs.Counts.{pools, elements}
 use Rattle.base_table.specs.Places.{element_words}
 use Rattle.text_lexer.specs.declared.Form.{Form}
@@ -30,8 +30,8 @@ unfolding elements_at
 elements_fit text at = barred_all element_alone starts_element text (AtMost Block) (λ m. none) (λ m a xs h. some (element_long text a) h) elements at
 
 -- a pool, by the choices on the way
-either : (b : Bool) (g h : Got Pool) → Fits g.value → Fits h.value → Fits (if b then g else h).value
-unfolding if◌then◌else◌
+either : (b : Bool) (g h : Got Pool) → Fits g.value → Fits h.value → Fits (if b then g or_else h).value
+unfolding if◌then◌or_else◌
 either true g h f e = f
 either false g h f e = e
 

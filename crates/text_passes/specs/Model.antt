@@ -2,7 +2,7 @@
 use Prim.Native.Char.{code}
 use Rattle.std.specs.Prelude.{ℕ, zero, suc, ◌+◌, ◌-◌, ◌*◌, Bool, true, false, not, List, [], ◌∷◌, ◌++◌, map, eqb, length, replicate}
 use Rattle.base_words.specs.Blocks.{Block, Bytes, Table, Element}
-use Rattle.base_words.specs.Pick.{if◌then◌else◌}
+use Rattle.base_words.specs.Pick.{if◌then◌or_else◌}
 use Rattle.base_words.specs.Text.{bytes}
 use Rattle.base_words.specs.Words.{at}
 use Rattle.base_words.specs.Counts.{pools, elements, pool_numbers, instances}
@@ -51,14 +51,14 @@ abbrev pub multiple : ℕ
 multiple = 2
 
 unfoldable pub pool_word : Bytes → ℕ
-pool_word w = if same_bytes w (bytes "pool") then plain else if same_bytes w (bytes "miPool") then multiple else 0
+pool_word w = if same_bytes w (bytes "pool") then plain or_else if same_bytes w (bytes "miPool") then multiple or_else 0
 
 -- p, and n, stored as the first words of a pool
 unfoldable pub opening : Reader
 opening = sign (code "(") then number 1 pool_numbers 0 then sign (code ",")
 
 unfoldable pub closing : ℕ → Reader
-closing k = if eqb k plain then sign (code ")") else sign (code ",") then number 1 instances limit_in then sign (code ")")
+closing k = if eqb k plain then sign (code ")") or_else sign (code ",") then number 1 instances limit_in then sign (code ")")
 
 abbrev pub no_pool : Pool
 no_pool = record { number = 0; limit = 0; elements = [] }
@@ -76,7 +76,7 @@ inside_pool k text h =
     (unread h.end)
 
 unfoldable pub pool_of_word : ℕ → Bytes → ℕ → ℕ → Got Pool
-pool_of_word k text p q = if eqb k 0 then unread (Refused misplaced p) else inside_pool k text (opening text q (0 ∷ 0 ∷ []))
+pool_of_word k text p q = if eqb k 0 then unread (Refused misplaced p) or_else inside_pool k text (opening text q (0 ∷ 0 ∷ []))
 
 unfoldable pub pool : Bytes → ℕ → Got Pool
 pool text at =

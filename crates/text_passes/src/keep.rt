@@ -3,7 +3,7 @@ ghost use Rattle.std.specs.Prelude.{◌≡◌, ◌+◌, ◌-◌, ◌≤◌, ◌<
 ghost use Rattle.base_words.specs.Words.{at};
 ghost use Rattle.base_words.specs.Writes.{writes};
 ghost use Rattle.base_table.specs.Places.{element_words, element_place};
-ghost use Rattle.base_words.specs.Pick.{if◌then◌else◌};
+ghost use Rattle.base_words.specs.Pick.{if◌then◌or_else◌};
 ghost use Rattle.text_passes.specs.Passes.{stored_as, summed_up, kept_element, headed_as, pool_judged, kept_head};
 
 use base_table::places::{
@@ -71,7 +71,7 @@ pub fn keep_counted(
     count: Word,
     x: &[Word; ELEMENT_WORDS],
 )
-    ensures { w.new ≡ (if fills then stored_as i n count x.now w.old else summed_up count x.now w.old) }
+    ensures { w.new ≡ (if fills then stored_as i n count x.now w.old or_else summed_up count x.now w.old) }
 {
     if fills {
         store_element(w, i, n, count, x);
@@ -113,7 +113,7 @@ pub fn keep_counted_head(
     limit: Word,
     s: &[Word],
 )
-    ensures { w.new ≡ (if fills then headed_as i count number limit w.old else pool_judged number limit s.now w.old) }
+    ensures { w.new ≡ (if fills then headed_as i count number limit w.old or_else pool_judged number limit s.now w.old) }
 {
     if fills {
         store_head(w, i, count, number, limit);

@@ -8,7 +8,7 @@ use lib.Dec.{eqb, ltb}
 use lib.ListN.{length, take, replicate}
 use borrow.Author.Tests.{eq-eqb, ne_eqb, eqb-true, lt-ltb, le-ltb}
 use Rattle.base_words.specs.Each.{each}
-use Rattle.base_words.specs.Pick.{if◌then◌else◌}
+use Rattle.base_words.specs.Pick.{if◌then◌or_else◌}
 use Rattle.base_words.specs.Words.{at}
 use Rattle.base_words.specs.Counts.{text_most}
 use Rattle.base_words.proofs.PickLaws.{pick_yes, pick_no}
@@ -33,7 +33,7 @@ refusal_is r n p k q e f = cc
 -- the answer to a model, where calls say k of its lowest check broken and v of the word of its room
 module _ (k j : ℕ) (e : k ≡ j) where
   pub check_failed : (n : ℕ) → (k ≡ 0 → ⊥) → ◌≡◌ {A = Reading} (record { number = 4; beside = k }) (answer_for j (eqb n 0))
-  unfolding answer_for if◌then◌else◌
+  unfolding answer_for if◌then◌or_else◌
   check_failed n h = rw (← e, ne_eqb k 0 h)
 
   module _ (v n : ℕ) (g : v ≡ n) (z : k ≡ 0) where
@@ -41,11 +41,11 @@ module _ (k j : ℕ) (e : k ≡ j) where
     none_broken = sym e ∙ z
 
     pub all_passed : v ≡ 0 → ◌≡◌ {A = Reading} (record { number = 0; beside = 0 }) (answer_for j (eqb n 0))
-    unfolding answer_for if◌then◌else◌
+    unfolding answer_for if◌then◌or_else◌
     all_passed h = rw (none_broken, eq-eqb n 0 (sym g ∙ h))
 
     pub none_free : (v ≡ 0 → ⊥) → ◌≡◌ {A = Reading} (record { number = 28; beside = 0 }) (answer_for j (eqb n 0))
-    unfolding answer_for if◌then◌else◌
+    unfolding answer_for if◌then◌or_else◌
     none_free h = rw (none_broken, ne_eqb n 0 (λ q. h (g ∙ q)))
 
 -- the second pass ends as the first did, and fills the cleared table; then its pools are rewritten
@@ -57,20 +57,20 @@ filled_by text t u v y r l e p w q h room =
 -- the answer and the table, by the lowest check broken and by room
 module _ (k : ℕ) (ps : List Pool) (t : List ℕ) where
   abbrev numbered : Bool → Bool → ℕ
-  numbered c b = if c then (if b then 0 else 28) else 4
+  numbered c b = if c then (if b then 0 or_else 28) or_else 4
 
   stays : (c b : Bool) → eqb k 0 ≡ c → each has_room ps ≡ b → (numbered c b ≡ 0 → ⊥)
       → ◌≡◌ {A = ReadInto} (record { number = numbered c b; beside = k; table = t })
-      (if c then (if b then record { number = 0; beside = 0; table = table_of (map rewritten ps) } else record { number = 28; beside = 0; table = t }) else record { number = 4; beside = k; table = t })
-  unfolding if◌then◌else◌
+      (if c then (if b then record { number = 0; beside = 0; table = table_of (map rewritten ps) } or_else record { number = 28; beside = 0; table = t }) or_else record { number = 4; beside = k; table = t })
+  unfolding if◌then◌or_else◌
   stays true true e f n = absurd (n refl)
   stays true false e f n = ap (λ (j : ℕ). record { number = 28; beside = j; table = t }) (eqb-true k 0 e)
   stays false b e f n = refl
 
   fills : (c b : Bool) → eqb k 0 ≡ c → each has_room ps ≡ b → numbered c b ≡ 0 → (v : List ℕ) → (each has_room ps ≡ true → v ≡ table_of (map rewritten ps))
       → ◌≡◌ {A = ReadInto} (record { number = numbered c b; beside = k; table = v })
-      (if c then (if b then record { number = 0; beside = 0; table = table_of (map rewritten ps) } else record { number = 28; beside = 0; table = t }) else record { number = 4; beside = k; table = t })
-  unfolding if◌then◌else◌
+      (if c then (if b then record { number = 0; beside = 0; table = table_of (map rewritten ps) } or_else record { number = 28; beside = 0; table = t }) or_else record { number = 4; beside = k; table = t })
+  unfolding if◌then◌or_else◌
   fills true true e f n v h = ap₂ (λ (j : ℕ) (z : List ℕ). record { number = 0; beside = j; table = z }) (eqb-true k 0 e) (h f)
   fills true false e f n v h = absurd (omega (arith, n))
   fills false b e f n v h = absurd (omega (arith, n))

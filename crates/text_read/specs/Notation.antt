@@ -2,7 +2,7 @@
 use Rattle.std.specs.Prelude.{ℕ, Bool, List, map, eqb, ltb, length}
 use Rattle.base_words.specs.Blocks.{Bytes, Table}
 use Rattle.base_words.specs.Each.{each}
-use Rattle.base_words.specs.Pick.{if◌then◌else◌}
+use Rattle.base_words.specs.Pick.{if◌then◌or_else◌}
 use Rattle.base_words.specs.Counts.{text_most}
 use Rattle.text_read.specs.declared.Reading.{Reading}
 use Rattle.text_readers.specs.declared.Read.{Read}
@@ -23,12 +23,12 @@ pub record ReadInto : Type 0 where
 unfoldable pub checked : ℕ → List Pool → Table → ReadInto
 checked k ps t =
     if eqb k 0 then
-    (if each has_room ps then record { number = 0; beside = 0; table = table_of (map rewritten ps) } else record { number = 28; beside = 0; table = t })
-    else record { number = 4; beside = k; table = t }
+    (if each has_room ps then record { number = 0; beside = 0; table = table_of (map rewritten ps) } or_else record { number = 28; beside = 0; table = t })
+    or_else record { number = 4; beside = k; table = t }
 
 -- number and what stands beside it, where k is the lowest check broken and `room` says whether every pool has room
 unfoldable pub answer_for : ℕ → Bool → Reading
-answer_for k room = record { number = if eqb k 0 then (if room then 0 else 28) else 4; beside = k }
+answer_for k room = record { number = if eqb k 0 then (if room then 0 or_else 28) or_else 4; beside = k }
 
 unfoldable pub judged : Read → List Pool → Table → ReadInto
 judged (At q) ps t = checked (lowest ps) ps t
@@ -37,4 +37,4 @@ judged (Refused n p) ps t = record { number = n; beside = p; table = t }
 unfoldable pub read_into : Bytes → Table → ReadInto
 read_into text t =
     if ltb text_most (length text) then record { number = 1; beside = 0; table = t }
-    else judged (model text).end (model text).value t
+    or_else judged (model text).end (model text).value t

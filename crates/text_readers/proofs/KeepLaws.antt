@@ -6,7 +6,7 @@ use Prim.Native.Nat.{ℕ, ◌+◌, ◌<◌, ◌≤◌}
 use lib.Dec.{leb}
 use lib.ListN.{set}
 use borrow.Author.Tests.{eq-eqb, ne_eqb, le-leb, lt-leb}
-use Rattle.base_words.specs.Pick.{if◌then◌else◌}
+use Rattle.base_words.specs.Pick.{if◌then◌or_else◌}
 use Rattle.base_words.proofs.PickLaws.{and_false_right, pick_yes, pick_no}
 use Rattle.base_table.specs.Places.{a_field, operand_number, mode_place}
 use Rattle.text_numerals.specs.declared.Number.{Number}
@@ -21,15 +21,15 @@ stored q y z e = ap (passed_to q) e
 module _ (n : Number) (least most place p q : ℕ) (x : List ℕ) where
   module _ (v : ℕ) (e : n ≡ Value v) where
     pub number_within : (y : List ℕ) → least ≤ v → leb v most ≡ true → y ≡ set x place v → passed_to q y ≡ keep_number n least most place p q x
-    unfolding keep_number if◌then◌else◌
+    unfolding keep_number if◌then◌or_else◌
     number_within y l m h = rw (e, le-leb least v l, m) (stored q y (set x place v) h)
 
     pub number_below : v < least → refused_at excessive p x ≡ keep_number n least most place p q x
-    unfolding keep_number if◌then◌else◌
+    unfolding keep_number if◌then◌or_else◌
     number_below l = rw (e, lt-leb least v l)
 
     pub number_above : leb v most ≡ false → refused_at excessive p x ≡ keep_number n least most place p q x
-    unfolding keep_number if◌then◌else◌
+    unfolding keep_number if◌then◌or_else◌
     number_above m = rw (e, and_false_right (leb least v) (leb v most) m)
 
   pub number_too_large : n ≡ TooLarge → refused_at excessive p x ≡ keep_number n least most place p q x

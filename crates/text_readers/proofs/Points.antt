@@ -4,7 +4,7 @@ use mathlib.Core.Bool.{true, false}
 use mathlib.Core.List.{List, [], ◌∷◌}
 use Prim.Native.Char.{code}
 use Prim.Native.Nat.{ℕ}
-use Rattle.base_words.specs.Pick.{if◌then◌else◌}
+use Rattle.base_words.specs.Pick.{if◌then◌or_else◌}
 use Rattle.base_words.specs.Text.{bytes}
 use Rattle.text_lexer.specs.Lexer.{is_blank, is_sign, is_word, token_of, token_here, token_at, if_word, if_sign, if_assign, if_end}
 use Rattle.base_bytes.specs.Bytes.{among, between, is_digit, is_letter, past}
@@ -26,7 +26,7 @@ pub record Signs : Type 0 where
   pub more : end_at (bytes "a b") 1 ≡ Refused 2 2
 
 pub signs : Signs
-unfolding if◌then◌else◌ among between is_blank is_sign is_digit is_letter is_word past token_of token_here token_at if_sign if_assign if_end sign_at assign_at end_at
+unfolding if◌then◌or_else◌ among between is_blank is_sign is_digit is_letter is_word past token_of token_here token_at if_sign if_assign if_end sign_at assign_at end_at
 signs = record { behind_blanks = refl; other = refl; at_the_end = refl; assign = refl; parted = refl; end = refl; more = refl }
 
 pub record Numbers : Type 0 where
@@ -55,7 +55,7 @@ pub record Numbers : Type 0 where
   pub no_operand : operand 2 (bytes "true=") 0 none ≡ refused_at 2 0 none
 
 pub numbers : Numbers
-unfolding if◌then◌else◌ among between is_blank is_sign is_digit is_letter is_word past token_of token_here token_at if_word value_from leading_zero number_of is_field_letter field_behind field_from field_of as_number as_field operand_of keep_number number field keep_operand operand
+unfolding if◌then◌or_else◌ among between is_blank is_sign is_digit is_letter is_word past token_of token_here token_at if_word value_from leading_zero number_of is_field_letter field_behind field_from field_of as_number as_field operand_of keep_number number field keep_operand operand
 numbers = record {
   within = refl;
   above = refl;
@@ -89,7 +89,7 @@ pub record Modes : Type 0 where
   pub longer : mode (bytes "na_cn,") 0 none ≡ refused_at 2 0 none
 
 pub modes : Modes
-unfolding if◌then◌else◌ among between is_blank is_sign is_digit is_letter is_word past token_of token_here token_at if_word same_bytes mode_named keep_mode mode
+unfolding if◌then◌or_else◌ among between is_blank is_sign is_digit is_letter is_word past token_of token_here token_at if_word same_bytes mode_named keep_mode mode
 modes = record { atomic = refl; concurrent = refl; not_concurrent = refl; longer = refl }
 
 pub record Starts : Type 0 where
@@ -102,7 +102,7 @@ pub record Starts : Type 0 where
   pub other : starts_sign (code "(") (bytes ", )") 1 ≡ false
 
 pub starts : Starts
-unfolding if◌then◌else◌ among between is_blank is_sign is_digit is_letter is_word past token_of token_here token_at if_word if_sign value_from leading_zero number_of field_behind field_from field_of is_spelled starts_number starts_field starts_sign
+unfolding if◌then◌or_else◌ among between is_blank is_sign is_digit is_letter is_word past token_of token_here token_at if_word if_sign value_from leading_zero number_of field_behind field_from field_of is_spelled starts_number starts_field starts_sign
 starts = record { number_above = refl; zeros = refl; field_above = refl; store_above = refl; no_field = refl; bracket = refl; other = refl }
 
 -- the leftmost place decides, and words stored before it stay
@@ -113,5 +113,5 @@ pub record Chains : Type 0 where
   pub third : (sign (code "(") then number 1 48 3 then sign (code ")")) (bytes "(48(") 0 none ≡ refused_at 2 3 (0 ∷ 0 ∷ 0 ∷ 48 ∷ [])
 
 pub chains : Chains
-unfolding if◌then◌else◌ among between is_blank is_sign is_digit is_letter is_word past token_of token_here token_at if_word if_sign value_from leading_zero number_of if_at onward ◌then◌ sign_at keep_number number
+unfolding if◌then◌or_else◌ among between is_blank is_sign is_digit is_letter is_word past token_of token_here token_at if_word if_sign value_from leading_zero number_of if_at onward ◌then◌ sign_at keep_number number
 chains = record { good = refl; first = refl; second = refl; third = refl }

@@ -6,7 +6,7 @@ use Prim.Native.Nat.{ℕ, ◌+◌, ◌-◌}
 use lib.Dec.{eqb, leb}
 use lib.ListN.{length, set, length-set}
 use Rattle.base_words.specs.Counts.{fields_named}
-use Rattle.base_words.specs.Pick.{if◌then◌else◌}
+use Rattle.base_words.specs.Pick.{if◌then◌or_else◌}
 use Rattle.base_table.specs.Places.{a_field, operand_number, mode_place}
 use Rattle.text_lexer.specs.declared.Form.{Form}
 use Rattle.text_lexer.specs.declared.Form.TheVariants.{Word, Sign, Assign, End, Other}
@@ -116,8 +116,8 @@ keeps_then f g kf kg text at x =
     onward-length (f text at x) (g text) (length x) (kf text at x)
     (λ q. kg text q (f text at x).words ∙ kf text at x)
 
-pick_length : (b : Bool) (x : List ℕ) (u v : Parsed) → length u.words ≡ length x → length v.words ≡ length x → length (if b then u else v).words ≡ length x
-unfolding if◌then◌else◌
+pick_length : (b : Bool) (x : List ℕ) (u v : Parsed) → length u.words ≡ length x → length v.words ≡ length x → length (if b then u or_else v).words ≡ length x
+unfolding if◌then◌or_else◌
 pick_length true x u v e h = e
 pick_length false x u v e h = h
 

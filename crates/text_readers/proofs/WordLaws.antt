@@ -8,7 +8,7 @@ use denote.Enum.Declared.{tag_of}
 use lib.Dec.{eqb, ltb}
 use lib.ListN.{length, take, drop}
 use borrow.Author.Tests.{ltb-true, ltb-false}
-use Rattle.base_words.specs.Pick.{if◌then◌else◌}
+use Rattle.base_words.specs.Pick.{if◌then◌or_else◌}
 use Rattle.base_words.specs.Counts.{fields_named}
 use Rattle.base_words.specs.Words.{part}
 use Rattle.text_lexer.specs.declared.Token.{Token}
@@ -130,18 +130,18 @@ is_behind (Behind q) = suc q
 is_behind Another = 0
 
 pub taken-behind : (r : Asked) (p k q : ℕ) → r ≡ taken p k → r ≡ Behind q → (q ≡ k) × (p < k)
-unfolding taken is_behind if◌then◌else◌
+unfolding taken is_behind if◌then◌or_else◌
 taken-behind r p k q e h = go (ltb p k) refl (sym h ∙ e)
   where
-    go : (b : Bool) → ltb p k ≡ b → Behind q ≡ (if b then Behind k else Another) → (q ≡ k) × (p < k)
+    go : (b : Bool) → ltb p k ≡ b → Behind q ≡ (if b then Behind k or_else Another) → (q ≡ k) × (p < k)
     go true l z = (omega (arith, ap is_behind z), ltb-true p k l)
     go false l z = absurd (omega (arith, ap is_behind z))
 
 pub taken_another : (r : Asked) (p k : ℕ) → r ≡ taken p k → r ≡ Another → k ≤ p
-unfolding taken is_behind if◌then◌else◌
+unfolding taken is_behind if◌then◌or_else◌
 taken_another r p k e h = go (ltb p k) refl (sym h ∙ e)
   where
-    go : (b : Bool) → ltb p k ≡ b → Another ≡ (if b then Behind k else Another) → k ≤ p
+    go : (b : Bool) → ltb p k ≡ b → Another ≡ (if b then Behind k or_else Another) → k ≤ p
     go true l z = absurd (omega (arith, ap is_behind z))
     go false l z = ltb-false p k l
 
@@ -161,7 +161,7 @@ module _ (text : List ℕ) (at p q : ℕ) (e : p ≡ past is_blank (drop at text
             ∙ sym (not_worded f (keep (part text p n) p n) (miss p) o) ∙ ap (word_of text keep miss) (sym k)
 
     pub field_read : (place : ℕ) (x : List ℕ) (n : Number) (w : Parsed) → n ≡ field_of l → w ≡ keep_number n 0 (fields_named - 1) place p q x → w ≡ field place text at x
-    unfolding field field_of field_from keep_number if◌then◌else◌
+    unfolding field field_of field_from keep_number if◌then◌or_else◌
     field_read place x n w d k =
         k ∙ ap (λ (z : Number). keep_number z 0 (fields_named - 1) place p q x) d
         ∙ word_direct (λ z a b. keep_number (field_of z) 0 (fields_named - 1) place a b x) (λ a. refused_at misplaced a x) (λ z. refl)
@@ -182,13 +182,13 @@ module _ (text : List ℕ) (at p : ℕ) (e : p ≡ past is_blank (drop at text) 
   word_here = word_direct text at p (word_end text p) e refl (part text p (word_end text p)) refl
 
   pub number_read : (n : Numeral) → n ≡ numeral_at text p → (least most place : ℕ) (x : List ℕ) (w : Parsed) → w ≡ keep_number n.number least most place p n.next x → w ≡ number least most place text at x
-  unfolding number number_of keep_number numeral_at if◌then◌else◌
+  unfolding number number_of keep_number numeral_at if◌then◌or_else◌
   number_read n g least most place x w k =
       k ∙ ap (λ (z : Numeral). keep_number z.number least most place p z.next x) g
       ∙ word_here (λ z a b. keep_number (number_of z) least most place a b x) (λ a. refused_at misplaced a x) (λ z. refl)
 
   pub operand_read : (n : Term) → n ≡ operand_at text p → (place : ℕ) (x : List ℕ) (w : Parsed) → w ≡ keep_operand n.operand place p n.next x → w ≡ operand place text at x
-  unfolding operand operand_of is_field_letter number_of as_number keep_operand operand_at if◌then◌else◌
+  unfolding operand operand_of is_field_letter number_of as_number keep_operand operand_at if◌then◌or_else◌
   operand_read n g place x w k =
       k ∙ ap (λ (z : Term). keep_operand z.operand place p z.next x) g
       ∙ word_here (λ z a b. keep_operand (operand_of z) place a b x) (λ a. refused_at misplaced a x) (λ z. refl)

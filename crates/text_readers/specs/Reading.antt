@@ -3,7 +3,7 @@
 use Prim.Native.Char.{code}
 use Rattle.std.specs.Prelude.{ℕ, ◌+◌, ◌-◌, Bool, true, false, ◌&&◌, ◌||◌, List, [], ◌∷◌, eqb, leb, ltb, set, drop}
 use Rattle.base_words.specs.Blocks.{Block, Bytes}
-use Rattle.base_words.specs.Pick.{if◌then◌else◌}
+use Rattle.base_words.specs.Pick.{if◌then◌or_else◌}
 use Rattle.base_words.specs.Text.{bytes}
 use Rattle.base_words.specs.Words.{at as word_at, part}
 use Rattle.base_words.specs.Counts.{fields_named}
@@ -72,12 +72,12 @@ letters text at = part text (place_of text at) (behind text at)
 
 -- a token that is asked for at p and ends at q, if it stands there
 unfoldable pub taken : ℕ → ℕ → Asked
-taken p q = if ltb p q then Behind q else Another
+taken p q = if ltb p q then Behind q or_else Another
 
 -- a given sign; `:=`; the text's end
 unfoldable pub sign_at : ℕ → Bytes → ℕ → Read
 sign_at s text at =
-    if_sign (token_at text at).form (λ b. if eqb b s then At (behind text at) else Refused misplaced (place_of text at)) (Refused misplaced (place_of text at))
+    if_sign (token_at text at).form (λ b. if eqb b s then At (behind text at) or_else Refused misplaced (place_of text at)) (Refused misplaced (place_of text at))
 
 unfoldable pub assign_at : Bytes → ℕ → Read
 assign_at text at = if_assign (token_at text at).form (At (behind text at)) (Refused misplaced (place_of text at))
@@ -94,7 +94,7 @@ assign text at x = record { end = assign_at text at; words = x }
 
 -- A WORD THAT IS A NUMBER from least to most, or a field `d0` to `d15`, `s0` to `s15`: stored at a place of x. p is where the word stands, q what is behind it.
 unfoldable pub keep_number : Number → ℕ → ℕ → ℕ → ℕ → ℕ → Block → Parsed
-keep_number (Value v) least most place p q x = if leb least v && leb v most then passed_to q (set x place v) else refused_at excessive p x
+keep_number (Value v) least most place p q x = if leb least v && leb v most then passed_to q (set x place v) or_else refused_at excessive p x
 keep_number TooLarge least most place p q x = refused_at excessive p x
 keep_number NotANumber least most place p q x = refused_at misplaced p x
 
@@ -127,12 +127,12 @@ operand place text at x =
 unfoldable pub mode_named : Bytes → ℕ
 mode_named w =
     if same_bytes w (bytes "a") then a
-    else if same_bytes w (bytes "na_c") then na_c
-    else if same_bytes w (bytes "na_nc") then na_nc
-    else 0
+    or_else if same_bytes w (bytes "na_c") then na_c
+    or_else if same_bytes w (bytes "na_nc") then na_nc
+    or_else 0
 
 unfoldable pub keep_mode : ℕ → ℕ → ℕ → Block → Parsed
-keep_mode m p q x = if eqb m 0 then refused_at misplaced p x else passed_to q (set x mode_place m)
+keep_mode m p q x = if eqb m 0 then refused_at misplaced p x or_else passed_to q (set x mode_place m)
 
 unfoldable pub mode : Reader
 mode text at x =

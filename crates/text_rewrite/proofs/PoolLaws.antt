@@ -11,7 +11,7 @@ use Rattle.base_words.specs.All.{all}
 use Rattle.base_words.specs.Counts.{elements, branches, edges}
 use Rattle.base_words.specs.Each.{total, each}
 use Rattle.base_words.specs.Iter.{iter}
-use Rattle.base_words.specs.Pick.{if◌then◌else◌}
+use Rattle.base_words.specs.Pick.{if◌then◌or_else◌}
 use Rattle.base_words.specs.Seek.{seek}
 use Rattle.base_words.specs.Sum.{sum, hit, one_if}
 use Rattle.base_words.specs.Words.{at, greatest}
@@ -42,32 +42,38 @@ flat_one y = append-nil y
 pub most_length : {A : Type 0} (P : A → Type 0) (m : ℕ) (xs : List A) → AtMost P m xs → length xs ≤ m
 most_length P m [] none = omega arith
 most_length P (suc m) (x ∷ xs) (some e rest) = omega (arith, most_length P m xs rest)
+most_length P zero (x ∷ xs) x3 = elim x3 [ ]
 
 pub most_at : {A : Type 0} (P : A → Type 0) (m : ℕ) (xs : List A) (j : ℕ) (d : A) → AtMost P m xs → j < length xs → P (get_or xs j d)
 most_at P m [] j d none l = absurd (omega arith)
 most_at P (suc m) (x ∷ xs) zero d (some e rest) l = e
 most_at P (suc m) (x ∷ xs) (suc j) d (some e rest) l = most_at P m xs j d rest (omega arith)
+most_at P zero (x ∷ xs) j d x4 l = elim x4 [ ]
 
 pub most_set : {A : Type 0} (P : A → Type 0) (m : ℕ) (xs : List A) (j : ℕ) (y : A) → AtMost P m xs → P y → AtMost P m (set xs j y)
 most_set P m [] j y none h = none
 most_set P (suc m) (x ∷ xs) zero y (some e rest) h = some h rest
 most_set P (suc m) (x ∷ xs) (suc j) y (some e rest) h = some e (most_set P m xs j y rest h)
+most_set P zero (x ∷ xs) j y x4 h = elim x4 [ ]
 
 pub most_more : {A : Type 0} (P : A → Type 0) (m : ℕ) (xs : List A) (y : A) → AtMost P m xs → length xs < m → P y → AtMost P m (xs ++ (y ∷ []))
 most_more P zero [] y none l h = absurd (omega arith)
 most_more P (suc m) [] y none l h = some h none
 most_more P (suc m) (x ∷ xs) y (some e rest) l h = some e (most_more P m xs y rest (omega arith) h)
+most_more P zero (x ∷ xs) y x7 l h = elim x7 [ ]
 
 pub most_take : {A : Type 0} (P : A → Type 0) (m : ℕ) (xs : List A) (j : ℕ) → AtMost P m xs → AtMost P m (take j xs)
 most_take P m xs zero h = none
 most_take P m [] (suc j) none = none
 most_take P (suc m) (x ∷ xs) (suc j) (some e rest) = some e (most_take P m xs j rest)
+most_take P zero (x ∷ xs) (suc j) h = elim h [ ]
 
 pub flat_long : (m : ℕ) (xs : List (List ℕ)) → AtMost Block m xs → length (flat xs) ≡ element_words * length xs
 unfolding flat
 flat_long m [] none = omega arith
 flat_long (suc m) (x ∷ xs) (some e rest) =
     length-append x (flat xs) ∙ (let z : length x + length (flat xs) ≡ element_words * suc (length xs) = omega (arith, flat_long m xs rest) in z)
+flat_long zero (x ∷ xs) x3 = elim x3 [ ]
 
 flat-at : (m : ℕ) (els : List (List ℕ)) (j k : ℕ) (r : List ℕ) → AtMost Block m els → j < length els → k < element_words → at (flat els ++ r) (element_words * j + k) ≡ at (get_or els j []) k
 unfolding flat
@@ -80,6 +86,7 @@ flat-at (suc m) (x ∷ els) (suc j) k r (some e rest) l u =
     ∙ ap (λ y. at y (length x + (element_words * j + k))) (append_assoc x (flat els) r)
     ∙ get_or-append-add x (flat els ++ r) (element_words * j + k) 0
     ∙ flat-at m els j k r rest (omega arith) u
+flat-at zero (x ∷ els) j k r x5 l u = elim x5 [ ]
 
 -- a word set in the middle
 set_mid : (x y z : List ℕ) (i n v : ℕ) → length x ≡ n → i < length y → set (x ++ (y ++ z)) (n + i) v ≡ x ++ (set y i v ++ z)

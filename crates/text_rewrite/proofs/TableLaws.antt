@@ -48,6 +48,7 @@ pools_long m [] none = refl
 pools_long (suc m) (q ∷ ps) (some fits rest) =
     length-append (pool_table q) (flat (map pool_table ps))
     ∙ (let z : length (pool_table q) + length (flat (map pool_table ps)) ≡ pool_words * suc (length ps) = omega (arith, table_long q fits, pools_long m ps rest) in z)
+pools_long zero (q ∷ ps) x'' = elim x'' [ ]
 
 -- one pool of several, l before it and r behind it
 most_of : {A : Type 0} (P : A → Type 0) (m : ℕ) (l : List A) (x : A) (r : List A) → AtMost P m (l ++ (x ∷ r)) → P x
@@ -63,6 +64,7 @@ most_with P (suc m) (z ∷ l) x y r (some e rest) h = some e (most_with P m l x 
 most_front : {A : Type 0} (P : A → Type 0) (m : ℕ) (l r : List A) → AtMost P m (l ++ r) → AtMost P m l
 most_front P m [] r h = none
 most_front P (suc m) (x ∷ l) r (some e rest) = some e (most_front P m l r rest)
+most_front P zero (x ∷ l) r h = elim h [ ]
 
 before : ℕ → List Pool → List ℕ
 before n l = n ∷ flat (map pool_table l)

@@ -4,7 +4,7 @@ use mathlib.Core.Path.{◌≡◌, ◌∙◌, ap, ap₂}
 use mathlib.Core.Bool.{Bool, true, false, ◌&&◌}
 use mathlib.Core.List.{List}
 use lib.ListN.{set}
-use Rattle.base_words.specs.Pick.{if◌then◌else◌}
+use Rattle.base_words.specs.Pick.{if◌then◌or_else◌}
 use Rattle.base_words.specs.Text.{bytes}
 use Rattle.base_words.specs.Words.{part}
 use Rattle.base_bytes.specs.Bytes.{same_bytes}
@@ -16,12 +16,12 @@ unfolding ◌then◌ onward if_at
 store_goes place v g text at x y w e k = rw (← e) k
 
 module _ (b : Bool) (f g : Reader) (text : List ℕ) (at : ℕ) (x : List ℕ) (w : Parsed) where
-  pub reads_yes : b ≡ true → w ≡ f text at x → w ≡ (if b then f else g) text at x
-  unfolding if◌then◌else◌
+  pub reads_yes : b ≡ true → w ≡ f text at x → w ≡ (if b then f or_else g) text at x
+  unfolding if◌then◌or_else◌
   reads_yes e k = rw e k
 
-  pub reads_no : b ≡ false → w ≡ g text at x → w ≡ (if b then f else g) text at x
-  unfolding if◌then◌else◌
+  pub reads_no : b ≡ false → w ≡ g text at x → w ≡ (if b then f or_else g) text at x
+  unfolding if◌then◌or_else◌
   reads_no e k = rw e k
 
 -- a word from p to q that is the token at a place, and a form that it says

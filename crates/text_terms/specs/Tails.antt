@@ -2,7 +2,7 @@
 use Prim.Native.Char.{code}
 use Rattle.std.specs.Prelude.{ℕ, ◌+◌, Bool, true, ◌&&◌, List}
 use Rattle.base_words.specs.Blocks.{Bytes}
-use Rattle.base_words.specs.Pick.{if◌then◌else◌}
+use Rattle.base_words.specs.Pick.{if◌then◌or_else◌}
 use Rattle.base_words.specs.Text.{bytes}
 use Rattle.base_table.specs.Places.{always, default, form_place, left_place, right_place, condition_place}
 use Rattle.base_bytes.specs.Bytes.{same_bytes}
@@ -30,8 +30,8 @@ keep_form form place text at x = store (place + form_place) form text (behind te
 abbrev pub condition_word : Bool → ℕ → Reader
 condition_word defaults place text at x =
     if same_bytes (letters text at) (bytes "true") then keep_form always place text at x
-    else if is_default_word defaults text at then keep_form default place text at x
-    else compared place text at x
+    or_else if is_default_word defaults text at then keep_form default place text at x
+    or_else compared place text at x
 
 -- behind the edge of a guarded branch
 abbrev pub guard : ℕ → Reader

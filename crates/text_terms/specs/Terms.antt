@@ -2,7 +2,7 @@
 -- of the element, in which each is stored at its place. (RULES: reading)
 use Prim.Native.Char.{code}
 use Rattle.std.specs.Prelude.{ℕ, ◌+◌, Bool, true, ◌&&◌, List, set}
-use Rattle.base_words.specs.Pick.{if◌then◌else◌}
+use Rattle.base_words.specs.Pick.{if◌then◌or_else◌}
 use Rattle.base_words.specs.Text.{bytes}
 use Rattle.base_words.specs.Counts.{edges}
 use Rattle.base_table.specs.Places.{form_place, left_place, right_place, single, plus, minus, binding, always, default, equals, below, a_field, operand_number, exits_place, edge_place, condition_place, assigned_in, assignment_place}
@@ -41,8 +41,8 @@ unfoldable pub condition : Bool → ℕ → Reader
 condition defaults place text at x =
     if_word (token_at text at).form
     (if same_bytes (letters text at) (bytes "true") then store (place + form_place) always text (behind text at) x
-    else if defaults && same_bytes (letters text at) (bytes "default") then store (place + form_place) default text (behind text at) x
-    else (operand (place + left_place) then comparison place) text at x)
+    or_else if defaults && same_bytes (letters text at) (bytes "default") then store (place + form_place) default text (behind text at) x
+    or_else (operand (place + left_place) then comparison place) text at x)
     (refused_at misplaced (place_of text at) x)
 
 -- "A is `{}` or up to 4 of `d3:=expression`." (RULES: reading)

@@ -10,7 +10,7 @@ use tool_print::{tell, tell_count};
 use write_lines::{TRAFFIC_LINE, put_traffic};
 
 // A message as a line has it, without its sign.
-fn tell_message(m: Word, g: Tuple) {
+fn tell_message(rt: &impl Print, m: Word, g: Tuple) {
     let mut out = [0u8; TRAFFIC_LINE];
     let n = put_traffic(
         &mut out,
@@ -22,24 +22,24 @@ fn tell_message(m: Word, g: Tuple) {
             tuple: g,
         },
     );
-    tell(piece(&out, 1, n));
+    tell(rt, piece(&out, 1, n));
 }
 
-fn tell_number(n: usize) {
-    tell(b" ");
-    tell_count(n);
+fn tell_number(rt: &impl Print, n: usize) {
+    tell(rt, b" ");
+    tell_count(rt, n);
 }
 
-fn tell_row(m: Word, g: Tuple, a: Accounts) {
-    tell_message(m, g);
-    tell_number(a.posted);
-    tell_number(a.sent);
-    tell_number(a.queued);
-    tell_number(a.consumed);
+fn tell_row(rt: &impl Print, m: Word, g: Tuple, a: Accounts) {
+    tell_message(rt, m, g);
+    tell_number(rt, a.posted);
+    tell_number(rt, a.sent);
+    tell_number(rt, a.queued);
+    tell_number(rt, a.consumed);
     if balances(a) {
-        tell(b" yes\n");
+        tell(rt, b" yes\n");
     } else {
-        tell(b" no\n");
+        tell(rt, b" no\n");
     }
 }
 
@@ -68,6 +68,7 @@ fn is_counted(a: Accounts) -> bool {
 
 // The row of the message that an event moved, where none of the events before it did.
 fn tell_new(
+    rt: &impl Print,
     t: &[Word; TABLE_WORDS],
     z: &[Word; STATE_WORDS],
     log: &[u8],
@@ -82,11 +83,11 @@ fn tell_new(
     }
     let all = told(t, z, log, log.len(), moved.name, g);
     let b = all.accounts;
-    tell_row(moved.name, g, b);
+    tell_row(rt, moved.name, g, b);
 }
 
 // Event after event, as long as there is one more.
-fn tell_events(t: &[Word; TABLE_WORDS], z: &[Word; STATE_WORDS], log: &[u8]) {
+fn tell_events(rt: &impl Print, t: &[Word; TABLE_WORDS], z: &[Word; STATE_WORDS], log: &[u8]) {
     let mut k: usize = 0;
     while k < log.len() {
         let next = k + 1;
@@ -96,14 +97,14 @@ fn tell_events(t: &[Word; TABLE_WORDS], z: &[Word; STATE_WORDS], log: &[u8]) {
         }
         let moved = one.moved;
         if moved.some {
-            tell_new(t, z, log, k, moved);
+            tell_new(rt, t, z, log, k, moved);
         }
         k = next;
     }
 }
 
-pub(super) fn tell_accounts(t: &[Word; TABLE_WORDS], version: Word, log: &[u8]) {
+pub(super) fn tell_accounts(rt: &impl Print, t: &[Word; TABLE_WORDS], version: Word, log: &[u8]) {
     let mut z: [Word; STATE_WORDS] = [0; STATE_WORDS];
     engine::fresh(t, version, &mut z);
-    tell_events(t, &z, log);
+    tell_events(rt, t, &z, log);
 }

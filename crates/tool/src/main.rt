@@ -13,7 +13,7 @@
 #![tactic(auto)]
 
 use base_bytes::{piece, same};
-use libc::STDERR_FILENO;
+use tool_print::{argument, tell};
 
 mod accounts;
 mod diagnose;
@@ -41,50 +41,50 @@ const VERSION: usize = 2;
 // The bytes of the longest name that is looked at: no command has one as long.
 const NAME: usize = 64;
 
-fn tell_unknown(name: &[u8]) {
-    io::write_all(STDERR_FILENO, b"tool: there is no command '");
-    io::write_all(STDERR_FILENO, name);
-    io::write_all(STDERR_FILENO, b"'\n");
+fn tell_unknown(err: &impl Print, name: &[u8]) {
+    tell(err, b"tool: there is no command '");
+    tell(err, name);
+    tell(err, b"'\n");
 }
 
-fn do_command(name: &[u8]) {
+fn do_command(rt: &HostRuntime, name: &[u8]) {
     if same(name, b"drawing") {
-        do_drawing();
+        do_drawing(rt);
         return;
     }
     if same(name, b"map") {
-        do_map();
+        do_map(rt);
         return;
     }
     if same(name, b"diagnose") {
-        do_diagnose();
+        do_diagnose(rt);
         return;
     }
     if same(name, b"judge") {
-        do_judge();
+        do_judge(rt);
         return;
     }
     if same(name, b"accounts") {
-        do_accounts();
+        do_accounts(rt);
         return;
     }
     if same(name, b"repair") {
-        do_repair();
+        do_repair(rt);
         return;
     }
     if same(name, b"log") {
-        do_log();
+        do_log(rt);
         return;
     }
     if same(name, b"nested") {
-        do_nested();
+        do_nested(rt);
         return;
     }
-    tell_unknown(name);
+    tell_unknown(&rt.stderr(), name);
 }
 
-fn main() {
+fn main(rt: HostRuntime) {
     let mut name = [0u8; NAME];
-    let n = os::arg(COMMAND, &mut name);
-    do_command(piece(&name, 0, n));
+    let n = argument(&rt, COMMAND, &mut name);
+    do_command(&rt, piece(&name, 0, n));
 }

@@ -2,8 +2,7 @@
 use base_bytes::piece;
 use draw_chart::put_map;
 use draw_read::DRAWING_MOST;
-use libc::STDIN_FILENO;
-use tool_print::tell;
+use tool_print::{read_full, tell};
 
 // One byte more than the longest drawing: what fills it is refused for its length.
 const ROOM: usize = DRAWING_MOST + 1;
@@ -11,10 +10,10 @@ const ROOM: usize = DRAWING_MOST + 1;
 // More than any map has: no line is longer than what it stands for, but by a few bytes.
 const MAP_ROOM: usize = 2 * DRAWING_MOST;
 
-pub(super) fn do_map() {
+pub(super) fn do_map(rt: &(impl Print + Input)) {
     let mut text: [u8; ROOM] = [0; ROOM];
-    let n = io::read_full(STDIN_FILENO, &mut text);
+    let n = read_full(rt, &mut text);
     let mut out: [u8; MAP_ROOM] = [0; MAP_ROOM];
     let k = put_map(&text[..n], &mut out);
-    tell(piece(&out, 0, k));
+    tell(rt, piece(&out, 0, k));
 }

@@ -5,36 +5,35 @@ use base_words::Word;
 use base_words::counts::TEXT_MOST;
 use base_words::numbers::ACCEPTED;
 use check_nested::{first_unnested, offending};
-use libc::STDIN_FILENO;
-use tool_print::{tell, tell_count, tell_read};
+use tool_print::{read_full, tell, tell_count, tell_read};
 
 // One byte more than the longest text: what fills it is refused for its length.
 const ROOM: usize = TEXT_MOST + 1;
 
-fn tell_offence(t: &[Word; TABLE_WORDS], pool: Word) {
-    tell(b"refused 29 ");
-    tell_count(pool as usize);
-    tell(b" ");
-    tell_count(offending(t, first_unnested(t)) as usize);
-    tell(b"\n");
+fn tell_offence(rt: &impl Print, t: &[Word; TABLE_WORDS], pool: Word) {
+    tell(rt, b"refused 29 ");
+    tell_count(rt, pool as usize);
+    tell(rt, b" ");
+    tell_count(rt, offending(t, first_unnested(t)) as usize);
+    tell(rt, b"\n");
 }
 
-fn tell_profile(t: &[Word; TABLE_WORDS]) {
+fn tell_profile(rt: &impl Print, t: &[Word; TABLE_WORDS]) {
     let v = engine::nested(t);
     if v.number == ACCEPTED {
-        tell(b"nested\n");
+        tell(rt, b"nested\n");
         return;
     }
-    tell_offence(t, v.beside);
-    tell_text(t);
+    tell_offence(rt, t, v.beside);
+    tell_text(rt, t);
 }
 
-pub(super) fn do_nested() {
+pub(super) fn do_nested(rt: &(impl Print + Input)) {
     let mut t: [Word; TABLE_WORDS] = [0; TABLE_WORDS];
     let mut text: [u8; ROOM] = [0; ROOM];
-    let n = io::read_full(STDIN_FILENO, &mut text);
-    let r = tell_read(&text[..n], &mut t);
+    let n = read_full(rt, &mut text);
+    let r = tell_read(rt, &text[..n], &mut t);
     if r.number == ACCEPTED {
-        tell_profile(&t);
+        tell_profile(rt, &t);
     }
 }

@@ -24,11 +24,12 @@ use base_words::numbers::{AT_FAULT, NOT_A_LOG};
 use base_words::{DIGITS, Word, wide};
 use draw_diagnose::Diagnosis;
 use engine::Ran;
-use libc::STDOUT_FILENO;
 use log_judge::Judged;
 use log_repair::Repaired;
 use meaning::{Answer, Name};
 use state_figures::RECORD_WORDS;
+use std::env::Env;
+use std::io::Read;
 use step_run::Steps;
 use text_numerals::{Number, number_of};
 use text_read::Reading;
@@ -48,66 +49,109 @@ fn version_in(n: Number) -> Word {
 }
 
 // The version that the argument at a place names: 20 where there is none, 0, which is none, where it is no number.
-pub fn asked_version(at: usize) -> Word
+pub fn asked_version(rt: &impl Env, at: usize) -> Word
     ensures { result ≤ greatest }
 {
     let mut out = [0u8; DIGITS];
-    let n = os::arg(at, &mut out);
+    let n = argument(rt, at, &mut out);
     if n == 0 {
         return PRESENT;
     }
     version_in(number_of(piece(&out, 0, n)))
 }
 
-// Says a text; gives back its length.
-pub fn tell(text: &[u8]) -> usize
+// Puts the argument at a place at the start of a buffer; gives back its length, 0 where there is none or it is longer than the buffer.
+pub fn argument(rt: &impl Env, at: usize, out: &mut [u8]) -> usize
+    ensures { result ≤ length out.new }
+{
+    match rt.arg(at, out) {
+        Ok(n) => n,
+        Err(_) => 0,
+    }
+}
+
+// Reads once, what is there; gives back how many bytes came, 0 at the input's end. A read that fails is the end.
+pub fn read_part(rt: &impl Input, out: &mut [u8]) -> usize
+    ensures { result ≤ length out.new }
+{
+    match rt.reader().read(out) {
+        Ok(n) => n,
+        Err(_) => 0,
+    }
+}
+
+// Reads until a buffer is full or the input is at its end; gives back how many bytes came.
+pub fn read_full(rt: &impl Input, out: &mut [u8]) -> usize
+    ensures { result ≤ length out.new }
+{
+    let mut done: usize = 0;
+    while done < out.len() {
+        let n = read_part(rt, &mut out[done..]);
+        if n == 0 {
+            return done;
+        }
+        done += n;
+    }
+    done
+}
+
+// Says a text; gives back its length. What cannot be written is lost.
+pub fn tell(rt: &impl Print, text: &[u8]) -> usize
     ensures { result ≡ length text.now }
 {
-    io::write_all(STDOUT_FILENO, text);
+    let _ = rt.write_all(text);
     text.len()
 }
 
 // Says a number, as far as a word holds it; gives back its length.
-pub fn tell_count(n: usize) -> usize
+pub fn tell_count(rt: &impl Print, n: usize) -> usize
     ensures { result ≡ length (shown (lesser n greatest)) }
 {
     let mut out = [0u8; DIGITS];
     let k = put_beside(&mut out, 0, n);
-    tell(piece(&out, 0, k));
+    tell(rt, piece(&out, 0, k));
     k
 }
 
 // Says the line of a refused text; gives back its length. A place above the greatest word, which no text that is read has, is said as that one.
-pub fn tell_unread(r: Reading) -> usize
+pub fn tell_unread(rt: &impl Print, r: Reading) -> usize
     ensures { result ≡ length (unread_line r.number (lesser r.beside greatest)) }
 {
     let mut out = [0u8; UNREAD_LINE];
     let n = write_lines::put_unread(&mut out, 0, r.number, r.beside);
-    tell(piece(&out, 0, n));
+    tell(rt, piece(&out, 0, n));
     n
 }
 
 // Reads a model's text into the table, and says a refusal.
-pub fn tell_read(text: &[u8], t: &mut [Word; TABLE_WORDS]) -> Reading
+pub fn tell_read(rt: &impl Print, text: &[u8], t: &mut [Word; TABLE_WORDS]) -> Reading
     ensures { record { number = result.number; beside = result.beside; table = t.new } ≡ read_into text.now t.old }
 {
     let r = engine::read(text, t);
     if r.number != 0 {
-        tell_unread(r);
+        tell_unread(rt, r);
     }
     r
 }
 
 // Makes a fresh state for a version, and says a refusal.
-pub fn tell_fresh(t: &[Word; TABLE_WORDS], v: Word, z: &mut [Word; STATE_WORDS]) -> Word
+pub fn tell_fresh(
+    rt: &impl Print,
+    t: &[Word; TABLE_WORDS],
+    v: Word,
+    z: &mut [Word; STATE_WORDS],
+) -> Word
     ensures { record { number = result; state = z.new } ≡ freshened t.now v z.old }
 {
     let number = engine::fresh(t, v, z);
     if number != 0 {
-        tell_unread(Reading {
-            number: number,
-            beside: 0,
-        });
+        tell_unread(
+            rt,
+            Reading {
+                number: number,
+                beside: 0,
+            },
+        );
     }
     number
 }
@@ -147,88 +191,88 @@ fn put_unlawful(out: &mut [u8], r: Judged) -> usize
 }
 
 // Says whether a log is lawful; gives back the length of the line.
-pub fn tell_judged(r: Judged) -> usize
+pub fn tell_judged(rt: &impl Print, r: Judged) -> usize
     ensures { result ≡ length (judged_line r.number (lesser r.beside greatest) (lesser r.own greatest)) }
 {
     if r.number == 0 {
-        return tell(b"lawful\n");
+        return tell(rt, b"lawful\n");
     }
     let mut out = [0u8; JUDGED_LINE];
     let n = put_unlawful(&mut out, r);
-    tell(piece(&out, 0, n));
+    tell(rt, piece(&out, 0, n));
     n
 }
 
-fn tell_named(word: &[u8], n: usize) {
-    tell(word);
-    tell_count(n);
+fn tell_named(rt: &impl Print, word: &[u8], n: usize) {
+    tell(rt, word);
+    tell_count(rt, n);
 }
 
-fn tell_kept(r: Repaired) {
-    tell_named(b"kept ", r.kept);
-    tell_named(b" dropped ", r.dropped);
-    tell_named(b" length ", r.length);
-    tell(b"\n");
+fn tell_kept(rt: &impl Print, r: Repaired) {
+    tell_named(rt, b"kept ", r.kept);
+    tell_named(rt, b" dropped ", r.dropped);
+    tell_named(rt, b" length ", r.length);
+    tell(rt, b"\n");
 }
 
-fn tell_lost(number: Word) -> Word
+fn tell_lost(rt: &impl Print, number: Word) -> Word
     ensures { result ≡ number }
 {
-    tell_named(b"refused ", number as usize);
-    tell(b"\n");
+    tell_named(rt, b"refused ", number as usize);
+    tell(rt, b"\n");
     number
 }
 
-fn tell_mended(r: Repaired, out: &[u8]) -> Word
+fn tell_mended(rt: &impl Print, r: Repaired, out: &[u8]) -> Word
     ensures { result ≡ r.number }
 {
     let number = r.number;
-    tell_kept(r);
-    tell(piece(out, 0, r.length));
-    tell(b"\n");
+    tell_kept(rt, r);
+    tell(rt, piece(out, 0, r.length));
+    tell(rt, b"\n");
     number
 }
 
 // Repairs a log into a buffer of 65,536 bytes, and says what is kept of it and the log, or the refusal; gives back the number.
-pub fn tell_repaired(text: &[u8]) -> Word
+pub fn tell_repaired(rt: &impl Print, text: &[u8]) -> Word
     ensures { result ≡ (repaired_to text.now (replicate text_most 0)).number }
 {
     let mut out = [0u8; TEXT_MOST];
     let r = engine::repair(text, &mut out);
     if r.number != 0 {
-        return tell_lost(r.number);
+        return tell_lost(rt, r.number);
     }
-    tell_mended(r, &out)
+    tell_mended(rt, r, &out)
 }
 
-fn tell_broken(d: Diagnosis) -> Word
+fn tell_broken(rt: &impl Print, d: Diagnosis) -> Word
     ensures { result ≡ d.number }
 {
-    tell_named(b"refused ", d.number as usize);
-    tell_named(b" ", d.rule);
-    tell_named(b" ", d.place);
-    tell(b"\n");
+    tell_named(rt, b"refused ", d.number as usize);
+    tell_named(rt, b" ", d.rule);
+    tell_named(rt, b" ", d.place);
+    tell(rt, b"\n");
     d.number
 }
 
 // Says why a drawing is refused: its number, the rule or check that is broken, and the place; gives back the number.
-pub fn tell_diagnosed(d: Diagnosis) -> Word
+pub fn tell_diagnosed(rt: &impl Print, d: Diagnosis) -> Word
     ensures { result ≡ d.number }
 {
     let number = d.number;
     if number == 0 {
-        tell(b"ok\n");
+        tell(rt, b"ok\n");
         return number;
     }
-    tell_broken(d)
+    tell_broken(rt, d)
 }
 
 // The line of a step that was taken.
-fn tell_step(n: Name, a: Answer) {
+fn tell_step(rt: &impl Print, n: Name, a: Answer) {
     let mut out = [0u8; STEP_LINE];
     let k = write_lines::put_step(&mut out, 0, n, a);
-    tell(piece(&out, 0, k));
-    tell(b"\n");
+    tell(rt, piece(&out, 0, k));
+    tell(rt, b"\n");
 }
 
 // Records of as many pools as a table can have. A call is lent those of the pools that the table has, the first of them.
@@ -279,17 +323,23 @@ pub fn run_all(
 }
 
 // Takes the first listed step and says it.
-fn run_once(t: &[Word; TABLE_WORDS], y: &mut [Word; STATE_WORDS], ys: &mut [[Word; RECORD_WORDS]]) {
+fn run_once(
+    rt: &impl Print,
+    t: &[Word; TABLE_WORDS],
+    y: &mut [Word; STATE_WORDS],
+    ys: &mut [[Word; RECORD_WORDS]],
+) {
     let r = engine::list(t, y, 0);
     if r.number != 0 {
         return;
     }
     let name = r.name;
     let a = take(t, y, ys, name);
-    tell_step(name, a);
+    tell_step(rt, name, a);
 }
 
 fn run_each(
+    rt: &impl Print,
     t: &[Word; TABLE_WORDS],
     y: &mut [Word; STATE_WORDS],
     ys: &mut [[Word; RECORD_WORDS]],
@@ -297,28 +347,29 @@ fn run_each(
 ) {
     let mut n: Steps = 0;
     while n < steps {
-        run_once(t, y, ys);
+        run_once(rt, t, y, ys);
         n += 1;
     }
 }
 
 // Takes the first listed step of a copy of the state as often as a run would, and says each.
-fn tell_steps(t: &[Word; TABLE_WORDS], y: &mut [Word; STATE_WORDS], steps: Steps) {
+fn tell_steps(rt: &impl Print, t: &[Word; TABLE_WORDS], y: &mut [Word; STATE_WORDS], steps: Steps) {
     let mut ys: [[Word; RECORD_WORDS]; RECORDS] = [[0; RECORD_WORDS]; RECORDS];
     set_records(t, y, &mut ys);
-    run_each(t, y, &mut ys, steps);
+    run_each(rt, t, y, &mut ys, steps);
 }
 
-fn tell_end(steps: Steps, left: Word) {
-    tell(b"steps ");
-    tell_count(steps as usize);
-    tell(b" left ");
-    tell_count(left as usize);
-    tell(b"\n");
+fn tell_end(rt: &impl Print, steps: Steps, left: Word) {
+    tell(rt, b"steps ");
+    tell_count(rt, steps as usize);
+    tell(rt, b" left ");
+    tell_count(rt, left as usize);
+    tell(rt, b"\n");
 }
 
 // A run, and a line for each of its steps, taken again on a copy of the state; last the steps and the flag. A refused run says nothing.
 pub fn tell_run(
+    rt: &impl Print,
     t: &[Word; TABLE_WORDS],
     z: &mut [Word; STATE_WORDS],
     rs: &mut [[Word; RECORD_WORDS]],
@@ -331,21 +382,27 @@ pub fn tell_run(
     if r.number != 0 {
         return r;
     }
-    tell_steps(t, &mut y, r.steps);
-    tell_end(r.steps, r.left);
+    tell_steps(rt, t, &mut y, r.steps);
+    tell_end(rt, r.steps, r.left);
     r
 }
 
 // The run of a fresh state, with the records of its own.
-pub fn tell_fresh_run(t: &[Word; TABLE_WORDS], z: &mut [Word; STATE_WORDS], limit: Steps)
+pub fn tell_fresh_run(
+    rt: &impl Print,
+    t: &[Word; TABLE_WORDS],
+    z: &mut [Word; STATE_WORDS],
+    limit: Steps,
+)
     ensures { z.new ≡ ran_fresh t.now z.old limit }
 {
     let mut rs: [[Word; RECORD_WORDS]; RECORDS] = [[0; RECORD_WORDS]; RECORDS];
     set_records(t, z, &mut rs);
-    tell_lent_run(t, z, &mut rs, limit);
+    tell_lent_run(rt, t, z, &mut rs, limit);
 }
 
 fn tell_lent_run(
+    rt: &impl Print,
     t: &[Word; TABLE_WORDS],
     z: &mut [Word; STATE_WORDS],
     rs: &mut [[Word; RECORD_WORDS]],
@@ -354,5 +411,5 @@ fn tell_lent_run(
     ensures { z.new ≡ (ran_on t.now z.old rs.old limit).done.state }
 {
     let n = lent(t, rs.len());
-    tell_run(t, z, &mut rs[..n], limit);
+    tell_run(rt, t, z, &mut rs[..n], limit);
 }

@@ -1,7 +1,7 @@
 -- A text written into a lent buffer from a place on, as far as the buffer goes.
 use Rattle.std.specs.Prelude.{◌≡◌, List, [], ◌∷◌, ℕ, ◌+◌, ◌≤◌, min, ltb, length, set}
 use Rattle.base_words.specs.Blocks.{Bytes}
-use Rattle.base_words.specs.Pick.{if◌then◌else◌}
+use Rattle.base_words.specs.Pick.{if◌then◌or_else◌}
 
 -- a text written at a buffer's start, as far as the buffer goes: the later bytes stay
 unfoldable pub over : List ℕ → Bytes → Bytes
@@ -18,7 +18,7 @@ abbrev pub last_place : ℕ
 last_place = 18446744073709551615
 
 unfoldable pub next : ℕ → ℕ
-next p = if ltb p last_place then p + 1 else p
+next p = if ltb p last_place then p + 1 or_else p
 
 -- the place behind a text that starts at p
 unfoldable pub end_written : ℕ → List ℕ → ℕ

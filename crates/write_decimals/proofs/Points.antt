@@ -4,7 +4,7 @@ use mathlib.Core.List.{[]}
 use native.Mathlib.Omega.{arith}
 use Rattle.base_words.specs.Text.{bytes}
 use Rattle.base_words.specs.Words.{greatest, digits}
-use Rattle.base_words.specs.Pick.{if◌then◌else◌}
+use Rattle.base_words.specs.Pick.{if◌then◌or_else◌}
 use Rattle.write_buffer.specs.Buffers.{next, end_written, over_from, Put}
 use Rattle.write_decimals.specs.Decimals.{shown, shown_from}
 
@@ -18,20 +18,20 @@ pub record Texts : Type 0 where
   pub of_the_greatest : shown greatest ≡ bytes "4294967295"
 
 pub texts : Texts
-unfolding shown shown_from if◌then◌else◌
+unfolding shown shown_from if◌then◌or_else◌
 texts = record { zero = refl; nine = refl; ten = refl; two_nines = refl; hundred = refl; of_sixteen_bits = refl; of_the_greatest = refl }
 
 -- its first digits are there, and the whole length is returned
 pub in_three : Put (shown greatest) digits 0 (bytes "...") 10 (bytes "429")
-unfolding shown shown_from if◌then◌else◌ next end_written over_from
+unfolding shown shown_from if◌then◌or_else◌ next end_written over_from
 in_three = record { short = omega arith; place = refl; text = refl }
 
 -- the last two bytes stay
 pub in_twelve : Put (shown greatest) digits 0 (bytes "............") 10 (bytes "4294967295..")
-unfolding shown shown_from if◌then◌else◌ next end_written over_from
+unfolding shown shown_from if◌then◌or_else◌ next end_written over_from
 in_twelve = record { short = omega arith; place = refl; text = refl }
 
 -- nothing is written, and the length is returned
 pub in_none : Put (shown 0) digits 0 [] 1 []
-unfolding shown shown_from if◌then◌else◌ next end_written over_from
+unfolding shown shown_from if◌then◌or_else◌ next end_written over_from
 in_none = record { short = omega arith; place = refl; text = refl }

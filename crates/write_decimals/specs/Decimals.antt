@@ -1,7 +1,7 @@
 -- "Numbers are decimal without leading zeros, 0 to 4,294,967,295." (RULES: writing)
 use Rattle.std.specs.Prelude.{ℕ, zero, suc, ◌+◌, ◌*◌, ◌-◌, ◌/◌, ◌%◌, List, [], ◌∷◌, ◌++◌, Bool, ◌&&◌, ltb, leb}
 use Rattle.base_words.specs.Blocks.{Bytes}
-use Rattle.base_words.specs.Pick.{if◌then◌else◌}
+use Rattle.base_words.specs.Pick.{if◌then◌or_else◌}
 use Rattle.base_words.specs.Words.{digits}
 
 -- the byte of a digit
@@ -11,7 +11,7 @@ digit d = 48 + d
 -- the decimal digits of n, of which there are at most k
 unfoldable pub shown_from : ℕ → ℕ → Bytes
 shown_from zero n = []
-shown_from (suc k) n = if ltb n 10 then digit n ∷ [] else shown_from k (n / 10) ++ (digit (n % 10) ∷ [])
+shown_from (suc k) n = if ltb n 10 then digit n ∷ [] or_else shown_from k (n / 10) ++ (digit (n % 10) ∷ [])
 
 -- the text of a word
 unfoldable pub shown : ℕ → Bytes

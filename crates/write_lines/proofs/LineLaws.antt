@@ -8,7 +8,7 @@ use lib.Dec.{eqb}
 use lib.ListN.{length, length-append}
 use borrow.Author.Tests.{eq-eqb, ne_eqb}
 use Rattle.base_words.specs.Counts.{values}
-use Rattle.base_words.specs.Pick.{if◌then◌else◌}
+use Rattle.base_words.specs.Pick.{if◌then◌or_else◌}
 use Rattle.base_words.specs.Text.{bytes}
 use Rattle.base_words.specs.Words.{at, digits}
 use Rattle.base_words.proofs.PickLaws.{pick_yes, pick_no}
@@ -34,14 +34,14 @@ unfolding marked_off
 marked_more mark j x e = pick_no _ _ _ _ (ne_eqb j 0 e) refl
 
 -- a choice of texts is no longer than both
-choice : (b : Bool) (x y : List ℕ) (n : ℕ) → length x ≤ n → length y ≤ n → length (if b then x else y) ≤ n
-unfolding if◌then◌else◌
+choice : (b : Bool) (x y : List ℕ) (n : ℕ) → length x ≤ n → length y ≤ n → length (if b then x or_else y) ≤ n
+unfolding if◌then◌or_else◌
 choice true x y n h l = h
 choice false x y n h l = l
 
 -- a number of a row, and a row, of marks of one byte
 marked_first : (mark : List ℕ) (x : ℕ) → length (marked_off mark 0 x) ≤ digits
-unfolding marked_off if◌then◌else◌
+unfolding marked_off if◌then◌or_else◌
 marked_first mark x = shown_short x
 
 pub marked_short : (mark j x : ℕ) → length (marked_off (mark ∷ []) j x) ≤ digits + 1

@@ -2,7 +2,7 @@
 use Rattle.std.specs.Prelude.{ℕ, ◌+◌, ◌*◌, ◌-◌, List, [], ◌∷◌, ◌++◌, eqb}
 use Rattle.base_words.specs.Blocks.{Bytes}
 use Rattle.base_words.specs.Counts.{values}
-use Rattle.base_words.specs.Pick.{if◌then◌else◌}
+use Rattle.base_words.specs.Pick.{if◌then◌or_else◌}
 use Rattle.base_words.specs.Text.{bytes}
 use Rattle.base_words.specs.Words.{at, digits}
 use Rattle.base_words.specs.Each.{joined}
@@ -16,7 +16,7 @@ use Rattle.meaning.specs.declared.Traffic.TheVariants.{Nothing, Consumed, Sent}
 
 -- number x, the j-th of a row: a mark stands before each but the first
 unfoldable pub marked_off : Bytes → ℕ → ℕ → Bytes
-marked_off mark j x = if eqb j 0 then shown x else mark ++ shown x
+marked_off mark j x = if eqb j 0 then shown x or_else mark ++ shown x
 
 -- the first n numbers of s, joined by a mark
 unfoldable pub row : Bytes → List ℕ → ℕ → Bytes
@@ -28,7 +28,7 @@ values_line g = row (bytes ",") g.values (lesser g.length values)
 
 -- a tuple by itself
 unfoldable pub tuple_line : Tuple → Bytes
-tuple_line g = if eqb g.length 0 then bytes "-" else values_line g
+tuple_line g = if eqb g.length 0 then bytes "-" or_else values_line g
 
 -- "name, colon, values" (RULES: lines)
 unfoldable pub message_line : Answer → Bytes

@@ -2,7 +2,7 @@
 use Prim.Native.Char.{code}
 use Rattle.std.specs.Prelude.{ℕ, Bool, List, ◌∷◌, ◌++◌}
 use Rattle.base_words.specs.Blocks.{Bytes, Element}
-use Rattle.base_words.specs.Pick.{if◌then◌else◌}
+use Rattle.base_words.specs.Pick.{if◌then◌or_else◌}
 use Rattle.base_words.specs.Words.{at}
 use Rattle.base_table.specs.Places.{edge_place, exits_place}
 use Rattle.base_table.specs.Table.{exit_at, condition_at, message_length, item_at, assignment_count, assignment_at}
@@ -25,7 +25,7 @@ edge_list el list = enclosed_by (code "{") (code "}") (edges el list)
 
 -- a branch that receives or has a condition, and all of them
 unfoldable pub shown_branch : Bool → Element → ℕ → Bytes
-shown_branch receives el b = if receives then shown_receiving el b else shown_guarded el b
+shown_branch receives el b = if receives then shown_receiving el b or_else shown_guarded el b
 
 abbrev pub branches : Bool → Element → Bytes
 branches receives el = commas (shown_branch receives el) (at el exits_place)

@@ -4,7 +4,7 @@ use Prim.Native.Char.{code}
 use Rattle.std.specs.Prelude.{ℕ, zero, suc, ◌+◌, ◌-◌, Bool, true, false, List, [], ◌∷◌, ◌++◌, eqb, ltb, drop}
 use Rattle.base_words.specs.Blocks.{Block, Bytes, Table, Element}
 use Rattle.base_words.specs.Each.{joined}
-use Rattle.base_words.specs.Pick.{if◌then◌else◌}
+use Rattle.base_words.specs.Pick.{if◌then◌or_else◌}
 use Rattle.base_words.specs.Text.{bytes}
 use Rattle.base_words.specs.Words.{at}
 use Rattle.base_words.specs.Counts.{pools, fields}
@@ -17,7 +17,7 @@ use Rattle.write_decimals.specs.Decimals.{shown}
 
 -- n pieces with a sign between them
 unfoldable pub lead : ℕ → ℕ → Bytes
-lead s k = if eqb k 0 then [] else s ∷ []
+lead s k = if eqb k 0 then [] or_else s ∷ []
 
 unfoldable pub separated : ℕ → (ℕ → List ℕ) → ℕ → Bytes
 separated s f n = joined (λ k. lead s k ++ f k) n
@@ -31,10 +31,10 @@ enclosed_by opener closer w = opener ∷ (w ++ (closer ∷ []))
 
 -- a field of an instance or a store; an operand, an expression, an item of a template, a condition
 unfoldable pub shown_field : ℕ → Bytes
-shown_field d = if ltb d fields then code "d" ∷ shown d else code "s" ∷ shown (d - fields)
+shown_field d = if ltb d fields then code "d" ∷ shown d or_else code "s" ∷ shown (d - fields)
 
 unfoldable pub shown_operand : Block → Bytes
-shown_operand x = if eqb (at x 0) a_field then shown_field (at x operand_number) else shown (at x operand_number)
+shown_operand x = if eqb (at x 0) a_field then shown_field (at x operand_number) or_else shown (at x operand_number)
 
 unfoldable pub shown_pair : ℕ → Block → Bytes
 shown_pair s x = shown_operand (drop left_place x) ++ (s ∷ shown_operand (drop right_place x))
@@ -42,18 +42,18 @@ shown_pair s x = shown_operand (drop left_place x) ++ (s ∷ shown_operand (drop
 unfoldable pub shown_expression : Block → Bytes
 shown_expression x =
     if eqb (at x form_place) plus then shown_pair (code "+") x
-    else if eqb (at x form_place) minus then shown_pair (code "-") x
-    else shown_operand (drop left_place x)
+    or_else if eqb (at x form_place) minus then shown_pair (code "-") x
+    or_else shown_operand (drop left_place x)
 
 unfoldable pub shown_item : Block → Bytes
-shown_item x = if eqb (at x form_place) binding then code "?" ∷ shown_field (at x (left_place + operand_number)) else shown_expression x
+shown_item x = if eqb (at x form_place) binding then code "?" ∷ shown_field (at x (left_place + operand_number)) or_else shown_expression x
 
 unfoldable pub shown_condition : Block → Bytes
 shown_condition x =
     if eqb (at x form_place) always then bytes "true"
-    else if eqb (at x form_place) default then bytes "default"
-    else if eqb (at x form_place) equals then shown_pair (code "=") x
-    else shown_pair (code "<") x
+    or_else if eqb (at x form_place) default then bytes "default"
+    or_else if eqb (at x form_place) equals then shown_pair (code "=") x
+    or_else shown_pair (code "<") x
 
 -- a message `m:<..>` of branch b; n edges `{e,f,..}` of a list
 unfoldable pub shown_tuple : Element → ℕ → Bytes
@@ -83,7 +83,7 @@ shown_receiving_list el = commas (shown_receiving el) (at el exits_place)
 
 -- task number, mode, condition, assignments
 unfoldable pub shown_mode : ℕ → Bytes
-shown_mode m = if eqb m a then bytes "a" else if eqb m na_c then bytes "na_c" else bytes "na_nc"
+shown_mode m = if eqb m a then bytes "a" or_else if eqb m na_c then bytes "na_c" or_else bytes "na_nc"
 
 unfoldable pub shown_assignment : Block → Bytes
 shown_assignment x = shown_field (at x 0) ++ (code ":" ∷ code "=" ∷ shown_expression (drop assigned_in x))
@@ -98,18 +98,18 @@ shown_task el = shown (task_in el) ++ (code "," ∷ (shown_mode (mode_in el) ++ 
 unfoldable pub shown_part : ℕ → Element → Bytes
 shown_part c el =
     if eqb c (code "E") then shown (entry_at el 0)
-    else if eqb c (code "X") then shown (exit_at el 0)
-    else if eqb c (code "F") then shown_entries el
-    else if eqb c (code "Y") then shown_exits el
-    else if eqb c (code "N") then shown_task el
-    else if eqb c (code "T") then shown_message el 0
-    else if eqb c (code "S") then shown_message el 0
-    else if eqb c (code "G") then shown_guarded_list el
-    else shown_receiving_list el
+    or_else if eqb c (code "X") then shown (exit_at el 0)
+    or_else if eqb c (code "F") then shown_entries el
+    or_else if eqb c (code "Y") then shown_exits el
+    or_else if eqb c (code "N") then shown_task el
+    or_else if eqb c (code "T") then shown_message el 0
+    or_else if eqb c (code "S") then shown_message el 0
+    or_else if eqb c (code "G") then shown_guarded_list el
+    or_else shown_receiving_list el
 
 unfoldable pub shown_parts : ℕ → List ℕ → Element → Bytes
 shown_parts s [] el = []
-shown_parts s (c ∷ cs) el = if eqb c (code " ") then [] else s ∷ (shown_part c el ++ shown_parts (code ",") cs el)
+shown_parts s (c ∷ cs) el = if eqb c (code " ") then [] or_else s ∷ (shown_part c el ++ shown_parts (code ",") cs el)
 
 unfoldable pub shown_element : Element → Bytes
 shown_element el = keyword_of (kind_in el) ++ (shown_parts (code "(") (kind_of (kind_in el)).parts el ++ (code ")" ∷ []))
@@ -119,15 +119,15 @@ unfoldable pub shown_elements : Table → ℕ → Bytes
 shown_elements t p = separated (code "|") (λ e. shown_element (element_at t p e)) (element_count t p)
 
 unfoldable pub shown_limit : ℕ → Bytes
-shown_limit n = if eqb n 0 then [] else code "," ∷ shown n
+shown_limit n = if eqb n 0 then [] or_else code "," ∷ shown n
 
 unfoldable pub shown_pool : Table → ℕ → Bytes
 shown_pool t p =
-    (if eqb (at t (limit_place p)) 0 then bytes "pool" else bytes "miPool")
+    (if eqb (at t (limit_place p)) 0 then bytes "pool" or_else bytes "miPool")
     ++ enclosed_by (code "(") (code ")") (shown (at t (pool_place p)) ++ (code "," ∷ (shown_elements t p ++ shown_limit (at t (limit_place p)))))
 
 unfoldable pub shown_pools : Table → Bytes
-shown_pools t = joined (λ p. if ltb p (pool_count t) then lead (code "|") p ++ shown_pool t p else []) pools
+shown_pools t = joined (λ p. if ltb p (pool_count t) then lead (code "|") p ++ shown_pool t p or_else []) pools
 
 unfoldable pub shown_table : Table → Bytes
 shown_table t = shown_pools t ++ (code "\n" ∷ [])

@@ -11,7 +11,7 @@ use lib.ListN.{length, take, drop, get_or, drop_of_length-le}
 use lib.Seq.{drop-cons}
 use borrow.Author.Tests.{leb-true, eqb-true, eq-eqb, ne_eqb, lt-ltb, le-ltb}
 use Rattle.base_words.specs.Each.{each}
-use Rattle.base_words.specs.Pick.{if◌then◌else◌}
+use Rattle.base_words.specs.Pick.{if◌then◌or_else◌}
 use Rattle.base_words.proofs.ListLaws.{each_at}
 use Rattle.base_words.proofs.PickLaws.{pick_yes, pick_no}
 use Rattle.base_kinds.specs.declared.Kind.{Kind}
@@ -63,7 +63,7 @@ unfolding shown_exits
 exits_is el = refl
 
 pub receiving_is : (el : List ℕ) → branches true el ≡ shown_receiving_list el
-unfolding shown_receiving_list shown_branch if◌then◌else◌
+unfolding shown_receiving_list shown_branch if◌then◌or_else◌
 receiving_is el = refl
 
 -- What is known in a loop that writes a text piece by piece: of the whole text, so much was written, and a rest is to come.

@@ -5,7 +5,7 @@ use mathlib.Core.List.{List, [], ◌∷◌, ◌++◌}
 use lib.ListN.{length, replicate}
 use Rattle.base_words.specs.Counts.{elements, branches, assignments}
 use Rattle.base_words.specs.Each.{joined}
-use Rattle.base_words.specs.Pick.{if◌then◌else◌}
+use Rattle.base_words.specs.Pick.{if◌then◌or_else◌}
 use Rattle.base_words.specs.Text.{bytes}
 use Rattle.base_kinds.specs.Kinds.{kind_of, start, start_rcv, end, event_based, and_split, xor_split, task, task_snd}
 use Rattle.base_kinds.specs.Moves.{a, na_c, na_nc}
@@ -55,7 +55,7 @@ session =
     ++ element end [] (2 ∷ []) [] [] [] []))
 
 pub session_text : shown_table session ≡ bytes "pool(1,start(1,2)|taskSnd(2,1,a,true,{d0:=7},3:<d0>,3)|end(3))|miPool(2,startRcv(3:<?d0>,1)|task(1,1,na_nc,d0=7,{d1:=d0+1},2)|end(2),2)\n"
-unfolding lead separated joined if◌then◌else◌ kind_of shown shown_from shown_field shown_operand shown_pair shown_expression shown_item shown_condition shown_tuple shown_message shown_mode shown_assignment shown_assignments shown_task shown_part shown_parts shown_element shown_elements shown_limit shown_pool shown_pools shown_table
+unfolding lead separated joined if◌then◌or_else◌ kind_of shown shown_from shown_field shown_operand shown_pair shown_expression shown_item shown_condition shown_tuple shown_message shown_mode shown_assignment shown_assignments shown_task shown_part shown_parts shown_element shown_elements shown_limit shown_pool shown_pools shown_table
 session_text = refl
 
 -- lists of edges and of branches, a tuple of none and of two items, a difference, no assignment
@@ -68,5 +68,5 @@ forms =
     ∷ []
 
 pub forms_text : forms ≡ bytes "andSplit(1,{2,3})" ∷ bytes "xorSplit(1,{(2,default),(3,0<d15)})" ∷ bytes "eventBased(1,(0:<>,2),(15:<d1-4294967295,?d2>,3))" ∷ bytes "task(47,16,na_c,true,{},48)" ∷ []
-unfolding lead separated joined if◌then◌else◌ kind_of shown shown_from shown_field shown_operand shown_pair shown_expression shown_item shown_condition shown_tuple shown_message shown_exits shown_guarded shown_guarded_list shown_receiving shown_receiving_list shown_mode shown_assignment shown_assignments shown_task shown_part shown_parts shown_element
+unfolding lead separated joined if◌then◌or_else◌ kind_of shown shown_from shown_field shown_operand shown_pair shown_expression shown_item shown_condition shown_tuple shown_message shown_exits shown_guarded shown_guarded_list shown_receiving shown_receiving_list shown_mode shown_assignment shown_assignments shown_task shown_part shown_parts shown_element
 forms_text = refl

@@ -2,7 +2,7 @@
 use Prim.Native.Char.{code}
 use Rattle.std.specs.Prelude.{ℕ, List, [], ◌∷◌, ◌++◌, eqb, ltb}
 use Rattle.base_words.specs.Blocks.{Bytes, Table, Element}
-use Rattle.base_words.specs.Pick.{if◌then◌else◌}
+use Rattle.base_words.specs.Pick.{if◌then◌or_else◌}
 use Rattle.base_words.specs.Text.{bytes}
 use Rattle.base_words.specs.Words.{at}
 use Rattle.base_kinds.specs.declared.Kind.{Kind}
@@ -30,8 +30,8 @@ abbrev pub pool_enclosed : Table → ℕ → Bytes
 pool_enclosed t p = enclosed_by (code "(") (code ")") (numbered t p)
 
 unfoldable pub pool_word : ℕ → Bytes
-pool_word n = if eqb n 0 then bytes "pool" else bytes "miPool"
+pool_word n = if eqb n 0 then bytes "pool" or_else bytes "miPool"
 
 -- the pool at a place, behind its bar; nothing where there is none
 unfoldable pub next_pool : Table → ℕ → Bytes
-next_pool t p = if ltb p (pool_count t) then lead (code "|") p ++ shown_pool t p else []
+next_pool t p = if ltb p (pool_count t) then lead (code "|") p ++ shown_pool t p or_else []

@@ -9,7 +9,7 @@ use lib.Dec.{leb, eqb}
 use lib.ListN.{length, drop}
 use denote.Enum.Declared.{tag_of}
 use borrow.Author.Tests.{le-leb}
-use Rattle.base_words.specs.Pick.{if◌then◌else◌}
+use Rattle.base_words.specs.Pick.{if◌then◌or_else◌}
 use Rattle.base_words.specs.Words.{at}
 use Rattle.base_bytes.proofs.PastLaws.{past_from}
 use Rattle.xml_scanner.specs.declared.Sort.{Sort}
@@ -38,8 +38,8 @@ beyond_from p q (On x) h k = omega (arith, h, k)
 beyond_from p q Nothing h k = tt
 beyond_from p q (Fault x) h k = tt
 
-beyond_if : (p : ℕ) (b : Bool) (x y : Outside) → Beyond p x → Beyond p y → Beyond p (if b then x else y)
-unfolding if◌then◌else◌
+beyond_if : (p : ℕ) (b : Bool) (x y : Outside) → Beyond p x → Beyond p y → Beyond p (if b then x or_else y)
+unfolding if◌then◌or_else◌
 beyond_if p true x y h k = h
 beyond_if p false x y h k = k
 
@@ -83,7 +83,7 @@ step_beyond : (t : List ℕ) (p : ℕ) → Beyond p (outside_at t (run Blanks t 
 step_beyond t p = beyond_from p (run Blanks t p) (outside_at t (run Blanks t p)) (ran t p) (at_beyond t (run Blanks t p))
 
 pub step_end : (t : List ℕ) (p : ℕ) → length t ≤ p → outside_at t (run Blanks t p) ≡ Nothing
-unfolding outside_at if◌then◌else◌
+unfolding outside_at if◌then◌or_else◌
 step_end t p h = rw (le-leb (length t) (run Blanks t p) (omega (arith, h, ran t p)))
 
 further_same : (p : ℕ) (f h : ℕ → Outside) → ((q : ℕ) → p < q → f q ≡ h q) → (g : Outside) → Beyond p g → further g f ≡ further g h

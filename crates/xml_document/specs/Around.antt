@@ -1,7 +1,7 @@
 -- The root of a document, and what stands behind it. "The root's name is .., else 20 at its `<`" (R9); without a root the text breaks off; behind the root there is no element. (RULES: xml)
 use Rattle.std.specs.Prelude.{ℕ, List, length}
 use Rattle.base_words.specs.Blocks.{Bytes}
-use Rattle.base_words.specs.Pick.{if◌then◌else◌}
+use Rattle.base_words.specs.Pick.{if◌then◌or_else◌}
 use Rattle.xml_markup.specs.Spans.{is_called}
 use Rattle.xml_markup.specs.Tokens.{first}
 use Rattle.xml_skip.specs.declared.Reached.{Reached}
@@ -11,7 +11,7 @@ use Rattle.xml_document.specs.declared.Outside.TheVariants.{Element, On, Nothing
 use Rattle.xml_document.specs.Document.{outside}
 
 unfoldable pub root_by : Outside → Bytes → Bytes → Reached
-root_by (Element p) name t = if is_called t p name then Past p else Fault p
+root_by (Element p) name t = if is_called t p name then Past p or_else Fault p
 root_by (On q) name t = Fault q
 root_by Nothing name t = Fault (length t)
 root_by (OutsideFault q) name t = Fault q

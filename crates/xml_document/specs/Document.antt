@@ -2,7 +2,7 @@
 use Prim.Native.Char.{code}
 use Rattle.std.specs.Prelude.{ℕ, zero, suc, Bool, List, leb, eqb, length}
 use Rattle.base_words.specs.Blocks.{Bytes}
-use Rattle.base_words.specs.Pick.{if◌then◌else◌}
+use Rattle.base_words.specs.Pick.{if◌then◌or_else◌}
 use Rattle.base_words.specs.Text.{bytes}
 use Rattle.base_words.specs.Words.{at}
 use Rattle.xml_scanner.specs.declared.Sort.{Sort}
@@ -38,7 +38,7 @@ opens_data t p = begins_at t p (bytes "<![CDATA[")
 unfoldable pub tag_for : Opener → Bytes → ℕ → Outside
 tag_for Start t p = Element p
 tag_for EndOpener t p = Fault p
-tag_for Other t p = if opens_data t p then Fault p else other_of (markup t p) p
+tag_for Other t p = if opens_data t p then Fault p or_else other_of (markup t p) p
 
 unfoldable pub tag_at : Bytes → ℕ → Outside
 tag_at t p = tag_for (opener t p) t p
@@ -47,9 +47,9 @@ tag_at t p = tag_for (opener t p) t p
 unfoldable pub outside_at : Bytes → ℕ → Outside
 outside_at t p =
     if leb (length t) p then Nothing
-    else if eqb (at t p) (code "<") then tag_at t p
-    else if eqb (at t p) (code "&") then other_of (markup t p) p
-    else Fault p
+    or_else if eqb (at t p) (code "<") then tag_at t p
+    or_else if eqb (at t p) (code "&") then other_of (markup t p) p
+    or_else Fault p
 
 unfoldable pub further : Outside → (ℕ → Outside) → Outside
 further (Element p) on = Element p

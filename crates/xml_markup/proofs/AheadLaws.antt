@@ -10,7 +10,7 @@ use lib.ListN.{length, take, drop, get_or, length-drop}
 use lib.Seq.{drop-cons, get_or-take, take-take, take_all, length-take-le}
 use denote.Enum.Declared.{tag_of}
 use borrow.Author.Tests.{eqb-true, lt-leb}
-use Rattle.base_words.specs.Pick.{if◌then◌else◌}
+use Rattle.base_words.specs.Pick.{if◌then◌or_else◌}
 use Rattle.base_words.specs.Words.{at, part}
 use Rattle.base_words.proofs.AllLaws.{and_left, and_right}
 use Rattle.base_bytes.specs.Bytes.{past}
@@ -83,12 +83,12 @@ module _ (t : List ℕ) (m : ℕ) (k : m ≤ length t) where
 
   -- what is not found in a text is not found in a beginning of it
   cut_none : (name s : List ℕ) (c : Cursor) (i n : ℕ) → i + n ≤ m → found_from t name c s i ≡ Nowhere → found_from (part t 0 m) name c (take n s) i ≡ Nowhere
-  unfolding found_from if_on if◌then◌else◌
+  unfolding found_from if_on if◌then◌or_else◌
   cut_none name s c i zero h e = refl
   cut_none name [] c i (suc n) h e = refl
   cut_none name (b ∷ s) c i (suc n) h e = rw (same_named name c i (omega arith), same_byte name c i (omega arith)) (go (is_named t name c i) (moved c (at t i) i (i + 1)) e (λ next. cut_none name s next (i + 1) n (omega arith)))
     where
-      go : (x : Bool) (r : Scan) → (if x then Behind i else if_on r (λ next. found_from t name next s (i + 1)) Nowhere) ≡ Nowhere → ((next : Cursor) → found_from t name next s (i + 1) ≡ Nowhere → found_from (part t 0 m) name next (take n s) (i + 1) ≡ Nowhere) → (if x then Behind i else if_on r (λ next. found_from (part t 0 m) name next (take n s) (i + 1)) Nowhere) ≡ Nowhere
+      go : (x : Bool) (r : Scan) → (if x then Behind i or_else if_on r (λ next. found_from t name next s (i + 1)) Nowhere) ≡ Nowhere → ((next : Cursor) → found_from t name next s (i + 1) ≡ Nowhere → found_from (part t 0 m) name next (take n s) (i + 1) ≡ Nowhere) → (if x then Behind i or_else if_on r (λ next. found_from (part t 0 m) name next (take n s) (i + 1)) Nowhere) ≡ Nowhere
       go true r e f = e
       go false (On next) e f = f next e
       go false (Past sort q) e f = refl
@@ -145,8 +145,8 @@ faulty Attribute u start mark f = f
 faulty Target u start mark f = absurd (false≢true f)
 faulty Reference u start mark f = absurd (false≢true f)
 
-moved_on : (a b d : Bool) (i j k : ℕ) (r : Scan) (next : Cursor) → (if a then Fault i else if b then Fault j else if d then Fault k else r) ≡ On next → r ≡ On next
-unfolding if◌then◌else◌
+moved_on : (a b d : Bool) (i j k : ℕ) (r : Scan) (next : Cursor) → (if a then Fault i or_else if b then Fault j or_else if d then Fault k or_else r) ≡ On next → r ≡ On next
+unfolding if◌then◌or_else◌
 moved_on true b d i j k r next e = absurd (fault_not i next e)
 moved_on false true d i j k r next e = absurd (fault_not j next e)
 moved_on false false true i j k r next e = absurd (fault_not k next e)
@@ -167,7 +167,7 @@ module _ (t : List ℕ) (start : ℕ) (c : Cursor) (i : ℕ) where
 
   -- whether the name is a second one is asked first
   pub second_fault : i < length t → if_attribute (whole c.state (at t i)) (twice (part t 0 i) start c.mark) false ≡ true → Fault c.mark ≡ advance t start c i
-  unfolding advance if◌then◌else◌
+  unfolding advance if◌then◌or_else◌
   second_fault h e = rw (lt-leb (length t) i h, faulty (whole c.state (at t i)) (part t 0 i) start c.mark e) refl
 
   pub second_not : if_attribute (whole c.state (at t i)) (twice (part t 0 i) start c.mark) false ≡ false → advance t start c i ≡ tried t start c i
@@ -231,9 +231,9 @@ module _ (t : List ℕ) (f : ℕ → Bool) (P : ℕ → Type 0) (on : (i : ℕ) 
       rest : s ≡ drop (i + 1) t
       rest = ap (drop 1) split
 
-      go : (x : Bool) → f b ≡ x → (P (i + 1) → P (past f s (i + 1))) → P (if x then past f s (i + 1) else i)
-      go true ex k = unfold if◌then◌else◌ in k (on i inside (ap f (sym first) ∙ ex) p)
-      go false ex k = unfold if◌then◌else◌ in p
+      go : (x : Bool) → f b ≡ x → (P (i + 1) → P (past f s (i + 1))) → P (if x then past f s (i + 1) or_else i)
+      go true ex k = unfold if◌then◌or_else◌ in k (on i inside (ap f (sym first) ∙ ex) p)
+      go false ex k = unfold if◌then◌or_else◌ in p
 
   pub run_to : (i j : ℕ) → j ≡ past f (drop i t) i → P i → P j
   run_to i j e p = rw e (run_past (drop i t) i refl p)

@@ -8,7 +8,7 @@ use native.Mathlib.Omega.{arith}
 use lib.ListN.{length, take, drop, length-drop}
 use lib.Seq.{get_or-take, take-take, take-add, drop_at, length-take-le}
 use borrow.Author.Tests.{lt-leb}
-use Rattle.base_words.specs.Pick.{if◌then◌else◌}
+use Rattle.base_words.specs.Pick.{if◌then◌or_else◌}
 use Rattle.base_words.specs.Words.{at}
 use Rattle.xml_scanner.specs.declared.Sort.TheVariants.{Fault as AFault}
 use Rattle.xml_markup.specs.declared.Scan.{Scan}
@@ -27,11 +27,11 @@ rest_of l p n h k =
 
 module _ (t : List ℕ) (n p : ℕ) (before : p < n) (inside : n ≤ length t) (opens : opens_markup (at t p) ≡ true) where
   whole_is : markup t p ≡ placed (scan t p)
-  unfolding markup if◌then◌else◌
+  unfolding markup if◌then◌or_else◌
   whole_is = rw (lt-leb (length t) p (omega arith), opens)
 
   part_is : markup (take n t) p ≡ placed (scan (take n t) p)
-  unfolding markup if◌then◌else◌
+  unfolding markup if◌then◌or_else◌
   part_is = rw (length-take-le n t inside, lt-leb n p before, get_or-take n t p 0 before, opens)
 
   cut_scan : (scan (take n t) p ≡ scan t p) ⊎ (scan (take n t) p ≡ Fault n)

@@ -6,7 +6,7 @@ use Prim.Native.Nat.{ℕ, ◌+◌, ◌<◌, ◌≤◌}
 use native.Mathlib.Omega.{arith}
 use lib.ListN.{length, drop}
 use borrow.Author.Tests.{lt-leb, ne_eqb}
-use Rattle.base_words.specs.Pick.{if◌then◌else◌}
+use Rattle.base_words.specs.Pick.{if◌then◌or_else◌}
 use Rattle.base_words.specs.Words.{at}
 use Rattle.base_bytes.specs.Bytes.{between, is_letter, past}
 use Rattle.base_bytes.proofs.PieceLaws.{by_order}
@@ -75,11 +75,11 @@ module _ (t : List ℕ) where
 
   module _ (mark i : ℕ) (h : i < length t) where
     pub opens_value : at t i ≡ 34 → Leads t (record { state = Tag Equals; mark = mark }) i (record { state = Tag (Value 34); mark = mark }) (i + 1)
-    unfolding whole whole_in_tag is_control moved move_to step in_tag equals is_blank is_quote if◌then◌else◌
+    unfolding whole whole_in_tag is_control moved move_to step in_tag equals is_blank is_quote if◌then◌or_else◌
     opens_value e = one (record { state = Tag Equals; mark = mark }) (record { state = Tag (Value 34); mark = mark }) i h refl (rw e refl) (rw e refl)
 
     pub closes_value : at t i ≡ 34 → Leads t (record { state = Tag (Value 34); mark = mark }) i (record { state = Tag Behind; mark = mark }) (i + 1)
-    unfolding whole whole_in_tag is_control moved move_to step in_tag in_value if◌then◌else◌
+    unfolding whole whole_in_tag is_control moved move_to step in_tag in_value if◌then◌or_else◌
     closes_value e = one (record { state = Tag (Value 34); mark = mark }) (record { state = Tag Behind; mark = mark }) i h refl (rw e refl) (rw e refl)
 
     pub passes_blank : (s : InTag) → in_tag s 32 ≡ Onward (Tag Blank) → whole_in_tag s 32 ≡ Nothing → at t i ≡ 32 → Leads t (record { state = Tag s; mark = mark }) i (record { state = Tag Blank; mark = mark }) (i + 1)
@@ -87,17 +87,17 @@ module _ (t : List ℕ) where
     passes_blank s g w e = one (record { state = Tag s; mark = mark }) (record { state = Tag Blank; mark = mark }) i h (rw e w) (rw e refl) (rw (e, g) refl)
 
     pub begins_attribute : begins_name (at t i) ≡ true → Leads t (record { state = Tag Blank; mark = mark }) i (record { state = Tag InAttribute; mark = i }) (i + 1)
-    unfolding whole whole_in_tag moved move_to step in_tag behind_blank if◌then◌else◌
+    unfolding whole whole_in_tag moved move_to step in_tag behind_blank if◌then◌or_else◌
     begins_attribute e =
         let l = high_begins (at t i) e in
         one (record { state = Tag Blank; mark = mark }) (record { state = Tag InAttribute; mark = i }) i h refl (high_control (at t i) (omega (arith, l))) (rw (begins_blank (at t i) l, e) refl)
 
     pub opens_markup_lem : at t i ≡ 60 → Leads t (record { state = Begin; mark = mark }) i (record { state = Opening Less; mark = mark }) (i + 1)
-    unfolding whole is_control moved move_to step at_begin if◌then◌else◌
+    unfolding whole is_control moved move_to step at_begin if◌then◌or_else◌
     opens_markup_lem e = one (record { state = Begin; mark = mark }) (record { state = Opening Less; mark = mark }) i h refl (rw e refl) (rw e refl)
 
     pub begins_tag : begins_name (at t i) ≡ true → Leads t (record { state = Opening Less; mark = mark }) i (record { state = Tag Name; mark = mark }) (i + 1)
-    unfolding whole moved move_to step in_opening behind_less if◌then◌else◌
+    unfolding whole moved move_to step in_opening behind_less if◌then◌or_else◌
     begins_tag e =
         let l = high_begins (at t i) e in
         one (record { state = Opening Less; mark = mark }) (record { state = Tag Name; mark = mark }) i h refl (high_control (at t i) (omega (arith, l)))
@@ -115,11 +115,11 @@ module _ (t : List ℕ) where
 
     module _ (start : ℕ) (h : i < length t) (o : is_control (at t i) ≡ false) (next : Cursor) (g : moved c (at t i) i (i + 1) ≡ On next) where
       tried_on : tried t start c i ≡ On next
-      unfolding tried is_faulty_else if◌then◌else◌
+      unfolding tried is_faulty_else if◌then◌or_else◌
       tried_on = rw (lt-leb (length t) i h, w, o, g) refl
 
       advance_on : advance t start c i ≡ On next
-      unfolding advance is_faulty if◌then◌else◌
+      unfolding advance is_faulty if◌then◌or_else◌
       advance_on = rw (lt-leb (length t) i h, w, o, g) refl
 
   pub on_leap : {c d : Cursor} {i j : ℕ} → Leads t c i d j → i ≤ j

@@ -7,7 +7,7 @@ use native.Mathlib.Omega.{arith}
 use lib.ListN.{length, drop, length-drop}
 use lib.Seq.{drop-cons}
 use borrow.Author.Tests.{le-leb, lt-leb}
-use Rattle.base_words.specs.Pick.{if◌then◌else◌}
+use Rattle.base_words.specs.Pick.{if◌then◌or_else◌}
 use Rattle.base_words.specs.Words.{at}
 use Rattle.base_bytes.proofs.PieceLaws.{by_order}
 use Rattle.xml_characters.specs.Names.{is_control}
@@ -71,33 +71,33 @@ up_from i e (Past s q) h = (omega (arith, h.0), h.1)
 up_from i e (Fault q) h = h
 
 -- a byte that opens no markup
-passed : (i e : ℕ) (a b : Bool) (r : Scan) → i ≤ e → Up (i + 1) e r → Ended i e (if a then Fault i else if b then Fault i else r)
-unfolding if◌then◌else◌
+passed : (i e : ℕ) (a b : Bool) (r : Scan) → i ≤ e → Up (i + 1) e r → Ended i e (if a then Fault i or_else if b then Fault i or_else r)
+unfolding if◌then◌or_else◌
 passed i e true b r h k = h
 passed i e false true r h k = h
 passed i e false false r h k = up_on i e r k
 
 text_up : (t s : List ℕ) (i : ℕ) → i + length s ≡ length t → Up i (length t) (text_from t s i)
-unfolding text_from if◌then◌else◌
+unfolding text_from if◌then◌or_else◌
 text_up t [] i h = (omega arith, omega arith)
 text_up t (b ∷ s) i h = go (opens_markup (at t i)) (text_up t s (i + 1) (omega arith))
   where
-    go : (o : Bool) → Up (i + 1) (length t) (text_from t s (i + 1)) → Up i (length t) (if o then Past Text i else if is_control (at t i) then Fault i else if closes_data t i then Fault i else text_from t s (i + 1))
+    go : (o : Bool) → Up (i + 1) (length t) (text_from t s (i + 1)) → Up i (length t) (if o then Past Text i or_else if is_control (at t i) then Fault i or_else if closes_data t i then Fault i or_else text_from t s (i + 1))
     go true k = (omega arith, omega arith)
-    go false k = up_from i (length t) (if is_control (at t i) then Fault i else if closes_data t i then Fault i else text_from t s (i + 1)) (passed i (length t) (is_control (at t i)) (closes_data t i) (text_from t s (i + 1)) (omega arith) k)
+    go false k = up_from i (length t) (if is_control (at t i) then Fault i or_else if closes_data t i then Fault i or_else text_from t s (i + 1)) (passed i (length t) (is_control (at t i)) (closes_data t i) (text_from t s (i + 1)) (omega arith) k)
 
 module _ (t : List ℕ) (p : ℕ) where
   text_ended : p < length t → opens_markup (at t p) ≡ false → Ended p (length t) (text_from t (drop p t) p)
-  unfolding text_from if◌then◌else◌
+  unfolding text_from if◌then◌or_else◌
   text_ended h o = rw (drop-cons t p 0 h, o) (passed p (length t) (is_control (at t p)) (closes_data t p) _ (omega arith) (text_up t (drop (suc p) t) (p + 1) (omega (arith, length-drop (suc p) t))))
 
-  opened : p < length t → (o : Bool) → opens_markup (at t p) ≡ o → Right p (length t) (if o then placed (scan t p) else placed (text_from t (drop p t) p))
-  unfolding scan if◌then◌else◌
+  opened : p < length t → (o : Bool) → opens_markup (at t p) ≡ o → Right p (length t) (if o then placed (scan t p) or_else placed (text_from t (drop p t) p))
+  unfolding scan if◌then◌or_else◌
   opened h true e = placed_right p (length t) (scan t p) (ended_from t p (drop p t) (begun p) p (omega arith) (omega (arith, length-drop p t)))
   opened h false e = placed_right p (length t) (text_from t (drop p t) p) (text_ended h e)
 
   right : Right p (length t) (markup t p)
-  unfolding markup if◌then◌else◌
+  unfolding markup if◌then◌or_else◌
   right =
       by_order (length t) p
       (λ h. rw (le-leb (length t) p h) (tt, omega arith))

@@ -1,7 +1,7 @@
 -- Every row of the table of points holds. Assumes nothing.
 use mathlib.Core.Path.{◌≡◌, refl}
 use mathlib.Core.List.{map}
-use Rattle.base_words.specs.Pick.{if◌then◌else◌}
+use Rattle.base_words.specs.Pick.{if◌then◌or_else◌}
 use Rattle.base_bytes.specs.Bytes.{between, is_letter, is_digit}
 use Rattle.base_bytes.specs.Bytes.{same_bytes}
 use Rattle.xml_characters.specs.Names.{is_blank, is_control, begins_name, is_name}
@@ -15,5 +15,5 @@ use Rattle.xml_markup.specs.Markup.{advance, scan_from, scan, begins_at, closes_
 use Rattle.xml_markup.specs.Points.{Point, points}
 
 pub points_hold : map (λ (p : Point). markup p.text p.place) points ≡ map (λ (p : Point). p.is) points
-unfolding if◌then◌else◌ between is_letter is_digit same_bytes is_blank is_control begins_name is_name digit base more number_from numbered character_of is_character behind_less behind_bracket in_opening in_comment in_data in_target in_instruction closing behind named behind_blank is_quote equals is_reference in_value in_value_reference in_tag behind_end in_end in_reference at_begin step end_of whole_in_tag whole_in_instruction whole move_to moved if_on if_attribute is_named found_from found is_found twice first lower says_xml is_declaration reserved is_faulty advance scan_from scan begins_at closes_data opens_markup text_from placed markup
+unfolding if◌then◌or_else◌ between is_letter is_digit same_bytes is_blank is_control begins_name is_name digit base more number_from numbered character_of is_character behind_less behind_bracket in_opening in_comment in_data in_target in_instruction closing behind named behind_blank is_quote equals is_reference in_value in_value_reference in_tag behind_end in_end in_reference at_begin step end_of whole_in_tag whole_in_instruction whole move_to moved if_on if_attribute is_named found_from found is_found twice first lower says_xml is_declaration reserved is_faulty advance scan_from scan begins_at closes_data opens_markup text_from placed markup
 points_hold = refl

@@ -11,7 +11,7 @@ use lib.ListN.{length, take, drop, drop_of_length-le}
 use lib.Seq.{drop-cons, get_or-take, take-take}
 use denote.Enum.Declared.{tag_of}
 use borrow.Author.Tests.{lt-leb}
-use Rattle.base_words.specs.Pick.{if◌then◌else◌}
+use Rattle.base_words.specs.Pick.{if◌then◌or_else◌}
 use Rattle.base_words.specs.Words.{at, part}
 use Rattle.xml_markup.specs.contracts.Scan.{the_type as scan-type}
 use Rattle.xml_markup.proofs.TokenLaws.{not_on}
@@ -44,8 +44,8 @@ Within i e (On c) = c.mark ≤ i
 Within i e (Past sort q) = (i < q) × (q ≤ e)
 Within i e (Fault q) = q ≤ e
 
-within_if : (i e : ℕ) (b : Bool) (x y : Scan) → Within i e x → Within i e y → Within i e (if b then x else y)
-unfolding if◌then◌else◌
+within_if : (i e : ℕ) (b : Bool) (x y : Scan) → Within i e x → Within i e y → Within i e (if b then x or_else y)
+unfolding if◌then◌or_else◌
 within_if i e true x y h k = h
 within_if i e false x y h k = k
 

@@ -9,7 +9,7 @@ use lib.Dec.{ltb, eqb}
 use lib.ListN.{length, drop, get_or, length-drop}
 use lib.Seq.{drop-cons}
 use borrow.Author.Tests.{lt-leb, le-ltb, eq-eqb, ne_eqb, lt-ltb}
-use Rattle.base_words.specs.Pick.{if◌then◌else◌}
+use Rattle.base_words.specs.Pick.{if◌then◌or_else◌}
 use Rattle.base_words.specs.Words.{at}
 use Rattle.base_bytes.specs.Bytes.{between, is_letter, is_digit, past}
 use Rattle.base_bytes.proofs.PieceLaws.{by_order}
@@ -48,15 +48,15 @@ high_control b h = rw (le-ltb b 32 h)
 
 -- a byte that is looked for before the others
 pub plain_quote : (q b : ℕ) → b ≡ q → false ≡ is_plain q b
-unfolding is_plain if◌then◌else◌
+unfolding is_plain if◌then◌or_else◌
 plain_quote q b e = rw (eq-eqb b q e) (go (ltb b 32))
   where
-    go : (x : Bool) → false ≡ (if x then false else false)
+    go : (x : Bool) → false ≡ (if x then false or_else false)
     go true = refl
     go false = refl
 
 pub plain_high : (q b : ℕ) → (b ≡ q → ⊥) → 60 < b → true ≡ is_plain q b
-unfolding is_plain if◌then◌else◌
+unfolding is_plain if◌then◌or_else◌
 plain_high q b n h = rw (le-ltb b 32 (omega arith), ne_eqb b q n, ne_eqb b 38 (λ e. omega (arith, e)), ne_eqb b 60 (λ e. omega (arith, e))) refl
 
 name_control : (b : ℕ) → is_name b ≡ true → is_control b ≡ false
@@ -72,10 +72,10 @@ blank_control b e = rw e (go (ltb b 32))
 
 -- what is plain is not the byte that ends it, and no control
 plain_not : (v b : ℕ) → is_plain v b ≡ true → (eqb b v ≡ false) × (is_control b ≡ false)
-unfolding is_plain if◌then◌else◌
+unfolding is_plain if◌then◌or_else◌
 plain_not v b e = go (ltb b 32) refl (eqb b v) refl e
   where
-    go : (x : Bool) → ltb b 32 ≡ x → (y : Bool) → eqb b v ≡ y → (if x then false else if y then false else if eqb b 38 then false else not (eqb b 60)) ≡ true → (eqb b v ≡ false) × (is_control b ≡ false)
+    go : (x : Bool) → ltb b 32 ≡ x → (y : Bool) → eqb b v ≡ y → (if x then false or_else if y then false or_else if eqb b 38 then false or_else not (eqb b 60)) ≡ true → (eqb b v ≡ false) × (is_control b ≡ false)
     go true ex y ey h = absurd (false≢true h)
     go false ex true ey h = absurd (false≢true h)
     go false ex false ey h = (ey, by_order 32 b (high_control b) (λ l. absurd (false≢true (sym ex ∙ lt-ltb b 32 l))))
@@ -88,10 +88,10 @@ pub record Stays (s : State) (m b i q : ℕ) : Type 0 where
 
 module _ (m b i q : ℕ) where
   in_value_lem : (v : ℕ) → is_plain v b ≡ true → Stays (Tag (Value v)) m b i q
-  unfolding is_plain moved move_to step in_tag in_value whole whole_in_tag if◌then◌else◌
+  unfolding is_plain moved move_to step in_tag in_value whole whole_in_tag if◌then◌or_else◌
   in_value_lem v e = go (ltb b 32) refl (eqb b v) refl (eqb b 38) refl (eqb b 60) refl e
     where
-      go : (x : Bool) → ltb b 32 ≡ x → (y : Bool) → eqb b v ≡ y → (z : Bool) → eqb b 38 ≡ z → (u : Bool) → eqb b 60 ≡ u → (if x then false else if y then false else if z then false else not u) ≡ true → Stays (Tag (Value v)) m b i q
+      go : (x : Bool) → ltb b 32 ≡ x → (y : Bool) → eqb b v ≡ y → (z : Bool) → eqb b 38 ≡ z → (u : Bool) → eqb b 60 ≡ u → (if x then false or_else if y then false or_else if z then false or_else not u) ≡ true → Stays (Tag (Value v)) m b i q
       go true ex y ey z ez u eu h = absurd (false≢true h)
       go false ex true ey z ez u eu h = absurd (false≢true h)
       go false ex false ey true ez u eu h = absurd (false≢true h)
@@ -104,19 +104,19 @@ module _ (m b i q : ℕ) where
           }
 
   in_comment_lem : (s : InComment) → stays_in_comment s b ≡ true → Stays (Comment s) m b i q
-  unfolding stays_in_comment moved move_to step in_comment whole if◌then◌else◌
+  unfolding stays_in_comment moved move_to step in_comment whole if◌then◌or_else◌
   in_comment_lem Inside e = let k = plain_not 45 b e in record { goes = rw k.0 refl; nothing = refl; plain = k.1 }
   in_comment_lem Dash e = absurd (false≢true e)
   in_comment_lem Dashes e = absurd (false≢true e)
 
   in_data_lem : (s : InData) → stays_in_data s b ≡ true → Stays (Data s) m b i q
-  unfolding stays_in_data moved move_to step in_data whole if◌then◌else◌
+  unfolding stays_in_data moved move_to step in_data whole if◌then◌or_else◌
   in_data_lem InsideData e = let k = plain_not 93 b e in record { goes = rw k.0 refl; nothing = refl; plain = k.1 }
   in_data_lem Bracket e = absurd (false≢true e)
   in_data_lem Brackets e = absurd (false≢true e)
 
   in_instruction_lem : (s : InInstruction) → stays_in_instruction s b ≡ true → Stays (Instruction s) m b i q
-  unfolding stays_in_instruction moved move_to step in_instruction whole whole_in_instruction if◌then◌else◌
+  unfolding stays_in_instruction moved move_to step in_instruction whole whole_in_instruction if◌then◌or_else◌
   in_instruction_lem InstructionOpened e = absurd (false≢true e)
   in_instruction_lem Target e = absurd (false≢true e)
   in_instruction_lem TargetMark e = absurd (false≢true e)
@@ -124,7 +124,7 @@ module _ (m b i q : ℕ) where
   in_instruction_lem Mark e = absurd (false≢true e)
 
   in_tag_lem : (s : InTag) → stays_in_tag s b ≡ true → Stays (Tag s) m b i q
-  unfolding stays_in_tag moved move_to step in_tag behind_blank whole whole_in_tag end_of if◌then◌else◌
+  unfolding stays_in_tag moved move_to step in_tag behind_blank whole whole_in_tag end_of if◌then◌or_else◌
   in_tag_lem Name e = record { goes = rw e refl; nothing = refl; plain = name_control b e }
   in_tag_lem Blank e = record { goes = rw e refl; nothing = refl; plain = blank_control b e }
   in_tag_lem InAttribute e = record { goes = rw e refl; nothing = rw e refl; plain = name_control b e }
@@ -136,7 +136,7 @@ module _ (m b i q : ℕ) where
   in_tag_lem Slash e = absurd (false≢true e)
 
   in_end_lem : (s : InEnd) → stays_in_end s b ≡ true → Stays (EndTag s) m b i q
-  unfolding stays_in_end moved move_to step in_end whole if◌then◌else◌
+  unfolding stays_in_end moved move_to step in_end whole if◌then◌or_else◌
   in_end_lem Opened e = absurd (false≢true e)
   in_end_lem EndName e = record { goes = rw e refl; nothing = refl; plain = name_control b e }
   in_end_lem EndBehind e = absurd (false≢true e)
@@ -171,16 +171,16 @@ module _ {A : Type 0} (t : List ℕ) (f : ℕ → Bool) (F : List ℕ → ℕ �
       rest : s ≡ drop (i + 1) t
       rest = ap (drop 1) split
 
-      go : (x : Bool) → f b ≡ x → F s (i + 1) ≡ F (drop (past f s (i + 1)) t) (past f s (i + 1)) → F (b ∷ s) i ≡ F (drop (if x then past f s (i + 1) else i) t) (if x then past f s (i + 1) else i)
-      go true ex k = unfold if◌then◌else◌ in on b s i inside (ap f (sym first) ∙ ex) ∙ k
-      go false ex k = unfold if◌then◌else◌ in rw (← e) refl
+      go : (x : Bool) → f b ≡ x → F s (i + 1) ≡ F (drop (past f s (i + 1)) t) (past f s (i + 1)) → F (b ∷ s) i ≡ F (drop (if x then past f s (i + 1) or_else i) t) (if x then past f s (i + 1) or_else i)
+      go true ex k = unfold if◌then◌or_else◌ in on b s i inside (ap f (sym first) ∙ ex) ∙ k
+      go false ex k = unfold if◌then◌or_else◌ in rw (← e) refl
 
   pub run_stay : (i j : ℕ) → j ≡ past f (drop i t) i → F (drop i t) i ≡ F (drop j t) j
   run_stay i j e = rw e (run_same (drop i t) i refl)
 
 module _ (t : List ℕ) (start : ℕ) (c : Cursor) where
   scan_step : (b : ℕ) (s : List ℕ) (i : ℕ) → i < length t → stays c.state (at t i) ≡ true → scan_from t start c (b ∷ s) i ≡ scan_from t start c s (i + 1)
-  unfolding scan_from advance is_faulty if_on if◌then◌else◌
+  unfolding scan_from advance is_faulty if_on if◌then◌or_else◌
   scan_step b s i h e =
       let k = in_state c.mark (at t i) i (i + 1) c.state e in
       rw (lt-leb (length t) i h, k.nothing, k.plain, k.goes) refl
@@ -190,6 +190,6 @@ module _ (t : List ℕ) (start : ℕ) (c : Cursor) where
 
 -- a state that no byte leaves where it is
 pub past_none : (s : List ℕ) (i : ℕ) → i ≡ past (λ b. false) s i
-unfolding past if◌then◌else◌
+unfolding past if◌then◌or_else◌
 past_none [] i = refl
 past_none (b ∷ s) i = refl

@@ -9,7 +9,7 @@ use native.Mathlib.Omega.{arith}
 use lib.ListN.{length, take, drop, drop_of_length-le}
 use lib.Seq.{drop-cons, get_or-drop}
 use borrow.Author.Tests.{ne_eqb}
-use Rattle.base_words.specs.Pick.{if◌then◌else◌}
+use Rattle.base_words.specs.Pick.{if◌then◌or_else◌}
 use Rattle.base_words.specs.Words.{at, part}
 use Rattle.base_bytes.specs.Bytes.{same_bytes}
 use Rattle.xml_scanner.specs.declared.Sort.TheVariants.{Text}
@@ -34,21 +34,21 @@ data_not t i b e n = not_first (part t i (length t)) (λ f. n (e ∙ (ap (at t) 
 
 module _ (t : List ℕ) (i : ℕ) (h : i < length t) where
   pub text_stops : opens_markup (at t i) ≡ true → text_from t (drop i t) i ≡ Past Text i
-  unfolding text_from if◌then◌else◌
+  unfolding text_from if◌then◌or_else◌
   text_stops e = rw (drop-cons t i 0 h, e)
 
   module _ (e : opens_markup (at t i) ≡ false) where
     pub text_control : is_control (at t i) ≡ true → text_from t (drop i t) i ≡ Fault i
-    unfolding text_from if◌then◌else◌
+    unfolding text_from if◌then◌or_else◌
     text_control f = rw (drop-cons t i 0 h, e, f)
 
     module _ (f : is_control (at t i) ≡ false) where
       pub text_data : closes_data t i ≡ true → text_from t (drop i t) i ≡ Fault i
-      unfolding text_from if◌then◌else◌
+      unfolding text_from if◌then◌or_else◌
       text_data g = rw (drop-cons t i 0 h, e, f, g)
 
       pub text_on : closes_data t i ≡ false → text_from t (drop i t) i ≡ text_from t (drop (i + 1) t) (i + 1)
-      unfolding text_from if◌then◌else◌
+      unfolding text_from if◌then◌or_else◌
       text_on g = rw (drop-cons t i 0 h, add-one i, e, f, g)
 
 pub text_end : (t : List ℕ) (i : ℕ) → length t ≤ i → text_from t (drop i t) i ≡ Past Text i

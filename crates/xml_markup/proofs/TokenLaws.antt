@@ -7,7 +7,7 @@ use native.Mathlib.Numerals.{add-one}
 use lib.ListN.{length, drop, drop_of_length-le}
 use lib.Seq.{drop-cons}
 use denote.Enum.Declared.{tag_of}
-use Rattle.base_words.specs.Pick.{if◌then◌else◌}
+use Rattle.base_words.specs.Pick.{if◌then◌or_else◌}
 use Rattle.base_words.specs.Words.{at, part}
 use Rattle.base_bytes.specs.Bytes.{same_bytes}
 use Rattle.xml_markup.specs.contracts.Scan.{the_type as scan-type}
@@ -46,16 +46,16 @@ not_attribute Reference a b e = refl
 -- the byte at i, where the loop stands at c
 module _ (t name : List ℕ) (c : Cursor) (i : ℕ) (h : i < length t) where
   pub found_here : is_named t name c i ≡ true → found_from t name c (drop i t) i ≡ Behind i
-  unfolding found_from if◌then◌else◌
+  unfolding found_from if◌then◌or_else◌
   found_here e = rw (drop-cons t i 0 h, e)
 
   module _ (e : is_named t name c i ≡ false) (b : ℕ) (eb : b ≡ at t i) (r : Scan) (er : r ≡ moved c b i (i + 1)) where
     pub found_on : (next : Cursor) → r ≡ On next → found_from t name c (drop i t) i ≡ found_from t name next (drop (i + 1) t) (i + 1)
-    unfolding found_from if_on if◌then◌else◌
+    unfolding found_from if_on if◌then◌or_else◌
     found_on next m = rw (drop-cons t i 0 h, e, ← eb, ← er, m, add-one i)
 
     pub found_stops : ((v : Cursor) → r ≡ On v → ⊥) → found_from t name c (drop i t) i ≡ Nowhere
-    unfolding found_from if◌then◌else◌
+    unfolding found_from if◌then◌or_else◌
     found_stops m = rw (drop-cons t i 0 h, e, ← eb, ← er) (not_on _ _ _ m)
 
 pub found_end : (t name : List ℕ) (c : Cursor) (i : ℕ) → length t ≤ i → found_from t name c (drop i t) i ≡ Nowhere

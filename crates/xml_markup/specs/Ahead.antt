@@ -2,7 +2,7 @@
 -- all of them; a name whose number stands nowhere is new in its tag.
 use Rattle.std.specs.Prelude.{ℕ, ◌+◌, ◌*◌, ◌/◌, ◌%◌, ◌<◌, ◌≤◌, ◌≡◌, Bool, false, not, List, [], ◌∷◌, leb, length, drop}
 use Rattle.base_words.specs.Blocks.{Bytes}
-use Rattle.base_words.specs.Pick.{if◌then◌else◌}
+use Rattle.base_words.specs.Pick.{if◌then◌or_else◌}
 use Rattle.base_words.specs.Words.{at, part}
 use Rattle.xml_characters.specs.Names.{is_control}
 use Rattle.xml_characters.specs.References.{character_of, is_character}
@@ -82,9 +82,9 @@ is_faulty_else Reference u start mark = not (is_character (character_of (part u 
 unfoldable pub tried : Bytes → ℕ → Cursor → ℕ → Scan
 tried t start c i =
     if leb (length t) i then Fault i
-    else if is_faulty_else (whole c.state (at t i)) (part t 0 i) start c.mark then Fault c.mark
-    else if is_control (at t i) then Fault i
-    else moved c (at t i) i (i + 1)
+    or_else if is_faulty_else (whole c.state (at t i)) (part t 0 i) start c.mark then Fault c.mark
+    or_else if is_control (at t i) then Fault i
+    or_else moved c (at t i) i (i + 1)
 
 -- From the cursor c at p a tag is read to the cursor d at i, with the first n words of v the spans of its names: where none of them is a name before p, nothing is at fault up to there.
 pub record Ahead (t : List ℕ) (start : ℕ) (c : Cursor) (p : ℕ) (v : List ℕ) (n : ℕ) (d : Cursor) (i : ℕ) : Type 0 where

@@ -3,7 +3,7 @@
 use Prim.Native.Char.{code}
 use Rattle.std.specs.Prelude.{ℕ, ◌+◌, Bool, ◌||◌, List, [], ◌∷◌, leb, eqb, length, drop}
 use Rattle.base_words.specs.Blocks.{Bytes}
-use Rattle.base_words.specs.Pick.{if◌then◌else◌}
+use Rattle.base_words.specs.Pick.{if◌then◌or_else◌}
 use Rattle.base_words.specs.Text.{bytes}
 use Rattle.base_words.specs.Words.{at, part}
 use Rattle.base_bytes.specs.Bytes.{same_bytes}
@@ -20,9 +20,9 @@ use Rattle.xml_markup.specs.Tokens.{whole, moved, if_on, begun, is_faulty}
 unfoldable pub advance : Bytes → ℕ → Cursor → ℕ → Scan
 advance t start c i =
     if leb (length t) i then Fault i
-    else if is_faulty (whole c.state (at t i)) (part t 0 i) start c.mark then Fault c.mark
-    else if is_control (at t i) then Fault i
-    else moved c (at t i) i (i + 1)
+    or_else if is_faulty (whole c.state (at t i)) (part t 0 i) start c.mark then Fault c.mark
+    or_else if is_control (at t i) then Fault i
+    or_else moved c (at t i) i (i + 1)
 
 -- byte by byte, with the bytes s from the place i on
 unfoldable pub scan_from : Bytes → ℕ → Cursor → List ℕ → ℕ → Scan
@@ -48,9 +48,9 @@ unfoldable pub text_from : Bytes → List ℕ → ℕ → Scan
 text_from t [] i = Past Text i
 text_from t (b ∷ s) i =
     if opens_markup (at t i) then Past Text i
-    else if is_control (at t i) then Fault i
-    else if closes_data t i then Fault i
-    else text_from t s (i + 1)
+    or_else if is_control (at t i) then Fault i
+    or_else if closes_data t i then Fault i
+    or_else text_from t s (i + 1)
 
 abbrev pub marked : Sort → ℕ → Markup
 marked sort q = record { sort = sort; next = q }
@@ -63,5 +63,5 @@ placed (Fault q) = marked AFault q
 unfoldable pub markup : Bytes → ℕ → Markup
 markup t p =
     if leb (length t) p then marked End (length t)
-    else if opens_markup (at t p) then placed (scan t p)
-    else placed (text_from t (drop p t) p)
+    or_else if opens_markup (at t p) then placed (scan t p)
+    or_else placed (text_from t (drop p t) p)

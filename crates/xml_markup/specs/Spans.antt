@@ -3,7 +3,7 @@
 use Prim.Native.Char.{code}
 use Rattle.std.specs.Prelude.{ℕ, ◌+◌, Bool, false, not, ◌||◌, List, [], ◌∷◌, ltb, leb, eqb, length, drop}
 use Rattle.base_words.specs.Blocks.{Bytes}
-use Rattle.base_words.specs.Pick.{if◌then◌else◌}
+use Rattle.base_words.specs.Pick.{if◌then◌or_else◌}
 use Rattle.base_words.specs.Words.{at, part}
 use Rattle.base_bytes.specs.Bytes.{past}
 use Rattle.base_bytes.specs.Bytes.{same_bytes}
@@ -30,14 +30,14 @@ run class t from = past (is_of class) (drop from t) from
 
 -- one byte on; the end stays
 unfoldable pub after : Bytes → ℕ → ℕ
-after t i = if ltb i (length t) then i + 1 else length t
+after t i = if ltb i (length t) then i + 1 or_else length t
 
 -- the name of the tag or instruction at p: behind `<`, `</` or `<?`
 unfoldable pub has_second : ℕ → Bool
 has_second b = eqb b (code "/") || eqb b (code "?")
 
 unfoldable pub name_from : Bytes → ℕ → ℕ
-name_from t p = if has_second (at t (after t p)) then after t (after t p) else after t p
+name_from t p = if has_second (at t (after t p)) then after t (after t p) or_else after t p
 
 unfoldable pub name_at : Bytes → ℕ → Span
 name_at t p = record { from = name_from t p; to = run Name t (name_from t p) }
@@ -48,8 +48,8 @@ bytes_of t s = part t s.from s.to
 -- a token `<`name or `</`name at p that is whole: the byte behind it stands in the text
 unfoldable pub opens_name : Bytes → ℕ → Bool
 opens_name t p =
-    if eqb (at t p) (code "<") then (if leb (length t) (name_at t p).to then false else begins_name (at t (name_at t p).from))
-    else false
+    if eqb (at t p) (code "<") then (if leb (length t) (name_at t p).to then false or_else begins_name (at t (name_at t p).from))
+    or_else false
 
 unfoldable pub second : Bytes → ℕ → ℕ
 second t p = at t (after t p)
@@ -57,13 +57,13 @@ second t p = at t (after t p)
 unfoldable pub opener : Bytes → ℕ → Opener
 opener t p =
     if not (opens_name t p) then Other
-    else if eqb (second t p) (code "/") then End
-    else if eqb (second t p) (code "?") then Other
-    else Start
+    or_else if eqb (second t p) (code "/") then End
+    or_else if eqb (second t p) (code "?") then Other
+    or_else Start
 
 -- what stands behind the last colon; a name without one is all of it
 unfoldable pub behind_colon : ℕ → ℕ → ℕ → ℕ
-behind_colon b q r = if eqb b (code ":") then q else r
+behind_colon b q r = if eqb b (code ":") then q or_else r
 
 unfoldable pub local_from : List ℕ → ℕ → ℕ → ℕ
 local_from [] i r = r

@@ -2,7 +2,7 @@
 -- what may end it. To pass them together is to pass them one by one.
 use Prim.Native.Char.{code}
 use Rattle.std.specs.Prelude.{ℕ, Bool, false, not, ltb, eqb}
-use Rattle.base_words.specs.Pick.{if◌then◌else◌}
+use Rattle.base_words.specs.Pick.{if◌then◌or_else◌}
 use Rattle.xml_scanner.specs.declared.InComment.{InComment}
 use Rattle.xml_scanner.specs.declared.InComment.TheVariants.{Inside, Dash, Dashes}
 use Rattle.xml_scanner.specs.declared.InData.{InData}
@@ -18,7 +18,7 @@ use Rattle.xml_scanner.specs.declared.State.TheVariants.{Begin, Opening, Comment
 use Rattle.xml_characters.specs.Names.{is_blank, is_name}
 
 unfoldable pub is_plain : ℕ → ℕ → Bool
-is_plain q b = if ltb b 32 then false else if eqb b q then false else if eqb b (code "&") then false else not (eqb b (code "<"))
+is_plain q b = if ltb b 32 then false or_else if eqb b q then false or_else if eqb b (code "&") then false or_else not (eqb b (code "<"))
 
 unfoldable pub stays_in_comment : InComment → ℕ → Bool
 stays_in_comment Inside b = is_plain (code "-") b

@@ -3,7 +3,7 @@
 use Prim.Native.Char.{code}
 use Rattle.std.specs.Prelude.{ℕ, ◌+◌, Bool, true, false, not, ◌&&◌, List, [], ◌∷◌, ltb, leb, eqb, length, drop}
 use Rattle.base_words.specs.Blocks.{Bytes}
-use Rattle.base_words.specs.Pick.{if◌then◌else◌}
+use Rattle.base_words.specs.Pick.{if◌then◌or_else◌}
 use Rattle.base_words.specs.Text.{bytes}
 use Rattle.base_words.specs.Words.{at, part}
 use Rattle.base_bytes.specs.Bytes.{same_bytes}
@@ -28,7 +28,7 @@ use Rattle.xml_scanner.specs.Moves.{step}
 
 -- the token that the byte b shows to be whole
 unfoldable pub end_of : Whole → Bool → Whole
-end_of w ended = if ended then w else Nothing
+end_of w ended = if ended then w or_else Nothing
 
 unfoldable pub whole_in_tag : InTag → ℕ → Whole
 whole_in_tag Name b = Nothing
@@ -89,7 +89,7 @@ unfoldable pub found_from : Bytes → Bytes → Cursor → List ℕ → ℕ → 
 found_from t name c [] i = Nowhere
 found_from t name c (b ∷ s) i =
     if is_named t name c i then Behind i
-    else if_on (moved c (at t i) i (i + 1)) (λ next. found_from t name next s (i + 1)) Nowhere
+    or_else if_on (moved c (at t i) i (i + 1)) (λ next. found_from t name next s (i + 1)) Nowhere
 
 abbrev pub begun : ℕ → Cursor
 begun p = record { state = Begin; mark = p }
@@ -110,16 +110,16 @@ abbrev pub byte_order_mark : Bytes
 byte_order_mark = 239 ∷ 187 ∷ 191 ∷ []
 
 unfoldable pub first : Bytes → ℕ
-first t = if same_bytes (part t 0 3) (part byte_order_mark 0 (length t)) then length (part t 0 3) else 0
+first t = if same_bytes (part t 0 3) (part byte_order_mark 0 (length t)) then length (part t 0 3) or_else 0
 
 unfoldable pub lower : ℕ → ℕ
-lower b = if ltb b (code "a") then b + 32 else b
+lower b = if ltb b (code "a") then b + 32 or_else b
 
 -- `<?` and xml in any letter case
 unfoldable pub says_xml : Bytes → Bool
 says_xml w =
-    if eqb (length w) 5 then (if eqb (lower (at w 2)) (code "x") then (if eqb (lower (at w 3)) (code "m") then eqb (lower (at w 4)) (code "l") else false) else false)
-    else false
+    if eqb (length w) 5 then (if eqb (lower (at w 2)) (code "x") then (if eqb (lower (at w 3)) (code "m") then eqb (lower (at w 4)) (code "l") or_else false) or_else false)
+    or_else false
 
 -- "`<?xml` (those letters) only at the first byte or behind the BOM .. any other instruction whose target is xml in any letter case is 20 at its `<`" (R8) (RULES: xml)
 unfoldable pub is_declaration : Bytes → Bool
@@ -128,8 +128,8 @@ is_declaration w = same_bytes w (bytes "<?xml")
 unfoldable pub reserved : Bytes → ℕ → ℕ → Bool
 reserved u start mark =
     if not (says_xml (part u mark (length u))) then false
-    else if not (is_declaration (part u mark (length u))) then true
-    else not (eqb start (first u))
+    or_else if not (is_declaration (part u mark (length u))) then true
+    or_else not (eqb start (first u))
 
 -- a token that is whole, from mark to the end of u, is at fault
 unfoldable pub is_faulty : Whole → Bytes → ℕ → ℕ → Bool

@@ -1,4 +1,6 @@
 // XML as a drawing or a log has it: what markup stands at a place of a text.
+#![tactic(auto)]
+
 use xml_scanner::{Sort, State};
 
 pub mod ahead;

@@ -1,7 +1,7 @@
 -- A markup is read byte by byte from its first; what the next byte does is said by where it stands.
 use Prim.Native.Char.{code}
 use Rattle.std.specs.Prelude.{ℕ, eqb}
-use Rattle.base_words.specs.Pick.{if◌then◌else◌}
+use Rattle.base_words.specs.Pick.{if◌then◌or_else◌}
 use Rattle.xml_scanner.specs.declared.InOpening.TheVariants.{Less}
 use Rattle.xml_scanner.specs.declared.State.{State}
 use Rattle.xml_scanner.specs.declared.State.TheVariants.{Begin, Opening, Comment, Data, Instruction, Tag, EndTag, Reference}
@@ -13,7 +13,7 @@ use Rattle.xml_scanner.specs.Tags.{in_tag, in_end, in_reference}
 
 -- its first byte
 unfoldable pub at_begin : ℕ → Move
-at_begin b = if eqb b (code "<") then On (Opening Less) else if eqb b (code "&") then On Reference else Here
+at_begin b = if eqb b (code "<") then On (Opening Less) or_else if eqb b (code "&") then On Reference or_else Here
 
 unfoldable pub step : State → ℕ → Move
 step Begin b = at_begin b

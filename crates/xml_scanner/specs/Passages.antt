@@ -1,7 +1,7 @@
 -- Comments, CDATA sections and instructions. "`--` in a comment not followed by `>`: at the first `-`" (R5). "Behind a target comes a blank or `?>`" (R8). (RULES: xml)
 use Prim.Native.Char.{code}
 use Rattle.std.specs.Prelude.{ℕ, eqb}
-use Rattle.base_words.specs.Pick.{if◌then◌else◌}
+use Rattle.base_words.specs.Pick.{if◌then◌or_else◌}
 use Rattle.xml_scanner.specs.declared.InComment.{InComment}
 use Rattle.xml_scanner.specs.declared.InComment.TheVariants.{Inside, Dash, Dashes}
 use Rattle.xml_scanner.specs.declared.InData.{InData}
@@ -15,31 +15,31 @@ use Rattle.xml_scanner.specs.declared.Move.TheVariants.{On, Next, Close, Here, B
 use Rattle.xml_characters.specs.Names.{is_blank, begins_name, is_name}
 
 unfoldable pub in_comment : InComment → ℕ → Move
-in_comment Inside b = if eqb b (code "-") then Next (Comment Dash) else On (Comment Inside)
-in_comment Dash b = if eqb b (code "-") then On (Comment Dashes) else On (Comment Inside)
-in_comment Dashes b = if eqb b (code ">") then Close aComment else Back
+in_comment Inside b = if eqb b (code "-") then Next (Comment Dash) or_else On (Comment Inside)
+in_comment Dash b = if eqb b (code "-") then On (Comment Dashes) or_else On (Comment Inside)
+in_comment Dashes b = if eqb b (code ">") then Close aComment or_else Back
 
 unfoldable pub in_data : InData → ℕ → Move
-in_data InsideData b = if eqb b (code "]") then On (Data Bracket) else On (Data InsideData)
-in_data Bracket b = if eqb b (code "]") then On (Data Brackets) else On (Data InsideData)
+in_data InsideData b = if eqb b (code "]") then On (Data Bracket) or_else On (Data InsideData)
+in_data Bracket b = if eqb b (code "]") then On (Data Brackets) or_else On (Data InsideData)
 in_data Brackets b =
     if eqb b (code ">") then Close aSection
-    else if eqb b (code "]") then On (Data Brackets)
-    else On (Data InsideData)
+    or_else if eqb b (code "]") then On (Data Brackets)
+    or_else On (Data InsideData)
 
 unfoldable pub in_target : ℕ → Move
 in_target b =
     if is_name b then On (Instruction Target)
-    else if is_blank b then On (Instruction InsideInstruction)
-    else if eqb b (code "?") then Next (Instruction TargetMark)
-    else Here
+    or_else if is_blank b then On (Instruction InsideInstruction)
+    or_else if eqb b (code "?") then Next (Instruction TargetMark)
+    or_else Here
 
 unfoldable pub in_instruction : InInstruction → ℕ → Move
-in_instruction Opened b = if begins_name b then On (Instruction Target) else Back
+in_instruction Opened b = if begins_name b then On (Instruction Target) or_else Back
 in_instruction Target b = in_target b
-in_instruction TargetMark b = if eqb b (code ">") then Close anInstruction else Back
-in_instruction InsideInstruction b = if eqb b (code "?") then On (Instruction Mark) else On (Instruction InsideInstruction)
+in_instruction TargetMark b = if eqb b (code ">") then Close anInstruction or_else Back
+in_instruction InsideInstruction b = if eqb b (code "?") then On (Instruction Mark) or_else On (Instruction InsideInstruction)
 in_instruction Mark b =
     if eqb b (code ">") then Close anInstruction
-    else if eqb b (code "?") then On (Instruction Mark)
-    else On (Instruction InsideInstruction)
+    or_else if eqb b (code "?") then On (Instruction Mark)
+    or_else On (Instruction InsideInstruction)

@@ -7,7 +7,7 @@ use native.Mathlib.Omega.{arith}
 use lib.Dec.{leb, eqb}
 use lib.ListN.{length}
 use borrow.Author.Tests.{le-leb, lt-leb, eq-eqb, ne_eqb}
-use Rattle.base_words.specs.Pick.{if◌then◌else◌}
+use Rattle.base_words.specs.Pick.{if◌then◌or_else◌}
 use Rattle.xml_scanner.specs.declared.Sort.{Sort}
 use Rattle.xml_scanner.specs.declared.Sort.TheVariants.{StartTag, EmptyTag, EndTag, Text, Reference, Comment, Data, Instruction, End, Fault as AFault}
 use Rattle.xml_markup.specs.declared.Markup.{Markup}
@@ -44,8 +44,8 @@ further_from : (p q : ℕ) (r : Reached) → p < q → Further q r → Further p
 further_from p q (Past x) h o = omega arith
 further_from p q (Fault x) h o = tt
 
-further_if : (p : ℕ) (b : Bool) (x y : Reached) → Further p x → Further p y → Further p (if b then x else y)
-unfolding if◌then◌else◌
+further_if : (p : ℕ) (b : Bool) (x y : Reached) → Further p x → Further p y → Further p (if b then x or_else y)
+unfolding if◌then◌or_else◌
 further_if p true x y h k = h
 further_if p false x y h k = k
 
@@ -82,9 +82,9 @@ part_onward t outer p = go (opener t p)
     here : Onward p (part_of (markup t p))
     here = unfold part_of in part_by_lem (markup t p).sort (markup t p).next p (markup_ahead t p)
 
-    by : (b : Bool) → Onward p (if b then part_of (markup t p) else PartFault p)
-    by true = unfold if◌then◌else◌ in here
-    by false = unfold if◌then◌else◌ in tt
+    by : (b : Bool) → Onward p (if b then part_of (markup t p) or_else PartFault p)
+    by true = unfold if◌then◌or_else◌ in here
+    by false = unfold if◌then◌or_else◌ in tt
 
     go : (o : Opener) → Onward p (part_for o t outer p)
     go Start = unfold part_for in tt
@@ -181,7 +181,7 @@ module _ (C D : ℕ → ℕ → ℕ → Reached) (on : (o q e : ℕ) → Further
 
 -- any two numbers of steps that are enough give the same
 stable : (n m : ℕ) (t : List ℕ) (outer p d : ℕ) → length t ≤ p + n → length t ≤ p + m → content_in n t outer p d ≡ content_in m t outer p d
-unfolding content_in content_by if◌then◌else◌
+unfolding content_in content_by if◌then◌or_else◌
 stable zero zero t outer p d h k = refl
 stable zero (suc m) t outer p d h k = sym (rw (le-leb (length t) p (omega arith)))
 stable (suc n) zero t outer p d h k = rw (le-leb (length t) p (omega arith))
@@ -205,12 +205,12 @@ pub part_past : (t : List ℕ) (outer p : ℕ) (g : Part) → g ≡ part_at t ou
 part_past t outer p g eg q e = rw (← eg, e) at (part_onward t outer p)
 
 pub content_end : (t : List ℕ) (outer p d : ℕ) → length t ≤ p → content_at t outer p d ≡ Fault (length t)
-unfolding content_by if◌then◌else◌
+unfolding content_by if◌then◌or_else◌
 content_end t outer p d h = content_is t outer p d ∙ rw (le-leb (length t) p h)
 
 module _ (t : List ℕ) (outer p d : ℕ) (in_text : p < length t) (g : Part) (eg : g ≡ part_at t outer p) where
   content_part : content_at t outer p d ≡ by_part g (element_at t p d) (λ q. content_at t outer q d)
-  unfolding content_by element_at if◌then◌else◌
+  unfolding content_by element_at if◌then◌or_else◌
   content_part = content_is t outer p d ∙ rw (lt-leb (length t) p in_text, ← eg)
 
   pub content_close : (q : ℕ) → g ≡ Close q → content_at t outer p d ≡ Past q
@@ -235,12 +235,12 @@ module _ (t : List ℕ) (outer p d : ℕ) (in_text : p < length t) (g : Part) (e
 
 -- an element at p
 pub element_deep : (t : List ℕ) (p d : ℕ) → d ≡ 0 → element_at t p d ≡ Fault p
-unfolding element_at element_by if◌then◌else◌
+unfolding element_at element_by if◌then◌or_else◌
 element_deep t p d e = rw e
 
 module _ (t : List ℕ) (p d : ℕ) (deep : d ≡ 0 → ⊥) (m : Markup) (em : m ≡ markup t p) (g : Tag) (eg : g ≡ tag_of m p) where
   element_tag : element_at t p d ≡ by_tag g (λ q. content_at t p q (d - 1))
-  unfolding element_at element_by if◌then◌else◌
+  unfolding element_at element_by if◌then◌or_else◌
   element_tag = rw (ne_eqb d 0 deep, ← em, ← eg)
 
   pub element_open : (q : ℕ) → g ≡ Open q → element_at t p d ≡ content_at t p q (d - 1)

@@ -1,7 +1,7 @@
 -- Every row of the table of points holds. Assumes nothing.
 use mathlib.Core.Path.{◌≡◌, refl}
 use mathlib.Core.List.{map}
-use Rattle.base_words.specs.Pick.{if◌then◌else◌}
+use Rattle.base_words.specs.Pick.{if◌then◌or_else◌}
 use Rattle.base_bytes.specs.Bytes.{between, is_letter, is_digit, past}
 use Rattle.base_bytes.specs.Bytes.{same_bytes}
 use Rattle.xml_characters.specs.Names.{is_blank, is_control, begins_name, is_name}
@@ -17,5 +17,5 @@ use Rattle.xml_skip.specs.Skipping.{part_by, part_of, part_for, part_at, tag_by,
 use Rattle.xml_skip.specs.Points.{Point, times, points}
 
 pub points_hold : map (λ (p : Point). skipped p.text 0) points ≡ map (λ (p : Point). p.is) points
-unfolding if◌then◌else◌ between is_letter is_digit past same_bytes is_blank is_control begins_name is_name digit base more number_from numbered character_of is_character behind_less behind_bracket in_opening in_comment in_data in_target in_instruction closing behindValue named behind_blank is_quote equals is_reference in_value in_value_reference in_tag behind_end in_end in_reference at_begin step end_of whole_in_tag whole_in_instruction whole move_to moved if_on if_attribute is_named found_from found is_found twice first lower says_xml is_declaration reserved is_faulty advance scan_from scan begins_at closes_data opens_markup text_from placed markup is_of run after has_second name_from name_at bytes_of opens_name second opener same_name part_by part_of part_for part_at tag_by tag_of go_on by_tag element_by by_part content_by content_in content_at element_at skipped times
+unfolding if◌then◌or_else◌ between is_letter is_digit past same_bytes is_blank is_control begins_name is_name digit base more number_from numbered character_of is_character behind_less behind_bracket in_opening in_comment in_data in_target in_instruction closing behindValue named behind_blank is_quote equals is_reference in_value in_value_reference in_tag behind_end in_end in_reference at_begin step end_of whole_in_tag whole_in_instruction whole move_to moved if_on if_attribute is_named found_from found is_found twice first lower says_xml is_declaration reserved is_faulty advance scan_from scan begins_at closes_data opens_markup text_from placed markup is_of run after has_second name_from name_at bytes_of opens_name second opener same_name part_by part_of part_for part_at tag_by tag_of go_on by_tag element_by by_part content_by content_in content_at element_at skipped times
 points_hold = refl

@@ -2,7 +2,7 @@
 -- repeats the start tag's name byte for byte" (R6), "an end tag with another name: at the `<`" (R5). (RULES: skipping)
 use Rattle.std.specs.Prelude.{ℕ, zero, suc, ◌-◌, List, leb, eqb, length}
 use Rattle.base_words.specs.Blocks.{Bytes}
-use Rattle.base_words.specs.Pick.{if◌then◌else◌}
+use Rattle.base_words.specs.Pick.{if◌then◌or_else◌}
 use Rattle.xml_scanner.specs.declared.Sort.{Sort}
 use Rattle.xml_scanner.specs.declared.Sort.TheVariants.{StartTag, EmptyTag, EndTag, Text, Reference, Comment, Data, Instruction, End, Fault as AFault}
 use Rattle.xml_markup.specs.declared.Markup.{Markup}
@@ -40,7 +40,7 @@ part_of m = part_by m.sort m.next
 -- at p, in the element whose tag is at `outer`: a whole `<`name is an element, whatever follows; a whole `</`name must be that element's name
 unfoldable pub part_for : Opener → Bytes → ℕ → ℕ → Part
 part_for Start t outer p = Element
-part_for EndOpener t outer p = if same_name t outer p then part_of (markup t p) else PartFault p
+part_for EndOpener t outer p = if same_name t outer p then part_of (markup t p) or_else PartFault p
 part_for Other t outer p = part_of (markup t p)
 
 unfoldable pub part_at : Bytes → ℕ → ℕ → Part
@@ -74,7 +74,7 @@ by_tag (TagFault q) content = Fault q
 
 -- an element at p, where `content` skips the content of the element at a place, from a place on, at a depth
 unfoldable pub element_by : (ℕ → ℕ → ℕ → Reached) → Bytes → ℕ → ℕ → Reached
-element_by content t p d = if eqb d 0 then Fault p else by_tag (tag_of (markup t p) p) (λ q. content p q (d - 1))
+element_by content t p d = if eqb d 0 then Fault p or_else by_tag (tag_of (markup t p) p) (λ q. content p q (d - 1))
 
 unfoldable pub by_part : Part → Reached → (ℕ → Reached) → Reached
 by_part Element element content = go_on element content
@@ -86,7 +86,7 @@ by_part (PartFault q) element content = Fault q
 unfoldable pub content_by : (ℕ → ℕ → ℕ → Reached) → Bytes → ℕ → ℕ → ℕ → Reached
 content_by content t outer p d =
     if leb (length t) p then Fault (length t)
-    else by_part (part_at t outer p) (element_by content t p d) (λ q. content outer q d)
+    or_else by_part (part_at t outer p) (element_by content t p d) (λ q. content outer q d)
 
 -- the same, in n steps at most
 unfoldable pub content_in : ℕ → Bytes → ℕ → ℕ → ℕ → Reached

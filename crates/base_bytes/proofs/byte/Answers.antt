@@ -1,6 +1,5 @@
 use mathlib.Core.Path.{sym}
 use lib.ListN.{get_or-eq_default}
-use borrow.Author.Rules.{rules}
 use Rattle.base_bytes.proofs.byte.Goals as goal
 
 pub returns-else-i-text : goal.returns-else-i-text

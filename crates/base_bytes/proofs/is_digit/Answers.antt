@@ -1,5 +1,4 @@
 use Rattle.base_bytes.specs.Bytes.{is_digit}
-use borrow.Author.Rules.{rules}
 use Rattle.base_bytes.proofs.is_digit.Goals as goal
 
 pub returns : goal.returns

@@ -1,5 +1,4 @@
 use Rattle.base_bytes.proofs.PieceLaws.{piece_least}
-use borrow.Author.Rules.{rules}
 use Rattle.base_bytes.proofs.piece.Goals as goal
 
 pub returns : goal.returns

@@ -1,10 +1,7 @@
-use mathlib.Core.Path.{◌≡◌, refl, sym}
+use mathlib.Core.Path.{◌≡◌}
 use Prim.Native.Nat.{◌-◌}
-use native.Mathlib.Omega.{arith}
 use lib.ListN.{length, drop}
 use Rattle.base_bytes.specs.Bytes.{same_bytes}
-use Rattle.base_bytes.proofs.SameLaws.{same_lengths, same_more, same_fails, same_done}
-use borrow.Author.Rules.{rules}
 use Rattle.base_bytes.proofs.same.Given as goal
 
 abbrev pub invariant-loop-i : goal.invariant-loop-i

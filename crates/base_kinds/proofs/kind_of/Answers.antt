@@ -1,4 +1,3 @@
-use borrow.Author.Rules.{rules}
 use Rattle.base_kinds.proofs.kind_of.Goals as goal
 
 pub returns : goal.returns

@@ -1,4 +1,3 @@
-use borrow.Author.Rules.{rules}
 use Rattle.base_kinds.specs.declared.Kind.{Kind}
 use Rattle.base_kinds.proofs.TableLaws.{column_in}
 use Rattle.base_kinds.proofs.parts_of.Goals as goal

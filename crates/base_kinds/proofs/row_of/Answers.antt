@@ -1,5 +1,4 @@
 use mathlib.Core.Path.{refl}
-use borrow.Author.Rules.{rules}
 use Rattle.base_kinds.proofs.TableLaws.{row_out}
 use Rattle.base_kinds.proofs.row_of.Goals as goal
 

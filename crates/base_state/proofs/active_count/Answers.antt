@@ -1,4 +1,3 @@
-use borrow.Author.Rules.{rules}
 use Rattle.base_state.proofs.active_count.Goals as goal
 
 pub returns : goal.returns

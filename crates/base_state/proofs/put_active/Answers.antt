@@ -1,4 +1,3 @@
-use borrow.Author.Rules.{rules}
 use Rattle.base_state.proofs.put_active.Goals as goal
 
 pub returns : goal.returns

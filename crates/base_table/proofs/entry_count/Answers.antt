@@ -1,4 +1,3 @@
-use borrow.Author.Rules.{rules}
 use Rattle.base_table.specs.Table.{entry_count}
 use Rattle.base_table.proofs.entry_count.Goals as goal
 

@@ -1,4 +1,3 @@
-use borrow.Author.Rules.{rules}
 use Rattle.base_table.specs.Table.{exit_count}
 use Rattle.base_table.proofs.exit_count.Goals as goal
 

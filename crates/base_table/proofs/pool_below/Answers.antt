@@ -2,9 +2,8 @@ use Rattle.base_table.specs.Table.{has_number}
 use Rattle.base_words.proofs.SeekLaws.{seek_more}
 use Rattle.base_words.proofs.SeekLaws.{seek_found}
 use Rattle.base_words.proofs.SeekLaws.{seek_loop}
-use Prim.Native.Nat.{◌≤◌, ◌-◌}
-use mathlib.Core.Path.{◌≡◌, sym, ◌∙◌}
-use Rattle.base_words.specs.Seek.{seek}
+use Prim.Native.Nat.{◌-◌}
+use mathlib.Core.Path.{sym, ◌∙◌}
 use borrow.Author.Rules.{rules}
 use Rattle.base_table.proofs.pool_below.Goals as goal
 

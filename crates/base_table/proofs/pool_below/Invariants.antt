@@ -1,11 +1,7 @@
 use Rattle.base_table.specs.Table.{has_number}
-use Rattle.base_words.proofs.SeekLaws.{seek_more}
-use Rattle.base_words.proofs.SeekLaws.{seek_found}
-use Rattle.base_words.proofs.SeekLaws.{seek_loop}
 use Prim.Native.Nat.{◌≤◌, ◌-◌}
-use mathlib.Core.Path.{◌≡◌, sym, ◌∙◌}
+use mathlib.Core.Path.{◌≡◌}
 use Rattle.base_words.specs.Seek.{seek}
-use borrow.Author.Rules.{rules}
 use Rattle.base_table.proofs.pool_below.Given as goal
 
 abbrev pub invariant-loop-p : goal.invariant-loop-p

@@ -1,4 +1,3 @@
-use borrow.Author.Rules.{rules}
 use Rattle.base_table.specs.Table.{pool_of}
 use Rattle.base_table.proofs.pool_of.Goals as goal
 

@@ -1,6 +1,4 @@
 use Prim.Native.Nat.{◌-◌, ◌≤◌}
-use Rattle.base_words.proofs.ClearLaws.{clear_more, clears}
-use borrow.Author.Rules.{rules}
 use lib.ListN.{drop, length, replicate}
 use mathlib.Core.List.{◌++◌}
 use mathlib.Core.Path.{◌≡◌}

@@ -1,5 +1,4 @@
 use Rattle.base_words.proofs.BlockLaws.{tail_in, tail_out}
-use borrow.Author.Rules.{rules}
 use Rattle.base_words.proofs.tail.Goals as goal
 
 pub returns-then-i-s : goal.returns-then-i-s

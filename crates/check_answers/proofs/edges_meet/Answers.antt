@@ -1,9 +1,5 @@
-use Prim.Native.Nat.{◌-◌, ◌≤◌}
-use Rattle.base_words.specs.All.{all}
-use Rattle.check_answers.specs.Answers.{edge_by, edges_meet_by}
-use Rattle.base_words.specs.Counts.{edges}
-use mathlib.Core.Bool.{true}
-use mathlib.Core.Path.{◌≡◌}
+use Prim.Native.Nat.{◌-◌}
+use Rattle.check_answers.specs.Answers.{edges_meet_by}
 use Rattle.base_words.proofs.PickLaws.{chains}
 use Rattle.base_words.proofs.AllLaws.{all_loop}
 use borrow.Author.Rules.{rules}

@@ -1,12 +1,9 @@
 use Prim.Native.Nat.{◌-◌, ◌≤◌}
 use Rattle.base_words.specs.All.{all}
-use Rattle.check_answers.specs.Answers.{edge_by, edges_meet_by}
+use Rattle.check_answers.specs.Answers.{edge_by}
 use Rattle.base_words.specs.Counts.{edges}
 use mathlib.Core.Bool.{true}
 use mathlib.Core.Path.{◌≡◌}
-use Rattle.base_words.proofs.PickLaws.{chains}
-use Rattle.base_words.proofs.AllLaws.{all_loop}
-use borrow.Author.Rules.{rules}
 use Rattle.check_answers.proofs.edges_meet.Given as goal
 
 abbrev pub invariant-loop-k : goal.invariant-loop-k

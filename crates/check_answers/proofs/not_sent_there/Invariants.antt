@@ -2,11 +2,8 @@ use mathlib.Core.Bool.{◌&&◌, not, true}
 use Prim.Native.Nat.{◌-◌, ◌≤◌}
 use Rattle.base_words.specs.All.{all}
 use Rattle.base_words.specs.Counts.{names}
-use Rattle.check_answers.specs.Answers.{receives_by, sends_by, not_sent_there_by}
+use Rattle.check_answers.specs.Answers.{receives_by, sends_by}
 use mathlib.Core.Path.{◌≡◌}
-use Rattle.base_words.proofs.PickLaws.{chains}
-use Rattle.base_words.proofs.AllLaws.{all_loop}
-use borrow.Author.Rules.{rules}
 use Rattle.check_answers.proofs.not_sent_there.Given as goal
 
 abbrev pub invariant-loop-m : goal.invariant-loop-m

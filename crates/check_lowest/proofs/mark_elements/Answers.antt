@@ -1,10 +1,4 @@
-use Prim.Native.Nat.{◌-◌, ◌≤◌}
-use Rattle.base_table.specs.Table.{element_at}
-use Rattle.check_tally.specs.Tally.{all_marks, tally}
-use lib.ListN.{length}
-use Rattle.check_summary.specs.Summary.{regions}
-use Rattle.base_words.specs.Each.{tab}
-use mathlib.Core.Path.{◌≡◌}
+use Prim.Native.Nat.{◌-◌}
 use Rattle.check_tally.proofs.TallyLaws.{folds}
 use borrow.Author.Rules.{rules}
 use Rattle.check_lowest.proofs.mark_elements.Goals as goal

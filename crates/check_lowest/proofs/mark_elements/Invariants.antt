@@ -5,8 +5,6 @@ use lib.ListN.{length}
 use Rattle.check_summary.specs.Summary.{regions}
 use Rattle.base_words.specs.Each.{tab}
 use mathlib.Core.Path.{◌≡◌}
-use Rattle.check_tally.proofs.TallyLaws.{folds}
-use borrow.Author.Rules.{rules}
 use Rattle.check_lowest.proofs.mark_elements.Given as goal
 
 abbrev pub invariant-loop-e : goal.invariant-loop-e

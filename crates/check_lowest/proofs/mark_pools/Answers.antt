@@ -1,10 +1,4 @@
-use Prim.Native.Nat.{◌-◌, ◌≤◌}
-use Rattle.check_tally.specs.Tally.{all_marks, tally}
-use lib.ListN.{length}
-use Rattle.check_lowest.specs.Model.{pool_at}
-use Rattle.check_verdict.specs.Verdict.{pool_regions}
-use Rattle.base_words.specs.Each.{tab}
-use mathlib.Core.Path.{◌≡◌}
+use Prim.Native.Nat.{◌-◌}
 use Rattle.check_tally.proofs.TallyLaws.{folds}
 use borrow.Author.Rules.{rules}
 use Rattle.check_lowest.proofs.mark_pools.Goals as goal

@@ -5,8 +5,6 @@ use Rattle.check_lowest.specs.Model.{pool_at}
 use Rattle.check_verdict.specs.Verdict.{pool_regions}
 use Rattle.base_words.specs.Each.{tab}
 use mathlib.Core.Path.{◌≡◌}
-use Rattle.check_tally.proofs.TallyLaws.{folds}
-use borrow.Author.Rules.{rules}
 use Rattle.check_lowest.proofs.mark_pools.Given as goal
 
 abbrev pub invariant-loop-p : goal.invariant-loop-p

@@ -1,9 +1,7 @@
 use Rattle.base_words.proofs.AllLaws.{eq_eqb_by, ne_eqb_by}
-use Prim.Native.Nat.{◌-◌, ◌≤◌}
-use mathlib.Core.Path.{◌≡◌}
+use Prim.Native.Nat.{◌-◌}
 use mathlib.Core.Bool.{true}
 use lib.Dec.{eqb}
-use Rattle.base_words.specs.All.{all}
 use Rattle.base_words.specs.Words.{at}
 use Rattle.base_words.proofs.AllLaws.{all_loop, all_more, all_fails'}
 use borrow.Author.Rules.{rules}

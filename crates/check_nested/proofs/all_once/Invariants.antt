@@ -1,12 +1,9 @@
-use Rattle.base_words.proofs.AllLaws.{eq_eqb_by, ne_eqb_by}
 use Prim.Native.Nat.{◌-◌, ◌≤◌}
 use mathlib.Core.Path.{◌≡◌}
 use mathlib.Core.Bool.{true}
 use lib.Dec.{eqb}
 use Rattle.base_words.specs.All.{all}
 use Rattle.base_words.specs.Words.{at}
-use Rattle.base_words.proofs.AllLaws.{all_loop, all_more, all_fails'}
-use borrow.Author.Rules.{rules}
 use Rattle.check_nested.proofs.all_once.Given as goal
 
 abbrev pub invariant-loop-k : goal.invariant-loop-k

@@ -1,8 +1,8 @@
-use Prim.Native.Nat.{◌-◌, ◌≤◌}
-use mathlib.Core.Path.{◌≡◌, sym, ◌∙◌, ap}
+use Prim.Native.Nat.{◌-◌}
+use mathlib.Core.Path.{sym, ◌∙◌, ap}
 use Rattle.base_words.specs.Seek.{seek}
 use Rattle.base_words.proofs.SeekLaws.{seek_found, seek_more, seek_done, seek_loop}
-use Rattle.base_table.specs.Table.{element_count, element_at}
+use Rattle.base_table.specs.Table.{element_at}
 use Rattle.check_nesting.specs.Nesting.{starts}
 use Rattle.check_nesting.specs.Deciding.{first_of}
 use borrow.Author.Rules.{rules}

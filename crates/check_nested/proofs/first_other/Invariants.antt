@@ -1,12 +1,9 @@
 use Prim.Native.Nat.{◌-◌, ◌≤◌}
-use mathlib.Core.Path.{◌≡◌, ap}
+use mathlib.Core.Path.{◌≡◌}
 use mathlib.Core.Bool.{not}
 use lib.Dec.{eqb}
 use Rattle.base_words.specs.Seek.{seek}
 use Rattle.base_words.specs.Words.{at}
-use Rattle.base_words.proofs.AllLaws.{eq_eqb_by, ne_eqb_by}
-use Rattle.base_words.proofs.SeekLaws.{seek_found, seek_more, seek_done, seek_loop}
-use borrow.Author.Rules.{rules}
 use Rattle.check_nested.proofs.first_other.Given as goal
 
 abbrev pub invariant-loop-k : goal.invariant-loop-k

@@ -1,11 +1,9 @@
 use Prim.Native.Nat.{◌-◌, ◌≤◌}
-use mathlib.Core.Path.{◌≡◌, sym, ◌∙◌, ap}
+use mathlib.Core.Path.{◌≡◌}
 use mathlib.Core.Bool.{not}
 use Rattle.base_words.specs.Seek.{seek}
-use Rattle.base_words.proofs.SeekLaws.{seek_found, seek_more, seek_done, seek_loop}
 use Rattle.base_table.specs.Table.{pool_count, element_count, element_at}
-use Rattle.check_nesting.specs.Deciding.{is_nested, unnested}
-use borrow.Author.Rules.{rules}
+use Rattle.check_nesting.specs.Deciding.{is_nested}
 use Rattle.check_nested.proofs.first_unnested.Given as goal
 
 abbrev pub invariant-loop-p : goal.invariant-loop-p

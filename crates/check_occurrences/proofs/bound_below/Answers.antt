@@ -1,8 +1,4 @@
-use Prim.Native.Nat.{◌-◌, ◌≤◌}
-use Rattle.check_occurrences.specs.Occurrences.{binds_field}
-use Rattle.base_table.specs.Table.{item_at}
-use Rattle.base_words.specs.Sum.{sum}
-use mathlib.Core.Path.{◌≡◌}
+use Prim.Native.Nat.{◌-◌}
 use Rattle.base_words.proofs.SumLaws.{sum_loop}
 use borrow.Author.Rules.{rules}
 use Rattle.check_occurrences.proofs.bound_below.Goals as goal

@@ -3,8 +3,6 @@ use Rattle.check_occurrences.specs.Occurrences.{binds_field}
 use Rattle.base_table.specs.Table.{item_at}
 use Rattle.base_words.specs.Sum.{sum}
 use mathlib.Core.Path.{◌≡◌}
-use Rattle.base_words.proofs.SumLaws.{sum_loop}
-use borrow.Author.Rules.{rules}
 use Rattle.check_occurrences.proofs.bound_below.Given as goal
 
 abbrev pub invariant-loop-i : goal.invariant-loop-i

@@ -2,8 +2,6 @@ use Prim.Native.Nat.{◌-◌, ◌≤◌}
 use Rattle.check_occurrences.specs.Occurrences.{is_default}
 use Rattle.base_words.specs.Sum.{sum}
 use mathlib.Core.Path.{◌≡◌}
-use Rattle.base_words.proofs.SumLaws.{sum_loop}
-use borrow.Author.Rules.{rules}
 use Rattle.check_occurrences.proofs.defaults_below.Given as goal
 
 abbrev pub invariant-loop-j : goal.invariant-loop-j

@@ -1,7 +1,6 @@
 use mathlib.Core.Path.{◌∙◌, sym}
 use lib.Seq.{get_or-drop}
 use Rattle.base_table.specs.Places.{item_place}
-use borrow.Author.Rules.{rules}
 use Rattle.check_occurrences.proofs.item_word.Goals as goal
 
 pub returns : goal.returns

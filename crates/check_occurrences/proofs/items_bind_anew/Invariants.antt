@@ -3,9 +3,6 @@ use Rattle.base_words.specs.All.{all}
 use Rattle.check_occurrences.specs.Occurrences.{binds_anew}
 use mathlib.Core.Bool.{true}
 use mathlib.Core.Path.{◌≡◌}
-use Rattle.base_words.proofs.PickLaws.{chains}
-use Rattle.base_words.proofs.AllLaws.{all_loop}
-use borrow.Author.Rules.{rules}
 use Rattle.check_occurrences.proofs.items_bind_anew.Given as goal
 
 abbrev pub invariant-loop-i : goal.invariant-loop-i

@@ -1,8 +1,4 @@
-use Prim.Native.Nat.{◌-◌, ◌≤◌}
-use Rattle.base_words.specs.All.{all}
-use Rattle.check_occurrences.specs.Occurrences.{template_once}
-use mathlib.Core.Bool.{true}
-use mathlib.Core.Path.{◌≡◌}
+use Prim.Native.Nat.{◌-◌}
 use Rattle.base_words.proofs.PickLaws.{chains}
 use Rattle.base_words.proofs.AllLaws.{all_loop}
 use borrow.Author.Rules.{rules}

@@ -3,9 +3,6 @@ use Rattle.base_words.specs.All.{all}
 use Rattle.check_occurrences.specs.Occurrences.{template_once}
 use mathlib.Core.Bool.{true}
 use mathlib.Core.Path.{◌≡◌}
-use Rattle.base_words.proofs.PickLaws.{chains}
-use Rattle.base_words.proofs.AllLaws.{all_loop}
-use borrow.Author.Rules.{rules}
 use Rattle.check_occurrences.proofs.templates_once.Given as goal
 
 abbrev pub invariant-loop-j : goal.invariant-loop-j

@@ -1,11 +1,5 @@
-use Prim.Native.Nat.{◌-◌, ◌≤◌}
-use Rattle.base_words.specs.Words.{at}
-use Rattle.base_table.specs.Places.{edge_place}
-use Rattle.base_words.specs.Counts.{edges}
-use lib.ListN.{length}
-use Rattle.check_tally.specs.Tally.{place, tally, region_marks}
-use Rattle.base_words.specs.Each.{tab}
-use mathlib.Core.Path.{◌≡◌}
+use Prim.Native.Nat.{◌-◌}
+use Rattle.check_tally.specs.Tally.{region_marks}
 use Rattle.check_tally.proofs.TallyLaws.{tally_loop}
 use Rattle.check_summary.specs.Summary.{edge_region}
 use borrow.Author.Rules.{rules}

@@ -1,10 +1,5 @@
-use Prim.Native.Nat.{◌+◌, ◌-◌, ◌≤◌}
-use lib.ListN.{length}
-use Rattle.base_table.specs.Table.{message_name}
-use Rattle.base_words.specs.Counts.{names}
-use Rattle.check_tally.specs.Tally.{place, tally, region_marks}
-use Rattle.base_words.specs.Each.{tab}
-use mathlib.Core.Path.{◌≡◌}
+use Prim.Native.Nat.{◌-◌}
+use Rattle.check_tally.specs.Tally.{region_marks}
 use Rattle.check_tally.proofs.TallyLaws.{tally_loop}
 use Rattle.check_summary.specs.Summary.{name_region}
 use borrow.Author.Rules.{rules}

@@ -2,12 +2,9 @@ use Prim.Native.Nat.{◌+◌, ◌-◌, ◌≤◌}
 use lib.ListN.{length}
 use Rattle.base_table.specs.Table.{message_name}
 use Rattle.base_words.specs.Counts.{names}
-use Rattle.check_tally.specs.Tally.{place, tally, region_marks}
+use Rattle.check_tally.specs.Tally.{place, tally}
 use Rattle.base_words.specs.Each.{tab}
 use mathlib.Core.Path.{◌≡◌}
-use Rattle.check_tally.proofs.TallyLaws.{tally_loop}
-use Rattle.check_summary.specs.Summary.{name_region}
-use borrow.Author.Rules.{rules}
 use Rattle.check_summary.proofs.mark_some.Given as goal
 
 abbrev pub invariant-loop-j : goal.invariant-loop-j

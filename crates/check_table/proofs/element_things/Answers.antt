@@ -1,9 +1,9 @@
 use mathlib.Core.Path.{refl}
-use Prim.Native.Nat.{◌≤◌, ◌-◌}
+use Prim.Native.Nat.{◌-◌}
 use borrow.Author.Rules.{rules}
 use Rattle.base_table.specs.Places.{element_words}
 use Rattle.check_limits.specs.Limits.{held_fits}
-use Rattle.check_table.proofs.ThingsLaws.{Right, right_none, right_more, right_fails, right_done}
+use Rattle.check_table.proofs.ThingsLaws.{right_none, right_more, right_fails, right_done}
 use mathlib.Core.Path.{ap}
 use mathlib.Core.Bool.{not}
 use Rattle.check_table.proofs.element_things.Goals as goal

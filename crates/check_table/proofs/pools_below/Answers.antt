@@ -1,11 +1,7 @@
-use mathlib.Core.Path.{◌≡◌}
-use mathlib.Core.Bool.{true}
-use Prim.Native.Nat.{◌≤◌, ◌-◌}
+use Prim.Native.Nat.{◌-◌}
 use borrow.Author.Rules.{rules}
-use Rattle.base_words.specs.All.{all}
 use Rattle.base_words.proofs.PickLaws.{flags}
 use Rattle.base_words.proofs.AllLaws.{all_loop}
-use Rattle.check_limits.specs.Limits.{pool_fits}
 use Rattle.check_table.proofs.pools_below.Goals as goal
 
 ruleset L = (rules, all_loop, flags)

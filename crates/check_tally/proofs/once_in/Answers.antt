@@ -1,9 +1,4 @@
-use Prim.Native.Nat.{◌+◌, ◌-◌, ◌≤◌}
-use Rattle.base_words.specs.All.{all}
-use Rattle.base_words.specs.Words.{at}
-use lib.Dec.{leb}
-use mathlib.Core.Bool.{true}
-use mathlib.Core.Path.{◌≡◌}
+use Prim.Native.Nat.{◌-◌}
 use Rattle.base_words.proofs.AllLaws.{tests_by, all_loop}
 use Rattle.check_tally.specs.Tally.{once_in}
 use borrow.Author.Rules.{rules}

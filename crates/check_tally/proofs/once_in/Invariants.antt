@@ -4,9 +4,6 @@ use Rattle.base_words.specs.Words.{at}
 use lib.Dec.{leb}
 use mathlib.Core.Bool.{true}
 use mathlib.Core.Path.{◌≡◌}
-use Rattle.base_words.proofs.AllLaws.{tests_by, all_loop}
-use Rattle.check_tally.specs.Tally.{once_in}
-use borrow.Author.Rules.{rules}
 use Rattle.check_tally.proofs.once_in.Given as goal
 
 abbrev pub invariant-loop-k : goal.invariant-loop-k

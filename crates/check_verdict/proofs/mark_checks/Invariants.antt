@@ -1,12 +1,10 @@
 use Prim.Native.Nat.{◌+◌, ◌-◌, ◌≤◌}
-use Rattle.check_verdict.specs.Verdict.{broken_from, broken_if, broken_region}
+use Rattle.check_verdict.specs.Verdict.{broken_from, broken_if}
 use Rattle.check_model.specs.Checks.{checks}
 use lib.ListN.{length}
-use Rattle.check_tally.specs.Tally.{place, tally, region_marks}
+use Rattle.check_tally.specs.Tally.{place, tally}
 use Rattle.base_words.specs.Each.{tab}
 use mathlib.Core.Path.{◌≡◌}
-use Rattle.check_tally.proofs.TallyLaws.{tally_loop}
-use borrow.Author.Rules.{rules}
 use Rattle.check_verdict.proofs.mark_checks.Given as goal
 
 abbrev pub invariant-loop-k : goal.invariant-loop-k

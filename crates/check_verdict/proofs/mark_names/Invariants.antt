@@ -1,12 +1,10 @@
 use Prim.Native.Nat.{◌-◌, ◌≤◌}
 use lib.ListN.{length}
-use Rattle.check_verdict.specs.Verdict.{name_if, names_from, names_region}
+use Rattle.check_verdict.specs.Verdict.{name_if, names_from}
 use Rattle.base_words.specs.Counts.{names}
-use Rattle.check_tally.specs.Tally.{place, tally, region_marks}
+use Rattle.check_tally.specs.Tally.{place, tally}
 use Rattle.base_words.specs.Each.{tab}
 use mathlib.Core.Path.{◌≡◌}
-use Rattle.check_tally.proofs.TallyLaws.{tally_loop}
-use borrow.Author.Rules.{rules}
 use Rattle.check_verdict.proofs.mark_names.Given as goal
 
 abbrev pub invariant-loop-m : goal.invariant-loop-m

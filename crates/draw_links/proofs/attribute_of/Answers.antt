@@ -1,5 +1,4 @@
 use Rattle.base_words.specs.Words.{at}
-use borrow.Author.Rules.{rules}
 use Rattle.draw_links.proofs.attribute_of.Goals as goal
 
 pub returns : goal.returns

@@ -1,16 +1,12 @@
 use Prim.Native.Nat.{◌-◌, ◌≤◌}
-use Rattle.draw_links.proofs.LinkLaws.{found_or_none, none_found}
 use Rattle.draw_links.specs.Links.{has_id}
 use Rattle.draw_links.specs.Notes.{Noted}
-use Rattle.base_words.proofs.PickLaws.{flag_is}
-use Rattle.base_words.proofs.SeekLaws.{seek_more, seek_none}
 use Rattle.base_words.specs.Seek.{seek}
 use mathlib.Core.Bool.{◌&&◌}
 use mathlib.Core.Path.{◌≡◌}
 use Rattle.draw_things.specs.Things.{is_node, participant, sort}
 use lib.Dec.{eqb}
 use mathlib.Core.Bool.{◌||◌}
-use borrow.Author.Rules.{rules}
 use Rattle.draw_links.proofs.end_named.Given as goal
 
 abbrev pub invariant-loop-j : goal.invariant-loop-j

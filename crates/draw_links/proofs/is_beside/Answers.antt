@@ -1,7 +1,6 @@
 use Rattle.draw_links.proofs.TestLaws.{and_told}
 use Rattle.base_words.proofs.PickLaws.{and_yes, flag_is}
 use mathlib.Core.Path.{refl}
-use borrow.Author.Rules.{rules}
 use Rattle.draw_links.proofs.is_beside.Goals as goal
 
 pub returns-then-is_node_at : goal.returns-then-is_node_at

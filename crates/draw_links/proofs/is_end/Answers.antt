@@ -1,6 +1,5 @@
 use Rattle.base_bytes.proofs.OrLaws.{or_no, or_told}
 use Rattle.base_words.proofs.PickLaws.{eqb_same, flag_is}
-use borrow.Author.Rules.{rules}
 use Rattle.draw_links.proofs.is_end.Goals as goal
 
 pub returns-then-is_node_at : goal.returns-then-is_node_at

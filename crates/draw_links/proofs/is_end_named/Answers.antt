@@ -1,7 +1,6 @@
 use Rattle.draw_links.proofs.TestLaws.{and_told}
 use Rattle.draw_links.proofs.TargetLaws.{end_no_flow}
 use Rattle.base_words.proofs.PickLaws.{and_yes, flag_is}
-use borrow.Author.Rules.{rules}
 use Rattle.draw_links.proofs.is_end_named.Goals as goal
 
 pub returns-then-is_end : goal.returns-then-is_end

@@ -2,7 +2,6 @@ use Rattle.draw_links.proofs.TestLaws.{and_told}
 use Rattle.base_words.proofs.AllLaws.{eq_eqb_by}
 use Rattle.base_words.proofs.PickLaws.{and_yes, eqb_same}
 use borrow.Author.Tests.{ne_eqb}
-use borrow.Author.Rules.{rules}
 use Rattle.draw_links.proofs.is_exit.Goals as goal
 
 pub returns-then-sort_of-eq-SEQUENCE_FLOW : goal.returns-then-sort_of-eq-SEQUENCE_FLOW

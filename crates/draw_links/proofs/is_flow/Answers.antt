@@ -2,7 +2,6 @@ use Rattle.base_bytes.proofs.OrLaws.{or_no, or_told}
 use Rattle.base_words.proofs.AllLaws.{ne_eqb_by}
 use Rattle.base_words.proofs.PickLaws.{eqb_same}
 use borrow.Author.Tests.{eq-eqb}
-use borrow.Author.Rules.{rules}
 use Rattle.draw_links.proofs.is_flow.Goals as goal
 
 pub returns-then-s-eq-SEQUENCE_FLOW : goal.returns-then-s-eq-SEQUENCE_FLOW

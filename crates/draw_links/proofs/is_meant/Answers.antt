@@ -1,6 +1,5 @@
 use Rattle.draw_links.proofs.TestLaws.{and_told}
 use Rattle.base_words.proofs.PickLaws.{and_yes, flag_is}
-use borrow.Author.Rules.{rules}
 use Rattle.draw_links.proofs.is_meant.Goals as goal
 
 pub returns-then-may_name : goal.returns-then-may_name

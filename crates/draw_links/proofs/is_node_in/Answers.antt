@@ -1,6 +1,5 @@
 use Rattle.draw_links.proofs.TestLaws.{and_told}
 use Rattle.base_words.proofs.PickLaws.{and_yes, eqb_same, flag_is}
-use borrow.Author.Rules.{rules}
 use Rattle.draw_links.proofs.is_node_in.Goals as goal
 
 pub returns-then-is_node_at : goal.returns-then-is_node_at

@@ -2,7 +2,6 @@ use Rattle.draw_links.proofs.TestLaws.{and_told}
 use Rattle.draw_links.proofs.TargetLaws.{node_no_flow}
 use Rattle.base_words.proofs.AllLaws.{and_left}
 use Rattle.base_words.proofs.PickLaws.{and_yes, flag_is}
-use borrow.Author.Rules.{rules}
 use Rattle.draw_links.proofs.is_node_named.Goals as goal
 
 pub returns-then-is_node_in : goal.returns-then-is_node_in

@@ -3,7 +3,6 @@ use Rattle.draw_links.proofs.TargetLaws.{process_no_flow}
 use Rattle.base_words.proofs.AllLaws.{eq_eqb_by}
 use Rattle.base_words.proofs.PickLaws.{and_yes, eqb_same}
 use borrow.Author.Tests.{ne_eqb}
-use borrow.Author.Rules.{rules}
 use Rattle.draw_links.proofs.is_process_named.Goals as goal
 
 pub returns-then-sort_of-eq-PROCESS : goal.returns-then-sort_of-eq-PROCESS

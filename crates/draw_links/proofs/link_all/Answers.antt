@@ -1,11 +1,7 @@
-use Prim.Native.Nat.{◌-◌, ◌≤◌}
+use Prim.Native.Nat.{◌-◌}
 use Rattle.draw_links.proofs.TargetLaws.{notes_stay}
-use Rattle.draw_links.specs.Links.{linked, links}
-use Rattle.draw_links.specs.Notes.{NotedIf}
+use Rattle.draw_links.specs.Links.{links}
 use Rattle.base_words.proofs.IterLaws.{iter_done, iter_more, iter_none}
-use Rattle.base_words.specs.Iter.{iter}
-use lib.ListN.{length}
-use mathlib.Core.Path.{◌≡◌}
 use borrow.Author.Rules.{rules}
 use Rattle.draw_links.proofs.link_all.Goals as goal
 

@@ -1,5 +1,4 @@
 use Rattle.draw_links.proofs.TargetLaws.{linked_back}
-use borrow.Author.Rules.{rules}
 use Rattle.draw_links.proofs.link_noted.Goals as goal
 
 pub returns : goal.returns

@@ -1,6 +1,5 @@
 use mathlib.Core.Bool.{false≢true}
 use Rattle.base_words.proofs.PickLaws.{flag_is}
-use borrow.Author.Rules.{rules}
 use Rattle.draw_links.proofs.links.Goals as goal
 
 pub returns-then-are_free : goal.returns-then-are_free

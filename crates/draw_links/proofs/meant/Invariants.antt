@@ -1,12 +1,8 @@
 use Prim.Native.Nat.{◌-◌, ◌≤◌}
-use Rattle.draw_links.proofs.LinkLaws.{found_or_none, none_found}
-use Rattle.draw_links.specs.Links.{has_id, may_name, meant}
-use Rattle.base_words.proofs.PickLaws.{flag_is}
-use Rattle.base_words.proofs.SeekLaws.{seek_more, seek_none}
+use Rattle.draw_links.specs.Links.{has_id, may_name}
 use Rattle.base_words.specs.Seek.{seek}
 use mathlib.Core.Bool.{◌&&◌}
 use mathlib.Core.Path.{◌≡◌}
-use borrow.Author.Rules.{rules}
 use Rattle.draw_links.proofs.meant.Given as goal
 
 abbrev pub invariant-loop-j : goal.invariant-loop-j

@@ -1,4 +1,3 @@
-use borrow.Author.Rules.{rules}
 use Rattle.draw_links.proofs.meant_by.Goals as goal
 
 pub returns-then-noted : goal.returns-then-noted

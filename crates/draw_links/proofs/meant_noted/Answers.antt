@@ -1,5 +1,4 @@
 use Rattle.draw_links.proofs.NoteLaws.{end_meant, node_meant, process-meant}
-use borrow.Author.Rules.{rules}
 use Rattle.draw_links.proofs.meant_noted.Goals as goal
 
 pub returns-then-s-eq-SEQUENCE_FLOW : goal.returns-then-s-eq-SEQUENCE_FLOW

@@ -1,14 +1,7 @@
-use Prim.Native.Nat.{◌-◌, ◌≤◌}
+use Prim.Native.Nat.{◌-◌}
 use Rattle.draw_links.proofs.LinkLaws.{found_or_none, none_found}
-use Rattle.draw_links.specs.Links.{has_id}
-use Rattle.draw_links.specs.Notes.{Noted}
 use Rattle.base_words.proofs.PickLaws.{flag_is}
 use Rattle.base_words.proofs.SeekLaws.{seek_more, seek_none}
-use Rattle.base_words.specs.Seek.{seek}
-use mathlib.Core.Bool.{◌&&◌}
-use mathlib.Core.Path.{◌≡◌}
-use Rattle.draw_things.specs.Things.{process, sort}
-use lib.Dec.{eqb}
 use borrow.Author.Rules.{rules}
 use Rattle.draw_links.proofs.process_named.Goals as goal
 

@@ -1,5 +1,4 @@
 use Rattle.log_lines.proofs.Laws.{message_is_lem}
-use borrow.Author.Rules.{rules}
 use Rattle.log_lines.proofs.message_from.Goals as goal
 
 pub returns : goal.returns

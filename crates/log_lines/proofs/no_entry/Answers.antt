@@ -1,4 +1,3 @@
-use borrow.Author.Rules.{rules}
 use Rattle.log_lines.proofs.no_entry.Goals as goal
 
 pub returns : goal.returns

@@ -1,5 +1,4 @@
 use Rattle.log_lines.proofs.Laws.{none_is}
-use borrow.Author.Rules.{rules}
 use Rattle.log_lines.proofs.none.Goals as goal
 
 pub returns : goal.returns

@@ -1,5 +1,4 @@
 use Rattle.log_lines.proofs.Laws.{numbered_is}
-use borrow.Author.Rules.{rules}
 use Rattle.log_lines.proofs.number_before.Goals as goal
 
 pub returns : goal.returns

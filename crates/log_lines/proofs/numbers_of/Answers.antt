@@ -1,5 +1,4 @@
 use Rattle.log_lines.proofs.Laws.{placed_is}
-use borrow.Author.Rules.{rules}
 use Rattle.log_lines.proofs.numbers_of.Goals as goal
 
 pub returns : goal.returns

@@ -1,6 +1,5 @@
 use mathlib.Core.Path.{◌∙◌}
 use Rattle.log_lines.proofs.Laws.{post_not, post_is}
-use borrow.Author.Rules.{rules}
 use Rattle.log_lines.proofs.post_entry.Goals as goal
 
 pub returns-then-m : goal.returns-then-m

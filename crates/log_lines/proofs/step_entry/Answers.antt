@@ -1,6 +1,5 @@
 use mathlib.Core.Path.{◌∙◌}
 use Rattle.log_lines.proofs.Laws.{step_not, step_is}
-use borrow.Author.Rules.{rules}
 use Rattle.log_lines.proofs.step_entry.Goals as goal
 
 pub returns-then-both : goal.returns-then-both

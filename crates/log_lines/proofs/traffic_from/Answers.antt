@@ -1,6 +1,5 @@
 use mathlib.Core.Path.{◌∙◌}
 use Rattle.log_lines.proofs.Laws.{traffic_none, traffic_sent, traffic_consumed, traffic_other}
-use borrow.Author.Rules.{rules}
 use Rattle.log_lines.proofs.traffic_from.Goals as goal
 
 pub returns-then-same : goal.returns-then-same

@@ -1,11 +1,8 @@
-use mathlib.Core.Path.{◌≡◌, ◌∙◌, refl, sym}
+use mathlib.Core.Path.{◌∙◌, sym}
 use borrow.Author.Tests.{le-leb, lt-leb}
-use lib.ListN.{length}
 use Rattle.base_words.proofs.PickLaws.{pick_yes, pick_no}
-use Rattle.meaning.specs.Tuples.{empty}
-use Rattle.log_lines.specs.Entries.{values_in, values_from}
+use Rattle.log_lines.specs.Entries.{values_from}
 use Rattle.log_lines.proofs.Laws.{values_out, values_wrong, values_last, values_next}
-use borrow.Author.Rules.{rules}
 use Rattle.log_lines.proofs.values_from.Goals as goal
 
 pub returns-then-line-p : goal.returns-then-line-p

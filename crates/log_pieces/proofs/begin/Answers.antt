@@ -1,6 +1,5 @@
 use native.Mathlib.Omega.{arith}
 use Rattle.log_pieces.proofs.PieceLaws.{piece_short, piece_written}
-use borrow.Author.Rules.{rules}
 use Rattle.log_pieces.proofs.begin.Goals as goal
 
 pub returns-then-out-n : goal.returns-then-out-n

@@ -1,6 +1,5 @@
 use Rattle.log_pieces.proofs.PieceLaws.{post_line_lem}
 use Rattle.write_buffer.proofs.OverLaws.{after}
-use borrow.Author.Rules.{rules}
 use Rattle.log_pieces.proofs.put_post_line.Goals as goal
 
 pub returns : goal.returns

@@ -1,6 +1,5 @@
 use Rattle.log_write.specs.Xes.{event_closing}
 use Rattle.write_buffer.proofs.OverLaws.{after}
-use borrow.Author.Rules.{rules}
 use Rattle.log_write.proofs.put_closing.Goals as goal
 
 pub returns : goal.returns

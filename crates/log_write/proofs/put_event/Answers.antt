@@ -1,6 +1,5 @@
 use Rattle.log_write.specs.Xes.{event_opening, event_text}
 use Rattle.write_buffer.proofs.OverLaws.{after}
-use borrow.Author.Rules.{rules}
 use Rattle.log_write.proofs.put_event.Goals as goal
 
 pub returns : goal.returns

@@ -1,6 +1,5 @@
 use Rattle.log_write.specs.Xes.{opening, extension, time_extension, global, classifier, trace_opening, header}
 use Rattle.write_buffer.proofs.OverLaws.{after}
-use borrow.Author.Rules.{rules}
 use Rattle.log_write.proofs.put_header.Goals as goal
 
 pub returns : goal.returns

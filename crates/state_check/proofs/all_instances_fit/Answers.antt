@@ -1,12 +1,7 @@
-use Prim.Native.Nat.{◌-◌, ◌≤◌}
-use Rattle.state_fits.specs.Fits.{instances_fit}
+use Prim.Native.Nat.{◌-◌}
 use Rattle.base_words.proofs.AllLaws.{all_loop}
 use Rattle.base_words.proofs.PickLaws.{flags}
-use Rattle.base_words.specs.All.{all}
-use Rattle.base_words.specs.Counts.{pools}
 use borrow.Author.Rules.{rules}
-use mathlib.Core.Bool.{true}
-use mathlib.Core.Path.{◌≡◌}
 use Rattle.state_check.proofs.all_instances_fit.Goals as goal
 
 ruleset L = (rules, all_loop, flags)

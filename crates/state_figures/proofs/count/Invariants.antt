@@ -1,12 +1,10 @@
 use Prim.Native.Nat.{◌-◌, ◌≤◌}
-use mathlib.Core.Path.{◌≡◌, ◌∙◌, ap}
+use mathlib.Core.Path.{◌≡◌}
 use mathlib.Core.List.{◌++◌}
-use borrow.Author.Rules.{rules}
 use lib.ListN.{length, drop}
 use Rattle.base_words.specs.Each.{tab}
 use Rattle.base_table.specs.Table.{pool_count}
 use Rattle.state_figures.specs.Figures.{record_of}
-use Rattle.state_figures.proofs.RecordLaws.{fill_none, fill_more, counted_by}
 use Rattle.state_figures.proofs.count.Given as goal
 
 abbrev pub invariant-loop-p : goal.invariant-loop-p

@@ -1,4 +1,3 @@
-use borrow.Author.Rules.{rules}
 use Rattle.state_figures.proofs.DeskLaws.{number_first, number_wrong, number_right}
 use mathlib.Core.Path.{ap}
 use mathlib.Core.Bool.{not}

@@ -1,5 +1,4 @@
 use mathlib.Core.Path.{◌∙◌}
-use borrow.Author.Rules.{rules}
 use Rattle.state_figures.proofs.DeskLaws.{figured_first, figured_wrong, figured_right}
 use Rattle.state_figures.proofs.figure.Goals as goal
 

@@ -1,10 +1,6 @@
-use Prim.Native.Nat.{◌-◌, ◌≤◌}
-use mathlib.Core.Path.{◌≡◌}
+use Prim.Native.Nat.{◌-◌}
 use borrow.Author.Rules.{rules}
-use Rattle.base_words.specs.Sum.{sum, one_if}
 use Rattle.base_words.proofs.SumLaws.{sum_loop}
-use Rattle.base_state.specs.Instances.{made_count, instance_at}
-use Rattle.state_figures.specs.Figures.{is_finished}
 use Rattle.state_figures.proofs.CountLaws.{finished_done}
 use Rattle.state_figures.proofs.finished_count.Goals as goal
 

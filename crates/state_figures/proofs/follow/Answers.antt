@@ -1,4 +1,3 @@
-use borrow.Author.Rules.{rules}
 use Rattle.state_figures.proofs.DeskLaws.{followed_step, followed_none}
 use Rattle.state_figures.proofs.follow.Goals as goal
 

@@ -1,4 +1,3 @@
-use borrow.Author.Rules.{rules}
 use Rattle.state_figures.specs.Figures.{is_finished}
 use Rattle.state_figures.proofs.is_finished.Goals as goal
 

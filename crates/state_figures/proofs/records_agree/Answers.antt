@@ -1,13 +1,8 @@
-use Prim.Native.Nat.{◌-◌, ◌≤◌}
-use mathlib.Core.Path.{◌≡◌, refl}
+use Prim.Native.Nat.{◌-◌}
+use mathlib.Core.Path.{refl}
 use mathlib.Core.Bool.{true}
 use native.Mathlib.Omega.{arith}
 use borrow.Author.Rules.{rules}
-use lib.ListN.{length, take}
-use Rattle.base_words.specs.All.{all}
-use Rattle.base_words.specs.Each.{tab}
-use Rattle.base_table.specs.Table.{pool_count}
-use Rattle.state_figures.specs.Figures.{record_of, record_at, same_record}
 use Rattle.base_words.proofs.AllLaws.{all_none}
 use Rattle.state_figures.proofs.RecordLaws.{known_none, wrong_number, differs, all-agree, agrees_more}
 use mathlib.Core.Path.{ap}

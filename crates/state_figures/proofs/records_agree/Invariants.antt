@@ -1,17 +1,11 @@
 use Prim.Native.Nat.{◌-◌, ◌≤◌}
-use mathlib.Core.Path.{◌≡◌, refl}
+use mathlib.Core.Path.{◌≡◌}
 use mathlib.Core.Bool.{true}
-use native.Mathlib.Omega.{arith}
-use borrow.Author.Rules.{rules}
 use lib.ListN.{length, take}
 use Rattle.base_words.specs.All.{all}
 use Rattle.base_words.specs.Each.{tab}
 use Rattle.base_table.specs.Table.{pool_count}
 use Rattle.state_figures.specs.Figures.{record_of, record_at, same_record}
-use Rattle.base_words.proofs.AllLaws.{all_none}
-use Rattle.state_figures.proofs.RecordLaws.{known_none, wrong_number, differs, all-agree, agrees_more}
-use mathlib.Core.Path.{ap}
-use mathlib.Core.Bool.{not}
 use Rattle.state_figures.proofs.records_agree.Given as goal
 
 abbrev pub invariant-loop-p : goal.invariant-loop-p

@@ -1,4 +1,3 @@
-use borrow.Author.Rules.{rules}
 use Rattle.state_figures.proofs.DeskLaws.{left_counted, left_same}
 use Rattle.state_figures.proofs.recount.Goals as goal
 

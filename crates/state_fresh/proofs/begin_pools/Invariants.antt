@@ -1,8 +1,6 @@
 use Prim.Native.Nat.{◌-◌, ◌≤◌}
 use Rattle.state_fits.specs.Fresh.{pool_begun}
-use Rattle.base_words.proofs.IterLaws.{iter_done, iter_loop}
 use Rattle.base_words.specs.Iter.{iter}
-use borrow.Author.Rules.{rules}
 use lib.ListN.{length}
 use mathlib.Core.Path.{◌≡◌}
 use Rattle.state_fresh.proofs.begin_pools.Given as goal

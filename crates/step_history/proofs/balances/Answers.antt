@@ -1,6 +1,5 @@
 use native.Mathlib.Omega.{arith}
 use Rattle.step_history.proofs.CodeLaws.{balance_not, balance_over, balance_under}
-use borrow.Author.Rules.{rules}
 use Rattle.step_history.proofs.balances.Goals as goal
 
 pub returns-then-a-2 : goal.returns-then-a-2

@@ -1,5 +1,4 @@
 use Rattle.step_history.proofs.CodeLaws.{consumes_refused, consumes_other, consumes_this}
-use borrow.Author.Rules.{rules}
 use Rattle.step_history.proofs.consumes.Goals as goal
 
 pub returns-then-a-ne-ACCEPTED : goal.returns-then-a-ne-ACCEPTED

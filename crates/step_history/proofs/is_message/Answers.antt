@@ -1,7 +1,6 @@
 use Rattle.step_history.specs.History.{is_message}
 use borrow.Author.Tests.{eq-eqb, ne_eqb}
 use Rattle.base_words.proofs.PickLaws.{and_yes, and_no}
-use borrow.Author.Rules.{rules}
 use Rattle.step_history.proofs.is_message.Goals as goal
 
 pub returns-then-name-m : goal.returns-then-name-m

@@ -1,6 +1,5 @@
 use Rattle.step_history.proofs.CodeLaws.{posted_refused, posted_some}
 use mathlib.Core.Path.{◌∙◌}
-use borrow.Author.Rules.{rules}
 use Rattle.step_history.proofs.moved_by_post.Goals as goal
 
 pub returns-then-number-ne-ACCEPTED : goal.returns-then-number-ne-ACCEPTED

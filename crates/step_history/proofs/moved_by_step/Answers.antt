@@ -1,6 +1,5 @@
 use Rattle.step_history.proofs.CodeLaws.{moved_refused, moved_quiet, moved_some}
 use mathlib.Core.Path.{◌∙◌}
-use borrow.Author.Rules.{rules}
 use Rattle.step_history.proofs.moved_by_step.Goals as goal
 
 pub returns-then-a-ne-ACCEPTED : goal.returns-then-a-ne-ACCEPTED

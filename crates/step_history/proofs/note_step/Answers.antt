@@ -1,6 +1,5 @@
 use Rattle.step_history.proofs.CodeLaws.{step_noted}
 use native.Mathlib.Omega.{arith}
-use borrow.Author.Rules.{rules}
 use Rattle.step_history.proofs.note_step.Goals as goal
 
 pub returns : goal.returns

@@ -1,7 +1,6 @@
 use mathlib.Core.Bool.{false}
 use Rattle.meaning.specs.declared.Tuple.{Tuple}
 use mathlib.Core.Path.{ap}
-use borrow.Author.Rules.{rules}
 use Rattle.step_history.proofs.nothing_moved.Goals as goal
 
 pub returns : goal.returns

@@ -1,7 +1,6 @@
 use Rattle.step_history.specs.History.{posts, is_accepted, as_posted}
 use borrow.Author.Tests.{eq-eqb, ne_eqb}
 use Rattle.base_words.proofs.PickLaws.{and_yes, and_no}
-use borrow.Author.Rules.{rules}
 use Rattle.step_history.proofs.posts.Goals as goal
 
 pub returns-then-number-ne-ACCEPTED : goal.returns-then-number-ne-ACCEPTED

@@ -4,7 +4,6 @@ use Rattle.meaning.specs.Messages.{times}
 use mathlib.Core.List.{List}
 use mathlib.Core.Path.{◌∙◌, ap}
 use Prim.Native.Nat.{ℕ}
-use borrow.Author.Rules.{rules}
 use Rattle.step_history.proofs.queued_of.Goals as goal
 
 pub returns : goal.returns

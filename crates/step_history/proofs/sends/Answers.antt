@@ -1,5 +1,4 @@
 use Rattle.step_history.proofs.CodeLaws.{sends_refused, sends_other, sends_this}
-use borrow.Author.Rules.{rules}
 use Rattle.step_history.proofs.sends.Goals as goal
 
 pub returns-then-a-ne-ACCEPTED : goal.returns-then-a-ne-ACCEPTED

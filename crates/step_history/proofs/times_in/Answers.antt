@@ -1,9 +1,5 @@
-use Prim.Native.Nat.{◌-◌, ◌≤◌}
-use mathlib.Core.Path.{◌≡◌}
+use Prim.Native.Nat.{◌-◌}
 use native.Mathlib.Omega.{arith}
-use borrow.Author.Rules.{rules}
-use Rattle.base_words.specs.Each.{tab}
-use Rattle.meaning.specs.Messages.{times}
 use Rattle.meaning.specs.Queues.{message_at}
 use Rattle.step_history.proofs.CodeLaws.{times_first, times_more, times_done}
 use Rattle.step_history.proofs.times_in.Goals as goal

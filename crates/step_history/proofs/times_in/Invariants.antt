@@ -1,11 +1,8 @@
 use Prim.Native.Nat.{◌-◌, ◌≤◌}
 use mathlib.Core.Path.{◌≡◌}
-use native.Mathlib.Omega.{arith}
-use borrow.Author.Rules.{rules}
 use Rattle.base_words.specs.Each.{tab}
 use Rattle.meaning.specs.Messages.{times}
 use Rattle.meaning.specs.Queues.{message_at}
-use Rattle.step_history.proofs.CodeLaws.{times_first, times_more, times_done}
 use Rattle.step_history.proofs.times_in.Given as goal
 
 abbrev pub invariant-loop-k : goal.invariant-loop-k

@@ -1,12 +1,10 @@
 use native.Mathlib.Omega.{arith}
-use Rattle.step_names.proofs.ScanLaws.{Passed, passed_none, passed_more, level_found, level_passed}
-use Rattle.step_names.specs.Parts.{accepted_on, by_message}
+use Rattle.step_names.proofs.ScanLaws.{passed_none, passed_more, level_found, level_passed}
 use Rattle.meaning.specs.Queues.{message_count}
-use Rattle.base_state.specs.Instances.{queues_of}
 use Rattle.base_words.proofs.JoinLaws.{those-joined}
 use mathlib.Core.List.{List}
 use mathlib.Core.Path.{◌∙◌, ap}
-use Prim.Native.Nat.{ℕ, ◌≤◌, ◌-◌}
+use Prim.Native.Nat.{ℕ, ◌-◌}
 use borrow.Author.Rules.{rules}
 use Rattle.step_names.proofs.scan_messages.Goals as goal
 

@@ -1,4 +1,3 @@
-use borrow.Author.Rules.{rules}
 use Rattle.step_plan.proofs.refused_plan.Goals as goal
 
 pub returns : goal.returns

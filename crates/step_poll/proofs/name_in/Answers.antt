@@ -1,4 +1,3 @@
-use borrow.Author.Rules.{rules}
 use Rattle.step_poll.proofs.name_in.Goals as goal
 
 pub returns : goal.returns

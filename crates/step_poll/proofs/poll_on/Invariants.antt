@@ -1,9 +1,7 @@
 use Prim.Native.Nat.{◌≤◌, ◌-◌}
-use mathlib.Core.Path.{◌∙◌}
-use borrow.Author.Rules.{rules}
 use Rattle.step_poll.specs.Items.{items_most, acts_in}
 use Rattle.step_poll.specs.Poll.{polled_by, settled_act}
-use Rattle.step_poll.proofs.PollLaws.{Given, given_none, given_more, given_stop, given_end, too_many_lem, not_right, all_right_lem}
+use Rattle.step_poll.proofs.PollLaws.{Given}
 use Rattle.step_poll.proofs.poll_on.Given as goal
 
 abbrev pub invariant-loop-accepted : goal.invariant-loop-accepted

@@ -1,4 +1,3 @@
-use borrow.Author.Rules.{rules}
 use Rattle.step_poll.proofs.PollLaws.{post_taken, step_taken}
 use Rattle.step_poll.proofs.take_item.Goals as goal
 

@@ -1,4 +1,3 @@
-use borrow.Author.Rules.{rules}
 use Rattle.step_queues.proofs.message_at.Goals as goal
 
 pub returns : goal.returns

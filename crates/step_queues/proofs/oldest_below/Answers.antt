@@ -1,6 +1,5 @@
-use Prim.Native.Nat.{◌≤◌, ◌-◌}
-use mathlib.Core.Path.{◌≡◌, sym, ◌∙◌}
-use Rattle.base_words.specs.Seek.{seek}
+use Prim.Native.Nat.{◌-◌}
+use mathlib.Core.Path.{sym, ◌∙◌}
 use Rattle.base_words.proofs.SeekLaws.{seek_more, seek_found, seek_loop}
 use Rattle.step_queues.specs.Changes.{message_is}
 use borrow.Author.Rules.{rules}

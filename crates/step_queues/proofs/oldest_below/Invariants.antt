@@ -1,9 +1,7 @@
 use Prim.Native.Nat.{◌≤◌, ◌-◌}
-use mathlib.Core.Path.{◌≡◌, sym, ◌∙◌}
+use mathlib.Core.Path.{◌≡◌}
 use Rattle.base_words.specs.Seek.{seek}
-use Rattle.base_words.proofs.SeekLaws.{seek_more, seek_found, seek_loop}
 use Rattle.step_queues.specs.Changes.{message_is}
-use borrow.Author.Rules.{rules}
 use Rattle.step_queues.proofs.oldest_below.Given as goal
 
 abbrev pub invariant-loop-k : goal.invariant-loop-k

@@ -1,8 +1,4 @@
-use Prim.Native.Nat.{◌≤◌, ◌-◌}
-use mathlib.Core.Path.{◌≡◌}
-use lib.ListN.{length}
-use Rattle.base_words.specs.Counts.{values}
-use Rattle.base_words.specs.Writes.{writes}
+use Prim.Native.Nat.{◌-◌}
 use Rattle.base_words.proofs.WritesLaws.{writes_on, writes_done, writes_loop}
 use Rattle.meaning.specs.Tuples.{value_of}
 use borrow.Author.Rules.{rules}

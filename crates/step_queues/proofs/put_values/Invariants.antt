@@ -3,9 +3,7 @@ use mathlib.Core.Path.{◌≡◌}
 use lib.ListN.{length}
 use Rattle.base_words.specs.Counts.{values}
 use Rattle.base_words.specs.Writes.{writes}
-use Rattle.base_words.proofs.WritesLaws.{writes_on, writes_done, writes_loop}
 use Rattle.meaning.specs.Tuples.{value_of}
-use borrow.Author.Rules.{rules}
 use Rattle.step_queues.proofs.put_values.Given as goal
 
 abbrev pub invariant-loop-j : goal.invariant-loop-j

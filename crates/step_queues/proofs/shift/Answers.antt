@@ -1,8 +1,5 @@
-use Prim.Native.Nat.{◌≤◌, ◌-◌, ◌+◌}
-use mathlib.Core.Path.{◌≡◌, ◌∙◌}
-use lib.ListN.{length}
-use Rattle.base_words.specs.Words.{at}
-use Rattle.base_words.specs.Writes.{writes}
+use Prim.Native.Nat.{◌-◌}
+use mathlib.Core.Path.{◌∙◌}
 use Rattle.base_words.proofs.WritesLaws.{writes_on, writes_ahead, writes_done, writes_loop}
 use Rattle.base_state.specs.Places.{slot_words}
 use borrow.Author.Rules.{rules}

@@ -1,12 +1,9 @@
 use mathlib.Core.Path.{◌≡◌}
 use mathlib.Core.Bool.{true}
-use Prim.Native.Nat.{ℕ, ◌+◌, ◌≤◌, ◌-◌}
+use Prim.Native.Nat.{◌+◌, ◌≤◌, ◌-◌}
 use lib.Dec.{eqb}
 use Rattle.base_words.specs.All.{all}
 use Rattle.base_words.specs.Words.{at}
-use Rattle.base_words.proofs.AllLaws.{all_loop, all_more, all_fails', all_done}
-use Rattle.step_queues.proofs.EqualLaws.{read_equal, read_other}
-use borrow.Author.Rules.{rules}
 use Rattle.step_queues.proofs.words_are.Given as goal
 
 abbrev pub invariant-loop-j : goal.invariant-loop-j

@@ -1,10 +1,6 @@
 use Rattle.step_run.proofs.PartLaws.{instances_then, queues_then}
-use Rattle.step_run.proofs.RunLaws.{Taken, taken_none, taken_more, taken_stop, taken_end}
-use Rattle.step_run.specs.Run.{ran_by}
-use Rattle.step_list.specs.Scanned.{scanned}
-use Rattle.step_take.specs.Settled.{settled}
-use Rattle.base_state.specs.Instances.{instances_of, queues_of}
-use Prim.Native.Nat.{◌≤◌, ◌-◌}
+use Rattle.step_run.proofs.RunLaws.{taken_none, taken_more, taken_stop, taken_end}
+use Prim.Native.Nat.{◌-◌}
 use borrow.Author.Rules.{rules}
 use Rattle.step_run.proofs.run_on.Goals as goal
 

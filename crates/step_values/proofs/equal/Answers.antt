@@ -1,4 +1,4 @@
-use Rattle.base_words.specs.Pick.{if◌then◌else◌}
+use Rattle.base_words.specs.Pick.{if◌then◌or_else◌}
 use Rattle.meaning.specs.Values.{equal_of}
 use borrow.Author.Tests.{eq-eqb, ne_eqb}
 use borrow.Author.Rules.{rules}
@@ -13,9 +13,9 @@ unfolding equal_of
 returns-in_default-b c = search rules
 
 pub returns-then-x-y : goal.returns-then-x-y
-unfolding equal_of if◌then◌else◌
+unfolding equal_of if◌then◌or_else◌
 returns-then-x-y c = simp (c.in-Number.is, c.in-Number-b.is, eq-eqb _ _ c.if-x-y.true)
 
 pub returns-else-x-y : goal.returns-else-x-y
-unfolding equal_of if◌then◌else◌
+unfolding equal_of if◌then◌or_else◌
 returns-else-x-y c = simp (c.in-Number.is, c.in-Number-b.is, ne_eqb _ _ c.if-x-y.false)

@@ -1,4 +1,4 @@
-use Rattle.base_words.specs.Pick.{if◌then◌else◌}
+use Rattle.base_words.specs.Pick.{if◌then◌or_else◌}
 use Rattle.meaning.specs.Values.{less_of}
 use borrow.Author.Tests.{lt-ltb, le-ltb}
 use borrow.Author.Rules.{rules}
@@ -13,9 +13,9 @@ unfolding less_of
 returns-in_default-b c = search rules
 
 pub returns-then-x-y : goal.returns-then-x-y
-unfolding less_of if◌then◌else◌
+unfolding less_of if◌then◌or_else◌
 returns-then-x-y c = simp (c.in-Number.is, c.in-Number-b.is, lt-ltb _ _ c.if-x-y.true)
 
 pub returns-else-x-y : goal.returns-else-x-y
-unfolding less_of if◌then◌else◌
+unfolding less_of if◌then◌or_else◌
 returns-else-x-y c = simp (c.in-Number.is, c.in-Number-b.is, le-ltb _ _ c.if-x-y.false)

@@ -1,7 +1,7 @@
 use Prim.Native.Nat.{◌+◌}
 use native.Mathlib.Omega.{arith}
 use Rattle.base_words.specs.Words.{greatest}
-use Rattle.base_words.specs.Pick.{if◌then◌else◌}
+use Rattle.base_words.specs.Pick.{if◌then◌or_else◌}
 use Rattle.meaning.specs.Values.{sum_of}
 use borrow.Author.Tests.{le-leb, lt-leb}
 use borrow.Author.Rules.{rules}
@@ -16,9 +16,9 @@ unfolding sum_of
 returns-in_default-b c = search rules
 
 pub returns-then-y-x : goal.returns-then-y-x
-unfolding sum_of if◌then◌else◌
+unfolding sum_of if◌then◌or_else◌
 returns-then-y-x c = simp (c.in-Number.is, c.in-Number-b.is, le-leb (c.in-Number.x + c.in-Number-b.y) greatest (omega arith))
 
 pub returns-else-y-x : goal.returns-else-y-x
-unfolding sum_of if◌then◌else◌
+unfolding sum_of if◌then◌or_else◌
 returns-else-y-x c = simp (c.in-Number.is, c.in-Number-b.is, lt-leb (c.in-Number.x + c.in-Number-b.y) greatest (omega arith))

@@ -1,5 +1,4 @@
 use Rattle.text_bounds.proofs.BoundLaws.{too_few, enough}
-use borrow.Author.Rules.{rules}
 use Rattle.text_bounds.proofs.counted.Goals as goal
 
 pub returns-then-k-least : goal.returns-then-k-least

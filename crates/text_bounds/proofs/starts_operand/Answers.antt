@@ -1,6 +1,5 @@
 use Rattle.base_bytes.proofs.OrLaws.{or_told, or_no}
 use Rattle.base_words.proofs.PickLaws.{flag_is}
-use borrow.Author.Rules.{rules}
 use Rattle.text_bounds.proofs.starts_operand.Goals as goal
 
 pub returns-then-starts_field : goal.returns-then-starts_field

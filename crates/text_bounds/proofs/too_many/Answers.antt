@@ -1,5 +1,4 @@
 use Rattle.text_bounds.proofs.BoundLaws.{many_yes, many_no}
-use borrow.Author.Rules.{rules}
 use Rattle.text_bounds.proofs.too_many.Goals as goal
 
 pub returns-then-item : goal.returns-then-item

@@ -1,11 +1,6 @@
-use Prim.Native.Nat.{◌+◌, ◌-◌, ◌≤◌}
-use mathlib.Core.Path.{◌≡◌}
-use lib.Dec.{eqb}
-use Rattle.base_words.specs.Counts.{edges}
-use Rattle.base_words.specs.Sum.{sum, one_if}
-use Rattle.base_words.specs.Words.{at}
+use Prim.Native.Nat.{◌-◌}
 use Rattle.base_words.proofs.SumLaws.{sum_loop}
-use Rattle.text_ends.specs.Room.{used_from, free_by}
+use Rattle.text_ends.specs.Room.{free_by}
 use borrow.Author.Rules.{rules}
 use Rattle.text_ends.proofs.free_by.Goals as goal
 

@@ -4,9 +4,7 @@ use lib.Dec.{eqb}
 use Rattle.base_words.specs.Counts.{edges}
 use Rattle.base_words.specs.Sum.{sum, one_if}
 use Rattle.base_words.specs.Words.{at}
-use Rattle.base_words.proofs.SumLaws.{sum_loop}
-use Rattle.text_ends.specs.Room.{used_from, free_by}
-use borrow.Author.Rules.{rules}
+use Rattle.text_ends.specs.Room.{used_from}
 use Rattle.text_ends.proofs.free_by.Given as goal
 
 abbrev pub invariant-loop-k : goal.invariant-loop-k

@@ -1,11 +1,8 @@
 use mathlib.Core.Path.{◌≡◌}
 use Prim.Native.Nat.{◌-◌}
 use lib.ListN.{length, drop}
-use Rattle.base_words.proofs.PickLaws.{flags}
 use Rattle.text_lexer.specs.Lexer.{is_word}
 use Rattle.base_bytes.specs.Bytes.{past}
-use Rattle.base_bytes.proofs.PastLaws.{past_loop}
-use borrow.Author.Rules.{rules}
 use Rattle.text_lexer.proofs.past_word.Given as goal
 
 abbrev pub invariant-loop-i : goal.invariant-loop-i

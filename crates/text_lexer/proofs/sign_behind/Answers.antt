@@ -1,6 +1,5 @@
 use Rattle.text_lexer.proofs.PlaceLaws.{behind_end, behind_other, behind_sign, behind_none, behind_assign, behind_colon}
 use Rattle.base_words.proofs.PickLaws.{flag_is}
-use borrow.Author.Rules.{rules}
 use Rattle.text_lexer.proofs.sign_behind.Goals as goal
 
 pub returns-then-text-p : goal.returns-then-text-p

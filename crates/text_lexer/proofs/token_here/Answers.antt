@@ -1,7 +1,6 @@
 use mathlib.Core.Path.{◌∙◌, sym}
 use Rattle.base_words.proofs.PickLaws.{flag_is}
 use Rattle.text_lexer.proofs.TokenLaws.{here_some, here_none, here_assign, here_colon, of_word, of_sign, of_other}
-use borrow.Author.Rules.{rules}
 use Rattle.text_lexer.proofs.token_here.Goals as goal
 
 pub returns-then-text-i : goal.returns-then-text-i

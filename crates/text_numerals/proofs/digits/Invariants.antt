@@ -1,15 +1,8 @@
-use mathlib.Core.Logic.{⊎_elim, inl, inr}
-use mathlib.Core.Path.{◌≡◌, ◌∙◌, refl, sym}
+use mathlib.Core.Path.{◌≡◌}
 use Prim.Native.Nat.{◌+◌, ◌-◌, ◌*◌, ◌≤◌}
-use native.Mathlib.Omega.{arith}
 use lib.ListN.{length, drop}
 use Rattle.base_words.specs.Words.{greatest}
-use Rattle.base_words.proofs.PickLaws.{flag_yes, flag_no}
 use Rattle.text_numerals.specs.Numerals.{value_from}
-use Rattle.text_numerals.proofs.NumberLaws.{digit_bounds, value_none, value_within, value_above, value_on}
-use borrow.Author.Rules.{rules}
-use mathlib.Core.Path.{ap}
-use mathlib.Core.Bool.{not}
 use Rattle.text_numerals.proofs.digits.Given as goal
 
 abbrev pub invariant-loop-i : goal.invariant-loop-i

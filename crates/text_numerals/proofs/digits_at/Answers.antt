@@ -1,10 +1,7 @@
-use mathlib.Core.Path.{◌≡◌, refl}
+use mathlib.Core.Path.{refl}
 use Prim.Native.Nat.{◌-◌}
-use lib.ListN.{length, drop}
 use Rattle.base_words.proofs.PickLaws.{flag_yes, flag_no}
-use Rattle.text_numerals.specs.Numerals.{digits_from}
 use Rattle.text_numerals.proofs.NumeralLaws.{digits_end, digits_stop, digits_more}
-use borrow.Author.Rules.{rules}
 use mathlib.Core.Path.{ap}
 use mathlib.Core.Bool.{not}
 use Rattle.text_numerals.proofs.digits_at.Goals as goal

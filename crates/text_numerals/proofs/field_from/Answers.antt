@@ -2,7 +2,6 @@ use mathlib.Core.Path.{refl}
 use borrow.Author.Tests.{eq-eqb, ne_eqb, leb-true}
 use Rattle.base_words.proofs.PickLaws.{pick_yes, pick_no}
 use Rattle.text_numerals.specs.Numerals.{field_from}
-use borrow.Author.Rules.{rules}
 use Rattle.text_numerals.proofs.field_from.Goals as goal
 
 pub field_behind-requires : goal.field_behind-requires

@@ -1,5 +1,4 @@
 use Rattle.text_numerals.proofs.NumeralLaws.{field_by}
-use borrow.Author.Rules.{rules}
 use Rattle.text_numerals.proofs.field_of.Goals as goal
 
 pub returns : goal.returns

@@ -3,7 +3,6 @@ use Rattle.text_numerals.specs.Numerals.{grown}
 use Rattle.base_words.proofs.PickLaws.{pick_yes, pick_no}
 use borrow.Author.Tests.{le-leb, lt-leb}
 use mathlib.Core.Path.{refl}
-use borrow.Author.Rules.{rules}
 use Rattle.text_numerals.proofs.grown.Goals as goal
 
 pub overflow_sub-result : goal.overflow_sub-result

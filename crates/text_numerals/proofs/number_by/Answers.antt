@@ -2,7 +2,6 @@ use Rattle.text_numerals.specs.Numerals.{value_from, number_by}
 use Rattle.base_words.proofs.PickLaws.{pick_yes, pick_no, flag_is}
 use borrow.Author.Tests.{eq-eqb, ne_eqb, le-leb, lt-leb}
 use mathlib.Core.Path.{refl}
-use borrow.Author.Rules.{rules}
 use Rattle.text_numerals.proofs.number_by.Goals as goal
 
 pub returns-then-word-eq0 : goal.returns-then-word-eq0

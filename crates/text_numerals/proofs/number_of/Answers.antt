@@ -2,7 +2,6 @@ use mathlib.Core.Path.{refl}
 use borrow.Author.Tests.{eq-eqb, ne_eqb}
 use Rattle.base_words.proofs.PickLaws.{pick_yes, pick_no, flag_is}
 use Rattle.text_numerals.specs.Numerals.{number_of}
-use borrow.Author.Rules.{rules}
 use Rattle.text_numerals.proofs.number_of.Goals as goal
 
 pub returns-then-word-eq0 : goal.returns-then-word-eq0

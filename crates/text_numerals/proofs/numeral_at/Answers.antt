@@ -1,5 +1,4 @@
 use Rattle.text_numerals.proofs.NumeralLaws.{numeral_longer, numeral_whole}
-use borrow.Author.Rules.{rules}
 use Rattle.text_numerals.proofs.numeral_at.Goals as goal
 
 pub returns-then-end-next : goal.returns-then-end-next

@@ -1,6 +1,5 @@
 use Rattle.text_numerals.proofs.NumeralLaws.{operand_none, operand_plain, operand_field_at}
 use Rattle.base_words.proofs.PickLaws.{flag_yes, flag_no}
-use borrow.Author.Rules.{rules}
 use mathlib.Core.Path.{ap}
 use mathlib.Core.Bool.{not}
 use Rattle.text_numerals.proofs.operand_at.Goals as goal

@@ -1,6 +1,5 @@
 use Rattle.text_readers.proofs.ReadingLaws.{sign_stopped, then_stopped, sign_passed, then_passed}
 use Rattle.text_parts.proofs.ListLaws.{series_by}
-use borrow.Author.Rules.{rules}
 use Rattle.text_parts.proofs.guard_and_assignments.Goals as goal
 
 pub returns-in_default : goal.returns-in_default

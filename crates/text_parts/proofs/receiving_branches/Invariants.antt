@@ -1,13 +1,12 @@
 use Prim.Native.Char.{code}
 use Prim.Native.Nat.{◌≤◌, ◌-◌}
-use mathlib.Core.Path.{◌≡◌, refl}
+use mathlib.Core.Path.{◌≡◌}
 use lib.ListN.{length}
 use Rattle.base_words.specs.Counts.{fewest, branches}
 use Rattle.base_table.specs.Places.{exits_place}
 use Rattle.text_readers.specs.Reading.{starts_sign}
-use Rattle.text_parts.specs.Parts.{receiving, receiving_branches}
-use Rattle.text_parts.proofs.ListLaws.{Rest, items_start, items_stop, items_end, items_go, items_full}
-use borrow.Author.Rules.{rules}
+use Rattle.text_parts.specs.Parts.{receiving}
+use Rattle.text_parts.proofs.ListLaws.{Rest}
 use Rattle.text_parts.proofs.receiving_branches.Given as goal
 
 abbrev pub invariant-loop-k : goal.invariant-loop-k

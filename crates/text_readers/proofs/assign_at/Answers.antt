@@ -1,5 +1,4 @@
 use Rattle.text_readers.proofs.WordLaws.{assign_read, assign_missed}
-use borrow.Author.Rules.{rules}
 use Rattle.text_readers.proofs.assign_at.Goals as goal
 
 pub returns-in_default : goal.returns-in_default

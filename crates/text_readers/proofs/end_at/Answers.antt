@@ -1,5 +1,4 @@
 use Rattle.text_readers.proofs.WordLaws.{end_read, end_missed}
-use borrow.Author.Rules.{rules}
 use Rattle.text_readers.proofs.end_at.Goals as goal
 
 pub returns-in_default : goal.returns-in_default

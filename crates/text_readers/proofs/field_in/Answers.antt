@@ -1,5 +1,4 @@
 use Rattle.text_readers.proofs.WordLaws.{field_read}
-use borrow.Author.Rules.{rules}
 use Rattle.text_readers.proofs.field_in.Goals as goal
 
 pub returns : goal.returns

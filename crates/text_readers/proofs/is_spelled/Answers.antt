@@ -1,5 +1,4 @@
 use Rattle.text_readers.specs.Reading.{is_spelled}
-use borrow.Author.Rules.{rules}
 use Rattle.text_readers.proofs.is_spelled.Goals as goal
 
 pub returns-in-Value : goal.returns-in-Value

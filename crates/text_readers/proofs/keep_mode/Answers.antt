@@ -1,5 +1,4 @@
 use Rattle.text_readers.proofs.KeepLaws.{mode_none, mode_stored}
-use borrow.Author.Rules.{rules}
 use Rattle.text_readers.proofs.keep_mode.Goals as goal
 
 pub returns-then-m-eq0 : goal.returns-then-m-eq0

@@ -1,7 +1,6 @@
 use borrow.Author.Tests.{le-leb, lt-leb}
 use mathlib.Core.Logic.{⊎_elim}
 use Rattle.text_readers.proofs.KeepLaws.{number_within, number_below, number_above, number_too_large, number_none}
-use borrow.Author.Rules.{rules}
 use Rattle.text_readers.proofs.keep_number.Goals as goal
 
 pub returns-then-v-most : goal.returns-then-v-most

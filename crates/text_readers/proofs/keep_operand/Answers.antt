@@ -1,5 +1,4 @@
 use Rattle.text_readers.proofs.KeepLaws.{operand_number_lem, operand_field, operand_outside, operand_none}
-use borrow.Author.Rules.{rules}
 use Rattle.text_readers.proofs.keep_operand.Goals as goal
 
 pub returns-in-Number : goal.returns-in-Number

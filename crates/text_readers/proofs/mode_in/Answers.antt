@@ -1,5 +1,4 @@
 use Rattle.text_readers.proofs.WordLaws.{mode_read, mode_missed}
-use borrow.Author.Rules.{rules}
 use Rattle.text_readers.proofs.mode_in.Goals as goal
 
 pub returns-in_default : goal.returns-in_default

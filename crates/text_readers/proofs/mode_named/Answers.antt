@@ -1,7 +1,6 @@
 use mathlib.Core.Path.{refl, sym, ◌∙◌}
 use Rattle.base_words.proofs.PickLaws.{pick_yes, pick_no}
 use Rattle.text_readers.specs.Reading.{mode_named}
-use borrow.Author.Rules.{rules}
 use Rattle.text_readers.proofs.mode_named.Goals as goal
 
 pub returns-then-same : goal.returns-then-same

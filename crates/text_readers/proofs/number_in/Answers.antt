@@ -1,5 +1,4 @@
 use Rattle.text_readers.proofs.WordLaws.{number_read}
-use borrow.Author.Rules.{rules}
 use Rattle.text_readers.proofs.number_in.Goals as goal
 
 pub returns : goal.returns

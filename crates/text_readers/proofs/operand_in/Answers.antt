@@ -1,5 +1,4 @@
 use Rattle.text_readers.proofs.WordLaws.{operand_read}
-use borrow.Author.Rules.{rules}
 use Rattle.text_readers.proofs.operand_in.Goals as goal
 
 pub returns : goal.returns

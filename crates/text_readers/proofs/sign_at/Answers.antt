@@ -1,7 +1,6 @@
 use Rattle.text_readers.proofs.WordLaws.{taken-behind, taken_another, sign_read, sign_missed}
 use Rattle.text_readers.specs.declared.Read.TheVariants.{At}
 use mathlib.Core.Path.{◌∙◌, ap}
-use borrow.Author.Rules.{rules}
 use Rattle.text_readers.proofs.sign_at.Goals as goal
 
 pub returns-in_default : goal.returns-in_default

@@ -1,5 +1,4 @@
 use Rattle.text_readers.proofs.WordLaws.{starts_field_lem, starts_no_field}
-use borrow.Author.Rules.{rules}
 use Rattle.text_readers.proofs.starts_field.Goals as goal
 
 pub returns-in_default : goal.returns-in_default

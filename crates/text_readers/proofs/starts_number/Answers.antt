@@ -1,5 +1,4 @@
 use Rattle.text_readers.proofs.WordLaws.{starts_number_lem, starts_no_number}
-use borrow.Author.Rules.{rules}
 use Rattle.text_readers.proofs.starts_number.Goals as goal
 
 pub returns-in_default : goal.returns-in_default

@@ -1,5 +1,4 @@
 use Rattle.text_readers.proofs.WordLaws.{starts_read, starts_missed}
-use borrow.Author.Rules.{rules}
 use Rattle.text_readers.proofs.starts_sign.Goals as goal
 
 pub returns-in_default : goal.returns-in_default

@@ -1,5 +1,4 @@
 use Rattle.text_readers.proofs.ReadingLaws.{then_stopped, then_passed}
-use borrow.Author.Rules.{rules}
 use Rattle.text_terms.proofs.compared.Goals as goal
 
 pub returns-in_default : goal.returns-in_default

@@ -2,7 +2,6 @@ use Rattle.text_readers.proofs.WordLaws.{word_unknown, place_known, word_known}
 use Rattle.text_terms.specs.Terms.{condition}
 use Rattle.text_lexer.specs.declared.Token.{Token}
 use mathlib.Core.Path.{ap}
-use borrow.Author.Rules.{rules}
 use Rattle.text_terms.proofs.condition.Goals as goal
 
 pub returns-in_default : goal.returns-in_default

@@ -1,6 +1,5 @@
 use Rattle.text_terms.proofs.ReaderLaws.{spelled_is, default_is, form_is}
 use Rattle.base_words.proofs.PickLaws.{pick_yes, flag_is, pick_no}
-use borrow.Author.Rules.{rules}
 use Rattle.text_terms.proofs.condition_word.Goals as goal
 
 pub returns-then-is_spelled : goal.returns-then-is_spelled

@@ -1,5 +1,4 @@
 use Rattle.text_readers.proofs.ReadingLaws.{sign_stopped, then_stopped, sign_passed, then_passed, sign_last}
-use borrow.Author.Rules.{rules}
 use Rattle.text_terms.proofs.guard.Goals as goal
 
 pub returns-in_default : goal.returns-in_default

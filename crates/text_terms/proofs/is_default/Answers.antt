@@ -1,5 +1,4 @@
-use Rattle.base_words.proofs.PickLaws.{and_yes, and_no}
-use borrow.Author.Rules.{rules}
+use Rattle.base_words.proofs.PickLaws.{and_yes}
 use Rattle.text_terms.proofs.is_default.Goals as goal
 
 pub returns-then-defaults : goal.returns-then-defaults

@@ -1,6 +1,4 @@
 use Rattle.text_terms.proofs.ReaderLaws.{same_by}
-use mathlib.Core.Path.{◌∙◌, ap}
-use borrow.Author.Rules.{rules}
 use Rattle.text_terms.proofs.is_spelled.Goals as goal
 
 pub returns : goal.returns

@@ -1,4 +1,3 @@
-use borrow.Author.Rules.{rules}
 use Rattle.text_terms.proofs.item_of_message.Goals as goal
 
 pub returns : goal.returns

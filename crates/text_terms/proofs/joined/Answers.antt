@@ -1,5 +1,4 @@
 use Rattle.text_terms.proofs.ReaderLaws.{store_goes}
-use borrow.Author.Rules.{rules}
 use Rattle.text_terms.proofs.joined.Goals as goal
 
 pub returns : goal.returns

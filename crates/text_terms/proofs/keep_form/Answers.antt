@@ -1,5 +1,4 @@
 use Rattle.text_readers.proofs.KeepLaws.{stored}
-use borrow.Author.Rules.{rules}
 use Rattle.text_terms.proofs.keep_form.Goals as goal
 
 pub returns : goal.returns

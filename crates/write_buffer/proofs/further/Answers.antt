@@ -1,6 +1,5 @@
 use native.Mathlib.Omega.{arith}
 use Rattle.write_buffer.specs.Buffers.{lesser}
-use borrow.Author.Rules.{rules}
 use Rattle.write_buffer.proofs.further.Goals as goal
 
 pub returns-then-n-p : goal.returns-then-n-p

@@ -2,7 +2,6 @@ use mathlib.Core.Path.{refl}
 use borrow.Author.Tests.{lt-ltb, le-ltb}
 use Rattle.base_words.proofs.PickLaws.{pick_yes, pick_no}
 use Rattle.write_buffer.specs.Buffers.{next}
-use borrow.Author.Rules.{rules}
 use Rattle.write_buffer.proofs.next_place.Goals as goal
 
 pub returns-then-p-lt18446744073709551615 : goal.returns-then-p-lt18446744073709551615

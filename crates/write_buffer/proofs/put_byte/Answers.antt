@@ -1,7 +1,7 @@
 use mathlib.Core.Path.{refl, sym}
 use native.Mathlib.Omega.{arith}
 use lib.Seq.{set_out}
-use Rattle.write_buffer.specs.Buffers.{end_written, over_from, Put}
+use Rattle.write_buffer.specs.Buffers.{end_written, over_from}
 use borrow.Author.Rules.{rules}
 use Rattle.write_buffer.proofs.put_byte.Goals as goal
 

@@ -1,9 +1,6 @@
-use Prim.Native.Nat.{◌-◌, ◌≤◌}
+use Prim.Native.Nat.{◌-◌}
 use native.Mathlib.Omega.{arith}
-use lib.ListN.{length, take}
-use Rattle.write_buffer.specs.Buffers.{Put}
 use Rattle.write_buffer.proofs.OverLaws.{put_long, put_nothing, bytes_more, bytes_done}
-use borrow.Author.Rules.{rules}
 use Rattle.write_buffer.proofs.put_bytes.Goals as goal
 
 pub loop-i-init : goal.loop-i-init

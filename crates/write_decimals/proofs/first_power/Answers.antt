@@ -1,4 +1,4 @@
-use Rattle.write_decimals.proofs.PutLaws.{Counted, counted_start, counted_fits, counted_turn, counted_end}
+use Rattle.write_decimals.proofs.PutLaws.{counted_start, counted_fits, counted_turn, counted_end}
 use borrow.Author.Rules.{rules}
 use Rattle.write_decimals.proofs.first_power.Goals as goal
 

@@ -1,5 +1,4 @@
-use Rattle.write_decimals.proofs.PutLaws.{Counted, counted_start, counted_fits, counted_turn, counted_end}
-use borrow.Author.Rules.{rules}
+use Rattle.write_decimals.proofs.PutLaws.{Counted}
 use Rattle.write_decimals.proofs.first_power.Given as goal
 
 abbrev pub invariant-loop-left : goal.invariant-loop-left

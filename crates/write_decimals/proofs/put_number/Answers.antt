@@ -1,6 +1,5 @@
 use Rattle.write_buffer.proofs.OverLaws.{put_long}
-use Rattle.write_decimals.proofs.PutLaws.{Placed, placed_start, placed_turn, placed_end}
-use borrow.Author.Rules.{rules}
+use Rattle.write_decimals.proofs.PutLaws.{placed_start, placed_turn, placed_end}
 use Rattle.write_decimals.proofs.put_number.Goals as goal
 
 pub loop-power-init : goal.loop-power-init

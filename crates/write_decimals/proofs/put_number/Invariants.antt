@@ -1,6 +1,4 @@
-use Rattle.write_buffer.proofs.OverLaws.{put_long}
-use Rattle.write_decimals.proofs.PutLaws.{Placed, placed_start, placed_turn, placed_end}
-use borrow.Author.Rules.{rules}
+use Rattle.write_decimals.proofs.PutLaws.{Placed}
 use Rattle.write_decimals.proofs.put_number.Given as goal
 
 abbrev pub invariant-loop-power : goal.invariant-loop-power

@@ -1,7 +1,6 @@
 use mathlib.Core.Path.{ap}
 use Rattle.write_buffer.proofs.OverLaws.{put_as}
 use Rattle.write_decimals.specs.Decimals.{shown}
-use borrow.Author.Rules.{rules}
 use Rattle.write_lines.proofs.put_beside.Goals as goal
 
 pub returns : goal.returns

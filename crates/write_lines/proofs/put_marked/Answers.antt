@@ -2,7 +2,6 @@ use Rattle.write_buffer.proofs.OverLaws.{after, put_as, put_within}
 use Rattle.write_lines.proofs.LineLaws.{marked_one, marked_more}
 use borrow.Author.Tests.{leb-true}
 use mathlib.Core.Path.{refl}
-use borrow.Author.Rules.{rules}
 use Rattle.write_lines.proofs.put_marked.Goals as goal
 
 pub returns-then-j-eq0 : goal.returns-then-j-eq0

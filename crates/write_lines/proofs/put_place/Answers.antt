@@ -2,7 +2,6 @@ use Rattle.write_lines.proofs.LineLaws.{place_short}
 use Rattle.write_buffer.proofs.OverLaws.{put_as, put_short}
 use Rattle.write_lines.specs.Lines.{place_line}
 use mathlib.Core.Path.{refl}
-use borrow.Author.Rules.{rules}
 use Rattle.write_lines.proofs.put_place.Goals as goal
 
 pub returns : goal.returns

@@ -1,11 +1,7 @@
 use Prim.Native.Nat.{◌-◌, ◌≤◌}
-use Rattle.write_buffer.proofs.OverLaws.{put_long}
 use Rattle.write_buffer.specs.Buffers.{Put}
-use Rattle.write_lines.proofs.LineLaws.{row_start, row_more, row_done}
 use Rattle.write_lines.specs.Lines.{row, row_most}
 use mathlib.Core.List.{[], ◌∷◌}
-use native.Mathlib.Omega.{arith}
-use borrow.Author.Rules.{rules}
 use Rattle.write_lines.proofs.put_row.Given as goal
 
 abbrev pub invariant-loop-j : goal.invariant-loop-j

@@ -1,5 +1,4 @@
 use Rattle.write_buffer.proofs.OverLaws.{after}
-use borrow.Author.Rules.{rules}
 use Rattle.write_lines.proofs.put_signed.Goals as goal
 
 pub returns : goal.returns

@@ -1,6 +1,5 @@
 use Rattle.write_buffer.proofs.OverLaws.{after}
 use Rattle.write_lines.specs.Lines.{step_line}
-use borrow.Author.Rules.{rules}
 use Rattle.write_lines.proofs.put_step.Goals as goal
 
 pub returns : goal.returns

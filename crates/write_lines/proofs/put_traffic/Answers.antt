@@ -1,7 +1,6 @@
 use Rattle.write_lines.proofs.LineLaws.{traffic_is, traffic_short}
 use Rattle.write_buffer.proofs.OverLaws.{put_as, put_short}
 use Rattle.write_lines.specs.Lines.{signed}
-use borrow.Author.Rules.{rules}
 use Rattle.write_lines.proofs.put_traffic.Goals as goal
 
 pub returns-in-Nothing : goal.returns-in-Nothing

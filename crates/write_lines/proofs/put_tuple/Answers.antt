@@ -1,6 +1,5 @@
 use Rattle.write_lines.proofs.LineLaws.{tuple_none, tuple_some, tuple_short}
 use Rattle.write_buffer.proofs.OverLaws.{put_as, put_short}
-use borrow.Author.Rules.{rules}
 use Rattle.write_lines.proofs.put_tuple.Goals as goal
 
 pub returns-then-g-eq0 : goal.returns-then-g-eq0

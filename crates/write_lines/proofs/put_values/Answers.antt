@@ -2,7 +2,6 @@ use Rattle.write_lines.proofs.LineLaws.{values_short}
 use Rattle.write_buffer.proofs.OverLaws.{put_as, put_short}
 use Rattle.write_lines.specs.Lines.{row, values_line}
 use mathlib.Core.Path.{ap}
-use borrow.Author.Rules.{rules}
 use Rattle.write_lines.proofs.put_values.Goals as goal
 
 pub returns : goal.returns

@@ -1,13 +1,11 @@
-use Prim.Native.Nat.{◌-◌, ◌≤◌, ◌*◌, ◌+◌}
+use Prim.Native.Nat.{◌-◌, ◌+◌}
 use Rattle.write_buffer.proofs.OverLaws.{put_as, put_long}
-use Rattle.write_buffer.specs.Buffers.{Put}
 use Rattle.base_table.specs.Table.{assignment_at}
 use Rattle.write_shown.proofs.PieceLaws.{list_none, list_more, list_done}
 use Rattle.write_shown.specs.Lengths.{assignment_most}
-use Rattle.write_shown.specs.Shown.{commas, separated, shown_assignment}
+use Rattle.write_shown.specs.Shown.{separated, shown_assignment}
 use mathlib.Core.Path.{ap}
 use native.Mathlib.Omega.{arith}
-use borrow.Author.Rules.{rules}
 use Rattle.write_phrases.proofs.put_assigned.Goals as goal
 
 pub loop-j-init : goal.loop-j-init

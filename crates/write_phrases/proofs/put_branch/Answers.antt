@@ -3,7 +3,6 @@ use Rattle.write_phrases.specs.Pieces.{shown_branch}
 use Rattle.base_words.proofs.PickLaws.{pick_yes, pick_no}
 use borrow.Author.Tests.{leb-true}
 use mathlib.Core.Path.{refl}
-use borrow.Author.Rules.{rules}
 use Rattle.write_phrases.proofs.put_branch.Goals as goal
 
 pub returns-then-receives : goal.returns-then-receives

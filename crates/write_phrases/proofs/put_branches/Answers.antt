@@ -1,13 +1,10 @@
-use Prim.Native.Nat.{◌-◌, ◌≤◌, ◌*◌, ◌+◌}
+use Prim.Native.Nat.{◌-◌, ◌+◌}
 use Rattle.write_buffer.proofs.OverLaws.{put_as, put_long}
-use Rattle.write_buffer.specs.Buffers.{Put}
-use Rattle.write_phrases.specs.Pieces.{shown_branch}
 use Rattle.write_shown.proofs.PieceLaws.{list_none, list_more, list_done}
 use Rattle.write_shown.specs.Lengths.{receiving_most}
-use Rattle.write_shown.specs.Shown.{commas, separated}
+use Rattle.write_shown.specs.Shown.{separated}
 use mathlib.Core.Path.{refl, ap}
 use native.Mathlib.Omega.{arith}
-use borrow.Author.Rules.{rules}
 use Rattle.write_phrases.proofs.put_branches.Goals as goal
 
 pub loop-j-init : goal.loop-j-init

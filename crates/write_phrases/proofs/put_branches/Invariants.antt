@@ -1,13 +1,8 @@
 use Prim.Native.Nat.{◌-◌, ◌≤◌, ◌*◌, ◌+◌}
-use Rattle.write_buffer.proofs.OverLaws.{put_as, put_long}
 use Rattle.write_buffer.specs.Buffers.{Put}
 use Rattle.write_phrases.specs.Pieces.{shown_branch}
-use Rattle.write_shown.proofs.PieceLaws.{list_none, list_more, list_done}
 use Rattle.write_shown.specs.Lengths.{receiving_most}
-use Rattle.write_shown.specs.Shown.{commas, separated}
-use mathlib.Core.Path.{refl, ap}
-use native.Mathlib.Omega.{arith}
-use borrow.Author.Rules.{rules}
+use Rattle.write_shown.specs.Shown.{commas}
 use Rattle.write_phrases.proofs.put_branches.Given as goal
 
 abbrev pub invariant-loop-j : goal.invariant-loop-j

@@ -1,14 +1,11 @@
-use Prim.Native.Nat.{◌-◌, ◌≤◌, ◌*◌, ◌+◌}
+use Prim.Native.Nat.{◌-◌, ◌+◌}
 use Rattle.write_buffer.proofs.OverLaws.{put_as, put_long}
-use Rattle.write_buffer.specs.Buffers.{Put}
 use Rattle.write_decimals.specs.Decimals.{shown}
-use Rattle.base_table.specs.Places.{edge_place}
 use Rattle.write_shown.proofs.PieceLaws.{list_none, list_more, list_done}
-use Rattle.write_shown.specs.Shown.{commas, separated}
-use Rattle.base_words.specs.Words.{at, digits}
+use Rattle.write_shown.specs.Shown.{separated}
+use Rattle.base_words.specs.Words.{digits}
 use mathlib.Core.Path.{ap}
 use native.Mathlib.Omega.{arith}
-use borrow.Author.Rules.{rules}
 use Rattle.write_phrases.proofs.put_edges.Goals as goal
 
 pub loop-j-init : goal.loop-j-init

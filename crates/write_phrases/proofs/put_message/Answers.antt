@@ -1,6 +1,5 @@
 use Rattle.write_buffer.proofs.OverLaws.{after, put_as}
 use Rattle.write_shown.specs.Shown.{shown_message}
-use borrow.Author.Rules.{rules}
 use Rattle.write_phrases.proofs.put_message.Goals as goal
 
 pub returns : goal.returns

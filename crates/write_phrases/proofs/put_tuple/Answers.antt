@@ -1,6 +1,5 @@
 use Rattle.write_buffer.proofs.OverLaws.{after}
 use Rattle.write_shown.specs.Shown.{shown_tuple}
-use borrow.Author.Rules.{rules}
 use Rattle.write_phrases.proofs.put_tuple.Goals as goal
 
 pub returns : goal.returns

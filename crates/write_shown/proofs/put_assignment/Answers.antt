@@ -1,6 +1,5 @@
 use Rattle.write_buffer.proofs.OverLaws.{after, put_as}
 use Rattle.write_shown.specs.Shown.{shown_assignment}
-use borrow.Author.Rules.{rules}
 use Rattle.write_shown.proofs.put_assignment.Goals as goal
 
 pub returns : goal.returns

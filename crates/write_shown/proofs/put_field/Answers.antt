@@ -3,7 +3,6 @@ use borrow.Author.Tests.{lt-ltb, le-ltb}
 use Rattle.base_words.proofs.PickLaws.{pick_yes, pick_no}
 use Rattle.write_buffer.proofs.OverLaws.{put_as}
 use Rattle.write_shown.specs.Shown.{shown_field}
-use borrow.Author.Rules.{rules}
 use Rattle.write_shown.proofs.put_field.Goals as goal
 
 pub returns-then-d-lt-FIELDS : goal.returns-then-d-lt-FIELDS

@@ -3,7 +3,6 @@ use Rattle.write_shown.specs.Shown.{lead}
 use Rattle.base_words.proofs.PickLaws.{pick_yes, pick_no}
 use borrow.Author.Tests.{leb-true, eq-eqb, ne_eqb}
 use mathlib.Core.Path.{refl}
-use borrow.Author.Rules.{rules}
 use Rattle.write_shown.proofs.put_lead.Goals as goal
 
 pub returns-then-k-eq0 : goal.returns-then-k-eq0

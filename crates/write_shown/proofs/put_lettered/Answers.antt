@@ -1,5 +1,4 @@
 use Rattle.write_buffer.proofs.OverLaws.{after}
-use borrow.Author.Rules.{rules}
 use Rattle.write_shown.proofs.put_lettered.Goals as goal
 
 pub returns : goal.returns

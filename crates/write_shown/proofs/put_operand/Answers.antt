@@ -5,7 +5,6 @@ use Rattle.base_words.proofs.AllLaws.{eq_eqb_by, ne_eqb_by}
 use Rattle.base_words.proofs.PickLaws.{pick_yes, pick_no}
 use borrow.Author.Tests.{leb-true}
 use mathlib.Core.Path.{refl, ap}
-use borrow.Author.Rules.{rules}
 use Rattle.write_shown.proofs.put_operand.Goals as goal
 
 pub returns-then-word-eq-A_FIELD : goal.returns-then-word-eq-A_FIELD

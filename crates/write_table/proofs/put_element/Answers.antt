@@ -1,6 +1,5 @@
 use Rattle.write_buffer.proofs.OverLaws.{after, put_as}
 use Rattle.write_shown.specs.Shown.{shown_element}
-use borrow.Author.Rules.{rules}
 use Rattle.write_table.proofs.put_element.Goals as goal
 
 pub returns : goal.returns

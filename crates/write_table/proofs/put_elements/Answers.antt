@@ -1,15 +1,11 @@
-use Prim.Native.Char.{code}
-use Prim.Native.Nat.{◌-◌, ◌≤◌, ◌*◌, ◌+◌}
+use Prim.Native.Nat.{◌-◌, ◌+◌}
 use Rattle.write_buffer.proofs.OverLaws.{put_as, put_long, lent}
-use Rattle.write_buffer.specs.Buffers.{Put, last_place}
 use Rattle.base_table.specs.Table.{element_at}
 use Rattle.write_shown.proofs.PieceLaws.{list_none, list_more, list_done}
 use Rattle.write_shown.specs.Lengths.{element_most}
 use Rattle.write_shown.specs.Shown.{shown_element, shown_elements, separated}
-use lib.ListN.{length}
 use mathlib.Core.Path.{ap}
 use native.Mathlib.Omega.{arith}
-use borrow.Author.Rules.{rules}
 use Rattle.write_table.proofs.put_elements.Goals as goal
 
 pub loop-e-init : goal.loop-e-init

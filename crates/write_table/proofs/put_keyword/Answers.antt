@@ -1,8 +1,7 @@
 use Rattle.write_buffer.proofs.OverLaws.{put_exact}
-use Rattle.write_table.proofs.PartLaws.{letters_in, keyword_short, keyword_by, prefix_by}
+use Rattle.write_table.proofs.PartLaws.{keyword_short, keyword_by, prefix_by}
 use lib.Seq.{length-take-le}
 use mathlib.Core.Path.{sym}
-use borrow.Author.Rules.{rules}
 use Rattle.write_table.proofs.put_keyword.Goals as goal
 
 pub slice_bounds-keyword-end : goal.slice_bounds-keyword-end

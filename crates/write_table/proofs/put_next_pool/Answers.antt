@@ -4,7 +4,6 @@ use Rattle.write_table.proofs.PartLaws.{in_use, not_in_use}
 use Rattle.write_table.specs.Pieces.{next_pool}
 use borrow.Author.Tests.{leb-true}
 use mathlib.Core.Path.{refl}
-use borrow.Author.Rules.{rules}
 use Rattle.write_table.proofs.put_next_pool.Goals as goal
 
 pub returns-then-p-pool_count : goal.returns-then-p-pool_count

@@ -1,5 +1,4 @@
 use Rattle.write_buffer.proofs.OverLaws.{after, put_as}
-use borrow.Author.Rules.{rules}
 use Rattle.write_table.proofs.put_numbered.Goals as goal
 
 pub returns : goal.returns

@@ -5,7 +5,6 @@ use Rattle.base_words.proofs.PickLaws.{pick_yes, pick_no}
 use Rattle.write_table.proofs.PartLaws.{entries_is, exits_is, receiving_is}
 use borrow.Author.Tests.{leb-true, eq-eqb, ne_eqb}
 use mathlib.Core.Path.{refl, ap}
-use borrow.Author.Rules.{rules}
 use Rattle.write_table.proofs.put_part.Goals as goal
 
 pub returns-then-c-eq69 : goal.returns-then-c-eq69

@@ -1,12 +1,8 @@
-use Prim.Native.Char.{code}
-use Prim.Native.Nat.{◌-◌, ◌≤◌, ◌*◌, ◌+◌}
+use Prim.Native.Nat.{◌-◌, ◌+◌}
 use Rattle.write_buffer.proofs.OverLaws.{put_as, put_within, put_long}
 use Rattle.write_shown.specs.Lengths.{part_most}
-use Rattle.write_shown.specs.Shown.{shown_parts}
-use Rattle.write_table.proofs.PartLaws.{codes_four, parts_by, Going, going_none, going_more, going_done, parts_next, parts_end, parts_out}
-use lib.ListN.{drop}
+use Rattle.write_table.proofs.PartLaws.{codes_four, parts_by, going_none, going_more, going_done, parts_next, parts_end, parts_out}
 use native.Mathlib.Omega.{arith}
-use borrow.Author.Rules.{rules}
 use Rattle.write_table.proofs.put_parts.Goals as goal
 
 pub loop-i-init : goal.loop-i-init

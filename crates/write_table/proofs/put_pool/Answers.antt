@@ -1,7 +1,6 @@
 use Rattle.write_buffer.proofs.OverLaws.{after, put_as}
 use Rattle.write_shown.specs.Shown.{shown_pool}
 use Rattle.write_table.specs.Pieces.{pool_word}
-use borrow.Author.Rules.{rules}
 use Rattle.write_table.proofs.put_pool.Goals as goal
 
 pub returns : goal.returns

@@ -3,7 +3,6 @@ use Rattle.base_words.proofs.PickLaws.{pick_yes, pick_no}
 use Rattle.write_table.specs.Pieces.{pool_word}
 use borrow.Author.Tests.{leb-true, eq-eqb, ne_eqb}
 use mathlib.Core.Path.{refl}
-use borrow.Author.Rules.{rules}
 use Rattle.write_table.proofs.put_pool_word.Goals as goal
 
 pub returns-then-n-eq0 : goal.returns-then-n-eq0

@@ -1,14 +1,9 @@
-use Prim.Native.Nat.{◌-◌, ◌≤◌, ◌*◌, ◌+◌}
+use Prim.Native.Nat.{◌-◌}
 use Rattle.write_buffer.proofs.OverLaws.{put_as, put_within, put_long, pieces_none, pieces_more, pieces_done}
-use Rattle.write_buffer.specs.Buffers.{Put}
-use Rattle.write_shown.specs.Lengths.{pool_most}
 use Rattle.write_shown.specs.Shown.{shown_pools}
-use Rattle.base_words.specs.Counts.{pools}
-use Rattle.base_words.specs.Each.{joined}
 use Rattle.write_table.specs.Pieces.{next_pool}
 use mathlib.Core.Path.{refl}
 use native.Mathlib.Omega.{arith}
-use borrow.Author.Rules.{rules}
 use Rattle.write_table.proofs.put_pools.Goals as goal
 
 pub loop-p-init : goal.loop-p-init

@@ -1,7 +1,6 @@
 use Rattle.write_buffer.proofs.OverLaws.{after, put_over}
 use Rattle.write_shown.specs.Shown.{shown_table}
 use native.Mathlib.Omega.{arith}
-use borrow.Author.Rules.{rules}
 use Rattle.write_table.proofs.put_table.Goals as goal
 
 pub returns : goal.returns

@@ -1,5 +1,4 @@
 use Rattle.xml_characters.proofs.ByteLaws.{control_low, control_high}
-use borrow.Author.Rules.{rules}
 use Rattle.xml_characters.proofs.is_control.Goals as goal
 
 pub returns-then-b-lt32 : goal.returns-then-b-lt32

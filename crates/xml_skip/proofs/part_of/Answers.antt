@@ -1,6 +1,5 @@
 use mathlib.Core.Path.{refl}
 use Rattle.xml_skip.specs.Skipping.{part_by, part_of}
-use borrow.Author.Rules.{rules}
 use Rattle.xml_skip.proofs.part_of.Goals as goal
 
 pub returns-in-StartTag : goal.returns-in-StartTag

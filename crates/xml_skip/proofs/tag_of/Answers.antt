@@ -1,6 +1,5 @@
 use mathlib.Core.Path.{refl}
 use Rattle.xml_skip.specs.Skipping.{tag_by, tag_of}
-use borrow.Author.Rules.{rules}
 use Rattle.xml_skip.proofs.tag_of.Goals as goal
 
 pub returns-in-StartTag : goal.returns-in-StartTag

@@ -1,4 +1,3 @@
-use borrow.Author.Rules.{rules}
 use Rattle.base_kinds.proofs.RuleLaws.{cells_back}
 use Rattle.base_kinds.proofs.moves.move_of.Goals as goal
 

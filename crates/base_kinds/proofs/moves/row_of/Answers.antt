@@ -1,4 +1,3 @@
-use borrow.Author.Rules.{rules}
 use Rattle.base_kinds.proofs.RuleLaws.{row_placed, cells_none, no_kind_lem, no_mode, no_phase}
 use Rattle.base_kinds.proofs.moves.row_of.Goals as goal
 

@@ -1,9 +1,5 @@
-use mathlib.Core.Path.{◌≡◌, ◌∙◌, sym}
-use Prim.Native.Nat.{◌≤◌, ◌-◌}
-use native.Mathlib.Omega.{arith}
+use Prim.Native.Nat.{◌-◌}
 use borrow.Author.Rules.{rules}
-use Rattle.base_words.specs.Words.{at}
-use Rattle.check_limits.specs.Bits.{bits_of}
 use Rattle.check_limits.proofs.BitLaws.{bits_none, bits_more, bits_done}
 use Rattle.check_limits.proofs.zeros.bits_below.Goals as goal
 

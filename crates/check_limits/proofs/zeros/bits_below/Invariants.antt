@@ -1,10 +1,7 @@
-use mathlib.Core.Path.{◌≡◌, ◌∙◌, sym}
+use mathlib.Core.Path.{◌≡◌}
 use Prim.Native.Nat.{◌≤◌, ◌-◌}
-use native.Mathlib.Omega.{arith}
-use borrow.Author.Rules.{rules}
 use Rattle.base_words.specs.Words.{at}
 use Rattle.check_limits.specs.Bits.{bits_of}
-use Rattle.check_limits.proofs.BitLaws.{bits_none, bits_more, bits_done}
 use Rattle.check_limits.proofs.zeros.bits_below.Given as goal
 
 abbrev pub invariant-loop-k : goal.invariant-loop-k

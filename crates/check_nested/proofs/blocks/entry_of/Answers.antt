@@ -1,10 +1,10 @@
 use Rattle.base_words.proofs.AllLaws.{eq_eqb_by, ne_eqb_by}
-use Prim.Native.Nat.{◌-◌, ◌≤◌}
-use mathlib.Core.Path.{◌≡◌, ◌∙◌, ap}
+use Prim.Native.Nat.{◌-◌}
+use mathlib.Core.Path.{◌∙◌, ap}
 use lib.Dec.{eqb}
 use Rattle.base_words.specs.Seek.{seek}
 use Rattle.base_words.proofs.SeekLaws.{seek_found, seek_more, seek_done, seek_loop}
-use Rattle.base_table.specs.Table.{entry_count, entry_at}
+use Rattle.base_table.specs.Table.{entry_at}
 use Rattle.check_nesting.specs.Deciding.{entry_of}
 use borrow.Author.Rules.{rules}
 use Rattle.check_nested.proofs.blocks.entry_of.Goals as goal

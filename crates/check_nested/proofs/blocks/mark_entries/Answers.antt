@@ -1,8 +1,7 @@
-use Prim.Native.Nat.{◌-◌, ◌≤◌}
-use mathlib.Core.Path.{◌≡◌, ◌∙◌, ap}
-use lib.ListN.{length}
+use Prim.Native.Nat.{◌-◌}
+use mathlib.Core.Path.{◌∙◌, ap}
 use Rattle.base_words.specs.Each.{tab}
-use Rattle.base_table.specs.Table.{entry_count, entry_at}
+use Rattle.base_table.specs.Table.{entry_at}
 use Rattle.check_tally.specs.Tally.{tally}
 use Rattle.check_tally.proofs.TallyLaws.{tally_loop, tally-more, tally_done}
 use borrow.Author.Rules.{rules}

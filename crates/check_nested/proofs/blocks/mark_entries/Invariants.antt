@@ -1,11 +1,9 @@
 use Prim.Native.Nat.{◌-◌, ◌≤◌}
-use mathlib.Core.Path.{◌≡◌, ◌∙◌, ap}
+use mathlib.Core.Path.{◌≡◌}
 use lib.ListN.{length}
 use Rattle.base_words.specs.Each.{tab}
 use Rattle.base_table.specs.Table.{entry_count, entry_at}
 use Rattle.check_tally.specs.Tally.{tally}
-use Rattle.check_tally.proofs.TallyLaws.{tally_loop, tally-more, tally_done}
-use borrow.Author.Rules.{rules}
 use Rattle.check_nested.proofs.blocks.mark_entries.Given as goal
 
 abbrev pub invariant-loop-j : goal.invariant-loop-j

@@ -1,12 +1,10 @@
 use borrow.Author.Tests.{eq-eqb, ne_eqb}
-use Prim.Native.Nat.{◌+◌, ◌-◌, ◌≤◌}
-use mathlib.Core.Path.{◌≡◌, sym, ◌∙◌}
+use Prim.Native.Nat.{◌-◌}
+use mathlib.Core.Path.{sym, ◌∙◌}
 use mathlib.Core.Bool.{true}
 use lib.Dec.{eqb}
-use Rattle.base_words.specs.All.{all}
 use Rattle.base_words.specs.Words.{at}
 use Rattle.base_words.proofs.AllLaws.{all_loop, all_more, all_fails'}
-use Rattle.base_words.specs.Counts.{edges}
 use Rattle.check_nesting.specs.Deciding.{same_edges}
 use borrow.Author.Rules.{rules}
 use Rattle.check_nested.proofs.blocks.same_edges.Goals as goal

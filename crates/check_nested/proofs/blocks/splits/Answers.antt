@@ -1,7 +1,6 @@
 use Rattle.check_nested.proofs.BlockLaws.{splits_by, or_yes, or_this, or_no}
 use borrow.Author.Tests.{eq-eqb, ne_eqb}
 use mathlib.Core.Path.{refl}
-use borrow.Author.Rules.{rules}
 use Rattle.check_nested.proofs.blocks.splits.Goals as goal
 
 pub returns-then-k-eq-AND_SPLIT : goal.returns-then-k-eq-AND_SPLIT

@@ -1,6 +1,6 @@
 -- The measure is four times the elements that may still be gone by, and 0 to 3 for the order of the calls.
 -- The loop's invariant: the branches gone are told by the tally, and `a` is where the last of them stops.
-use Rattle.std.proofs.Common.{◌≡◌, ℕ, ◌+◌, ◌-◌, ◌*◌, ◌≤◌, length}
+use Rattle.std.proofs.Common.{◌≡◌, ◌+◌, ◌-◌, ◌*◌, ◌≤◌, length}
 use Rattle.base_words.specs.Each.{tab}
 use Rattle.base_table.specs.Table.{element_count, element_at, exit_count, exit_at}
 use Rattle.check_tally.specs.Tally.{tally}

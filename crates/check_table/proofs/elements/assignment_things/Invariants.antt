@@ -1,8 +1,7 @@
 use Prim.Native.Nat.{◌≤◌, ◌-◌}
-use borrow.Author.Rules.{rules}
 use Rattle.base_table.specs.Places.{assignment_words}
 use Rattle.check_limits.specs.Limits.{assignment_fits}
-use Rattle.check_table.proofs.ThingsLaws.{Right, things_loop}
+use Rattle.check_table.proofs.ThingsLaws.{Right}
 use Rattle.check_table.proofs.elements.assignment_things.Given as goal
 
 abbrev pub invariant-loop-j : goal.invariant-loop-j

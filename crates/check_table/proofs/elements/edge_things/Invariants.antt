@@ -1,11 +1,6 @@
-use mathlib.Core.Path.{refl}
 use Prim.Native.Nat.{◌≤◌, ◌-◌}
-use borrow.Author.Rules.{rules}
 use Rattle.check_limits.specs.Limits.{edge_fits}
-use Rattle.check_table.proofs.ThingsLaws.{Right, right_more, right_fails, things_loop}
-use Rattle.check_table.proofs.OperandLaws.{edge_by}
-use mathlib.Core.Path.{ap}
-use mathlib.Core.Bool.{not}
+use Rattle.check_table.proofs.ThingsLaws.{Right}
 use Rattle.check_table.proofs.elements.edge_things.Given as goal
 
 abbrev pub invariant-loop-j : goal.invariant-loop-j

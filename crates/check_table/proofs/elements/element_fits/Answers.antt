@@ -1,6 +1,5 @@
 use lib.Seq.{length-take-le}
 use mathlib.Core.Path.{sym}
-use borrow.Author.Rules.{rules}
 use Rattle.base_table.specs.Places.{element_words}
 use Rattle.check_table.proofs.ElementLaws.{element_cut}
 use Rattle.check_table.proofs.elements.element_fits.Goals as goal

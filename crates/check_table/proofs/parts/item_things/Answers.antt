@@ -1,8 +1,6 @@
-use Prim.Native.Nat.{◌≤◌, ◌-◌}
+use Prim.Native.Nat.{◌-◌}
 use borrow.Author.Rules.{rules}
-use Rattle.base_table.specs.Places.{expression_words}
-use Rattle.check_limits.specs.Limits.{item_fits}
-use Rattle.check_table.proofs.ThingsLaws.{Right, things_loop}
+use Rattle.check_table.proofs.ThingsLaws.{things_loop}
 use Rattle.check_table.proofs.parts.item_things.Goals as goal
 
 ruleset L = (rules, things_loop)

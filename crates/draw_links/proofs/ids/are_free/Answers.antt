@@ -1,7 +1,5 @@
-use Prim.Native.Nat.{◌-◌, ◌≤◌}
+use Prim.Native.Nat.{◌-◌}
 use mathlib.Core.Bool.{true}
-use mathlib.Core.Path.{◌≡◌}
-use Rattle.base_words.specs.All.{all}
 use Rattle.base_words.proofs.AllLaws.{all_done, all_fails', all_more, all_none}
 use Rattle.base_words.proofs.PickLaws.{flag_no, flag_yes}
 use Rattle.draw_links.specs.Notes.{is_free}

@@ -1,7 +1,6 @@
 use mathlib.Core.Bool.{false≢true}
 use native.Mathlib.Omega.{arith}
 use Rattle.draw_links.proofs.NoteLaws.{up_otherwise}
-use borrow.Author.Rules.{rules}
 use Rattle.draw_links.proofs.ids.begins_otherwise.Goals as goal
 
 pub returns-then-v-eq0 : goal.returns-then-v-eq0

@@ -2,7 +2,6 @@ use mathlib.Core.Path.{refl}
 use borrow.Author.Tests.{le-ltb, lt-ltb}
 use Rattle.base_words.proofs.PickLaws.{pick_no, pick_yes}
 use Rattle.draw_links.specs.Notes.{behind_quote}
-use borrow.Author.Rules.{rules}
 use Rattle.draw_links.proofs.ids.behind_quote.Goals as goal
 
 pub returns-then-q-lt65534 : goal.returns-then-q-lt65534

@@ -1,10 +1,8 @@
 use Prim.Native.Nat.{◌-◌, ◌≤◌}
-use Rattle.draw_links.specs.Notes.{bared, retargeted, no_note}
-use Rattle.base_words.proofs.IterLaws.{iter_done, iter_more, iter_none}
+use Rattle.draw_links.specs.Notes.{retargeted, no_note}
 use Rattle.base_words.specs.Iter.{iter}
 use lib.ListN.{length}
 use mathlib.Core.Path.{◌≡◌}
-use borrow.Author.Rules.{rules}
 use Rattle.draw_links.proofs.ids.clear_ids.Given as goal
 
 abbrev pub invariant-loop-k : goal.invariant-loop-k

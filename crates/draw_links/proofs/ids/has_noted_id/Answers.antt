@@ -1,7 +1,6 @@
 use Rattle.draw_links.proofs.NoteLaws.{has_none, has_told}
 use mathlib.Core.Path.{◌∙◌}
 use borrow.Author.Tests.{le-ltb}
-use borrow.Author.Rules.{rules}
 use Rattle.draw_links.proofs.ids.has_noted_id.Goals as goal
 
 pub returns-then-w-j : goal.returns-then-w-j

@@ -1,10 +1,7 @@
 use Prim.Native.Nat.{◌-◌}
 use lib.ListN.{length, drop}
-use mathlib.Core.Path.{◌≡◌, refl, ◌∙◌}
-use borrow.Author.Tests.{le-leb}
-use Rattle.draw_links.proofs.NoteLaws.{up_cut, up_end, up_last, up_more, up_other, up_quote}
+use mathlib.Core.Path.{◌≡◌}
 use Rattle.draw_links.specs.Notes.{is_up_to}
-use borrow.Author.Rules.{rules}
 use Rattle.draw_links.proofs.ids.is_up_to.Given as goal
 
 abbrev pub invariant-loop-i : goal.invariant-loop-i

@@ -1,5 +1,4 @@
 use Rattle.draw_links.proofs.NoteLaws.{note_behind, note_nowhere}
-use borrow.Author.Rules.{rules}
 use Rattle.draw_links.proofs.ids.note_of.Goals as goal
 
 pub returns-in_default : goal.returns-in_default

@@ -1,5 +1,4 @@
 use Rattle.draw_links.proofs.NoteLaws.{stands_by}
-use borrow.Author.Rules.{rules}
 use Rattle.draw_links.proofs.ids.stands_at.Goals as goal
 
 pub returns : goal.returns

@@ -1,5 +1,4 @@
 use Rattle.draw_things.proofs.AttributeLaws.{differs_not, differs_is}
-use borrow.Author.Rules.{rules}
 use Rattle.draw_things.proofs.names.differs_at.Goals as goal
 
 pub returns-in_default : goal.returns-in_default

@@ -1,5 +1,4 @@
 use Rattle.draw_things.proofs.SortLaws.{drawn_elsewhere, drawn_another, drawn_plain}
-use borrow.Author.Rules.{rules}
 use Rattle.draw_things.proofs.names.drawn_as.Goals as goal
 
 pub returns-then-parent-ne-PROCESS : goal.returns-then-parent-ne-PROCESS

@@ -1,11 +1,7 @@
-use mathlib.Core.Path.{◌≡◌, ◌∙◌, sym}
+use mathlib.Core.Path.{◌≡◌}
 use Prim.Native.Nat.{◌-◌}
 use lib.ListN.{length, drop}
 use Rattle.draw_things.specs.Names.{differs_from, draws_another}
-use Rattle.draw_things.proofs.AttributeLaws.{another_here, another_on, another_stops, another_leap, another_end}
-use Rattle.xml_markup.proofs.LeapLaws.{on_leap}
-use native.Mathlib.Omega.{arith}
-use borrow.Author.Rules.{rules}
 use Rattle.draw_things.proofs.names.draws_another.Given as goal
 
 abbrev pub invariant-loop-i : goal.invariant-loop-i

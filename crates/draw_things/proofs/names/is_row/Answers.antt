@@ -1,6 +1,5 @@
 use Rattle.draw_things.specs.Names.{rows}
 use Rattle.draw_things.proofs.NameLaws.{length_is, row_longer, row_same}
-use borrow.Author.Rules.{rules}
 use Rattle.draw_things.proofs.names.is_row.Goals as goal
 
 pub returns-then-name-length : goal.returns-then-name-length

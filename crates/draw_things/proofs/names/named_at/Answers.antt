@@ -1,5 +1,4 @@
 use Rattle.draw_things.proofs.SortLaws.{named_nothing, named_elsewhere, named_here}
-use borrow.Author.Rules.{rules}
 use Rattle.draw_things.proofs.names.named_at.Goals as goal
 
 pub returns-then-s-eq-NOTHING : goal.returns-then-s-eq-NOTHING

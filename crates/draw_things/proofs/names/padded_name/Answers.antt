@@ -1,6 +1,5 @@
 use Rattle.draw_things.specs.Names.{rows}
 use Rattle.draw_things.proofs.NameLaws.{name_in}
-use borrow.Author.Rules.{rules}
 use Rattle.draw_things.proofs.names.padded_name.Goals as goal
 
 pub returns : goal.returns

@@ -1,4 +1,3 @@
-use borrow.Author.Rules.{rules}
 use Rattle.draw_things.proofs.names.row_at.Goals as goal
 
 pub returns : goal.returns

@@ -1,7 +1,6 @@
 use Prim.Native.Nat.{◌-◌}
-use mathlib.Core.Path.{◌≡◌, ◌∙◌, refl, sym}
-use lib.ListN.{drop}
-use Rattle.draw_things.specs.Names.{rows, row_count, row_from, row_named}
+use mathlib.Core.Path.{◌∙◌, refl, sym}
+use Rattle.draw_things.specs.Names.{row_named}
 use Rattle.draw_things.proofs.NameLaws.{row_here, row_on, row_end}
 use borrow.Author.Rules.{rules}
 use Rattle.draw_things.proofs.names.row_named.Goals as goal

@@ -1,9 +1,7 @@
 use Prim.Native.Nat.{◌-◌}
-use mathlib.Core.Path.{◌≡◌, ◌∙◌, refl, sym}
+use mathlib.Core.Path.{◌≡◌}
 use lib.ListN.{drop}
 use Rattle.draw_things.specs.Names.{rows, row_count, row_from, row_named}
-use Rattle.draw_things.proofs.NameLaws.{row_here, row_on, row_end}
-use borrow.Author.Rules.{rules}
 use Rattle.draw_things.proofs.names.row_named.Given as goal
 
 abbrev pub invariant-loop-i : goal.invariant-loop-i

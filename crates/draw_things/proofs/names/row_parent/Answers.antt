@@ -1,6 +1,5 @@
 use Rattle.draw_things.specs.Names.{rows}
 use Rattle.draw_things.proofs.NameLaws.{parent_is}
-use borrow.Author.Rules.{rules}
 use Rattle.draw_things.proofs.names.row_parent.Goals as goal
 
 pub returns : goal.returns

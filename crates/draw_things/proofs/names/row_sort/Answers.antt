@@ -1,7 +1,6 @@
 use mathlib.Core.Path.{◌∙◌}
 use Rattle.draw_things.specs.Names.{rows}
 use Rattle.draw_things.proofs.NameLaws.{sort_in, sort_out}
-use borrow.Author.Rules.{rules}
 use Rattle.draw_things.proofs.names.row_sort.Goals as goal
 
 pub returns-then-i-ge-ROWS : goal.returns-then-i-ge-ROWS

@@ -1,7 +1,4 @@
-use mathlib.Core.Path.{refl}
-use Rattle.draw_things.specs.Names.{value_bytes}
 use Rattle.draw_things.proofs.AttributeLaws.{value_is, value_absent}
-use borrow.Author.Rules.{rules}
 use Rattle.draw_things.proofs.names.value_bytes.Goals as goal
 
 pub returns-in-Is : goal.returns-in-Is

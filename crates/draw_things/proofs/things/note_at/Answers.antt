@@ -1,6 +1,5 @@
 use mathlib.Core.Path.{sym}
 use lib.ListN.{get_or-eq_default}
-use borrow.Author.Rules.{rules}
 use Rattle.draw_things.proofs.things.note_at.Goals as goal
 
 pub returns-else-i-w : goal.returns-else-i-w

@@ -1,6 +1,5 @@
 use mathlib.Core.Path.{sym}
 use lib.Seq.{set_out}
-use borrow.Author.Rules.{rules}
 use Rattle.draw_things.proofs.things.put.Goals as goal
 
 pub returns-else-i-w : goal.returns-else-i-w

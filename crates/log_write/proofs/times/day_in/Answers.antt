@@ -2,7 +2,6 @@ use Rattle.log_write.specs.Times.{day_in}
 use Rattle.base_words.proofs.PickLaws.{pick_yes, pick_no}
 use borrow.Author.Tests.{le-leb, lt-leb}
 use mathlib.Core.Path.{refl}
-use borrow.Author.Rules.{rules}
 use Rattle.log_write.proofs.times.day_in.Goals as goal
 
 pub returns-then-month-le12 : goal.returns-then-month-le12

@@ -1,5 +1,4 @@
 use Rattle.log_write.specs.Times.{quarters, in_century, fifths, day_of}
-use borrow.Author.Rules.{rules}
 use Rattle.log_write.proofs.times.day_of.Goals as goal
 
 pub returns : goal.returns

@@ -1,6 +1,5 @@
 use Rattle.log_write.specs.Times.{clock_text}
 use Rattle.write_buffer.proofs.OverLaws.{after}
-use borrow.Author.Rules.{rules}
 use Rattle.log_write.proofs.times.put_clock.Goals as goal
 
 pub returns : goal.returns

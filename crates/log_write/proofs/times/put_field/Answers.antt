@@ -1,6 +1,5 @@
 use Rattle.log_write.specs.Times.{field}
 use Rattle.write_buffer.proofs.OverLaws.{after}
-use borrow.Author.Rules.{rules}
 use Rattle.log_write.proofs.times.put_field.Goals as goal
 
 pub returns : goal.returns

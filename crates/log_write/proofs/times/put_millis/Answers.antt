@@ -1,6 +1,5 @@
 use Rattle.log_write.specs.Times.{millis_text}
 use Rattle.write_buffer.proofs.OverLaws.{after}
-use borrow.Author.Rules.{rules}
 use Rattle.log_write.proofs.times.put_millis.Goals as goal
 
 pub returns : goal.returns

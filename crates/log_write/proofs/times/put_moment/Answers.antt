@@ -1,7 +1,6 @@
 use Rattle.log_write.specs.Times.{day_text, day_of, moment_text}
 use Rattle.write_buffer.proofs.OverLaws.{after, put_as}
 use mathlib.Core.Path.{ap}
-use borrow.Author.Rules.{rules}
 use Rattle.log_write.proofs.times.put_moment.Goals as goal
 
 pub returns : goal.returns

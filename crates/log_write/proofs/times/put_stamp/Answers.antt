@@ -1,7 +1,6 @@
 use Rattle.log_write.specs.Times.{date_opening}
 use Rattle.log_write.proofs.StampLaws.{stamp_none, stamp_late, stamp_dated}
 use Rattle.write_buffer.proofs.OverLaws.{after}
-use borrow.Author.Rules.{rules}
 use Rattle.log_write.proofs.times.put_stamp.Goals as goal
 
 pub returns-then-moment-eq0 : goal.returns-then-moment-eq0

@@ -1,10 +1,7 @@
 use mathlib.Core.Path.{◌≡◌}
 use Prim.Native.Nat.{◌≤◌, ◌-◌}
-use borrow.Author.Rules.{rules}
 use Rattle.check_limits.specs.Bits.{bits_of}
-use Rattle.check_limits.proofs.BitLaws.{bits_none, bits_done}
 use Rattle.state_check.specs.Places.{excess_at}
-use Rattle.state_check.proofs.ExcessLaws.{excess_more}
 use Rattle.state_check.proofs.instances.excess_below.Given as goal
 
 abbrev pub invariant-loop-k : goal.invariant-loop-k

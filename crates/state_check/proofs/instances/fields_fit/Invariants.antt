@@ -1,10 +1,7 @@
 use Prim.Native.Nat.{◌-◌, ◌≤◌}
-use Rattle.state_fits.specs.Fits.{field_fits, fields_fit}
-use Rattle.base_words.proofs.AllLaws.{all_loop}
-use Rattle.base_words.proofs.PickLaws.{flags}
+use Rattle.state_fits.specs.Fits.{field_fits}
 use Rattle.base_words.specs.All.{all}
 use Rattle.base_words.specs.Counts.{fields}
-use borrow.Author.Rules.{rules}
 use mathlib.Core.Bool.{true}
 use mathlib.Core.Path.{◌≡◌}
 use Rattle.state_check.proofs.instances.fields_fit.Given as goal

@@ -1,8 +1,6 @@
-use Prim.Native.Nat.{◌-◌, ◌≤◌}
-use Rattle.state_check.proofs.MarkLaws.{Edged, edged, edged_done}
+use Prim.Native.Nat.{◌-◌}
+use Rattle.state_check.proofs.MarkLaws.{edged, edged_done}
 use borrow.Author.Rules.{rules}
-use lib.ListN.{length}
-use mathlib.Core.Path.{◌≡◌}
 use Rattle.state_check.proofs.marks.mark_edges.Goals as goal
 
 ruleset L = (rules, edged)

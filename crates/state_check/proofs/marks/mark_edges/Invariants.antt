@@ -1,6 +1,5 @@
 use Prim.Native.Nat.{◌-◌, ◌≤◌}
-use Rattle.state_check.proofs.MarkLaws.{Edged, edged, edged_done}
-use borrow.Author.Rules.{rules}
+use Rattle.state_check.proofs.MarkLaws.{Edged}
 use lib.ListN.{length}
 use mathlib.Core.Path.{◌≡◌}
 use Rattle.state_check.proofs.marks.mark_edges.Given as goal

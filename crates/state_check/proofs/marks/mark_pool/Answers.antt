@@ -1,8 +1,6 @@
-use Prim.Native.Nat.{◌-◌, ◌≤◌}
-use Rattle.state_check.proofs.CallLaws.{Marks, marks, marks_done}
+use Prim.Native.Nat.{◌-◌}
+use Rattle.state_check.proofs.CallLaws.{marks, marks_done}
 use borrow.Author.Rules.{rules}
-use lib.ListN.{length}
-use mathlib.Core.Path.{◌≡◌}
 use Rattle.state_check.proofs.marks.mark_pool.Goals as goal
 
 ruleset L = (rules, marks)

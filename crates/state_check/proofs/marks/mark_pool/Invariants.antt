@@ -1,6 +1,5 @@
 use Prim.Native.Nat.{◌-◌, ◌≤◌}
-use Rattle.state_check.proofs.CallLaws.{Marks, marks, marks_done}
-use borrow.Author.Rules.{rules}
+use Rattle.state_check.proofs.CallLaws.{Marks}
 use lib.ListN.{length}
 use mathlib.Core.Path.{◌≡◌}
 use Rattle.state_check.proofs.marks.mark_pool.Given as goal

@@ -1,11 +1,7 @@
-use Prim.Native.Nat.{◌-◌, ◌≤◌}
-use Rattle.state_fits.specs.Fits.{slot_fits}
+use Prim.Native.Nat.{◌-◌}
 use Rattle.base_words.proofs.AllLaws.{all_loop}
 use Rattle.base_words.proofs.PickLaws.{flags}
-use Rattle.base_words.specs.All.{all}
 use borrow.Author.Rules.{rules}
-use mathlib.Core.Bool.{true}
-use mathlib.Core.Path.{◌≡◌}
 use Rattle.state_check.proofs.messages.messages_fit.Goals as goal
 
 ruleset L = (rules, all_loop, flags)

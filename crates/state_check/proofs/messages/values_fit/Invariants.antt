@@ -1,12 +1,9 @@
 use mathlib.Core.Path.{◌≡◌}
 use mathlib.Core.Bool.{true}
 use Prim.Native.Nat.{◌≤◌, ◌-◌}
-use borrow.Author.Rules.{rules}
 use Rattle.base_words.specs.All.{all}
 use Rattle.base_words.specs.Counts.{values}
-use Rattle.base_words.proofs.AllLaws.{all_loop}
 use Rattle.state_check.specs.Places.{shown_by}
-use Rattle.state_check.proofs.CallLaws.{shown_first, shown_more, shown_fails}
 use Rattle.state_check.proofs.messages.values_fit.Given as goal
 
 abbrev pub invariant-loop-j : goal.invariant-loop-j

@@ -1,10 +1,7 @@
-use Prim.Native.Nat.{◌-◌, ◌≤◌}
-use Rattle.state_fits.specs.Fits.{is_start}
+use Prim.Native.Nat.{◌-◌}
 use Rattle.base_words.proofs.PickLaws.{flag_is}
 use Rattle.base_words.proofs.SeekLaws.{seek_loop}
-use Rattle.base_words.specs.Seek.{seek}
 use borrow.Author.Rules.{rules}
-use mathlib.Core.Path.{◌≡◌}
 use Rattle.state_fits.proofs.pools.start_below.Goals as goal
 
 ruleset L = (rules, seek_loop, flag_is)

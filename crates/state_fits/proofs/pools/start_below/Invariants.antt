@@ -1,9 +1,6 @@
 use Prim.Native.Nat.{◌-◌, ◌≤◌}
 use Rattle.state_fits.specs.Fits.{is_start}
-use Rattle.base_words.proofs.PickLaws.{flag_is}
-use Rattle.base_words.proofs.SeekLaws.{seek_loop}
 use Rattle.base_words.specs.Seek.{seek}
-use borrow.Author.Rules.{rules}
 use mathlib.Core.Path.{◌≡◌}
 use Rattle.state_fits.proofs.pools.start_below.Given as goal
 

@@ -1,5 +1,4 @@
 use mathlib.Core.Path.{refl}
-use borrow.Author.Rules.{rules}
 use Rattle.step_effects.proofs.CopyLaws.{committed}
 use Rattle.step_effects.proofs.copies.commit.Goals as goal
 

@@ -1,4 +1,3 @@
-use borrow.Author.Rules.{rules}
 use Rattle.step_effects.proofs.CopyLaws.{sees}
 use Rattle.step_effects.proofs.copies.copy_before.Goals as goal
 

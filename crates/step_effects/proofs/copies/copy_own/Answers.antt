@@ -1,6 +1,5 @@
 use mathlib.Core.Path.{refl}
 use borrow.Author.Tests.{eqb-true, eqb-false}
-use borrow.Author.Rules.{rules}
 use Rattle.step_effects.proofs.copies.copy_own.Goals as goal
 
 pub returns-then-m-eq-MAKES : goal.returns-then-m-eq-MAKES

@@ -1,8 +1,5 @@
-use Prim.Native.Nat.{ℕ, ◌≤◌, ◌-◌, ◌+◌}
-use mathlib.Core.Path.{◌≡◌}
-use lib.ListN.{length}
+use Prim.Native.Nat.{ℕ, ◌-◌, ◌+◌}
 use Rattle.base_words.specs.Words.{at}
-use Rattle.base_words.specs.Writes.{writes}
 use Rattle.base_words.proofs.WritesLaws.{writes_on, writes_loop}
 use borrow.Author.Rules.{rules}
 use Rattle.step_effects.proofs.copies.move_across.Goals as goal

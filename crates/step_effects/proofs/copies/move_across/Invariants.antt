@@ -1,10 +1,8 @@
-use Prim.Native.Nat.{ℕ, ◌≤◌, ◌-◌, ◌+◌}
+use Prim.Native.Nat.{◌≤◌, ◌-◌, ◌+◌}
 use mathlib.Core.Path.{◌≡◌}
 use lib.ListN.{length}
 use Rattle.base_words.specs.Words.{at}
 use Rattle.base_words.specs.Writes.{writes}
-use Rattle.base_words.proofs.WritesLaws.{writes_on, writes_loop}
-use borrow.Author.Rules.{rules}
 use Rattle.step_effects.proofs.copies.move_across.Given as goal
 
 abbrev pub invariant-loop-k : goal.invariant-loop-k

@@ -1,8 +1,4 @@
-use Prim.Native.Nat.{◌≤◌, ◌-◌, ◌+◌}
-use mathlib.Core.Path.{◌≡◌}
-use lib.ListN.{length}
-use Rattle.base_words.specs.Words.{at}
-use Rattle.base_words.specs.Writes.{writes}
+use Prim.Native.Nat.{◌-◌}
 use Rattle.base_words.proofs.WritesLaws.{writes_loop}
 use borrow.Author.Rules.{rules}
 use Rattle.step_effects.proofs.copies.move_inside.Goals as goal

@@ -3,8 +3,6 @@ use mathlib.Core.Path.{◌≡◌}
 use lib.ListN.{length}
 use Rattle.base_words.specs.Words.{at}
 use Rattle.base_words.specs.Writes.{writes}
-use Rattle.base_words.proofs.WritesLaws.{writes_loop}
-use borrow.Author.Rules.{rules}
 use Rattle.step_effects.proofs.copies.move_inside.Given as goal
 
 abbrev pub invariant-loop-k : goal.invariant-loop-k

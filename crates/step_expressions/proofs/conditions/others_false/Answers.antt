@@ -1,8 +1,7 @@
-use mathlib.Core.Path.{◌∙◌, ◌≡◌, sym}
+use mathlib.Core.Path.{◌∙◌, sym}
 use mathlib.Core.Bool.{true}
-use Prim.Native.Nat.{◌-◌, ◌≤◌}
+use Prim.Native.Nat.{◌-◌}
 use borrow.Author.Tests.{not-false, not-true}
-use Rattle.base_words.specs.All.{all}
 use Rattle.base_words.proofs.AllLaws.{all_fails', all_loop, all_more}
 use Rattle.meaning.specs.Conditions.{other_false}
 use borrow.Author.Rules.{rules}

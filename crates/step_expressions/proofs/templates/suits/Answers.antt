@@ -1,8 +1,7 @@
-use mathlib.Core.Path.{◌∙◌, ◌≡◌, sym}
+use mathlib.Core.Path.{◌∙◌, sym}
 use mathlib.Core.Bool.{true}
-use Prim.Native.Nat.{◌-◌, ◌≤◌}
+use Prim.Native.Nat.{◌-◌}
 use borrow.Author.Tests.{not-false, not-true, ne_eqb, eq-eqb}
-use Rattle.base_words.specs.All.{all}
 use Rattle.base_words.proofs.AllLaws.{all_fails', all_loop, all_more, all_done}
 use Rattle.base_words.proofs.PickLaws.{and_no, and_yes}
 use Rattle.step_expressions.specs.Suited.{item_suits, suited}

@@ -1,14 +1,8 @@
-use mathlib.Core.Path.{◌∙◌, ◌≡◌, sym}
+use mathlib.Core.Path.{◌≡◌}
 use mathlib.Core.Bool.{true}
 use Prim.Native.Nat.{◌-◌, ◌≤◌}
-use borrow.Author.Tests.{not-false, not-true, ne_eqb, eq-eqb}
 use Rattle.base_words.specs.All.{all}
-use Rattle.base_words.proofs.AllLaws.{all_fails', all_loop, all_more, all_done}
-use Rattle.base_words.proofs.PickLaws.{and_no, and_yes}
-use Rattle.step_expressions.specs.Suited.{item_suits, suited}
-use borrow.Author.Rules.{rules}
-use mathlib.Core.Path.{ap}
-use mathlib.Core.Bool.{not}
+use Rattle.step_expressions.specs.Suited.{item_suits}
 use Rattle.step_expressions.proofs.templates.suits.Given as goal
 
 abbrev pub invariant-loop-j : goal.invariant-loop-j

@@ -1,10 +1,7 @@
-use mathlib.Core.Logic.{⊎_elim}
 use Rattle.step_list.proofs.LevelLaws.{instance_is, element_stirs, more_stirring, more_idle}
-use Rattle.step_names.proofs.ScanLaws.{Passed, passed_none, passed_more, level_found, level_passed}
+use Rattle.step_names.proofs.ScanLaws.{passed_none, level_found, level_passed}
 use Rattle.base_words.proofs.PickLaws.{flag_is}
-use Rattle.step_list.specs.Scanned.{scan_element}
-use Rattle.base_state.specs.Instances.{instances_of, queues_of}
-use Prim.Native.Nat.{◌≤◌, ◌-◌}
+use Prim.Native.Nat.{◌-◌}
 use borrow.Author.Rules.{rules}
 use Rattle.step_list.proofs.levels.scan_instance.Goals as goal
 use Rattle.step_list.proofs.levels.scan_instance.Goals.{then-stirs_at+else-r, else-stirs_at}
@@ -38,8 +35,8 @@ pub loop-e-preserved : goal.loop-e-preserved
 loop-e-preserved c = (
   search L,
   elim c.if-stirs_at.branch [
-    then-stirs_at+else-r w ↦ more_stirring _ _ _ _ _ _ _ _ _ c.loop-e.invariant.1 _ (flag_is _ _ _ c.stirs_at.ensures w.if-stirs_at.true) w.scan_phases-r.ensures w.if-r.false w.left-is
-  | else-stirs_at w ↦ more_idle _ _ _ _ _ _ _ _ _ c.loop-e.invariant.1 (flag_is _ _ _ c.stirs_at.ensures w.if-stirs_at.false) w.left-is
+    | then-stirs_at+else-r w ↦ more_stirring _ _ _ _ _ _ _ _ _ c.loop-e.invariant.1 _ (flag_is _ _ _ c.stirs_at.ensures w.if-stirs_at.true) w.scan_phases-r.ensures w.if-r.false w.left-is
+    | else-stirs_at w ↦ more_idle _ _ _ _ _ _ _ _ _ c.loop-e.invariant.1 (flag_is _ _ _ c.stirs_at.ensures w.if-stirs_at.false) w.left-is
   ],
 )
 

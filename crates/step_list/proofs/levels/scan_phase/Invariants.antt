@@ -1,12 +1,8 @@
-use Rattle.step_list.proofs.LevelLaws.{phase_none, phase_some}
-use Rattle.step_names.proofs.ScanLaws.{Passed, passed_none, passed_more, level_found, level_passed}
+use Rattle.step_names.proofs.ScanLaws.{Passed}
 use Rattle.step_names.specs.Parts.{accepted_on}
 use Rattle.step_list.specs.Listing.{by_branch}
-use Rattle.meaning.specs.Requirements.{branch_count}
 use Rattle.base_state.specs.Instances.{queues_of}
-use mathlib.Core.Path.{◌∙◌, ap₂}
 use Prim.Native.Nat.{◌≤◌, ◌-◌}
-use borrow.Author.Rules.{rules}
 use Rattle.step_list.proofs.levels.scan_phase.Given as goal
 
 abbrev pub invariant-loop-b : goal.invariant-loop-b

@@ -1,10 +1,8 @@
 use Rattle.base_kinds.specs.Moves.{phases}
-use Rattle.step_names.proofs.ScanLaws.{Passed, passed_none, passed_more, level_found, level_passed}
+use Rattle.step_names.proofs.ScanLaws.{Passed}
 use Rattle.step_list.specs.Scanned.{scan_phase}
 use Rattle.base_state.specs.Instances.{instances_of, queues_of}
-use mathlib.Core.Path.{refl}
 use Prim.Native.Nat.{◌≤◌, ◌-◌}
-use borrow.Author.Rules.{rules}
 use Rattle.step_list.proofs.levels.scan_phases.Given as goal
 
 abbrev pub invariant-loop-f : goal.invariant-loop-f

@@ -1,9 +1,7 @@
-use Rattle.step_list.proofs.LevelLaws.{pools_are}
-use Rattle.step_names.proofs.ScanLaws.{Passed, passed_none, passed_more, level_found, level_passed}
+use Rattle.step_names.proofs.ScanLaws.{Passed}
 use Rattle.step_list.specs.Scanned.{scan_pool}
 use Rattle.base_state.specs.Instances.{instances_of, queues_of}
 use Prim.Native.Nat.{◌≤◌, ◌-◌}
-use borrow.Author.Rules.{rules}
 use Rattle.step_list.proofs.levels.scan_pools.Given as goal
 
 abbrev pub invariant-loop-p : goal.invariant-loop-p

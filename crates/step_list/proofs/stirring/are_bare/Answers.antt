@@ -1,11 +1,9 @@
 use Rattle.step_list.specs.Scanned.{is_bare}
 use Rattle.base_words.proofs.AllLaws.{all_loop, all_more, all_fails', all_done}
-use Rattle.base_words.specs.All.{all}
 use borrow.Author.Tests.{not-true, not-false}
 use mathlib.Core.Bool.{true}
-use mathlib.Core.Path.{◌≡◌, sym, ◌∙◌}
-use Prim.Native.Nat.{◌≤◌, ◌-◌}
-use Rattle.base_table.specs.Table.{element_at}
+use mathlib.Core.Path.{sym, ◌∙◌}
+use Prim.Native.Nat.{◌-◌}
 use borrow.Author.Rules.{rules}
 use mathlib.Core.Path.{ap}
 use mathlib.Core.Bool.{not}

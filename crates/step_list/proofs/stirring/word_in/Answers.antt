@@ -1,7 +1,5 @@
 use mathlib.Core.Path.{sym, ◌∙◌}
-use native.Mathlib.Omega.{arith}
 use lib.Seq.{get_or-drop}
-use borrow.Author.Rules.{rules}
 use Rattle.base_table.specs.Places.{element_place}
 use Rattle.step_list.proofs.stirring.word_in.Goals as goal
 

@@ -1,7 +1,4 @@
-use Prim.Native.Nat.{◌≤◌, ◌-◌}
-use mathlib.Core.Path.{◌≡◌, ◌∙◌}
-use lib.ListN.{length}
-use Rattle.base_words.specs.Iter.{iter}
+use Prim.Native.Nat.{◌-◌}
 use Rattle.base_words.proofs.IterLaws.{iter_loop, iter_more, iter_done}
 use Rattle.step_tokens.specs.Edges.{change_one}
 use borrow.Author.Rules.{rules}

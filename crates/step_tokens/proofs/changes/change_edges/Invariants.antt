@@ -1,10 +1,8 @@
 use Prim.Native.Nat.{◌≤◌, ◌-◌}
-use mathlib.Core.Path.{◌≡◌, ◌∙◌}
+use mathlib.Core.Path.{◌≡◌}
 use lib.ListN.{length}
 use Rattle.base_words.specs.Iter.{iter}
-use Rattle.base_words.proofs.IterLaws.{iter_loop, iter_more, iter_done}
 use Rattle.step_tokens.specs.Edges.{change_one}
-use borrow.Author.Rules.{rules}
 use Rattle.step_tokens.proofs.changes.change_edges.Given as goal
 
 abbrev pub invariant-loop-j : goal.invariant-loop-j

@@ -1,9 +1,6 @@
-use Prim.Native.Nat.{ℕ, ◌≤◌, ◌-◌}
-use mathlib.Core.Path.{◌≡◌, refl}
-use lib.ListN.{length}
-use Rattle.base_words.specs.Writes.{writes}
+use Prim.Native.Nat.{ℕ, ◌-◌}
+use mathlib.Core.Path.{refl}
 use Rattle.base_words.proofs.WritesLaws.{writes_loop, writes_next, writes_done}
-use Rattle.base_state.specs.Places.{defined_place}
 use Rattle.meaning.specs.Changes.{cleared}
 use borrow.Author.Rules.{rules}
 use Rattle.step_tokens.proofs.changes.clear.Goals as goal

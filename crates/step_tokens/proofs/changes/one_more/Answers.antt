@@ -2,7 +2,6 @@ use mathlib.Core.Path.{refl}
 use borrow.Author.Tests.{lt-ltb, le-ltb}
 use Rattle.base_words.proofs.PickLaws.{pick_yes, pick_no}
 use Rattle.meaning.specs.Changes.{more}
-use borrow.Author.Rules.{rules}
 use Rattle.step_tokens.proofs.changes.one_more.Goals as goal
 
 pub returns-then-n-lt-COUNT_MOST : goal.returns-then-n-lt-COUNT_MOST

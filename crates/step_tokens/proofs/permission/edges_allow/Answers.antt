@@ -1,8 +1,7 @@
-use Prim.Native.Nat.{◌≤◌, ◌-◌}
-use mathlib.Core.Path.{◌≡◌, sym, ◌∙◌}
+use Prim.Native.Nat.{◌-◌}
+use mathlib.Core.Path.{sym, ◌∙◌}
 use mathlib.Core.Bool.{true}
 use borrow.Author.Tests.{not-true, not-false}
-use Rattle.base_words.specs.All.{all}
 use Rattle.base_words.proofs.AllLaws.{all_loop, all_more, all_fails', all_done}
 use Rattle.step_tokens.specs.Edges.{allows}
 use borrow.Author.Rules.{rules}

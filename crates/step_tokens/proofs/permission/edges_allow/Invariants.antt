@@ -1,13 +1,8 @@
 use Prim.Native.Nat.{◌≤◌, ◌-◌}
-use mathlib.Core.Path.{◌≡◌, sym, ◌∙◌}
+use mathlib.Core.Path.{◌≡◌}
 use mathlib.Core.Bool.{true}
-use borrow.Author.Tests.{not-true, not-false}
 use Rattle.base_words.specs.All.{all}
-use Rattle.base_words.proofs.AllLaws.{all_loop, all_more, all_fails', all_done}
 use Rattle.step_tokens.specs.Edges.{allows}
-use borrow.Author.Rules.{rules}
-use mathlib.Core.Path.{ap}
-use mathlib.Core.Bool.{not}
 use Rattle.step_tokens.proofs.permission.edges_allow.Given as goal
 
 abbrev pub invariant-loop-j : goal.invariant-loop-j

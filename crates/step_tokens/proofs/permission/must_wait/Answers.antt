@@ -1,4 +1,3 @@
-use mathlib.Core.Path.{refl}
 use borrow.Author.Rules.{rules}
 use Rattle.base_words.proofs.AllLaws.{eq_eqb_by, ne_eqb_by}
 use Rattle.base_words.proofs.PickLaws.{or_yes, or_no, eqb_same}

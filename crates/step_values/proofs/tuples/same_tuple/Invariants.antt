@@ -1,16 +1,9 @@
 use mathlib.Core.Path.{◌≡◌}
 use mathlib.Core.Bool.{true}
 use Prim.Native.Nat.{◌≤◌, ◌-◌}
-use native.Mathlib.Omega.{arith}
 use lib.Dec.{eqb}
-use borrow.Author.Tests.{ne_eqb}
 use Rattle.base_words.specs.All.{all}
 use Rattle.base_words.specs.Words.{at}
-use Rattle.base_words.proofs.AllLaws.{all_loop, all_more}
-use Rattle.base_words.proofs.PickLaws.{and_yes, and_no}
-use Rattle.meaning.specs.Tuples.{same_tuple}
-use Rattle.step_values.proofs.TupleLaws.{same_loop, words_equal}
-use borrow.Author.Rules.{rules}
 use Rattle.step_values.proofs.tuples.same_tuple.Given as goal
 
 abbrev pub invariant-loop-j : goal.invariant-loop-j

@@ -2,7 +2,6 @@ use mathlib.Core.Path.{refl}
 use borrow.Author.Tests.{lt-ltb, le-ltb}
 use Rattle.base_words.proofs.PickLaws.{pick_yes, pick_no}
 use Rattle.meaning.specs.Tuples.{value_of}
-use borrow.Author.Rules.{rules}
 use Rattle.step_values.proofs.tuples.value_of.Goals as goal
 
 pub returns-then-j-g : goal.returns-then-j-g

@@ -1,8 +1,7 @@
-use Prim.Native.Nat.{◌≤◌, ◌-◌}
-use mathlib.Core.Path.{◌≡◌, refl}
-use lib.ListN.{length}
-use Rattle.text_parts.specs.Parts.{item_of, starts, items}
-use Rattle.text_parts.proofs.ListLaws.{Rest, items_start, items_stop, items_end, items_go, items_full}
+use Prim.Native.Nat.{◌-◌}
+use mathlib.Core.Path.{refl}
+use Rattle.text_parts.specs.Parts.{starts, items}
+use Rattle.text_parts.proofs.ListLaws.{items_start, items_stop, items_end, items_go, items_full}
 use borrow.Author.Rules.{rules}
 use Rattle.text_parts.proofs.lists.items.Goals as goal
 

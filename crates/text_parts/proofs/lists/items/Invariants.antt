@@ -1,9 +1,8 @@
 use Prim.Native.Nat.{◌≤◌, ◌-◌}
-use mathlib.Core.Path.{◌≡◌, refl}
+use mathlib.Core.Path.{◌≡◌}
 use lib.ListN.{length}
-use Rattle.text_parts.specs.Parts.{item_of, starts, items}
-use Rattle.text_parts.proofs.ListLaws.{Rest, items_start, items_stop, items_end, items_go, items_full}
-use borrow.Author.Rules.{rules}
+use Rattle.text_parts.specs.Parts.{item_of, starts}
+use Rattle.text_parts.proofs.ListLaws.{Rest}
 use Rattle.text_parts.proofs.lists.items.Given as goal
 
 abbrev pub invariant-loop-k : goal.invariant-loop-k

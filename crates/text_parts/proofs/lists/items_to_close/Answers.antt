@@ -1,5 +1,4 @@
 use Rattle.text_readers.proofs.ReadingLaws.{then_stopped, then_passed, sign_last}
-use borrow.Author.Rules.{rules}
 use Rattle.text_parts.proofs.lists.items_to_close.Goals as goal
 
 pub returns-in_default : goal.returns-in_default

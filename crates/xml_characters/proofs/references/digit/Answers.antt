@@ -2,7 +2,6 @@ use borrow.Author.Tests.{le-ltb, lt-ltb}
 use mathlib.Core.Path.{refl}
 use Rattle.base_words.proofs.PickLaws.{pick_no, pick_yes}
 use Rattle.xml_characters.specs.References.{digit}
-use borrow.Author.Rules.{rules}
 use Rattle.xml_characters.proofs.references.digit.Goals as goal
 
 pub returns-then-b-lt48 : goal.returns-then-b-lt48

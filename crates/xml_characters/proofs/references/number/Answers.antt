@@ -1,9 +1,6 @@
-use mathlib.Core.Path.{◌≡◌, ◌∙◌, refl, sym}
+use mathlib.Core.Path.{◌∙◌, refl, sym}
 use Prim.Native.Nat.{◌-◌}
-use lib.ListN.{length, drop}
-use Rattle.xml_characters.specs.References.{number_from}
 use Rattle.xml_characters.proofs.ReferenceLaws.{number_on, number_none, number_end}
-use borrow.Author.Rules.{rules}
 use Rattle.xml_characters.proofs.references.number.Goals as goal
 
 pub loop-i-init : goal.loop-i-init

@@ -1,9 +1,7 @@
-use mathlib.Core.Path.{◌≡◌, ◌∙◌, refl, sym}
+use mathlib.Core.Path.{◌≡◌}
 use Prim.Native.Nat.{◌-◌}
 use lib.ListN.{length, drop}
 use Rattle.xml_characters.specs.References.{number_from}
-use Rattle.xml_characters.proofs.ReferenceLaws.{number_on, number_none, number_end}
-use borrow.Author.Rules.{rules}
 use Rattle.xml_characters.proofs.references.number.Given as goal
 
 abbrev pub invariant-loop-i : goal.invariant-loop-i

@@ -1,13 +1,9 @@
-use mathlib.Core.Path.{◌≡◌, ◌∙◌, refl, sym}
+use mathlib.Core.Path.{◌≡◌}
 use mathlib.Core.List.{List}
 use Prim.Native.Nat.{ℕ, ◌-◌, ◌≤◌}
-use native.Mathlib.Omega.{arith}
 use lib.ListN.{length, drop}
 use Rattle.xml_markup.specs.Tokens.{found_from, found}
 use Rattle.xml_markup.specs.Ahead.{key_of, key_at, Rising, Kept}
-use Rattle.xml_markup.proofs.LeapLaws.{on_leap, found_leap}
-use Rattle.xml_markup.proofs.TokenLaws.{found_on, found_stops, found_end}
-use borrow.Author.Rules.{rules}
 use Rattle.xml_markup.proofs.ahead.first_met.Given as goal
 
 abbrev pub invariant-loop-i : goal.invariant-loop-i

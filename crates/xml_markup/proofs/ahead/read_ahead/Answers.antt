@@ -1,8 +1,6 @@
-use mathlib.Core.Path.{◌≡◌, ◌∙◌, refl, sym}
+use mathlib.Core.Path.{◌∙◌, refl, sym}
 use Prim.Native.Nat.{◌-◌}
 use native.Mathlib.Omega.{arith}
-use lib.ListN.{length}
-use Rattle.xml_markup.specs.Ahead.{Ahead}
 use Rattle.xml_markup.proofs.AheadLaws.{ahead_none, ahead_byte}
 use Rattle.xml_markup.proofs.LeapLaws.{on_leap, ahead_leap}
 use borrow.Author.Rules.{rules}

@@ -1,9 +1,6 @@
 use Prim.Native.Nat.{◌-◌}
-use native.Mathlib.Omega.{arith}
 use lib.ListN.{length}
 use Rattle.xml_markup.specs.Ahead.{Sure}
-use Rattle.xml_markup.proofs.AheadLaws.{sure_here, sure_on}
-use borrow.Author.Rules.{rules}
 use Rattle.xml_markup.proofs.ahead.read_new.Given as goal
 
 abbrev pub invariant-loop-last : goal.invariant-loop-last

@@ -1,5 +1,4 @@
 use Rattle.xml_markup.proofs.AheadLaws.{ahead_sure}
-use borrow.Author.Rules.{rules}
 use Rattle.xml_markup.proofs.ahead.read_with.Goals as goal
 
 pub returns-then-r-eq-FEW : goal.returns-then-r-eq-FEW

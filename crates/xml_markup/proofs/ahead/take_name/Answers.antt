@@ -1,6 +1,5 @@
 use mathlib.Core.Path.{refl}
 use Rattle.xml_markup.proofs.AheadLaws.{not_to, to_not, takes_none, takes_one}
-use borrow.Author.Rules.{rules}
 use Rattle.xml_markup.proofs.ahead.take_name.Goals as goal
 
 pub returns-in_default : goal.returns-in_default

@@ -1,5 +1,4 @@
 use Rattle.xml_markup.proofs.LeapLaws.{at-equals}
-use borrow.Author.Rules.{rules}
 use Rattle.xml_markup.proofs.leaping.leap.Goals as goal
 
 pub returns-in_default : goal.returns-in_default

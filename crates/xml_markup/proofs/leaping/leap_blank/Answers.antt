@@ -1,6 +1,5 @@
 use Rattle.xml_markup.specs.Leaps.{here}
 use Rattle.xml_markup.proofs.LeapLaws.{leads_on, passes_blank}
-use borrow.Author.Rules.{rules}
 use Rattle.xml_markup.proofs.leaping.leap_blank.Goals as goal
 
 pub returns-then-text-i : goal.returns-then-text-i

@@ -3,7 +3,6 @@ use Rattle.xml_markup.specs.Spans.{is_of, run}
 use Rattle.xml_markup.specs.Staying.{stays_in_tag, stays}
 use Rattle.xml_markup.specs.Leaps.{here}
 use Rattle.xml_markup.proofs.LeapLaws.{leads_on, leads_stay, begins_attribute}
-use borrow.Author.Rules.{rules}
 use mathlib.Core.Path.{ap}
 use mathlib.Core.Bool.{not}
 use Rattle.xml_markup.proofs.leaping.leap_name.Goals as goal

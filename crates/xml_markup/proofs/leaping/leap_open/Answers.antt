@@ -1,5 +1,5 @@
 use mathlib.Core.Path.{refl}
-use Rattle.base_words.specs.Pick.{if◌then◌else◌}
+use Rattle.base_words.specs.Pick.{if◌then◌or_else◌}
 use Rattle.base_words.proofs.PickLaws.{flag_yes}
 use Rattle.base_bytes.specs.Bytes.{between, is_letter, is_digit}
 use Rattle.xml_characters.specs.Names.{is_blank, begins_name, is_name}
@@ -9,7 +9,6 @@ use Rattle.xml_markup.specs.Spans.{is_of, run}
 use Rattle.xml_markup.specs.Staying.{stays_in_tag, stays}
 use Rattle.xml_markup.specs.Leaps.{here}
 use Rattle.xml_markup.proofs.LeapLaws.{leads_on, leads_stay, begins_tag}
-use borrow.Author.Rules.{rules}
 use mathlib.Core.Path.{ap}
 use mathlib.Core.Bool.{not}
 use Rattle.xml_markup.proofs.leaping.leap_open.Goals as goal
@@ -21,7 +20,7 @@ pub returns-then-not-begins_name : goal.returns-then-not-begins_name
 returns-then-not-begins_name c = rw c.stand-then-not-begins_name.ensures here
 
 pub leap_blank-requires : goal.leap_blank-requires
-unfolding in_tag whole_in_tag is_name begins_name is_letter is_digit between behind is_blank if◌then◌else◌
+unfolding in_tag whole_in_tag is_name begins_name is_letter is_digit between behind is_blank if◌then◌or_else◌
 leap_blank-requires c = (refl, refl)
 
 pub returns : goal.returns

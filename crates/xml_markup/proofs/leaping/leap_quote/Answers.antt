@@ -1,11 +1,10 @@
 use mathlib.Core.Path.{refl}
-use Rattle.base_words.specs.Pick.{if◌then◌else◌}
+use Rattle.base_words.specs.Pick.{if◌then◌or_else◌}
 use Rattle.xml_characters.specs.Names.{is_blank}
 use Rattle.xml_scanner.specs.Tags.{behind, in_tag}
 use Rattle.xml_markup.specs.Tokens.{whole_in_tag}
 use Rattle.xml_markup.specs.Leaps.{here}
 use Rattle.xml_markup.proofs.LeapLaws.{leads_on, closes_value}
-use borrow.Author.Rules.{rules}
 use Rattle.xml_markup.proofs.leaping.leap_quote.Goals as goal
 
 pub returns-then-text-i : goal.returns-then-text-i
@@ -15,7 +14,7 @@ pub returns-then-text-i-ne34 : goal.returns-then-text-i-ne34
 returns-then-text-i-ne34 c = rw c.stand-then-text-i-ne34.ensures here
 
 pub leap_blank-requires : goal.leap_blank-requires
-unfolding in_tag whole_in_tag behind is_blank if◌then◌else◌
+unfolding in_tag whole_in_tag behind is_blank if◌then◌or_else◌
 leap_blank-requires c = (refl, refl)
 
 pub returns : goal.returns

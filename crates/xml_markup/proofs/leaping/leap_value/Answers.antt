@@ -1,7 +1,6 @@
 use Rattle.xml_markup.specs.Staying.{stays_in_tag, stays}
 use Rattle.xml_markup.specs.Leaps.{here}
 use Rattle.xml_markup.proofs.LeapLaws.{leads_on, leads_stay, opens_value}
-use borrow.Author.Rules.{rules}
 use Rattle.xml_markup.proofs.leaping.leap_value.Goals as goal
 
 pub returns-then-text-i : goal.returns-then-text-i

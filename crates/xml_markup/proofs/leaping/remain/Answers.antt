@@ -1,5 +1,4 @@
 use Rattle.xml_markup.proofs.LeapLaws.{leads_stay}
-use borrow.Author.Rules.{rules}
 use Rattle.xml_markup.proofs.leaping.remain.Goals as goal
 
 pub returns : goal.returns

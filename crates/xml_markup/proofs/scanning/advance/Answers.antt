@@ -3,7 +3,6 @@ use borrow.Author.Tests.{le-leb}
 use Rattle.base_words.proofs.PickLaws.{pick_yes}
 use Rattle.xml_markup.specs.Markup.{advance}
 use Rattle.xml_markup.proofs.AheadLaws.{second_fault, second_not}
-use borrow.Author.Rules.{rules}
 use Rattle.xml_markup.proofs.scanning.advance.Goals as goal
 
 pub returns-then-text-i : goal.returns-then-text-i

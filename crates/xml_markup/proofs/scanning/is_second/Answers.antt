@@ -1,6 +1,5 @@
 use mathlib.Core.Path.{◌∙◌, sym}
 use Rattle.xml_markup.proofs.TokenLaws.{is_attribute, not_attribute}
-use borrow.Author.Rules.{rules}
 use Rattle.xml_markup.proofs.scanning.is_second.Goals as goal
 
 pub returns-in_default : goal.returns-in_default

@@ -1,13 +1,8 @@
-use mathlib.Core.Path.{◌≡◌, ◌∙◌, sym}
+use mathlib.Core.Path.{◌≡◌}
 use Prim.Native.Nat.{◌-◌}
-use native.Mathlib.Omega.{arith}
 use lib.ListN.{length, drop}
 use Rattle.xml_markup.specs.Markup.{scan_from, scan}
 use Rattle.xml_markup.specs.Ahead.{ReadTo}
-use Rattle.xml_markup.proofs.ScanLaws.{scan_on, scan_stops, scan_end}
-use Rattle.xml_markup.proofs.AheadLaws.{advance-moved, reached_begun, reached_byte}
-use Rattle.xml_markup.proofs.LeapLaws.{on_leap, scan_leap, reached_leap}
-use borrow.Author.Rules.{rules}
 use Rattle.xml_markup.proofs.scanning.scan.Given as goal
 
 abbrev pub invariant-loop-i : goal.invariant-loop-i

@@ -1,9 +1,6 @@
-use mathlib.Core.Path.{◌≡◌, ◌∙◌, refl, sym}
+use mathlib.Core.Path.{◌∙◌, refl, sym}
 use Prim.Native.Nat.{◌-◌}
-use lib.ListN.{length, drop}
-use Rattle.xml_markup.specs.Markup.{text_from}
 use Rattle.xml_markup.proofs.TextLaws.{text_stops, text_control, text_data, text_on, text_end}
-use borrow.Author.Rules.{rules}
 use Rattle.xml_markup.proofs.scanning.text_from.Goals as goal
 
 pub loop-i-init : goal.loop-i-init

@@ -1,9 +1,7 @@
-use mathlib.Core.Path.{◌≡◌, ◌∙◌, refl, sym}
+use mathlib.Core.Path.{◌≡◌}
 use Prim.Native.Nat.{◌-◌}
 use lib.ListN.{length, drop}
 use Rattle.xml_markup.specs.Markup.{text_from}
-use Rattle.xml_markup.proofs.TextLaws.{text_stops, text_control, text_data, text_on, text_end}
-use borrow.Author.Rules.{rules}
 use Rattle.xml_markup.proofs.scanning.text_from.Given as goal
 
 abbrev pub invariant-loop-i : goal.invariant-loop-i

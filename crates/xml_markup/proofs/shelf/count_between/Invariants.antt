@@ -1,5 +1,4 @@
 use Prim.Native.Nat.{◌-◌, ◌≤◌}
-use borrow.Author.Rules.{rules}
 use Rattle.xml_markup.proofs.shelf.count_between.Given as goal
 
 abbrev pub invariant-loop-j : goal.invariant-loop-j

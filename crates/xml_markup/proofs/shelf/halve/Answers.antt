@@ -1,5 +1,4 @@
 use Rattle.xml_markup.proofs.ShelfLaws.{halved_low, halved_high, word_less, word_not_less}
-use borrow.Author.Rules.{rules}
 use Rattle.xml_markup.proofs.shelf.halve.Goals as goal
 
 pub returns-then-is_before : goal.returns-then-is_before

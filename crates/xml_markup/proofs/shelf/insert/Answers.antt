@@ -1,7 +1,7 @@
 use mathlib.Core.Path.{refl}
-use Prim.Native.Nat.{◌-◌, ◌≤◌}
+use Prim.Native.Nat.{◌-◌}
 use native.Mathlib.Omega.{arith}
-use Rattle.xml_markup.proofs.ShelfLaws.{Shifted, shift_on, shift_end}
+use Rattle.xml_markup.proofs.ShelfLaws.{shift_on, shift_end}
 use borrow.Author.Rules.{rules}
 use Rattle.xml_markup.proofs.shelf.insert.Goals as goal
 

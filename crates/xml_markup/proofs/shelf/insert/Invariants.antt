@@ -1,8 +1,5 @@
-use mathlib.Core.Path.{refl}
 use Prim.Native.Nat.{◌-◌, ◌≤◌}
-use native.Mathlib.Omega.{arith}
-use Rattle.xml_markup.proofs.ShelfLaws.{Shifted, shift_on, shift_end}
-use borrow.Author.Rules.{rules}
+use Rattle.xml_markup.proofs.ShelfLaws.{Shifted}
 use Rattle.xml_markup.proofs.shelf.insert.Given as goal
 
 abbrev pub invariant-loop-j : goal.invariant-loop-j

@@ -1,9 +1,7 @@
 use mathlib.Core.Path.{◌∙◌, refl}
 use Prim.Native.Nat.{◌-◌}
 use native.Mathlib.Omega.{arith}
-use lib.ListN.{length}
-use Rattle.xml_markup.proofs.ShelfLaws.{Alike, alike_on, by_lengths, by_bytes, by_end}
-use borrow.Author.Rules.{rules}
+use Rattle.xml_markup.proofs.ShelfLaws.{alike_on, by_lengths, by_bytes, by_end}
 use Rattle.xml_markup.proofs.shelf.is_before.Goals as goal
 
 pub returns-then-a-b : goal.returns-then-a-b

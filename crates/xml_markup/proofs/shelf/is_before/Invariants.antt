@@ -1,9 +1,6 @@
-use mathlib.Core.Path.{◌∙◌, refl}
 use Prim.Native.Nat.{◌-◌}
-use native.Mathlib.Omega.{arith}
 use lib.ListN.{length}
-use Rattle.xml_markup.proofs.ShelfLaws.{Alike, alike_on, by_lengths, by_bytes, by_end}
-use borrow.Author.Rules.{rules}
+use Rattle.xml_markup.proofs.ShelfLaws.{Alike}
 use Rattle.xml_markup.proofs.shelf.is_before.Given as goal
 
 abbrev pub invariant-loop-i : goal.invariant-loop-i

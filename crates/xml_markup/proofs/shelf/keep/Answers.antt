@@ -1,7 +1,6 @@
 use mathlib.Core.Path.{refl, sym}
 use mathlib.Core.Bool.{false≢true}
 use native.Mathlib.Omega.{arith}
-use borrow.Author.Tests.{leb-false}
 use Rattle.xml_markup.proofs.ShelfLaws.{is_put}
 use borrow.Author.Rules.{rules}
 use Rattle.xml_markup.proofs.shelf.keep.Goals as goal

@@ -1,8 +1,5 @@
 use Prim.Native.Nat.{◌-◌}
-use native.Mathlib.Omega.{arith}
 use Rattle.xml_markup.specs.Ahead.{key_of, key_at, Between}
-use Rattle.xml_markup.proofs.ShelfLaws.{between_end}
-use borrow.Author.Rules.{rules}
 use Rattle.xml_markup.proofs.shelf.place_of.Given as goal
 
 abbrev pub invariant-loop-b : goal.invariant-loop-b

@@ -1,5 +1,4 @@
 use Rattle.xml_markup.proofs.ShelfLaws.{word_other}
-use borrow.Author.Rules.{rules}
 use Rattle.xml_markup.proofs.shelf.stands_at.Goals as goal
 
 pub returns-then-r-n : goal.returns-then-r-n

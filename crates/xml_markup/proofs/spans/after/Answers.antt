@@ -2,7 +2,6 @@ use borrow.Author.Tests.{le-ltb, lt-ltb}
 use mathlib.Core.Path.{refl}
 use Rattle.base_words.proofs.PickLaws.{pick_no, pick_yes}
 use Rattle.xml_markup.specs.Spans.{after}
-use borrow.Author.Rules.{rules}
 use Rattle.xml_markup.proofs.spans.after.Goals as goal
 
 pub returns-then-i-text : goal.returns-then-i-text

@@ -1,9 +1,6 @@
-use mathlib.Core.Path.{◌≡◌, ◌∙◌, refl, sym}
+use mathlib.Core.Path.{◌∙◌, refl, sym}
 use Prim.Native.Nat.{◌-◌}
-use lib.ListN.{length, drop}
-use Rattle.xml_markup.specs.Spans.{local_from}
 use Rattle.xml_markup.proofs.SpanLaws.{local_on, local_end}
-use borrow.Author.Rules.{rules}
 use Rattle.xml_markup.proofs.spans.local_from.Goals as goal
 
 pub loop-i-init : goal.loop-i-init

@@ -1,9 +1,7 @@
-use mathlib.Core.Path.{◌≡◌, ◌∙◌, refl, sym}
+use mathlib.Core.Path.{◌≡◌}
 use Prim.Native.Nat.{◌-◌}
 use lib.ListN.{length, drop}
 use Rattle.xml_markup.specs.Spans.{local_from}
-use Rattle.xml_markup.proofs.SpanLaws.{local_on, local_end}
-use borrow.Author.Rules.{rules}
 use Rattle.xml_markup.proofs.spans.local_from.Given as goal
 
 abbrev pub invariant-loop-i : goal.invariant-loop-i

@@ -3,7 +3,6 @@ use borrow.Author.Tests.{lt-ltb, le-ltb, eq-eqb, ne_eqb}
 use Rattle.base_words.proofs.PickLaws.{pick_yes, pick_no}
 use Rattle.xml_markup.specs.Staying.{is_plain}
 use Rattle.xml_markup.proofs.StayLaws.{plain_quote, plain_high}
-use borrow.Author.Rules.{rules}
 use Rattle.xml_markup.proofs.staying.is_plain.Goals as goal
 
 pub returns-then-b-q : goal.returns-then-b-q

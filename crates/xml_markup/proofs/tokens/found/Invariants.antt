@@ -1,11 +1,7 @@
-use mathlib.Core.Path.{◌≡◌, ◌∙◌, refl, sym}
+use mathlib.Core.Path.{◌≡◌}
 use Prim.Native.Nat.{◌-◌}
 use lib.ListN.{length, drop}
 use Rattle.xml_markup.specs.Tokens.{found_from, found}
-use Rattle.xml_markup.proofs.LeapLaws.{on_leap, found_leap}
-use native.Mathlib.Omega.{arith}
-use Rattle.xml_markup.proofs.TokenLaws.{found_here, found_on, found_stops, found_end}
-use borrow.Author.Rules.{rules}
 use Rattle.xml_markup.proofs.tokens.found.Given as goal
 
 abbrev pub invariant-loop-i : goal.invariant-loop-i

@@ -1,6 +1,5 @@
 use mathlib.Core.Path.{refl}
 use Rattle.xml_markup.specs.Tokens.{is_found}
-use borrow.Author.Rules.{rules}
 use Rattle.xml_markup.proofs.tokens.is_found.Goals as goal
 
 pub returns-in-Behind : goal.returns-in-Behind

@@ -1,5 +1,4 @@
 use Rattle.xml_markup.proofs.TokenLaws.{named_is, named_not}
-use borrow.Author.Rules.{rules}
 use Rattle.xml_markup.proofs.tokens.is_named.Goals as goal
 
 pub returns-in_default : goal.returns-in_default

@@ -1,6 +1,5 @@
 use mathlib.Core.Path.{refl}
 use Rattle.xml_markup.specs.Tokens.{move_to}
-use borrow.Author.Rules.{rules}
 use Rattle.xml_markup.proofs.tokens.move_to.Goals as goal
 
 pub returns-in-On : goal.returns-in-On

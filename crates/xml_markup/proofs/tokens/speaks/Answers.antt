@@ -1,4 +1,3 @@
-use borrow.Author.Rules.{rules}
 use Rattle.xml_markup.proofs.tokens.speaks.Goals as goal
 
 pub returns : goal.returns

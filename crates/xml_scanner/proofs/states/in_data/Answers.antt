@@ -2,7 +2,6 @@ use Rattle.base_words.proofs.PickLaws.{pick_no, pick_yes}
 use borrow.Author.Tests.{eq-eqb, ne_eqb}
 use mathlib.Core.Path.{refl}
 use Rattle.xml_scanner.specs.Passages.{in_data}
-use borrow.Author.Rules.{rules}
 use Rattle.xml_scanner.proofs.states.in_data.Goals as goal
 
 pub returns-then-b-eq93 : goal.returns-then-b-eq93

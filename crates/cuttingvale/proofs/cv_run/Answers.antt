@@ -1,0 +1,14 @@
+use Rattle.cuttingvale.specs.Boundary.{ran_lent}
+use Rattle.base_words.proofs.PickLaws.{pick_yes, pick_no, flag_yes, flag_no}
+use mathlib.Core.Path.{refl}
+use mathlib.Core.Path.{ap}
+use mathlib.Core.Bool.{not}
+use Rattle.cuttingvale.proofs.cv_run.Goals as goal
+
+pub returns-then-not-are_whole : goal.returns-then-not-are_whole
+unfolding ran_lent
+returns-then-not-are_whole c = pick_no _ _ _ _ (flag_no _ _ c.are_whole.ensures (ap not c.if-not-are_whole.true)) refl
+
+pub returns : goal.returns
+unfolding ran_lent
+returns c = pick_yes _ _ _ _ (flag_yes _ _ c.are_whole.ensures (ap not c.if-not-are_whole.false)) c.run.ensures

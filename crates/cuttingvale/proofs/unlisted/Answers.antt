@@ -1,0 +1,4 @@
+use Rattle.cuttingvale.proofs.unlisted.Goals as goal
+
+pub returns : goal.returns
+returns c = rw c.empty_tuple.ensures

@@ -1,0 +1,12 @@
+use mathlib.Core.Path.{◌≡◌}
+use lib.ListN.{length}
+use Rattle.text_numerals.specs.Numerals.{value_from}
+use Rattle.draw_conditions.specs.Saying.{said}
+use Rattle.draw_conditions.specs.Words.{letters}
+use Rattle.draw_conditions.proofs.spelled.digits.Given as goal
+
+abbrev pub invariant-loop-b : goal.invariant-loop-b
+invariant-loop-b l = value_from l.v (letters (said l.text l.at)) ≡ value_from 0 (letters (said l.text l.initial.at))
+
+abbrev pub decreases-loop-b : goal.decreases-loop-b
+decreases-loop-b l = length (letters (said l.text l.at))

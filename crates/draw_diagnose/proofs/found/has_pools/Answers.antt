@@ -1,0 +1,5 @@
+use Rattle.base_words.specs.Words.{at}
+use Rattle.draw_diagnose.proofs.found.has_pools.Goals as goal
+
+pub returns : goal.returns
+returns c = rw c.has_participants.ensures at c.has_pool.ensures

@@ -1,0 +1,12 @@
+use Prim.Native.Nat.{◌-◌, ◌≤◌}
+use Rattle.draw_numbers.specs.Who.{is_pool}
+use Rattle.draw_links.specs.Links.{owned}
+use Rattle.base_words.specs.Sum.{one_if, sum}
+use mathlib.Core.Path.{◌≡◌}
+use Rattle.draw_numbers.proofs.numbers.count_pools.Given as goal
+
+abbrev pub invariant-loop-j : goal.invariant-loop-j
+invariant-loop-j l = (l.j ≤ l.k) × (l.count ≤ l.j) × (l.count ≡ sum (λ i. one_if (is_pool l.owned l.w i)) l.j)
+
+abbrev pub decreases-loop-j : goal.decreases-loop-j
+decreases-loop-j l = l.k - l.j

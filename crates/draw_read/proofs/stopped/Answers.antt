@@ -1,0 +1,24 @@
+use Rattle.draw_read.proofs.AnswerLaws.{stopped_there}
+use Rattle.draw_read.proofs.AnswerLaws.{not_stopped}
+use borrow.Author.Rules.{rules}
+use Rattle.draw_read.proofs.stopped.Goals as goal
+
+ruleset L = (rules, not_stopped, stopped_there)
+
+pub enum_told-1 : goal.enum_told-1
+enum_told-1 c = search L
+
+pub answer-requires : goal.answer-requires
+answer-requires c = search L
+
+pub enum_known-end : goal.enum_known-end
+enum_known-end c = search L
+
+pub answer-requires-in-Fault : goal.answer-requires-in-Fault
+answer-requires-in-Fault c = search L
+
+pub returns-in-Past : goal.returns-in-Past
+returns-in-Past c = λ q e. not_stopped _ _ _ c.in-Past.is e
+
+pub returns-in-Fault : goal.returns-in-Fault
+returns-in-Fault c = λ q e. stopped_there _ _ _ _ c.in-Fault.is c.answer-in-Fault.ensures e

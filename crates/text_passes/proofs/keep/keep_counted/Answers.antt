@@ -1,0 +1,8 @@
+use Rattle.base_words.proofs.PickLaws.{pick_no, pick_yes}
+use Rattle.text_passes.proofs.keep.keep_counted.Goals as goal
+
+pub returns-then-fills : goal.returns-then-fills
+returns-then-fills c = pick_yes _ _ _ _ c.if-fills.true c.store_element.ensures
+
+pub returns : goal.returns
+returns c = pick_no _ _ _ _ c.if-fills.false c.sum_up.ensures
