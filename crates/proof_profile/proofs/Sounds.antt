@@ -41,15 +41,15 @@ use Rattle.proof_nesting.proofs.Events.{hit_same, one_exit, one_entry}
 use Rattle.proof_nesting.proofs.Lines.{plain, Closed, closed, whole, choice}
 use Rattle.proof_nesting.proofs.Decided.{Entered}
 
-or_else : {C : Type 0} (x y : Bool) → x || y ≡ true → (x ≡ true → C) → (y ≡ true → C) → C
-or_else x y h f g = ⊎_elim f g (or_either x y h)
+or_cases : {C : Type 0} (x y : Bool) → x || y ≡ true → (x ≡ true → C) → (y ≡ true → C) → C
+or_cases x y h f g = ⊎_elim f g (or_either x y h)
 
 -- the kinds that have a task number
 pub kind_task : (q : ℕ) → is_task q ≡ true → (kind_of q).task ≡ one
 unfolding kind_of
 kind_task q h =
-    or_else (eqb q task) _ h (λ e. ap (λ y. (kind_of y).task) (eqb-true q task e)) λ h₂.
-    or_else (eqb q task_rcv) _ h₂ (λ e. ap (λ y. (kind_of y).task) (eqb-true q task_rcv e)) (λ e. ap (λ y. (kind_of y).task) (eqb-true q task_snd e))
+    or_cases (eqb q task) _ h (λ e. ap (λ y. (kind_of y).task) (eqb-true q task e)) λ h₂.
+    or_cases (eqb q task_rcv) _ h₂ (λ e. ap (λ y. (kind_of y).task) (eqb-true q task_rcv e)) (λ e. ap (λ y. (kind_of y).task) (eqb-true q task_snd e))
 
 task-kinds : all (λ q. if eqb (kind_of q).task one then is_task q or_else true) 16 ≡ true
 unfolding all kind_of if◌then◌or_else◌
@@ -134,7 +134,7 @@ module _ (t : List ℕ) (v : valid t ≡ true) (p : ℕ) (there : p < pool_count
   start_kind : (k : ℕ) → starts (P k) ≡ true → 1 ≤ of_kind start (P k) + of_kind start_rcv (P k)
   unfolding starts of_kind
   start_kind k h =
-      or_else (eqb (kind_in (P k)) start) (eqb (kind_in (P k)) start_rcv) h
+      or_cases (eqb (kind_in (P k)) start) (eqb (kind_in (P k)) start_rcv) h
       (λ e. let z = hit_same (kind_in (P k)) start (eqb-true _ _ e) in omega (arith, z))
       (λ e. let z = hit_same (kind_in (P k)) start_rcv (eqb-true _ _ e) in omega (arith, z))
 
@@ -217,7 +217,7 @@ module _ (t : List ℕ) (v : valid t ≡ true) (p : ℕ) (there : p < pool_count
   single_exit : (k : ℕ) → k < c → (starts (P k) ≡ true) ⊎ ((passes (P k) ≡ true) ⊎ ((kind_in (P k) ≡ and_join) ⊎ (kind_in (P k) ≡ xor_join))) → 0 < exit_count (P k)
   unfolding starts kind_of
   single_exit k l (inl h) =
-      or_else (eqb (kind_in (P k)) start) (eqb (kind_in (P k)) start_rcv) h
+      or_cases (eqb (kind_in (P k)) start) (eqb (kind_in (P k)) start_rcv) h
       (λ e. omega (arith, one_exit (P k) start (eqb-true _ _ e) refl)) (λ e. omega (arith, one_exit (P k) start_rcv (eqb-true _ _ e) refl))
   single_exit k l (inr (inl h)) = omega (arith, (plain (P k) h).exits)
   single_exit k l (inr (inr (inl e))) = omega (arith, one_exit (P k) and_join e refl)

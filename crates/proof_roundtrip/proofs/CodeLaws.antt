@@ -78,8 +78,8 @@ kinds_go = refl
 pub parts_go : (k i : ℕ) → i < 4 → (at (kind_of k).parts i ≡ (code " ") → ⊥) → goes (kind_of k) (at (kind_of k).parts i) ≡ true
 unfolding kind_of
 parts_go k i l n =
-    or_else (eqb (at (kind_of k).parts i) (code " ")) _ (ne_eqb (at (kind_of k).parts i) (code " ") n)
+    or_last (eqb (at (kind_of k).parts i) (code " ")) _ (ne_eqb (at (kind_of k).parts i) (code " ") n)
     (all_at (λ i. eqb (at (kind_of k).parts i) (code " ") || goes (kind_of k) (at (kind_of k).parts i)) 4 (each_at row_goes kinds no_kind kinds_go (unfold all goes if◌then◌or_else◌ in refl) k) i l)
   where
-    or_else : (a b : Bool) → a ≡ false → a || b ≡ true → b ≡ true
-    or_else a b e h = rw e at h
+    or_last : (a b : Bool) → a ≡ false → a || b ≡ true → b ≡ true
+    or_last a b e h = rw e at h
