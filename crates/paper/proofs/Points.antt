@@ -137,7 +137,7 @@ raises =
     let there : 0 < 1 = omega arith in
     let few : 0 < 2 = omega arith in
     let low : 0 < 255 = omega arith in
-    C-Internal (record { place = 0; pool_stands = here; pool_named_lem = refl; element_stands = here }) few refl
+    C-Internal (record { place = 0; pool_stands = here; pool_named = refl; element_stands = here }) few refl
     (P-Task-A {e = 1} {n = 1} {e' = 2} {c = always} {A = 16 := sum (field 16) (number 1)} {σ = seen held 1 0} there refl (Updates.one refl) low)
 
 pub shut_after : guarded raised ≡ False

@@ -27,7 +27,7 @@ pub record Named : Type 0 where
 pub record Runs (C : List Pool) (n : Named) (P : Pool) (el : Element) : Type 0 where
   pub place : ℕ
   pub pool_stands : Stands P place C
-  pub pool_named_lem : P.name ≡ n.pool
+  pub pool_named : P.name ≡ n.pool
   pub element_stands : Stands el n.element P.process
 
 -- Steps v C n κ l κ': under version v the collaboration C goes by the step named n from κ to κ' with the label l

@@ -19,7 +19,7 @@ pub data Label : Type 0 where
   receives : (m : ℕ) (us : List Evaluated) (A : Assignments) → Label
   new : (m : ℕ) (us : List Evaluated) → Label
 
--- is_inactive(σt, n)
+-- isInactive(σt, n)
 abbrev pub is_inactive : Local → ℕ → Type 0
 is_inactive σ n = (σ.active n ≡ 0) × (σ.ready n ≡ 0)
 
@@ -92,7 +92,7 @@ pub data Moves (v : ℕ) : Element → ℕ → ℕ → Local → Label → Local
       → Updates σ.σd A σd' → Evals σd' xs vs → room (dec σ.σe e) e'
       → Moves v (task_snd e n a c A m xs e') 0 0 σ (sends m vs) (σ edges: inc (dec σ.σe e) e' fields: σd')
   -- FIGURE 9, N being na_c or na_nc
-  -- task(e,n,N,exp,A,e') —ε→ ⟨dec(σe,e),inc(σt,n,a)⟩   σe(e) > 0, eval(exp,σd,true), N = na_nc ⇒ is_inactive(σt,n) (under version 10 also N = na_c)
+  -- task(e,n,N,exp,A,e') —ε→ ⟨dec(σe,e),inc(σt,n,a)⟩   σe(e) > 0, eval(exp,σd,true), N = na_nc ⇒ isInactive(σt,n) (under version 10 also N = na_c)
   P-Task-N1 : {e n e' : ℕ} {N : Mode} {c : Cond} {A : Assignments} {σ : Local} → (N ≡ a → ⊥) → 0 < σ.σe e → truth σ.σd c ≡ True
       → (waits v N → is_inactive σ n) → room σ.active n
       → Moves v (task e n N c A e') 1 0 σ (τ Internal.ε) (σ edges: dec σ.σe e active: inc σ.active n)
@@ -100,7 +100,7 @@ pub data Moves (v : ℕ) : Element → ℕ → ℕ → Local → Label → Local
   P-Task-N2 : {e n e' : ℕ} {N : Mode} {c : Cond} {A : Assignments} {σ : Local} {σd' : ℕ → Value} → (N ≡ a → ⊥) → 0 < σ.active n → Updates σ.σd A σd'
       → room σ.σe e'
       → Moves v (task e n N c A e') 3 0 σ (τ Internal.ε) (σ edges: inc σ.σe e' fields: σd' active: dec σ.active n)
-  -- taskRcv(e,n,N,exp,A,m:t̃,e') —ε→ ⟨dec(σe,e),inc(σt,n,a)⟩   σe(e) > 0, eval(exp,σd,true), N = na_nc ⇒ is_inactive(σt,n) (under version 10 also N = na_c)
+  -- taskRcv(e,n,N,exp,A,m:t̃,e') —ε→ ⟨dec(σe,e),inc(σt,n,a)⟩   σe(e) > 0, eval(exp,σd,true), N = na_nc ⇒ isInactive(σt,n) (under version 10 also N = na_c)
   P-TaskRcv-N1 : {e n m e' : ℕ} {N : Mode} {c : Cond} {A : Assignments} {ts : List Item} {σ : Local} → (N ≡ a → ⊥) → 0 < σ.σe e → truth σ.σd c ≡ True
       → (waits v N → is_inactive σ n) → room σ.active n
       → Moves v (task_rcv e n N c A m ts e') 1 0 σ (τ Internal.ε) (σ edges: dec σ.σe e active: inc σ.active n)
@@ -112,7 +112,7 @@ pub data Moves (v : ℕ) : Element → ℕ → ℕ → Local → Label → Local
   P-TaskRcv-N3 : {e n m e' : ℕ} {N : Mode} {c : Cond} {A : Assignments} {ts : List Item} {σ : Local} {σd' : ℕ → Value} → (N ≡ a → ⊥) → 0 < σ.ready n
       → Updates σ.σd A σd' → room σ.σe e'
       → Moves v (task_rcv e n N c A m ts e') 3 0 σ (τ Internal.ε) (σ edges: inc σ.σe e' fields: σd' ready: dec σ.ready n)
-  -- taskSnd(e,n,N,exp,A,m:e͠xp,e') —ε→ ⟨dec(σe,e),inc(σt,n,a)⟩   σe(e) > 0, eval(exp,σd,true), N = na_nc ⇒ is_inactive(σt,n) (under version 10 also N = na_c)
+  -- taskSnd(e,n,N,exp,A,m:e͠xp,e') —ε→ ⟨dec(σe,e),inc(σt,n,a)⟩   σe(e) > 0, eval(exp,σd,true), N = na_nc ⇒ isInactive(σt,n) (under version 10 also N = na_c)
   P-TaskSnd-N1 : {e n m e' : ℕ} {N : Mode} {c : Cond} {A : Assignments} {xs : List Exp} {σ : Local} → (N ≡ a → ⊥) → 0 < σ.σe e → truth σ.σd c ≡ True
       → (waits v N → is_inactive σ n) → room σ.active n
       → Moves v (task_snd e n N c A m xs e') 1 0 σ (τ Internal.ε) (σ edges: dec σ.σe e active: inc σ.active n)

@@ -99,7 +99,7 @@ stores_of σ d = σ.σd (16 + d)
 abbrev pub seen : Configuration → ℕ → ℕ → Local
 seen κ p i = κ.σi p i beside κ.σds
 
--- upd_inst(σi, p, σ): instance i of pool p is σ; addInst: the next unmade one is σ, and is made. (Figures 13 and B.25 have σds' of the instance beside
+-- updInst(σi, p, σ): instance i of pool p is σ; addInst: the next unmade one is σ, and is made. (Figures 13 and B.25 have σds' of the instance beside
 -- them in each target.)
 unfoldable pub upd_inst : Configuration → ℕ → ℕ → Local → Configuration
 upd_inst κ p i σ = record { σi = put κ.σi p (put (κ.σi p) i (own_of σ)); made = κ.made; σm = κ.σm; σds = stores_of σ }

@@ -103,7 +103,7 @@ module _ (t s q : List ℕ) (v : valid t ≡ true) (state : Fitting t s q) (n : 
   runs_there l r = record {
     place = p₀;
     pool_stands = stands_from_zero (pool_at t) (pool_count t) p₀ l;
-    pool_named_lem = pool_number t n.pool (lt-ltb p₀ (pool_count t) l);
+    pool_named = pool_number t n.pool (lt-ltb p₀ (pool_count t) l);
     element_stands = stands_from_zero (λ e. element_of (element_at t p₀ e)) (element_count t p₀) n.element r;
   }
 
@@ -112,7 +112,7 @@ module _ (t s q : List ℕ) (v : valid t ≡ true) (state : Fitting t s q) (n : 
   unfolding collaboration_of pool_at process_at element_named
   runs_found {P} {e} r =
       let (l, i) = zero_stands (pool_at t) P (pool_count t) r.place r.pool_stands in
-      let k : at t (pool_place r.place) ≡ n.pool = sym (ap (λ (y : Pool). y.name) i) ∙ r.pool_named_lem in
+      let k : at t (pool_place r.place) ≡ n.pool = sym (ap (λ (y : Pool). y.name) i) ∙ r.pool_named in
       let z : r.place ≡ p₀ = sym (pool_found t fits (valid_sound t v) r.place l) ∙ ap (pool_of t) k in
       let j : P ≡ pool_at t p₀ = i ∙ ap (pool_at t) z in
       let (w, d) = zero_stands (λ y. element_of (element_at t p₀ y)) e (element_count t p₀) n.element (subst (λ (y : Pool). Stands e n.element y.process) j r.element_stands) in
