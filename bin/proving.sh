@@ -149,7 +149,7 @@ stale() { # FILE
 
 # Has rt build the program or the library of a crate that is proved, and copies it; what rt says is shown only where it fails.
 built() { # NAME WORD FILE
-    local log=$root/target/building made=$1
+    local log=$root/target/building.$1 made=$1
     mkdir -p "$(dirname "$3")" || exit 2
     # rt builds a program only to run it, here on no input
     (cd "$root/crates/$1" && rt "$2") </dev/null >"$log" 2>&1 || { cat "$log" >&2 && return 1; }
