@@ -1,7 +1,7 @@
 // Bytes of a text: at a place, from one place to another, their classes, and runs of them compared.
 #![tactic(auto)]
 
-ghost use Rattle.std.specs.Prelude.{◌≡◌, min};
+ghost use Rattle.std.specs.Prelude.{◌≡◌};
 ghost use Rattle.base_words.specs.Words.{at, part};
 ghost use Rattle.base_bytes.specs.Bytes.{between, is_digit, is_letter, same_bytes};
 
@@ -9,55 +9,42 @@ ghost use Rattle.base_bytes.specs.Bytes.{between, is_digit, is_letter, same_byte
 pub fn byte(text: &[u8], i: usize) -> u8
     ensures { result ≡ at text.now i }
 {
-    if i < text.len() { text[i] } else { 0 }
-}
-
-fn least(a: usize, b: usize) -> usize
-    ensures { result ≡ min a b }
-{
-    if a <= b { a } else { b }
+    text.get(i).copied().unwrap_or(0)
 }
 
 // The bytes from one place to another, as far as they stand in the text.
 pub fn piece(text: &[u8], from: usize, to: usize) -> &[u8]
     ensures { result.now ≡ part text.now from to }
 {
-    let end = least(to, text.len());
-    let start = least(from, end);
+    let end = to.min(text.len());
+    let start = from.min(end);
     &text[start..end]
 }
 
+#[tactic(auto, unfolding(crate::specs::Bytes::between))]
 pub fn between(low: u8, high: u8, b: u8) -> bool
     ensures { result ≡ between low high b }
 {
     low <= b && b <= high
 }
 
+#[tactic(auto, unfolding(crate::specs::Bytes::is_digit, crate::specs::Bytes::between))]
 pub fn is_digit(b: u8) -> bool
     ensures { result ≡ is_digit b }
 {
-    between(b'0', b'9', b)
+    b.is_ascii_digit()
 }
 
+#[tactic(auto, unfolding(crate::specs::Bytes::is_letter, crate::specs::Bytes::between))]
 pub fn is_letter(b: u8) -> bool
     ensures { result ≡ is_letter b }
 {
-    between(b'a', b'z', b) || between(b'A', b'Z', b)
+    b.is_ascii_alphabetic()
 }
 
 // Whether two runs of bytes are the same.
 pub fn same(a: &[u8], b: &[u8]) -> bool
     ensures { result ≡ same_bytes a.now b.now }
 {
-    if a.len() != b.len() {
-        return false;
-    }
-    let mut i = 0;
-    while i < a.len() {
-        if a[i] != b[i] {
-            return false;
-        }
-        i += 1;
-    }
-    true
+    a == b
 }

@@ -1,2 +1,2 @@
-pub mod RuleLaws
 pub mod TableLaws
+pub mod RuleLaws

@@ -1,6 +1,6 @@
 -- "A constant table gives each of the fifteen kinds its keyword and its entries and exits." What else an element's text has stands beside them:
 -- reading, writing, limits, checks and stepping are read off this table. (RULES: elements)
-use Rattle.std.specs.Prelude.{List, [], ◌∷◌, ◌++◌, ◌≡◌, ℕ, ◌-◌, ◌<◌, eqb, length, get_or, take, replicate}
+use Rattle.std.specs.Prelude.{List, [], ◌∷◌, ◌++◌, ℕ, ◌-◌, eqb, length, get_or, take, replicate}
 use Prim.Native.String.{String}
 use Rattle.base_words.specs.Blocks.{Bytes}
 use Rattle.base_words.specs.Pick.{if◌then◌or_else◌}
@@ -136,11 +136,6 @@ task_snd = 15
 -- the row of kind k
 unfoldable pub kind_of : ℕ → Kind
 kind_of k = get_or kinds k no_kind
-
--- a row of the table that is kind k's
-pub record RowOf (k row : ℕ) : Type 0 where
-  pub inside : row < length kinds
-  pub same : kind_of row ≡ kind_of k
 
 -- its keyword
 abbrev pub keyword_of : ℕ → Bytes

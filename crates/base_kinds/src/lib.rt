@@ -1,8 +1,8 @@
 // The table of kinds. A kind is 1 to 15; any other number has the row of none.
 #![tactic(auto)]
 
-ghost use Rattle.std.specs.Prelude.{◌≡◌, ◌*◌, ◌/◌, ◌%◌, ◌^◌, ◌<◌, ◌≤◌, length};
-ghost use Rattle.base_kinds.specs.Kinds.{kinds, kind_of, RowOf, used};
+ghost use Rattle.std.specs.Prelude.{◌≡◌};
+ghost use Rattle.base_kinds.specs.Kinds.{kind_of, used};
 
 use base_words::Word;
 
@@ -36,157 +36,229 @@ pub struct Kind {
 // The row of none, and those of the kinds.
 const ROWS: usize = 16;
 
-// "A keyword is compared whole, as fixed bytes": blanks stand behind it.
-const KEYWORDS: [[u8; LETTERS]; ROWS] = [
-    *b"          ",
-    *b"start     ",
-    *b"startRcv  ",
-    *b"end       ",
-    *b"terminate ",
-    *b"endSnd    ",
-    *b"interRcv  ",
-    *b"interSnd  ",
-    *b"eventBased",
-    *b"andSplit  ",
-    *b"andJoin   ",
-    *b"xorJoin   ",
-    *b"xorSplit  ",
-    *b"task      ",
-    *b"taskRcv   ",
-    *b"taskSnd   ",
+const NO_KIND: Kind = Kind {
+    keyword: *b"          ",
+    letters: 0,
+    parts: *b"    ",
+    entries: NONE,
+    exits: NONE,
+    task: NONE,
+    conditions: NONE,
+    receives: NONE,
+    sends: NONE,
+};
+
+// What both joins have.
+const JOIN: Kind = Kind {
+    letters: 7,
+    parts: *b"FX  ",
+    entries: MANY,
+    exits: ONE,
+    ..NO_KIND
+};
+
+// "A keyword is compared whole, as fixed bytes": blanks stand behind it. The letters of the parts are those of specs/Kinds.antt.
+// A static, since a constant would be put on the stack before one row is read.
+static KINDS: [Kind; ROWS] = [
+    NO_KIND,
+    Kind {
+        keyword: *b"start     ",
+        letters: 5,
+        parts: *b"EX  ",
+        entries: ONE,
+        exits: ONE,
+        ..NO_KIND
+    },
+    Kind {
+        keyword: *b"startRcv  ",
+        letters: 8,
+        parts: *b"TX  ",
+        exits: ONE,
+        receives: ONE,
+        ..NO_KIND
+    },
+    Kind {
+        keyword: *b"end       ",
+        letters: 3,
+        parts: *b"E   ",
+        entries: ONE,
+        ..NO_KIND
+    },
+    Kind {
+        keyword: *b"terminate ",
+        letters: 9,
+        parts: *b"E   ",
+        entries: ONE,
+        ..NO_KIND
+    },
+    Kind {
+        keyword: *b"endSnd    ",
+        letters: 6,
+        parts: *b"ES  ",
+        entries: ONE,
+        sends: ONE,
+        ..NO_KIND
+    },
+    Kind {
+        keyword: *b"interRcv  ",
+        letters: 8,
+        parts: *b"ETX ",
+        entries: ONE,
+        exits: ONE,
+        receives: ONE,
+        ..NO_KIND
+    },
+    Kind {
+        keyword: *b"interSnd  ",
+        letters: 8,
+        parts: *b"ESX ",
+        entries: ONE,
+        exits: ONE,
+        sends: ONE,
+        ..NO_KIND
+    },
+    Kind {
+        keyword: *b"eventBased",
+        letters: 10,
+        parts: *b"EB  ",
+        entries: ONE,
+        exits: MANY,
+        receives: MANY,
+        ..NO_KIND
+    },
+    Kind {
+        keyword: *b"andSplit  ",
+        letters: 8,
+        parts: *b"EY  ",
+        entries: ONE,
+        exits: MANY,
+        ..NO_KIND
+    },
+    Kind {
+        keyword: *b"andJoin   ",
+        ..JOIN
+    },
+    Kind {
+        keyword: *b"xorJoin   ",
+        ..JOIN
+    },
+    Kind {
+        keyword: *b"xorSplit  ",
+        letters: 8,
+        parts: *b"EG  ",
+        entries: ONE,
+        exits: MANY,
+        conditions: MANY,
+        ..NO_KIND
+    },
+    Kind {
+        keyword: *b"task      ",
+        letters: 4,
+        parts: *b"ENX ",
+        entries: ONE,
+        exits: ONE,
+        task: ONE,
+        conditions: ONE,
+        ..NO_KIND
+    },
+    Kind {
+        keyword: *b"taskRcv   ",
+        letters: 7,
+        parts: *b"ENTX",
+        entries: ONE,
+        exits: ONE,
+        task: ONE,
+        conditions: ONE,
+        receives: ONE,
+        ..NO_KIND
+    },
+    Kind {
+        keyword: *b"taskSnd   ",
+        letters: 7,
+        parts: *b"ENSX",
+        entries: ONE,
+        exits: ONE,
+        task: ONE,
+        conditions: ONE,
+        sends: ONE,
+        ..NO_KIND
+    },
 ];
 
-// The parts of an element's text: their letters are those of specs/Kinds.antt.
-const PARTS_OF: [[u8; PARTS]; ROWS] = [
-    *b"    ", // none
-    *b"EX  ", // start
-    *b"TX  ", // startRcv
-    *b"E   ", // end
-    *b"E   ", // terminate
-    *b"ES  ", // endSnd
-    *b"ETX ", // interRcv
-    *b"ESX ", // interSnd
-    *b"EB  ", // eventBased
-    *b"EY  ", // andSplit
-    *b"FX  ", // andJoin
-    *b"FX  ", // xorJoin
-    *b"EG  ", // xorSplit
-    *b"ENX ", // task
-    *b"ENTX", // taskRcv
-    *b"ENSX", // taskSnd
-];
-
-// The columns of numbers, a digit for each kind, that of none the last: 0 NONE, 1 ONE, 2 MANY but for the letters. A list would be put on the stack before one is read.
-const LETTERS_OF: u64 = 0x7748_778a_8869_3850;
-
-const ENTRIES: u64 = 0x1111_2211_1111_1010;
-
-const EXITS: u64 = 0x1112_1122_1100_0110;
-
-const TASK: u64 = 0x1110_0000_0000_0000;
-
-const CONDITIONS: u64 = 0x1112_0000_0000_0000;
-
-const RECEIVES: u64 = 0x0100_0002_0100_0100;
-
-const SENDS: u64 = 0x1000_0000_1010_0000;
-
-// The digit of kind k.
-fn cell(column: u64, k: Word) -> Word
-    ensures { (k < length kinds → result ≡ (column / 2 ^ (4 * k)) % 16) × (length kinds ≤ k → result ≡ 0) }
+// The row of kind k; that of none where k is no kind.
+#[tactic(auto, unfolding(crate::specs::Kinds::kind_of))]
+fn row(k: Word) -> &'static Kind
+    ensures { result.now ≡ kind_of k }
 {
-    if (k as usize) < ROWS {
-        return ((column >> (4 * k)) % 16) as Word;
-    }
-    0
+    KINDS.get(k as usize).unwrap_or(&NO_KIND)
 }
 
 // What the row of kind k has in a column.
 pub fn letters_of(k: Word) -> Word
     ensures { result ≡ (kind_of k).letters }
 {
-    cell(LETTERS_OF, k)
+    row(k).letters
 }
 
 pub fn entries_of(k: Word) -> Word
     ensures { result ≡ (kind_of k).entries }
 {
-    cell(ENTRIES, k)
+    row(k).entries
 }
 
 pub fn exits_of(k: Word) -> Word
     ensures { result ≡ (kind_of k).exits }
 {
-    cell(EXITS, k)
+    row(k).exits
 }
 
 pub fn task_of(k: Word) -> Word
     ensures { result ≡ (kind_of k).task }
 {
-    cell(TASK, k)
+    row(k).task
 }
 
 pub fn conditions_of(k: Word) -> Word
     ensures { result ≡ (kind_of k).conditions }
 {
-    cell(CONDITIONS, k)
+    row(k).conditions
 }
 
 pub fn receives_of(k: Word) -> Word
     ensures { result ≡ (kind_of k).receives }
 {
-    cell(RECEIVES, k)
+    row(k).receives
 }
 
 pub fn sends_of(k: Word) -> Word
     ensures { result ≡ (kind_of k).sends }
 {
-    cell(SENDS, k)
-}
-
-// The row of kind k; that of none where k is no kind.
-fn row_of(k: Word) -> usize
-    ensures { RowOf k result }
-{
-    let i = k as usize;
-    if i < ROWS { i } else { 0 }
+    row(k).sends
 }
 
 pub fn keyword_of(k: Word) -> [u8; LETTERS]
     ensures { result ≡ (kind_of k).keyword }
 {
-    KEYWORDS[row_of(k)]
+    row(k).keyword
 }
 
 pub fn parts_of(k: Word) -> [u8; PARTS]
     ensures { result ≡ (kind_of k).parts }
 {
-    PARTS_OF[row_of(k)]
+    row(k).parts
 }
 
 // The row of kind k.
 pub fn kind_of(k: Word) -> Kind
     ensures { result ≡ kind_of k }
 {
-    Kind {
-        keyword: keyword_of(k),
-        letters: letters_of(k),
-        parts: parts_of(k),
-        entries: entries_of(k),
-        exits: exits_of(k),
-        task: task_of(k),
-        conditions: conditions_of(k),
-        receives: receives_of(k),
-        sends: sends_of(k),
-    }
+    *row(k)
 }
 
 // How many there are by a cell: none, one, or the n that a list has.
+#[tactic(auto, using(base_words::proofs::PickLaws::chains), unfolding(crate::specs::Kinds::used))]
 pub fn count_by(cell: Word, n: Word) -> Word
     ensures { result ≡ used cell n }
 {
-    if cell == MANY {
-        return n;
-    }
-    cell
+    if cell == MANY { n } else { cell }
 }

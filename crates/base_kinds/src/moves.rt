@@ -1,9 +1,7 @@
 // The rules of figures 7 to 9 as rows of a table.
-ghost use Rattle.std.specs.Prelude.{◌≡◌, ◌<◌};
+ghost use Rattle.std.specs.Prelude.{◌≡◌};
 ghost use Rattle.base_kinds.specs.Moves.{move_of};
-ghost use Rattle.base_kinds.specs.Rows.{cells_of, move_at, row_places};
 
-use super::ROWS;
 use base_words::Word;
 
 // The numbers of the kinds, as they stand in a table.
@@ -79,131 +77,254 @@ pub struct Move {
     pub also: Word,
 }
 
-const COLUMNS: usize = 13;
+// What a row does not name is nothing.
+const NO_RULE: Move = Move {
+    kind: O,
+    mode: O,
+    phase: 0,
+    takes: O,
+    puts: O,
+    asks: O,
+    receives: O,
+    assigns: O,
+    sends: O,
+    active: O,
+    ready: O,
+    alone: O,
+    also: O,
+};
 
-// kind, mode, phase, takes, puts, asks, receives, assigns, sends, active, ready, alone, also
-const P_START: [Word; COLUMNS] = [START, O, 0, EVERY, EVERY, O, O, O, O, O, O, O, O];
+const P_START: Move = Move {
+    kind: START,
+    takes: EVERY,
+    puts: EVERY,
+    ..NO_RULE
+};
 
-const P_STARTRCV: [Word; COLUMNS] = [START_RCV, O, 0, O, EVERY, O, ON, O, O, O, O, O, MAKES];
+const P_STARTRCV: Move = Move {
+    kind: START_RCV,
+    puts: EVERY,
+    receives: ON,
+    also: MAKES,
+    ..NO_RULE
+};
 
-const P_END: [Word; COLUMNS] = [END, O, 0, EVERY, O, O, O, O, O, O, O, O, O];
+const P_END: Move = Move {
+    kind: END,
+    takes: EVERY,
+    ..NO_RULE
+};
 
-const P_TERMINATE: [Word; COLUMNS] = [TERMINATE, O, 0, EVERY, O, O, O, O, O, O, O, O, CLEARS];
+const P_TERMINATE: Move = Move {
+    kind: TERMINATE,
+    takes: EVERY,
+    also: CLEARS,
+    ..NO_RULE
+};
 
-const P_ENDSND: [Word; COLUMNS] = [END_SND, O, 0, EVERY, O, O, O, O, ON, O, O, O, O];
+const P_ENDSND: Move = Move {
+    kind: END_SND,
+    takes: EVERY,
+    sends: ON,
+    ..NO_RULE
+};
 
-const P_INTERRCV: [Word; COLUMNS] = [INTER_RCV, O, 0, EVERY, EVERY, O, ON, O, O, O, O, O, O];
+const P_INTERRCV: Move = Move {
+    kind: INTER_RCV,
+    takes: EVERY,
+    puts: EVERY,
+    receives: ON,
+    ..NO_RULE
+};
 
-const P_INTERSND: [Word; COLUMNS] = [INTER_SND, O, 0, EVERY, EVERY, O, O, O, ON, O, O, O, O];
+const P_INTERSND: Move = Move {
+    kind: INTER_SND,
+    takes: EVERY,
+    puts: EVERY,
+    sends: ON,
+    ..NO_RULE
+};
 
-const P_EVENTG: [Word; COLUMNS] = [EVENT_BASED, O, 0, EVERY, BRANCH, O, ON, O, O, O, O, O, O];
+const P_EVENTG: Move = Move {
+    kind: EVENT_BASED,
+    takes: EVERY,
+    puts: BRANCH,
+    receives: ON,
+    ..NO_RULE
+};
 
-const P_ANDSPLIT: [Word; COLUMNS] = [AND_SPLIT, O, 0, EVERY, EVERY, O, O, O, O, O, O, O, O];
+const P_ANDSPLIT: Move = Move {
+    kind: AND_SPLIT,
+    takes: EVERY,
+    puts: EVERY,
+    ..NO_RULE
+};
 
-const P_ANDJOIN: [Word; COLUMNS] = [AND_JOIN, O, 0, EVERY, EVERY, O, O, O, O, O, O, O, O];
+const P_ANDJOIN: Move = Move {
+    kind: AND_JOIN,
+    takes: EVERY,
+    puts: EVERY,
+    ..NO_RULE
+};
 
-const P_XORJOIN: [Word; COLUMNS] = [XOR_JOIN, O, 0, BRANCH, EVERY, O, O, O, O, O, O, O, O];
+const P_XORJOIN: Move = Move {
+    kind: XOR_JOIN,
+    takes: BRANCH,
+    puts: EVERY,
+    ..NO_RULE
+};
 
-const P_XORSPLIT: [Word; COLUMNS] = [XOR_SPLIT, O, 0, EVERY, BRANCH, ON, O, O, O, O, O, O, O];
+const P_XORSPLIT: Move = Move {
+    kind: XOR_SPLIT,
+    takes: EVERY,
+    puts: BRANCH,
+    asks: ON,
+    ..NO_RULE
+};
 
-const P_TASK_A: [Word; COLUMNS] = [TASK, A, 0, EVERY, EVERY, ON, O, ON, O, O, O, O, O];
+const P_TASK_A: Move = Move {
+    kind: TASK,
+    mode: A,
+    takes: EVERY,
+    puts: EVERY,
+    asks: ON,
+    assigns: ON,
+    ..NO_RULE
+};
 
-const P_TASKRCV_A: [Word; COLUMNS] = [TASK_RCV, A, 0, EVERY, EVERY, ON, ON, ON, O, O, O, O, O];
+const P_TASKRCV_A: Move = Move {
+    kind: TASK_RCV,
+    mode: A,
+    takes: EVERY,
+    puts: EVERY,
+    asks: ON,
+    receives: ON,
+    assigns: ON,
+    ..NO_RULE
+};
 
-const P_TASKSND_A: [Word; COLUMNS] = [TASK_SND, A, 0, EVERY, EVERY, ON, O, ON, ON, O, O, O, O];
+const P_TASKSND_A: Move = Move {
+    kind: TASK_SND,
+    mode: A,
+    takes: EVERY,
+    puts: EVERY,
+    asks: ON,
+    assigns: ON,
+    sends: ON,
+    ..NO_RULE
+};
 
-const P_TASK_N1: [Word; COLUMNS] = [TASK, NA, 1, EVERY, O, ON, O, O, O, UP, O, ON, O];
+const P_TASK_N1: Move = Move {
+    kind: TASK,
+    mode: NA,
+    phase: 1,
+    takes: EVERY,
+    asks: ON,
+    active: UP,
+    alone: ON,
+    ..NO_RULE
+};
 
-const P_TASKRCV_N1: [Word; COLUMNS] = [TASK_RCV, NA, 1, EVERY, O, ON, O, O, O, UP, O, ON, O];
+const P_TASKRCV_N1: Move = Move {
+    kind: TASK_RCV,
+    mode: NA,
+    phase: 1,
+    takes: EVERY,
+    asks: ON,
+    active: UP,
+    alone: ON,
+    ..NO_RULE
+};
 
-const P_TASKSND_N1: [Word; COLUMNS] = [TASK_SND, NA, 1, EVERY, O, ON, O, O, O, UP, O, ON, O];
+const P_TASKSND_N1: Move = Move {
+    kind: TASK_SND,
+    mode: NA,
+    phase: 1,
+    takes: EVERY,
+    asks: ON,
+    active: UP,
+    alone: ON,
+    ..NO_RULE
+};
 
-const P_TASK_N2: [Word; COLUMNS] = [TASK, NA, 3, O, EVERY, O, O, ON, O, DOWN, O, O, O];
+const P_TASK_N2: Move = Move {
+    kind: TASK,
+    mode: NA,
+    phase: 3,
+    puts: EVERY,
+    assigns: ON,
+    active: DOWN,
+    ..NO_RULE
+};
 
-const P_TASKRCV_N2: [Word; COLUMNS] = [TASK_RCV, NA, 2, O, O, O, ON, O, O, DOWN, UP, O, O];
+const P_TASKRCV_N2: Move = Move {
+    kind: TASK_RCV,
+    mode: NA,
+    phase: 2,
+    receives: ON,
+    active: DOWN,
+    ready: UP,
+    ..NO_RULE
+};
 
-const P_TASKRCV_N3: [Word; COLUMNS] = [TASK_RCV, NA, 3, O, EVERY, O, O, ON, O, O, DOWN, O, O];
+const P_TASKRCV_N3: Move = Move {
+    kind: TASK_RCV,
+    mode: NA,
+    phase: 3,
+    puts: EVERY,
+    assigns: ON,
+    ready: DOWN,
+    ..NO_RULE
+};
 
-const P_TASKSND_N2: [Word; COLUMNS] = [TASK_SND, NA, 2, O, O, O, O, ON, O, DOWN, UP, O, O];
+const P_TASKSND_N2: Move = Move {
+    kind: TASK_SND,
+    mode: NA,
+    phase: 2,
+    assigns: ON,
+    active: DOWN,
+    ready: UP,
+    ..NO_RULE
+};
 
-const P_TASKSND_N3: [Word; COLUMNS] = [TASK_SND, NA, 3, O, EVERY, O, O, O, ON, O, DOWN, O, O];
-
-const NO_RULE: [Word; COLUMNS] = [O, O, 0, O, O, O, O, O, O, O, O, O, O];
-
-// No mode and the three of a task; no phase and its three.
-const MODES: usize = 4;
-
-const PHASES: usize = 4;
-
-// The row of the rule at a place: (kind * MODES + mode) * PHASES + phase.
-fn row_at(i: usize) -> [Word; COLUMNS]
-    requires { i < row_places }
-    ensures { result ≡ cells_of (move_at i) }
-{
-    match i {
-        16 => return P_START,
-        32 => return P_STARTRCV,
-        48 => return P_END,
-        64 => return P_TERMINATE,
-        80 => return P_ENDSND,
-        96 => return P_INTERRCV,
-        112 => return P_INTERSND,
-        128 => return P_EVENTG,
-        144 => return P_ANDSPLIT,
-        160 => return P_ANDJOIN,
-        176 => return P_XORJOIN,
-        192 => return P_XORSPLIT,
-        212 => return P_TASK_A,
-        228 => return P_TASKRCV_A,
-        244 => return P_TASKSND_A,
-        217 | 221 => return P_TASK_N1,
-        233 | 237 => return P_TASKRCV_N1,
-        249 | 253 => return P_TASKSND_N1,
-        219 | 223 => return P_TASK_N2,
-        234 | 238 => return P_TASKRCV_N2,
-        235 | 239 => return P_TASKRCV_N3,
-        250 | 254 => return P_TASKSND_N2,
-        251 | 255 => return P_TASKSND_N3,
-        _ => return NO_RULE,
-    }
-}
-
-// The row of the rule of a kind, mode and phase, cell by cell.
-fn row_of(k: Word, m: Word, p: Word) -> [Word; COLUMNS]
-    ensures { result ≡ cells_of (move_of k m p) }
-{
-    let kind = k as usize;
-    let mode = m as usize;
-    let phase = p as usize;
-    if kind < ROWS {
-        if mode < MODES {
-            if phase < PHASES {
-                let i = (kind * MODES + mode) * PHASES + phase;
-                return row_at(i);
-            }
-        }
-    }
-    NO_RULE
-}
+const P_TASKSND_N3: Move = Move {
+    kind: TASK_SND,
+    mode: NA,
+    phase: 3,
+    puts: EVERY,
+    sends: ON,
+    ready: DOWN,
+    ..NO_RULE
+};
 
 // The row of the rule of a kind, mode and phase.
 pub fn move_of(k: Word, m: Word, p: Word) -> Move
     ensures { result ≡ move_of k m p }
 {
-    let r = row_of(k, m, p);
-    Move {
-        kind: r[0],
-        mode: r[1],
-        phase: r[2],
-        takes: r[3],
-        puts: r[4],
-        asks: r[5],
-        receives: r[6],
-        assigns: r[7],
-        sends: r[8],
-        active: r[9],
-        ready: r[10],
-        alone: r[11],
-        also: r[12],
+    match (m, p, k) {
+        (O, 0, START) => P_START,
+        (O, 0, START_RCV) => P_STARTRCV,
+        (O, 0, END) => P_END,
+        (O, 0, TERMINATE) => P_TERMINATE,
+        (O, 0, END_SND) => P_ENDSND,
+        (O, 0, INTER_RCV) => P_INTERRCV,
+        (O, 0, INTER_SND) => P_INTERSND,
+        (O, 0, EVENT_BASED) => P_EVENTG,
+        (O, 0, AND_SPLIT) => P_ANDSPLIT,
+        (O, 0, AND_JOIN) => P_ANDJOIN,
+        (O, 0, XOR_JOIN) => P_XORJOIN,
+        (O, 0, XOR_SPLIT) => P_XORSPLIT,
+        (A, 0, TASK) => P_TASK_A,
+        (A, 0, TASK_RCV) => P_TASKRCV_A,
+        (A, 0, TASK_SND) => P_TASKSND_A,
+        (NA_C | NA_NC, 1, TASK) => P_TASK_N1,
+        (NA_C | NA_NC, 1, TASK_RCV) => P_TASKRCV_N1,
+        (NA_C | NA_NC, 1, TASK_SND) => P_TASKSND_N1,
+        (NA_C | NA_NC, 3, TASK) => P_TASK_N2,
+        (NA_C | NA_NC, 2, TASK_RCV) => P_TASKRCV_N2,
+        (NA_C | NA_NC, 3, TASK_RCV) => P_TASKRCV_N3,
+        (NA_C | NA_NC, 2, TASK_SND) => P_TASKSND_N2,
+        (NA_C | NA_NC, 3, TASK_SND) => P_TASKSND_N3,
+        _ => NO_RULE,
     }
 }

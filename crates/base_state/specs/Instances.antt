@@ -1,6 +1,6 @@
 -- What the instances s of a state say, and the words h of one instance: "tokens on each edge, an active and a ready count for each task, and
 -- 16 fields. A field is 0 to 4,294,967,295 or undefined." (RULES: state)
-use Rattle.std.specs.Prelude.{ℕ, ◌+◌, List, set, take, drop}
+use Rattle.std.specs.Prelude.{ℕ, ◌+◌, set, take, drop}
 use Rattle.base_words.specs.Blocks.{State, Instances, Queues, Instance}
 use Rattle.base_words.specs.Words.{at}
 use Rattle.base_words.specs.Writes.{writes}

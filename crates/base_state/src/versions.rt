@@ -11,13 +11,11 @@ pub const FORMER: Word = 10;
 
 pub const PRESENT: Word = 20;
 
+#[tactic(auto, using(base_words::proofs::PickLaws::picks), unfolding(crate::specs::Versions::is_version))]
 pub fn is_version(v: Word) -> bool
     ensures { result ≡ is_version v }
 {
-    if v == FORMER {
-        return true;
-    }
-    v == PRESENT
+    v == FORMER || v == PRESENT
 }
 
 // The version of a state.

@@ -1,10 +1,9 @@
 -- What a table t says of its pools, and an element el of its parts. An element, a condition or an item is the words from its place on.
-use Rattle.std.specs.Prelude.{ℕ, Bool, List, eqb, drop}
+use Rattle.std.specs.Prelude.{ℕ, Bool, eqb, drop}
 use Rattle.base_words.specs.Blocks.{Block, Table, Element}
 use Rattle.base_words.specs.Pick.{if◌then◌or_else◌}
 use Rattle.base_words.specs.Seek.{seek}
 use Rattle.base_words.specs.Words.{at}
-use Rattle.base_kinds.specs.declared.Kind.{Kind}
 use Rattle.base_kinds.specs.Kinds.{kind_of, used}
 use Rattle.base_table.specs.Places.{kind_place, task_place, mode_place, entries_place, exits_place, edge_place, condition_place, message_place, length_place, item_place, assignments_place, assignment_place, pools_place, pool_place, limit_place, elements_place, element_place}
 

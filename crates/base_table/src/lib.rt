@@ -49,14 +49,7 @@ fn is_numbered(t: &[Word], number: Word, p: Word) -> bool
 fn pool_below(t: &[Word], number: Word, n: Word) -> Word
     ensures { result ≡ seek (has_number t.now number) n }
 {
-    let mut p: Word = 0;
-    while p < n {
-        if is_numbered(t, number, p) {
-            return p;
-        }
-        p += 1;
-    }
-    p
+    (0..n).find(|&p| is_numbered(t, number, p)).unwrap_or(n)
 }
 
 // The place of the pool with a number; the pool count where there is none.
@@ -67,14 +60,12 @@ pub fn pool_of(t: &[Word], number: Word) -> Word
 }
 
 // How many instances a pool makes at most.
+#[tactic(auto, using(base_words::proofs::PickLaws::picks), unfolding(crate::specs::Table::limit_of))]
 pub fn limit_of(t: &[Word], p: Word) -> Word
     ensures { result ≡ limit_of t.now p }
 {
     let n = word(t, FIRST_POOL + POOL_WORDS * (p as usize) + LIMIT);
-    if n == 0 {
-        return 1;
-    }
-    n
+    if n == 0 { 1 } else { n }
 }
 
 pub fn kind_in(el: &[Word]) -> Word

@@ -68,9 +68,6 @@ module _ (f : ℕ → Bool) where
 
 pub ruleset all_loop = (all_none, all_more, all_fails', all_done, eq-eqb, ne_eqb)
 
--- a loop with something behind it
-pub ruleset all_part = (all_none, all_more, all_fails, all_full)
-
 -- the same of a number a that a call's result r is known to equal
 pub le_leb_by : (r a b : ℕ) → r ≡ a → r ≤ b → leb a b ≡ true
 le_leb_by r a b e h = le-leb a b (omega arith)

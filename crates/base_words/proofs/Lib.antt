@@ -8,4 +8,4 @@ pub mod PickLaws
 pub mod BlockLaws
 pub mod JoinLaws
 pub mod ListLaws
-pub mod ClearLaws
+pub mod RangeLaws

@@ -1,26 +1,21 @@
 -- Rows of a list. Assumes nothing.
 use mathlib.Core.Path.{◌≡◌, refl, ◌∙◌, ap}
-use mathlib.Core.Bool.{Bool, true, ◌&&◌}
-use mathlib.Core.List.{List, [], ◌∷◌, ◌++◌, map}
+use mathlib.Core.Bool.{Bool, true}
+use mathlib.Core.List.{List, [], ◌∷◌, map}
 use mathlib.Core.Logic.{⊎_elim}
 use Prim.Native.Nat.{ℕ, zero, suc, ◌<◌}
 use native.Mathlib.Nat.{not-suc-le-zero, le_of_suc-le-suc, eq-or-lt_of_le}
 use native.Mathlib.Omega.{arith}
 use lib.ListN.{length, get_or, length-map, length-append, get_or-map, get_or-append}
 use lib.Seq.{get_or_at}
+use Rattle.std.proofs.lemmas.List.{get_or_default}
 use Rattle.base_words.specs.Each.{each, tab}
 use Rattle.base_words.proofs.AllLaws.{and_left, and_right}
-
--- inside a list the default does not matter
-pub get_d_in : {A : Type 0} (l : List A) (i : ℕ) (d e : A) → i < length l → get_or l i d ≡ get_or l i e
-get_d_in [] i d e h = absurd (not-suc-le-zero h)
-get_d_in (x ∷ xs) zero d e h = refl
-get_d_in (x ∷ xs) (suc i) d e h = get_d_in xs i d e (le_of_suc-le-suc h)
 
 -- A row of a list that is kept in another form: `to` gives it, `back` reads it.
 pub kept : {A B : Type 0} (to : A → B) (back : B → A) → ((x : A) → back (to x) ≡ x) → (l : List A) (i : ℕ) (d : B) (e : A) → i < length l → back (get_or (map to l) i d) ≡ get_or l i e
 kept to back same l i d e h =
-    ap back (get_d_in (map to l) i d (to e) (rw length-map h)) ∙ ap back (get_or-map to l i e) ∙ same (get_or l i e)
+    ap back (get_or_default (map to l) i d (to e) (rw length-map h)) ∙ ap back (get_or-map to l i e) ∙ same (get_or l i e)
 
 -- a test that passes at every row, and outside
 pub each_at : {A : Type 0} (f : A → Bool) (l : List A) (d : A) → each f l ≡ true → f d ≡ true → (i : ℕ) → f (get_or l i d) ≡ true

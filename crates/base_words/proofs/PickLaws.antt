@@ -1,10 +1,9 @@
 -- The laws of a choice, of `&&` and of `||`, in the direction of a contract's `r ≡ spec`. Assumes nothing.
-use mathlib.Core.Path.{◌≡◌, ◌∙◌, refl, sym, ap}
+use mathlib.Core.Path.{◌≡◌, ◌∙◌, refl, sym}
 use mathlib.Core.Bool.{Bool, true, false, not, ◌&&◌, ◌||◌}
 use Prim.Native.Nat.{ℕ}
 use lib.Dec.{leb, eqb}
 use Rattle.base_words.specs.Pick.{if◌then◌or_else◌}
-use Rattle.base_words.proofs.AllLaws.{tests, tests_by}
 
 pub pick_yes : {A : Type 0} (b : Bool) (w x y : A) → b ≡ true → w ≡ x → w ≡ (if b then x or_else y)
 unfolding if◌then◌or_else◌
@@ -60,3 +59,14 @@ pub ruleset flags = (flag_yes, flag_no)
 pub ruleset ands = (and_yes, and_no, and_true, and_false_left, and_false_right)
 
 pub ruleset chains = (pick_yes, pick_no, and_yes, and_no, and_true, and_false_left, and_false_right, flag_yes, flag_no, leb_same, eqb_same)
+
+-- for `grind`: a choice whose test is known
+pub pick_true : {A : Type 0} (x y : A) → (if true then x or_else y) ≡ x
+unfolding if◌then◌or_else◌
+pick_true x y = refl
+
+pub pick_false : {A : Type 0} (x y : A) → (if false then x or_else y) ≡ y
+unfolding if◌then◌or_else◌
+pick_false x y = refl
+
+pub ruleset picks = (pick_true, pick_false)

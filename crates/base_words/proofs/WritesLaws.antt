@@ -1,5 +1,5 @@
 -- What a loop that stores needs of `writes`, and what is read afterwards. Assumes nothing.
-use mathlib.Core.Path.{◌≡◌, ◌∙◌, refl, sym, ap}
+use mathlib.Core.Path.{◌≡◌, ◌∙◌, refl}
 use mathlib.Core.List.{List}
 use mathlib.Core.Logic.{⊎_elim}
 use Prim.Native.Nat.{ℕ, zero, suc, ◌+◌, ◌≤◌, ◌<◌}
@@ -50,10 +50,6 @@ module _ (f : ℕ → ℕ) (s : List ℕ) (a : ℕ) where
   -- a word d ahead of the loop is as it was
   pub writes_ahead : (n d : ℕ) (t : List ℕ) → t ≡ writes f s a n → get_or t (a + n + d) 0 ≡ get_or s (a + n + d) 0
   writes_ahead n d t e = rw e (writes_above n (a + n + d) (omega arith))
-
-  -- the length, in the loop
-  pub writes_long : (n : ℕ) (t : List ℕ) → t ≡ writes f s a n → length t ≡ length s
-  writes_long n t e = rw e (length-writes n)
 
 -- the same from place 0 on
 pub writes_next : (f : ℕ → ℕ) (s : List ℕ) (n w : ℕ) (t u : List ℕ) → t ≡ writes f s 0 n → w ≡ f n → u ≡ set t n w → u ≡ writes f s 0 (n + 1)

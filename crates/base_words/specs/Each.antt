@@ -1,5 +1,5 @@
 -- A number added up, or a test passed, over the things of a list; those that pass it; the list of a function's first n values, and these values as lists, one behind the other.
-use Rattle.std.specs.Prelude.{Bool, true, false, ◌&&◌, List, [], ◌∷◌, ◌++◌, ℕ, zero, suc, ◌+◌}
+use Rattle.std.specs.Prelude.{Bool, true, ◌&&◌, List, [], ◌∷◌, ◌++◌, ℕ, zero, suc, ◌+◌}
 use Rattle.base_words.specs.Pick.{if◌then◌or_else◌}
 
 unfoldable pub total : {A : Type 0} → (A → ℕ) → List A → ℕ

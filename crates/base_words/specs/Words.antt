@@ -1,5 +1,5 @@
 -- Words of a block: a read outside it is 0, a write outside it is none (as `set` has it).
-use Rattle.std.specs.Prelude.{List, ◌++◌, ℕ, ◌+◌, ◌-◌, ltb, get_or, take, drop}
+use Rattle.std.specs.Prelude.{◌++◌, ℕ, ◌+◌, ◌-◌, ltb, get_or, take, drop}
 use Rattle.base_words.specs.Blocks.{Block}
 use Rattle.base_words.specs.Pick.{if◌then◌or_else◌}
 

@@ -20,13 +20,13 @@ pub const DIGITS: usize = 10;
 pub fn one_more(n: Word) -> Word
     ensures { result ≡ one_more n }
 {
-    if n < GREATEST { n + 1 } else { n }
+    n.saturating_add(1)
 }
 
 pub fn word(s: &[Word], i: usize) -> Word
     ensures { result ≡ at s.now i }
 {
-    if i < s.len() { s[i] } else { 0 }
+    s.get(i).copied().unwrap_or(0)
 }
 
 pub fn put(s: &mut [Word], i: usize, v: Word)
@@ -41,23 +41,14 @@ pub fn put(s: &mut [Word], i: usize, v: Word)
 pub fn clear(s: &mut [Word])
     ensures { s.new ≡ replicate (length s.old) 0 }
 {
-    let n = s.len();
-    let mut i = 0;
-    while i < n {
-        put(s, i, 0);
-        i += 1;
-    }
+    s.fill(0);
 }
 
 // What stands from a place on.
 pub fn tail(s: &[Word], i: usize) -> &[Word]
     ensures { result.now ≡ drop i s.now }
 {
-    if i <= s.len() {
-        return &s[i..];
-    }
-    let end = s.len();
-    &s[end..]
+    s.get(i..).unwrap_or(&[])
 }
 
 // A word as a place or a count.
@@ -71,5 +62,5 @@ pub fn wide(x: Word) -> usize
 pub fn less_one(n: Word) -> Word
     ensures { result ≡ n - 1 }
 {
-    if n == 0 { 0 } else { n - 1 }
+    n.saturating_sub(1)
 }

@@ -1,5 +1,5 @@
 -- The checks of one pool, by its summary s: the counts of Checks as the summary has them.
-use Rattle.std.specs.Prelude.{Bool, true, not, ◌&&◌, List, ℕ, ◌+◌, eqb, ltb}
+use Rattle.std.specs.Prelude.{Bool, true, not, ◌&&◌, ℕ, ◌+◌, eqb, ltb}
 use Rattle.base_words.specs.Blocks.{Tally}
 use Rattle.base_words.specs.All.{all}
 use Rattle.base_words.specs.Pick.{if◌then◌or_else◌}

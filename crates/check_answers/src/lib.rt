@@ -17,6 +17,7 @@ use check_summary::{
 };
 use check_tally::once_in;
 
+#[tactic(auto, unfolding(crate::specs::Answers::one_start_by))]
 fn one_start(s: &[Word]) -> bool
     ensures { result ≡ one_start_by s.now }
 {
@@ -25,15 +26,14 @@ fn one_start(s: &[Word]) -> bool
     starts as usize + receiving as usize == 1
 }
 
+#[tactic(auto, using(base_words::proofs::PickLaws::picks), unfolding(crate::specs::Answers::start_receives_by))]
 fn start_receives(limit: Word, s: &[Word]) -> bool
     ensures { result ≡ start_receives_by limit s.now }
 {
-    if limit == 0 {
-        return true;
-    }
-    word(s, STARTS_FROM as usize + START as usize) == 0
+    limit == 0 || word(s, STARTS_FROM as usize + START as usize) == 0
 }
 
+#[tactic(auto, unfolding(crate::specs::Answers::edge_by))]
 fn edge_meets(s: &[Word], k: Word) -> bool
     ensures { result ≡ edge_by s.now k }
 {
@@ -46,16 +46,10 @@ fn edge_meets(s: &[Word], k: Word) -> bool
 fn edges_meet(s: &[Word]) -> bool
     ensures { result ≡ edges_meet_by s.now }
 {
-    let mut k: Word = 0;
-    while k < EDGES {
-        if !edge_meets(s, k) {
-            return false;
-        }
-        k += 1;
-    }
-    true
+    (0..EDGES).all(|k| edge_meets(s, k))
 }
 
+#[tactic(auto, unfolding(crate::specs::Answers::tasks_differ_by))]
 fn tasks_differ(s: &[Word]) -> bool
     ensures { result ≡ tasks_differ_by s.now }
 {
@@ -63,12 +57,14 @@ fn tasks_differ(s: &[Word]) -> bool
 }
 
 // Whether the pool receives the name m.
+#[tactic(auto, unfolding(crate::specs::Answers::receives_by))]
 pub fn receives(s: &[Word], m: Word) -> bool
     ensures { result ≡ receives_by s.now m }
 {
     word(s, RECEIVED_FROM as usize + (m as usize + 1)) > 0
 }
 
+#[tactic(auto, unfolding(crate::specs::Answers::sends_by))]
 fn sends(s: &[Word], m: Word) -> bool
     ensures { result ≡ sends_by s.now m }
 {
@@ -78,31 +74,23 @@ fn sends(s: &[Word], m: Word) -> bool
 fn apart(s: &[Word], m: Word) -> bool
     ensures { result ≡ not (receives_by s.now m && sends_by s.now m) }
 {
-    if receives(s, m) {
-        return !sends(s, m);
-    }
-    true
+    !(receives(s, m) && sends(s, m))
 }
 
 fn not_sent_there(s: &[Word]) -> bool
     ensures { result ≡ not_sent_there_by s.now }
 {
-    let mut m: Word = 0;
-    while m < NAMES {
-        if !apart(s, m) {
-            return false;
-        }
-        m += 1;
-    }
-    true
+    (0..NAMES).all(|m| apart(s, m))
 }
 
+#[tactic(auto, unfolding(crate::specs::Answers::one_default_by))]
 fn one_default(s: &[Word]) -> bool
     ensures { result ≡ one_default_by s.now }
 {
     word(s, DEFAULTS_FROM as usize + 1) == 0
 }
 
+#[tactic(auto, unfolding(crate::specs::Answers::binds_differ_by))]
 fn binds_differ(s: &[Word]) -> bool
     ensures { result ≡ binds_differ_by s.now }
 {
@@ -110,29 +98,18 @@ fn binds_differ(s: &[Word]) -> bool
 }
 
 // Whether a pool keeps check k by itself; check 1 is of all pools, and so is a part of check 6.
+#[tactic(auto, using(base_words::proofs::PickLaws::picks), unfolding(crate::specs::Answers::kept_by))]
 pub fn keeps(limit: Word, s: &[Word], k: Word) -> bool
     ensures { result ≡ kept_by limit s.now k }
 {
-    if k == ONE_START {
-        return one_start(s);
+    match k {
+        ONE_START => one_start(s),
+        START_RECEIVES => start_receives(limit, s),
+        EDGES_MEET => edges_meet(s),
+        TASKS_DIFFER => tasks_differ(s),
+        NAMES_APART => not_sent_there(s),
+        ONE_DEFAULT => one_default(s),
+        BINDS_DIFFER => binds_differ(s),
+        _ => true,
     }
-    if k == START_RECEIVES {
-        return start_receives(limit, s);
-    }
-    if k == EDGES_MEET {
-        return edges_meet(s);
-    }
-    if k == TASKS_DIFFER {
-        return tasks_differ(s);
-    }
-    if k == NAMES_APART {
-        return not_sent_there(s);
-    }
-    if k == ONE_DEFAULT {
-        return one_default(s);
-    }
-    if k == BINDS_DIFFER {
-        return binds_differ(s);
-    }
-    true
 }

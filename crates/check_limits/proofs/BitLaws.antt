@@ -3,18 +3,21 @@ use mathlib.Core.Path.{◌≡◌, ◌∙◌, refl, sym, ap}
 use mathlib.Core.Bool.{Bool, true, false, ◌&&◌}
 use mathlib.Core.List.{List}
 use mathlib.Core.Logic.{⊎_elim}
-use Prim.Native.Nat.{ℕ, zero, suc, ◌+◌, ◌≤◌, ◌<◌}
+use Prim.Native.Nat.{ℕ, zero, suc, ◌+◌, ◌≤◌}
 use native.Mathlib.Nat.{le_antisymm, le_trans, le_of_suc-le-suc, eq-or-lt_of_le}
 use native.Mathlib.Numerals.{add-one}
 use native.Mathlib.Omega.{arith}
-use lib.Bits.{bit_or, bit_and, or_add_and, and_le_r}
+use lib.Bits.{bit_or, or_add_and, and_le_r}
 use lib.Dec.{eqb}
-use lib.ListN.{length, get_or-eq_default}
-use borrow.Author.Tests.{ne_eqb, eq-eqb}
+use lib.ListN.{length, take, get_or-eq_default}
+use lib.Seq.{get_or-take}
+use Rattle.std.proofs.lemmas.List.{length-take}
+use borrow.Author.Tests.{ne_eqb}
 use Rattle.base_words.specs.All.{all}
 use Rattle.base_words.specs.Words.{at}
 use Rattle.check_limits.specs.Bits.{bits_of}
 use Rattle.check_limits.specs.Limits.{zeros}
+use Rattle.check_limits.proofs.SameLaws.{all_ext}
 
 pub or_zero : (a b : ℕ) → eqb (bit_or a b) 0 ≡ eqb a 0 && eqb b 0
 or_zero zero b = refl
@@ -42,8 +45,8 @@ and_true : (b : Bool) → b && true ≡ b
 and_true true = refl
 and_true false = refl
 
+-- behind its end a block reads 0
 module _ (x : List ℕ) where
-  -- behind its end a block reads 0
   past : (e n : ℕ) → length x ≤ e → e ≤ n → all (λ k. eqb (at x k) 0) e ≡ all (λ k. eqb (at x k) 0) n
   unfolding all
   past e zero h l = let q : e ≡ zero = omega arith in ap (all (λ k. eqb (at x k) 0)) q
@@ -52,10 +55,9 @@ module _ (x : List ℕ) where
       (λ lt. past e n h (le_of_suc-le-suc lt) ∙ sym (and_true (all (λ k. eqb (at x k) 0) n)) ∙ rw (get_or-eq_default x 0 {n = n} (le_trans h (le_of_suc-le-suc lt))))
       (eq-or-lt_of_le l)
 
-  pub zeros_by : (n e r : ℕ) → e ≡ n → r ≡ bits_of (at x) e → eqb r 0 ≡ zeros x n
-  unfolding zeros
-  zeros_by n e r q b = rw (b, q) (bits_zero (at x) n)
-
-  pub zeros_by_past : (n e r : ℕ) → e ≡ length x → length x < n → r ≡ bits_of (at x) e → eqb r 0 ≡ zeros x n
-  unfolding zeros
-  zeros_by_past n e r q l b = rw b (bits_zero (at x) e ∙ past e n (omega arith) (omega arith))
+pub zeros_by : (x : List ℕ) (n r : ℕ) → r ≡ bits_of (at (take n x)) (length (take n x)) → eqb r 0 ≡ zeros x n
+unfolding zeros
+zeros_by x n r e =
+    rw e (bits_zero (at (take n x)) (length (take n x)))
+    ∙ past (take n x) (length (take n x)) n (omega arith) (omega (arith, length-take n x))
+    ∙ all_ext (λ k. eqb (at (take n x) k) 0) (λ k. eqb (at x k) 0) n (λ k l. ap (λ (v : ℕ). eqb v 0) (get_or-take n x k 0 l))

@@ -3,12 +3,11 @@ use Prim.Native.Nat.{ℕ, zero, suc, ◌+◌, ◌-◌, ◌*◌, ◌≤◌, ◌<�
 use mathlib.Core.Path.{◌≡◌, ◌∙◌, refl, sym, ap, ap₂}
 use mathlib.Core.Bool.{Bool, true, false, not, ◌&&◌}
 use mathlib.Core.List.{List}
-use native.Mathlib.Decide.{dec_lt, ℕ_discrete}
 use native.Mathlib.Omega.{arith}
 use lib.Dec.{eqb, leb, ltb}
-use lib.ListN.{length, take, drop, get_or-eq_default}
-use lib.Seq.{get_or-drop, get_or-take}
-use borrow.Author.Tests.{eqb-true, eq-eqb, ne_eqb, leb-true}
+use lib.ListN.{drop}
+use lib.Seq.{get_or-drop}
+use borrow.Author.Tests.{eqb-true, leb-true}
 use Rattle.base_words.specs.All.{all}
 use Rattle.base_words.specs.Each.{each}
 use Rattle.base_words.specs.Counts.{fewest, branches, names, values, tasks, assignments}
@@ -17,7 +16,7 @@ use Rattle.base_words.specs.Words.{at}
 use Rattle.base_words.proofs.AllLaws.{all_at, all_of, and_left, and_right}
 use Rattle.base_words.proofs.ListLaws.{each_at}
 use Rattle.base_kinds.specs.declared.Kind.{Kind}
-use Rattle.base_kinds.specs.Kinds.{kinds, no_kind, kind_of, used, one, many, end_snd}
+use Rattle.base_kinds.specs.Kinds.{kinds, no_kind, kind_of, used, one, many}
 use Rattle.base_kinds.specs.Moves.{a, na_nc}
 use Rattle.base_table.specs.Places.{kind_place, task_place, mode_place, entries_place, exits_place, condition_place, message_place, assignments_place, assignment_place, element_words}
 use Rattle.base_table.specs.Table.{kind_in}
@@ -206,12 +205,6 @@ module _ (x z : List ℕ) (s : Same element_words x z) where
       ap (λ (k : ℕ). not (eqb (kind_of k).letters 0) && parts_fit (kind_of k) z) (s kind_place (omega arith))
       ∙ guarded (not (eqb (kind_of (kind_in x)).letters 0)) _ _ _ refl
       (λ _. parts_same (kind_of (kind_in x)) (low (λ r. r.entries) refl refl (kind_in x)) (low (λ r. r.exits) refl refl (kind_in x)) (low (λ r. r.conditions) refl refl (kind_in x)) (low (λ r. r.receives + r.sends) refl refl (kind_in x)))
-
--- an element cut out of what stands behind it, as a table holds it
-pub held_cut : (n : ℕ) (x : List ℕ) → n ≡ element_words → held_fits (take n x) ≡ held_fits x
-unfolding held_fits
-held_cut n x e =
-    ap₂ (λ b k. b && not (eqb k end_snd)) (element_same x (take n x) (λ i l. get_or-take n x i 0 (omega (arith, l, e)))) (get_or-take n x kind_place 0 (omega (arith, e)))
 
 -- what a table holds is within the limits of an element
 pub held_fits_lem : (el : List ℕ) → held_fits el ≡ true → element_fits el ≡ true

@@ -9,7 +9,7 @@ use Rattle.base_words.specs.Counts.{pools, elements, fewest, branches, pool_numb
 use Rattle.base_kinds.specs.declared.Kind.{Kind}
 use Rattle.base_kinds.specs.Kinds.{none, one, many, kind_of, used, end_snd}
 use Rattle.base_kinds.specs.Moves.{a, na_nc}
-use Rattle.base_table.specs.Places.{operand_words, a_field, operand_number, form_place, left_place, right_place, expression_words, single, plus, minus, binding, always, default, equals, below, first_edge, entries_place, exits_place, condition_place, length_in, items_in, message_words, message_place, assigned_in, assignment_words, assignment_place, element_words, pool_words, pool_place, limit_place, element_place}
+use Rattle.base_table.specs.Places.{operand_words, a_field, operand_number, form_place, left_place, right_place, expression_words, single, plus, minus, binding, always, default, equals, below, first_edge, entries_place, exits_place, condition_place, length_in, items_in, message_words, message_place, assigned_in, assignment_words, assignment_place, element_words, pool_words, pool_place, limit_place}
 use Rattle.base_table.specs.Table.{pool_count, element_count, element_at, kind_in, task_in, mode_in, assignment_count}
 
 -- n is from low to high

@@ -1,5 +1,5 @@
 // Words that are 0, and words within limits.
-ghost use Rattle.std.specs.Prelude.{◌≡◌, ◌-◌, ◌*◌, ◌≤◌, drop, length};
+ghost use Rattle.std.specs.Prelude.{◌≡◌, ◌-◌, ◌*◌, drop, length};
 ghost use Rattle.base_words.specs.Words.{at};
 ghost use Rattle.check_limits.specs.Bits.{bits_of};
 ghost use Rattle.check_limits.specs.Limits.{within, zeros};
@@ -11,22 +11,16 @@ pub fn is_within(x: &[Word], i: usize, low: Word, high: Word) -> bool
     ensures { result ≡ within low high (at x.now i) }
 {
     let n = word(x, i);
-    if n < low {
-        return false;
-    }
-    n <= high
+    low <= n && n <= high
 }
 
-// The bits that the first n words have between them: a loop with one way out, so that the compiler takes many words at a time.
-fn bits_below(x: &[Word], n: usize) -> Word
-    requires { n ≤ length x.now }
-    ensures { result ≡ bits_of (at x.now) n }
+// The bits that words have between them: a loop with one way out, so that the compiler takes many words at a time.
+fn bits_in(x: &[Word]) -> Word
+    ensures { result ≡ bits_of (at x.now) (length x.now) }
 {
     let mut bits: Word = 0;
-    let mut k: usize = 0;
-    while k < n {
-        bits = bits | x[k];
-        k += 1;
+    for w in x {
+        bits |= *w;
     }
     bits
 }
@@ -35,18 +29,14 @@ fn bits_below(x: &[Word], n: usize) -> Word
 pub fn zero_words(x: &[Word], n: usize) -> bool
     ensures { result ≡ zeros x.now n }
 {
-    let end = if n <= x.len() { n } else { x.len() };
-    bits_below(x, end) == 0
+    bits_in(&x[..n.min(x.len())]) == 0
 }
 
 // n less k, and 0 where k is greater.
 pub fn less(n: Word, k: usize) -> Word
     ensures { result ≡ n - k }
 {
-    if k < (n as usize) {
-        return n - (k as Word);
-    }
-    0
+    (n as usize).saturating_sub(k) as Word
 }
 
 // Whether the words behind the first k of `most` things, each of `width` words, are 0.

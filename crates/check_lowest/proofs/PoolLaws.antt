@@ -4,11 +4,10 @@ use mathlib.Core.List.{List}
 use Prim.Native.Nat.{ℕ}
 use lib.ListN.{replicate}
 use Rattle.base_words.specs.Each.{tab}
-use Rattle.base_words.specs.Sum.{one_if}
 use Rattle.base_words.specs.Words.{at}
 use Rattle.base_table.specs.Places.{pool_place, limit_place}
 use Rattle.base_table.specs.Table.{pool_count, element_count, element_at}
-use Rattle.check_tally.specs.Tally.{Region, tally, tallied, marks_of, all_marks}
+use Rattle.check_tally.specs.Tally.{tally, tallied, marks_of, all_marks}
 use Rattle.check_summary.specs.Summary.{regions, summary_words, summary}
 use Rattle.check_model.specs.Checks.{lowest}
 use Rattle.check_lowest.specs.Model.{pool_at, model_of}

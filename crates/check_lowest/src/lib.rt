@@ -41,10 +41,8 @@ fn mark_at(s: &mut [Word], t: &[Word], p: Word, e: Word)
 fn mark_elements(s: &mut [Word], t: &[Word], p: Word, n: Word)
     ensures { s.new ≡ tally s.old (all_marks regions (tab (element_at t.now p) n)) }
 {
-    let mut e: Word = 0;
-    while e < n {
+    for e in 0..n {
         mark_at(s, t, p, e);
-        e += 1;
     }
 }
 
@@ -60,10 +58,8 @@ fn mark_pool_at(m: &mut [Word], t: &[Word], p: Word)
 fn mark_pools(m: &mut [Word], t: &[Word], n: Word)
     ensures { m.new ≡ tally m.old (all_marks pool_regions (tab (pool_at t.now) n)) }
 {
-    let mut p: Word = 0;
-    while p < n {
+    for p in 0..n {
         mark_pool_at(m, t, p);
-        p += 1;
     }
 }
 

@@ -6,6 +6,7 @@ ghost use Rattle.check_model.specs.Checks.{edge_right};
 
 use base_words::Word;
 
+// Numbers and no enum: the contracts of `keeps`, `lowest_in` and `lowest_broken` say them, and the calls for C give them back.
 pub const NUMBERS_DIFFER: Word = 1;
 
 pub const ONE_START: Word = 2;
@@ -25,17 +26,9 @@ pub const BINDS_DIFFER: Word = 8;
 pub const CHECKS: Word = BINDS_DIFFER;
 
 // Whether an edge that stands x times as an exit, n times as an entry and f times as the first edge of a `start` keeps check 4.
+#[tactic(auto, using(base_words::proofs::PickLaws::picks), unfolding(crate::specs::Checks::edge_right))]
 pub fn edge_right(x: Word, n: Word, f: Word) -> bool
     ensures { result ≡ edge_right x n f }
 {
-    if x as usize + n as usize == 0 {
-        return true;
-    }
-    if n != 1 {
-        return false;
-    }
-    if f == 0 {
-        return x == 1;
-    }
-    x == 0
+    x as usize + n as usize == 0 || n == 1 && x == if f == 0 { 1 } else { 0 }
 }

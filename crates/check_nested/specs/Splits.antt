@@ -1,5 +1,5 @@
 -- What opens a block: only from there are branches walked.
-use Rattle.std.specs.Prelude.{ℕ, Bool, ◌||◌, List, eqb}
+use Rattle.std.specs.Prelude.{Bool, ◌||◌, eqb}
 use Rattle.base_kinds.specs.Kinds.{event_based, and_split, xor_split}
 use Rattle.base_table.specs.Table.{kind_in}
 use Rattle.base_words.specs.Blocks.{Element}

@@ -19,67 +19,52 @@ use check_tally::mark;
 // The words of a tally of edges.
 pub const EDGE_TALLY: usize = EDGES as usize + 1;
 
+#[tactic(auto, unfolding(check_nesting::specs::Nesting::starts))]
 pub fn starts(el: &[Word]) -> bool
     ensures { result ≡ starts el.now }
 {
-    let k = kind_in(el);
-    k == START || k == START_RCV
+    matches!(kind_in(el), START | START_RCV)
 }
 
+#[tactic(auto, unfolding(check_nesting::specs::Nesting::passes))]
 pub fn passes(el: &[Word]) -> bool
     ensures { result ≡ passes el.now }
 {
-    let k = kind_in(el);
-    if k == INTER_RCV {
-        return true;
-    }
-    if k == INTER_SND {
-        return true;
-    }
-    if k == TASK {
-        return true;
-    }
-    k == TASK_RCV || k == TASK_SND
+    matches!(
+        kind_in(el),
+        INTER_RCV | INTER_SND | TASK | TASK_RCV | TASK_SND
+    )
 }
 
+#[tactic(auto, unfolding(crate::specs::Splits::splits))]
 pub fn splits(el: &[Word]) -> bool
     ensures { result ≡ splits el.now }
 {
-    let k = kind_in(el);
-    if k == AND_SPLIT {
-        return true;
-    }
-    k == XOR_SPLIT || k == EVENT_BASED
+    matches!(kind_in(el), AND_SPLIT | XOR_SPLIT | EVENT_BASED)
 }
 
+#[tactic(auto, unfolding(check_nesting::specs::Nesting::closes, check_nesting::specs::Nesting::closes_all, check_nesting::specs::Nesting::closes_one))]
 fn closes(el: &[Word], join: &[Word]) -> bool
     ensures { result ≡ closes el.now join.now }
 {
     let k = kind_in(el);
-    let j = kind_in(join);
-    if j == AND_JOIN {
-        return k == AND_SPLIT;
+    match kind_in(join) {
+        AND_JOIN => k == AND_SPLIT,
+        XOR_JOIN => k == XOR_SPLIT || k == EVENT_BASED,
+        _ => false,
     }
-    if j != XOR_JOIN {
-        return false;
-    }
-    k == XOR_SPLIT || k == EVENT_BASED
 }
 
 fn entry_of(el: &[Word], a: Word) -> Word
     ensures { result ≡ entry_of el.now a }
 {
     let n = entry_count(el);
-    let mut j: Word = 0;
-    while j < n {
-        if edge_at(el, ENTRIES as Word, j) == a {
-            return j;
-        }
-        j += 1;
-    }
-    j
+    (0..n)
+        .find(|&j| edge_at(el, ENTRIES as Word, j) == a)
+        .unwrap_or(n)
 }
 
+#[tactic(auto, unfolding(check_nesting::specs::Deciding::takes))]
 fn takes(el: &[Word], a: Word) -> bool
     ensures { result ≡ takes el.now a }
 {
@@ -97,14 +82,7 @@ pub fn taker(t: &[Word], p: Word, a: Word) -> Word
     ensures { result ≡ taker (element_at t.now p) (element_count t.now p) a }
 {
     let n = element_count(t, p);
-    let mut k: Word = 0;
-    while k < n {
-        if takes_at(t, p, k, a) {
-            return k;
-        }
-        k += 1;
-    }
-    k
+    (0..n).find(|&k| takes_at(t, p, k, a)).unwrap_or(n)
 }
 
 // One mark more at the place v.
@@ -117,28 +95,20 @@ pub fn mark_one(s: &mut [Word], v: Word)
 fn mark_entries(s: &mut [Word], el: &[Word])
     ensures { s.new ≡ tally s.old (entries_of el.now) }
 {
-    let n = entry_count(el);
-    let mut j: Word = 0;
-    while j < n {
+    for j in 0..entry_count(el) {
         mark_one(s, edge_at(el, ENTRIES as Word, j));
-        j += 1;
     }
 }
 
+// Word by word and no `==` of slices: `closing` takes a slice of any length, and what it lacks reads 0.
 fn same_edges(s: &[Word], e: &[Word]) -> bool
     ensures { result ≡ same_edges s.now e.now }
 {
-    let mut f: usize = 0;
-    while f < EDGE_TALLY {
-        if word(s, f) != word(e, f) {
-            return false;
-        }
-        f += 1;
-    }
-    true
+    (0..EDGE_TALLY).all(|f| word(s, f) == word(e, f))
 }
 
 // Whether the edges of a tally are the entries of an element.
+#[tactic(auto, unfolding(check_nesting::specs::Deciding::edges_in))]
 fn are_entries(s: &[Word], el: &[Word]) -> bool
     ensures { result ≡ same_edges s.now (edges_in (entries_of el.now)) }
 {
@@ -147,26 +117,23 @@ fn are_entries(s: &[Word], el: &[Word]) -> bool
     same_edges(s, &e)
 }
 
+#[tactic(auto, unfolding(check_nesting::specs::Deciding::is_block))]
 fn is_block(t: &[Word], p: Word, s: &[Word], k: Word, j: Word) -> bool
     ensures { result ≡ is_block (element_at t.now p) (element_count t.now p) s.now k j }
 {
-    if j >= element_count(t, p) {
-        return false;
-    }
     let join = element_at(t, p, j);
-    if !closes(element_at(t, p, k), join) {
-        return false;
-    }
-    are_entries(s, join)
+    j < element_count(t, p) && closes(element_at(t, p, k), join) && are_entries(s, join)
 }
 
 // The join that closes the split k, one of whose branches stops at the edge a, the tally s telling where all of them do; the count of elements where none does.
+#[tactic(auto, using(base_words::proofs::PickLaws::picks), unfolding(check_nesting::specs::Deciding::closing_join))]
 pub fn closing(t: &[Word], p: Word, k: Word, a: Word, s: &[Word]) -> Word
     ensures { result ≡ closing_join (element_at t.now p) (element_count t.now p) k a s.now }
 {
     let j = taker(t, p, a);
     if is_block(t, p, s, k, j) {
-        return j;
+        j
+    } else {
+        element_count(t, p)
     }
-    element_count(t, p)
 }

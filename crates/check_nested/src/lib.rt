@@ -32,28 +32,14 @@ fn first_of(t: &[Word], p: Word) -> Word
     ensures { result ≡ first_of (element_at t.now p) (element_count t.now p) }
 {
     let n = element_count(t, p);
-    let mut k: Word = 0;
-    while k < n {
-        if starts_at(t, p, k) {
-            return k;
-        }
-        k += 1;
-    }
-    k
+    (0..n).find(|&k| starts_at(t, p, k)).unwrap_or(n)
 }
 
 // Whether the first n words are all 1.
 fn all_once(m: &[Word], n: Word) -> bool
     ensures { result ≡ all (λ k. eqb (at m.now k) 1) n }
 {
-    let mut k: Word = 0;
-    while k < n {
-        if word(m, k as usize) != 1 {
-            return false;
-        }
-        k += 1;
-    }
-    true
+    (0..n).all(|k| word(m, k as usize) == 1)
 }
 
 // Marks the elements that are met on the way from the element `first` to the element `last`.
@@ -81,6 +67,7 @@ fn is_end(t: &[Word], p: Word, k: Word) -> bool
 }
 
 // The element that takes from the edge where the walk from the element `first` stops.
+#[tactic(auto, unfolding(check_nesting::specs::Deciding::last_of, check_nesting::specs::Deciding::whole_walk))]
 fn last_of(t: &[Word], p: Word, first: Word) -> Word
     ensures { result ≡ last_of (element_at t.now p) (element_count t.now p) first }
 {
@@ -88,27 +75,20 @@ fn last_of(t: &[Word], p: Word, first: Word) -> Word
 }
 
 // Whether the walk from the element `first` ends well at the element `last`.
+#[tactic(auto, unfolding(check_nesting::specs::Deciding::ends_at))]
 fn ends_at(t: &[Word], p: Word, first: Word, last: Word) -> bool
     ensures { result ≡ ends_at (element_at t.now p) (element_count t.now p) first last }
 {
-    if last >= element_count(t, p) {
-        return false;
-    }
-    if !is_end(t, p, last) {
-        return false;
-    }
-    meets_all(t, p, first, last)
+    last < element_count(t, p) && is_end(t, p, last) && meets_all(t, p, first, last)
 }
 
 // Whether pool p of a table is nested.
+#[tactic(auto, unfolding(check_nesting::specs::Deciding::is_nested))]
 pub fn is_nested(t: &[Word], p: Word) -> bool
     ensures { result ≡ is_nested (element_at t.now p) (element_count t.now p) }
 {
     let first = first_of(t, p);
-    if first >= element_count(t, p) {
-        return false;
-    }
-    ends_at(t, p, first, last_of(t, p, first))
+    first < element_count(t, p) && ends_at(t, p, first, last_of(t, p, first))
 }
 
 // The place of the first pool that is not nested; the pool count where there is none.
@@ -116,28 +96,14 @@ pub fn first_unnested(t: &[Word]) -> Word
     ensures { result ≡ unnested t.now }
 {
     let n = pool_count(t);
-    let mut p: Word = 0;
-    while p < n {
-        if !is_nested(t, p) {
-            return p;
-        }
-        p += 1;
-    }
-    p
+    (0..n).find(|&p| !is_nested(t, p)).unwrap_or(n)
 }
 
 // The first of n words that is not 1; n where all are.
 fn first_other(m: &[Word], n: Word) -> Word
     ensures { result ≡ seek (λ k. not (eqb (at m.now k) 1)) n }
 {
-    let mut k: Word = 0;
-    while k < n {
-        if word(m, k as usize) != 1 {
-            return k;
-        }
-        k += 1;
-    }
-    k
+    (0..n).find(|&k| word(m, k as usize) != 1).unwrap_or(n)
 }
 
 // The first element of a pool that is not met once, on the way from its element `first` to its element `last`.
@@ -149,22 +115,26 @@ fn stray_of(t: &[Word], p: Word, first: Word, last: Word) -> Word
     first_other(&m, element_count(t, p))
 }
 
+#[tactic(auto, using(base_words::proofs::PickLaws::picks), unfolding(check_nesting::specs::Offending::offending_by))]
 fn offending_by(t: &[Word], p: Word, first: Word, last: Word) -> Word
     ensures { result ≡ offending_by (element_at t.now p) (element_count t.now p) first last }
 {
     if is_end(t, p, last) {
-        return stray_of(t, p, first, last);
+        stray_of(t, p, first, last)
+    } else {
+        last
     }
-    last
 }
 
 // The element of pool p where it is not nested: 0 where it has no start, the count of its elements where it is nested.
+#[tactic(auto, using(base_words::proofs::PickLaws::picks), unfolding(check_nesting::specs::Offending::offending))]
 pub fn offending(t: &[Word], p: Word) -> Word
     ensures { result ≡ offending (element_at t.now p) (element_count t.now p) }
 {
     let first = first_of(t, p);
-    if first >= element_count(t, p) {
-        return 0;
+    if first < element_count(t, p) {
+        offending_by(t, p, first, last_of(t, p, first))
+    } else {
+        0
     }
-    offending_by(t, p, first, last_of(t, p, first))
 }

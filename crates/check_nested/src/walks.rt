@@ -42,11 +42,9 @@ fn walk_branches(t: &[Word], p: Word, n: Word, k: Word, s: &mut [Word]) -> Word
 {
     let m = exits_at(t, p, k);
     let mut a: Word = 0;
-    let mut j: Word = 0;
-    while j < m {
+    for j in 0..m {
         a = stop_of(t, p, n, exit_at(t, p, k, j));
         mark_one(s, a);
-        j += 1;
     }
     a
 }
@@ -99,10 +97,8 @@ fn mark_branches(t: &[Word], p: Word, n: Word, k: Word, m: &mut [Word])
     ensures { m.new ≡ tally m.old (elements_passed (sequence_walk (element_at t.now p) (element_count t.now p) n) (exits_of (element_at t.now p k))) }
 {
     let most = exits_at(t, p, k);
-    let mut j: Word = 0;
-    while j < most {
+    for j in 0..most {
         mark_way(t, p, n, exit_at(t, p, k, j), m);
-        j += 1;
     }
 }
 

@@ -1,6 +1,6 @@
 -- A template binds no field twice exactly when no item binds a field that an item before it binds. Assumes nothing.
 use mathlib.Core.Path.{◌≡◌, ◌∙◌, refl, sym, ap, subst}
-use mathlib.Core.Bool.{Bool, true, false, ◌&&◌, false≢true}
+use mathlib.Core.Bool.{Bool, true, false}
 use mathlib.Core.List.{List}
 use mathlib.Core.Logic.{⊎_elim}
 use Prim.Native.Nat.{ℕ, zero, suc, ◌+◌, ◌≤◌, ◌<◌}
@@ -9,12 +9,11 @@ use native.Mathlib.Omega.{arith}
 use lib.Dec.{eqb, leb, ltb}
 use borrow.Author.Tests.{lt-ltb, le-leb, leb-true, ltb-true, eqb-true, eq-eqb}
 use Rattle.base_words.specs.All.{all}
-use Rattle.base_words.specs.Sum.{sum, one_if}
+use Rattle.base_words.specs.Sum.{sum}
 use Rattle.base_words.specs.Words.{at}
 use Rattle.base_words.specs.Counts.{fields_named}
 use Rattle.base_words.specs.Pick.{if◌then◌or_else◌}
-use Rattle.base_words.proofs.AllLaws.{all_of, all_at, eq_eqb_by, ne_eqb_by}
-use Rattle.base_words.proofs.PickLaws.{and_yes, and_no}
+use Rattle.base_words.proofs.AllLaws.{all_of, all_at}
 use Rattle.base_table.specs.Places.{form_place, left_place, operand_number, binding}
 use Rattle.base_table.specs.Table.{item_at, message_length}
 use Rattle.check_occurrences.specs.Occurrences.{binds_field, binds_anew, times_bound, template_once}
@@ -82,17 +81,3 @@ module _ (x : ℕ → List ℕ) where
 pub template_by : (el : List ℕ) (j n : ℕ) → n ≡ message_length el j → all (binds_anew el j) n ≡ template_once el j
 unfolding binds_anew template_once times_bound
 template_by el j n e = once_by (item_at el j) n ∙ rw e
-
--- what an item y binds: f is its form, n the number of its field
-module _ (y : List ℕ) (d f : ℕ) (is : f ≡ at y form_place) where
-  pub binds_none : (f ≡ binding → ⊥) → 0 ≡ binds_field d y
-  unfolding binds_field
-  binds_none e = ap one_if (and_no _ _ (ne_eqb_by f _ binding is e))
-
-  pub binds_other : (n : ℕ) → f ≡ binding → n ≡ field y → (n ≡ d → ⊥) → 0 ≡ binds_field d y
-  unfolding binds_field
-  binds_other n e h o = ap one_if (and_yes _ _ _ (eq_eqb_by f _ binding is e) (sym (ne_eqb_by n _ d h o)))
-
-  pub binds_this : (n : ℕ) → f ≡ binding → n ≡ field y → n ≡ d → 1 ≡ binds_field d y
-  unfolding binds_field
-  binds_this n e h o = ap one_if (and_yes _ _ _ (eq_eqb_by f _ binding is e) (sym (eq_eqb_by n _ d h o)))

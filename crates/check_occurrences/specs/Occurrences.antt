@@ -1,12 +1,11 @@
 -- How often something stands in one element el: what the model checks count.
-use Rattle.std.specs.Prelude.{Bool, true, ◌&&◌, List, ℕ, ◌+◌, eqb, leb, ltb}
+use Rattle.std.specs.Prelude.{Bool, true, ◌&&◌, ℕ, ◌+◌, eqb, leb, ltb}
 use Rattle.base_words.specs.Blocks.{Block, Element}
 use Rattle.base_words.specs.All.{all}
 use Rattle.base_words.specs.Pick.{if◌then◌or_else◌}
 use Rattle.base_words.specs.Sum.{sum, hit, one_if}
 use Rattle.base_words.specs.Words.{at}
 use Rattle.base_words.specs.Counts.{fields_named}
-use Rattle.base_kinds.specs.declared.Kind.{Kind}
 use Rattle.base_kinds.specs.Kinds.{kind_of, used, start}
 use Rattle.base_table.specs.Places.{operand_number, form_place, left_place, binding, default}
 use Rattle.base_table.specs.Table.{kind_in, task_in, entry_count, exit_count, entry_at, exit_at, condition_at, message_name, message_length, item_at}

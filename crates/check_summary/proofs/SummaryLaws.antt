@@ -14,7 +14,7 @@ use Rattle.base_words.specs.Words.{at}
 use Rattle.base_words.proofs.SumLaws.{sum_ext}
 use Rattle.base_kinds.specs.Kinds.{start, start_rcv}
 use Rattle.base_table.specs.Table.{kind_in, task_in, entry_at, message_name}
-use Rattle.check_tally.specs.Tally.{Region, no_region, one_region, apart, capped}
+use Rattle.check_tally.specs.Tally.{no_region, one_region, apart, capped}
 use Rattle.check_tally.proofs.TallyLaws.{hit_iff}
 use Rattle.check_tally.proofs.RegionLaws.{sum_one, tallied-at}
 use Rattle.check_occurrences.specs.Occurrences.{as_exit, as_entry, as_first, as_task, of_kind, as_received, received_count, as_sent, sent_count, default_once, bound_once}

@@ -16,7 +16,7 @@ use base_table::{edge_at, entry_count, exit_count, kind_in, message_name, task_i
 use base_words::counts::{EDGES, NAMES, TASKS};
 use base_words::{Word, wide};
 use check_occurrences::{bound_once, default_once, received_count, sent_count};
-use check_tally::mark;
+use check_tally::{mark, mark_region};
 
 // Where the regions of a summary start.
 pub const EXITS_FROM: Word = 0;
@@ -39,30 +39,19 @@ pub const BINDS_FROM: Word = DEFAULTS_FROM + 1 + 1;
 
 pub const SUMMARY_WORDS: usize = BINDS_FROM as usize + 1 + 1;
 
-fn mark_edge(s: &mut [Word], from: Word, el: &[Word], list: Word, j: Word)
-    ensures { s.new ≡ marked s.old (place from edges (at el.now (edge_place list j))) }
-{
-    mark(s, from, EDGES, wide(edge_at(el, list, j)));
-}
-
 // The first n edges of a list.
+#[tactic(auto, unfolding(crate::specs::Summary::edge_region))]
 pub fn mark_list(s: &mut [Word], from: Word, el: &[Word], list: Word, n: Word)
     ensures { s.new ≡ tally s.old (region_marks (edge_region from el.now list n)) }
 {
-    let mut j: Word = 0;
-    while j < n {
-        mark_edge(s, from, el, list, j);
-        j += 1;
-    }
+    mark_region(s, from, EDGES, n, |j| wide(edge_at(el, list, j)));
 }
 
+#[tactic(auto, unfolding(crate::specs::Summary::first_count))]
 fn first_count(el: &[Word]) -> Word
     ensures { result ≡ first_count el.now }
 {
-    if kind_in(el) == START {
-        return 1;
-    }
-    0
+    Word::from(kind_in(el) == START)
 }
 
 // What an element has is read before a mark is set: then the compiler reads each word once.
@@ -86,21 +75,12 @@ fn mark_head(s: &mut [Word], el: &[Word])
     mark(s, STARTS_FROM, START_RCV, wide(kind));
 }
 
-fn mark_name(s: &mut [Word], from: Word, el: &[Word], j: Word)
-    ensures { s.new ≡ marked s.old (place from names (message_name el.now j + 1)) }
-{
-    mark(s, from, NAMES, wide(message_name(el, j)) + 1);
-}
-
 // The first n message names.
+#[tactic(auto, unfolding(crate::specs::Summary::name_region))]
 fn mark_some(s: &mut [Word], from: Word, el: &[Word], n: Word)
     ensures { s.new ≡ tally s.old (region_marks (name_region from el.now n)) }
 {
-    let mut j: Word = 0;
-    while j < n {
-        mark_name(s, from, el, j);
-        j += 1;
-    }
+    mark_region(s, from, NAMES, n, |j| wide(message_name(el, j)) + 1);
 }
 
 fn mark_names(s: &mut [Word], el: &[Word])
@@ -116,10 +96,7 @@ fn mark_names(s: &mut [Word], el: &[Word])
 fn broken(kept: bool) -> usize
     ensures { result ≡ one_if (not kept) }
 {
-    if kept {
-        return 0;
-    }
-    1
+    usize::from(!kept)
 }
 
 fn mark_flags(s: &mut [Word], el: &[Word])

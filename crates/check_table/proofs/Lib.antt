@@ -1,4 +1,3 @@
 pub mod ThingsLaws
 pub mod ElementLaws
-pub mod PoolLaws
 pub mod OperandLaws

@@ -7,6 +7,7 @@ ghost use Rattle.base_table.specs.Places.{entries_place, exits_place, expression
 ghost use Rattle.check_limits.specs.Limits.{things, condition_fits, message_fits, assignment_fits, count_fits, edge_fits, edges_fit, task_fits, conditions_fit, messages_fit, assignments_fit, parts_fit, element_fits};
 
 use super::parts::{assignment_fits, condition_fits, message_fits};
+use super::things::things_fit;
 use base_kinds::moves::{A, NA_NC};
 use base_kinds::{
     MANY, ONE, conditions_of, count_by, entries_of, exits_of, letters_of, receives_of, sends_of,
@@ -19,49 +20,49 @@ use base_table::places::{
 use base_table::{assignment_at, assignment_count, condition_at, kind_in};
 use base_words::counts::{ASSIGNMENTS, BRANCHES, EDGES, FEWEST, TASKS};
 use base_words::{Word, tail, word};
-use check_limits::zeros::{is_within, zeros_behind};
+use check_limits::zeros::is_within;
 
 // A list of edges: its count, and the edges, a word each.
 const COUNT: usize = 0;
 
 const EDGE_WORDS: Word = 1;
 
+#[tactic(auto, using(base_words::proofs::PickLaws::picks), unfolding(check_limits::specs::Limits::count_fits))]
 fn count_fits(column: Word, x: &[Word]) -> bool
     ensures { result ≡ count_fits column (at x.now 0) }
 {
     if column == MANY {
-        return is_within(x, COUNT, FEWEST, BRANCHES);
+        is_within(x, COUNT, FEWEST, BRANCHES)
+    } else {
+        word(x, COUNT) == column
     }
-    word(x, COUNT) == column
 }
 
-fn edge_things(x: &[Word], k: Word) -> bool
-    ensures { result ≡ things x.now 1 branches k edge_fits }
+#[tactic(auto, unfolding(check_limits::specs::Limits::edge_fits))]
+fn edge_fits(x: &[Word]) -> bool
+    ensures { result ≡ edge_fits x.now }
 {
-    let mut j: Word = 0;
-    while j < k {
-        if !is_within(x, j as usize, 1, EDGES) {
-            return false;
-        }
-        j += 1;
-    }
-    zeros_behind(x, EDGE_WORDS, BRANCHES, k)
+    is_within(x, 0, 1, EDGES)
 }
 
 // The edges of a list.
 fn listed_fit(x: &[Word]) -> bool
     ensures { result ≡ things (drop 1 x.now) 1 branches (at x.now 0) edge_fits }
 {
-    edge_things(tail(x, FIRST_EDGE), word(x, COUNT))
+    things_fit(
+        tail(x, FIRST_EDGE),
+        EDGE_WORDS,
+        BRANCHES,
+        word(x, COUNT),
+        edge_fits,
+    )
 }
 
+#[tactic(auto, unfolding(check_limits::specs::Limits::edges_fit))]
 fn edges_fit(column: Word, x: &[Word]) -> bool
     ensures { result ≡ edges_fit column x.now }
 {
-    if !count_fits(column, x) {
-        return false;
-    }
-    listed_fit(x)
+    count_fits(column, x) && listed_fit(x)
 }
 
 // The entries and the exits of an element.
@@ -77,135 +78,88 @@ fn exits_fit(kind: Word, el: &[Word]) -> bool
     edges_fit(exits_of(kind), tail(el, EXITS))
 }
 
+#[tactic(auto, using(base_words::proofs::PickLaws::picks), unfolding(check_limits::specs::Limits::task_fits))]
 fn task_fits(kind: Word, el: &[Word]) -> bool
     ensures { result ≡ task_fits (kind_of kind).task el.now }
 {
     if task_of(kind) == ONE {
-        if !is_within(el, TASK, 1, TASKS) {
-            return false;
-        }
-        if !is_within(el, MODE, A, NA_NC) {
-            return false;
-        }
-        return word(el, ASSIGNMENT_COUNT) <= ASSIGNMENTS;
+        is_within(el, TASK, 1, TASKS)
+            && is_within(el, MODE, A, NA_NC)
+            && word(el, ASSIGNMENT_COUNT) <= ASSIGNMENTS
+    } else {
+        word(el, TASK) == 0 && word(el, MODE) == 0 && word(el, ASSIGNMENT_COUNT) == 0
     }
-    if word(el, TASK) != 0 {
-        return false;
-    }
-    if word(el, MODE) != 0 {
-        return false;
-    }
-    word(el, ASSIGNMENT_COUNT) == 0
 }
 
-fn condition_things(conditions: Word, x: &[Word], k: Word) -> bool
-    ensures { result ≡ things x.now expression_words branches k (condition_fits conditions) }
-{
-    let mut j: Word = 0;
-    while j < k {
-        if !condition_fits(conditions, tail(x, EXPRESSION_WORDS * (j as usize))) {
-            return false;
-        }
-        j += 1;
-    }
-    zeros_behind(x, EXPRESSION_WORDS as Word, BRANCHES, k)
-}
-
+#[tactic(auto, unfolding(check_limits::specs::Limits::conditions_fit))]
 fn conditions_fit(kind: Word, el: &[Word]) -> bool
     ensures { result ≡ conditions_fit (kind_of kind).conditions el.now }
 {
     let conditions = conditions_of(kind);
-    condition_things(
-        conditions,
+    things_fit(
         condition_at(el, 0),
+        EXPRESSION_WORDS as Word,
+        BRANCHES,
         count_by(conditions, word(el, EXITS)),
+        |x| condition_fits(conditions, x),
     )
 }
 
 // How many messages there are, received or sent.
+#[tactic(auto, using(base_words::proofs::PickLaws::picks), unfolding(base_kinds::specs::Kinds::used))]
 fn message_count(receives: Word, sends: Word, n: Word) -> Word
     requires { (receives ≤ many) × (sends ≤ many) }
     ensures { result ≡ used (receives + sends) n }
 {
     let both = receives + sends;
-    if both == MANY {
-        return n;
-    }
-    both
+    if both == MANY { n } else { both }
 }
 
-fn message_things(receives: Word, x: &[Word], k: Word) -> bool
-    ensures { result ≡ things x.now message_words branches k (message_fits receives) }
-{
-    let mut j: Word = 0;
-    while j < k {
-        if !message_fits(receives, tail(x, MESSAGE_WORDS * (j as usize))) {
-            return false;
-        }
-        j += 1;
-    }
-    zeros_behind(x, MESSAGE_WORDS as Word, BRANCHES, k)
-}
-
+#[tactic(auto, unfolding(check_limits::specs::Limits::messages_fit))]
 fn messages_fit(kind: Word, el: &[Word]) -> bool
     ensures { result ≡ messages_fit (kind_of kind).receives (kind_of kind).sends el.now }
 {
     let receives = receives_of(kind);
-    message_things(
-        receives,
+    things_fit(
         tail(el, MESSAGES),
+        MESSAGE_WORDS as Word,
+        BRANCHES,
         message_count(receives, sends_of(kind), word(el, EXITS)),
+        |x| message_fits(receives, x),
     )
 }
 
-fn assignment_things(x: &[Word], k: Word) -> bool
-    ensures { result ≡ things x.now assignment_words assignments k assignment_fits }
-{
-    let mut j: Word = 0;
-    while j < k {
-        if !assignment_fits(tail(x, ASSIGNMENT_WORDS * (j as usize))) {
-            return false;
-        }
-        j += 1;
-    }
-    zeros_behind(x, ASSIGNMENT_WORDS as Word, ASSIGNMENTS, k)
-}
-
+#[tactic(auto, unfolding(check_limits::specs::Limits::assignments_fit))]
 fn assignments_fit(el: &[Word]) -> bool
     ensures { result ≡ assignments_fit el.now }
 {
-    assignment_things(assignment_at(el, 0), assignment_count(el))
+    things_fit(
+        assignment_at(el, 0),
+        ASSIGNMENT_WORDS as Word,
+        ASSIGNMENTS,
+        assignment_count(el),
+        assignment_fits,
+    )
 }
 
+#[tactic(auto, unfolding(check_limits::specs::Limits::parts_fit))]
 fn parts_fit(kind: Word, el: &[Word]) -> bool
     ensures { result ≡ parts_fit (kind_of kind) el.now }
 {
-    if !task_fits(kind, el) {
-        return false;
-    }
-    if !entries_fit(kind, el) {
-        return false;
-    }
-    if !exits_fit(kind, el) {
-        return false;
-    }
-    if !conditions_fit(kind, el) {
-        return false;
-    }
-    if !messages_fit(kind, el) {
-        return false;
-    }
-    assignments_fit(el)
+    task_fits(kind, el)
+        && entries_fit(kind, el)
+        && exits_fit(kind, el)
+        && conditions_fit(kind, el)
+        && messages_fit(kind, el)
+        && assignments_fit(el)
 }
 
+#[tactic(auto, unfolding(check_limits::specs::Limits::element_fits))]
 fn row_fits(el: &[Word]) -> bool
     ensures { result ≡ element_fits el.now }
 {
     let kind = kind_in(el);
-    if letters_of(kind) == 0 {
-        return false;
-    }
-    parts_fit(kind, el)
+    letters_of(kind) != 0 && parts_fit(kind, el)
 }
 
 // Whether an element is within the limits; its words are cut out, so that the compiler knows how many there are.

@@ -15,45 +15,22 @@ use base_table::places::{
 use base_table::{element_at, element_count, kind_in, pool_count};
 use base_words::counts::{ELEMENTS, INSTANCES, POOL_NUMBERS, POOLS};
 use base_words::{Word, tail, word};
-use check_limits::zeros::{is_within, less, zero_words, zeros_behind};
+use check_limits::zeros::{is_within, less, zero_words};
 
 pub mod elements;
 pub mod parts;
+mod things;
 
 use elements::element_fits;
+use things::things_fit;
 
 // An element of a table is no endSnd.
+#[tactic(auto, unfolding(check_limits::specs::Limits::held_fits))]
 fn held_fits(el: &[Word]) -> bool
     requires { element_words ≤ length el.now }
     ensures { result ≡ held_fits el.now }
 {
-    if !element_fits(el) {
-        return false;
-    }
-    kind_in(el) != END_SND
-}
-
-// Element j, cut out whole.
-fn element_in(x: &[Word], j: Word) -> bool
-    requires { element_words * j + element_words ≤ length x.now }
-    ensures { result ≡ held_fits (drop (element_words * j) x.now) }
-{
-    let from = ELEMENT_WORDS * (j as usize);
-    held_fits(&x[from..from + ELEMENT_WORDS])
-}
-
-fn element_things(x: &[Word], k: Word) -> bool
-    requires { (k ≤ elements) × (element_words * elements ≤ length x.now) }
-    ensures { result ≡ things x.now element_words elements k held_fits }
-{
-    let mut j: Word = 0;
-    while j < k {
-        if !element_in(x, j) {
-            return false;
-        }
-        j += 1;
-    }
-    zeros_behind(x, ELEMENT_WORDS as Word, ELEMENTS, k)
+    element_fits(el) && kind_in(el) != END_SND
 }
 
 // The elements of a pool.
@@ -61,38 +38,32 @@ fn elements_fit(t: &[Word], p: Word) -> bool
     requires { (element_count t.now p ≤ elements) × (p < pools) × (table_words ≤ length t.now) }
     ensures { result ≡ things (element_at t.now p 0) element_words elements (element_count t.now p) held_fits }
 {
-    element_things(element_at(t, p, 0), element_count(t, p))
+    things_fit(
+        element_at(t, p, 0),
+        ELEMENT_WORDS as Word,
+        ELEMENTS,
+        element_count(t, p),
+        held_fits,
+    )
 }
 
+#[tactic(auto, unfolding(check_limits::specs::Limits::pool_fits))]
 fn pool_fits(t: &[Word], p: Word) -> bool
     requires { (p < pools) × (table_words ≤ length t.now) }
     ensures { result ≡ pool_fits t.now p }
 {
     let place = FIRST_POOL + POOL_WORDS * (p as usize);
-    if !is_within(t, place, 1, POOL_NUMBERS) {
-        return false;
-    }
-    if INSTANCES < word(t, place + LIMIT) {
-        return false;
-    }
-    if !is_within(t, place + ELEMENT_COUNT, 1, ELEMENTS) {
-        return false;
-    }
-    elements_fit(t, p)
+    is_within(t, place, 1, POOL_NUMBERS)
+        && word(t, place + LIMIT) <= INSTANCES
+        && is_within(t, place + ELEMENT_COUNT, 1, ELEMENTS)
+        && elements_fit(t, p)
 }
 
 fn pools_below(t: &[Word], n: Word) -> bool
     requires { (n ≤ pools) × (table_words ≤ length t.now) }
     ensures { result ≡ all (pool_fits t.now) n }
 {
-    let mut p: Word = 0;
-    while p < n {
-        if !pool_fits(t, p) {
-            return false;
-        }
-        p += 1;
-    }
-    true
+    (0..n).all(|p| pool_fits(t, p))
 }
 
 // The words behind the pools of a table.
@@ -108,14 +79,9 @@ fn rest_zero(t: &[Word]) -> bool
 }
 
 // Whether a table is within the limits.
+#[tactic(auto, unfolding(check_limits::specs::Limits::table_fits))]
 pub fn table_fits(t: &[Word; TABLE_WORDS]) -> bool
     ensures { result ≡ table_fits t.now }
 {
-    if !is_within(t, POOL_COUNT, 1, POOLS) {
-        return false;
-    }
-    if !pools_below(t, pool_count(t)) {
-        return false;
-    }
-    rest_zero(t)
+    is_within(t, POOL_COUNT, 1, POOLS) && pools_below(t, pool_count(t)) && rest_zero(t)
 }

@@ -17,7 +17,7 @@ use Rattle.base_words.specs.Words.{at}
 use Rattle.base_words.proofs.AllLaws.{and_left, and_right}
 use Rattle.base_words.proofs.EachLaws.{total_append, total-tab, total_ext}
 use Rattle.base_words.proofs.SumLaws.{sum_ext, sum-zero}
-use Rattle.check_tally.specs.Tally.{tally, place, Region, no_region, region_marks, marks_of, apart, all_marks, tallied, once_in, count, capped}
+use Rattle.check_tally.specs.Tally.{place, Region, no_region, region_marks, marks_of, apart, all_marks, tallied, once_in, count, capped}
 use Rattle.check_tally.proofs.TallyLaws.{tally_at, hit_iff, hit_no, leb-capped}
 
 place_in : (from most v : ℕ) → v ≤ most → place from most v ≡ from + v

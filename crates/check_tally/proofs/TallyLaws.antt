@@ -37,8 +37,6 @@ module _ (f : ℕ → ℕ) (s : List ℕ) where
   pub tally_done : (n i : ℕ) (t : List ℕ) → n ≤ i → i ≤ n → t ≡ tally s (tab f i) → t ≡ tally s (tab f n)
   tally_done n i t h k e = rw (le_antisymm h k) e
 
-pub ruleset tally_loop = (tally_none, tally-more, tally_done)
-
 -- Regions marked one after the other; the last call first, so that the states between are found.
 pub marks_append : (rs qs : List Region) → marks_of (rs ++ qs) ≡ marks_of rs ++ marks_of qs
 unfolding marks_of
@@ -84,8 +82,6 @@ module _ {A : Type 0} (f : A → List Region) (g : ℕ → A) (s : List ℕ) whe
 
   pub fold_done : (n i : ℕ) (t : List ℕ) → n ≤ i → i ≤ n → t ≡ tally s (all_marks f (tab g i)) → t ≡ tally s (all_marks f (tab g n))
   fold_done n i t h k e = rw (le_antisymm h k) e
-
-pub ruleset folds = (fold_none, fold_more, fold_done)
 
 -- the same, one thing more, for a list that is read
 pub tallied_none : {A : Type 0} (size : ℕ) (f : A → List Region) → replicate size 0 ≡ tallied size f []

@@ -11,7 +11,7 @@ use Rattle.base_words.specs.Pick.{if◌then◌or_else◌}
 use Rattle.base_words.specs.Sum.{sum, hit, one_if}
 use Rattle.base_words.specs.Words.{at}
 use Rattle.base_words.specs.Counts.{pool_numbers, names}
-use Rattle.check_tally.specs.Tally.{Region, no_region, one_region, apart, capped, tally}
+use Rattle.check_tally.specs.Tally.{no_region, one_region, apart, capped}
 use Rattle.check_tally.proofs.TallyLaws.{eqb-capped}
 use Rattle.check_tally.proofs.RegionLaws.{sum_one, tallied-at, once, once_in_lem, each_none}
 use Rattle.check_summary.specs.Summary.{summary}

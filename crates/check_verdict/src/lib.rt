@@ -14,7 +14,7 @@ use check_model::{
     BINDS_DIFFER, CHECKS, EDGES_MEET, NAMES_APART, NUMBERS_DIFFER, ONE_DEFAULT, ONE_START,
     START_RECEIVES, TASKS_DIFFER,
 };
-use check_tally::{mark, once_in};
+use check_tally::{mark, mark_region, once_in};
 
 // Where the regions of a model's tally start.
 pub const NUMBERS_FROM: Word = 0;
@@ -25,56 +25,40 @@ pub const BROKEN_FROM: Word = NAMES_FROM + 1 + NAMES;
 
 pub const MODEL_WORDS: usize = BROKEN_FROM as usize + 1 + CHECKS as usize;
 
+#[tactic(auto, using(base_words::proofs::PickLaws::picks), unfolding(crate::specs::Verdict::name_if))]
 fn name_if(s: &[Word], m: Word) -> usize
     ensures { result ≡ name_if s.now m }
 {
-    if receives(s, m) {
-        return m as usize + 1;
-    }
-    0
-}
-
-fn mark_name(t: &mut [Word], s: &[Word], m: Word)
-    ensures { t.new ≡ marked t.old (place names_from names (name_if s.now m)) }
-{
-    mark(t, NAMES_FROM, NAMES, name_if(s, m));
+    if receives(s, m) { m as usize + 1 } else { 0 }
 }
 
 // The names that a pool receives.
+#[tactic(auto, unfolding(crate::specs::Verdict::names_region))]
 fn mark_names(t: &mut [Word], s: &[Word])
     ensures { t.new ≡ tally t.old (region_marks (names_region s.now)) }
 {
-    let mut m: Word = 0;
-    while m < NAMES {
-        mark_name(t, s, m);
-        m += 1;
-    }
+    mark_region(t, NAMES_FROM, NAMES, NAMES, |m| name_if(s, m));
 }
 
+#[tactic(auto, using(base_words::proofs::PickLaws::picks), unfolding(crate::specs::Verdict::broken_if))]
 fn broken_if(limit: Word, s: &[Word], k: Word) -> Word
     ensures { result ≡ broken_if limit s.now k }
 {
-    if !keeps(limit, s, k) {
-        return k;
-    }
-    0
-}
-
-fn mark_check(t: &mut [Word], limit: Word, s: &[Word], k: Word)
-    ensures { t.new ≡ marked t.old (place broken_from checks (broken_if limit s.now k)) }
-{
-    mark(t, BROKEN_FROM, CHECKS, wide(broken_if(limit, s, k)));
+    if keeps(limit, s, k) { 0 } else { k }
 }
 
 // The checks that a pool breaks by itself.
+#[tactic(auto, unfolding(crate::specs::Verdict::broken_region))]
 fn mark_checks(t: &mut [Word], limit: Word, s: &[Word])
     ensures { t.new ≡ tally t.old (region_marks (broken_region limit s.now)) }
 {
-    let mut k: Word = 0;
-    while k < CHECKS {
-        k += 1;
-        mark_check(t, limit, s, k);
-    }
+    mark_region(
+        t,
+        BROKEN_FROM,
+        CHECKS,
+        CHECKS,
+        |k| wide(broken_if(limit, s, k + 1)),
+    );
 }
 
 // One pool more in the tally of its model, by the pool's summary.
@@ -86,28 +70,29 @@ pub fn mark_pool(t: &mut [Word], number: Word, limit: Word, s: &[Word])
     mark_checks(t, limit, s);
 }
 
+#[tactic(auto, unfolding(crate::specs::Verdict::numbers_differ_in))]
 fn numbers_differ(t: &[Word]) -> bool
     ensures { result ≡ numbers_differ_in t.now }
 {
     once_in(t, NUMBERS_FROM, POOL_NUMBERS)
 }
 
+#[tactic(auto, unfolding(crate::specs::Verdict::kept_in))]
 fn kept(t: &[Word], k: Word) -> bool
     ensures { result ≡ kept_in t.now k }
 {
     word(t, BROKEN_FROM as usize + k as usize) == 0
 }
 
+#[tactic(auto, unfolding(crate::specs::Verdict::names_apart_in))]
 fn names_apart(t: &[Word]) -> bool
     ensures { result ≡ names_apart_in t.now }
 {
-    if once_in(t, NAMES_FROM, NAMES) {
-        return kept(t, NAMES_APART);
-    }
-    false
+    once_in(t, NAMES_FROM, NAMES) && kept(t, NAMES_APART)
 }
 
 // The lowest check that a model breaks, by its tally; 0 where it keeps all.
+#[tactic(auto, using(base_words::proofs::PickLaws::picks), unfolding(crate::specs::Verdict::lowest_in))]
 pub fn lowest_in(t: &[Word]) -> Word
     ensures { result ≡ lowest_in t.now }
 {

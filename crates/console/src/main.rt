@@ -17,11 +17,13 @@ mod batch;
 mod blocks;
 mod commands;
 mod desk;
+mod lines;
 mod output;
 mod report;
 
-use commands::command;
+use commands::do_line;
 use desk::{Held, KEPT};
+use output::bad_line;
 
 const NEWLINE: u8 = 10;
 
@@ -37,43 +39,26 @@ const PROMPT_MOST: usize = 16;
 // The most bytes of a read.
 const PIECE: usize = 4096;
 
-// How much of a line there is so far, and whether more came than fits; whether there is a model, how many records are lent, and whether the input is at its end.
+// How much of a line there is so far, and whether more came than fits; and what there is to work on.
 #[derive(Clone, Copy)]
 struct Session {
     length: usize,
     excess: bool,
-    loaded: bool,
-    records: usize,
-    over: bool,
+    held: Held,
 }
 
-fn opened() -> Session {
+// No part of a line was read.
+fn emptied(held: Held) -> Session {
     Session {
         length: 0,
         excess: false,
-        loaded: false,
-        records: 0,
-        over: false,
-    }
-}
-
-// The line is done with.
-fn emptied(s: Session) -> Session {
-    Session {
-        length: 0,
-        excess: false,
-        loaded: s.loaded,
-        records: s.records,
-        over: false,
+        held,
     }
 }
 
 // Whether a line is a remark, which answers nothing.
 fn is_remark(line: &[u8]) -> bool {
-    if line.len() == 0 {
-        return true;
-    }
-    line[0] == b'#'
+    line.is_empty() || line.starts_with(b"#")
 }
 
 // The line is complete.
@@ -85,25 +70,15 @@ fn complete(
     z: &mut [Word; STATE_WORDS],
     rs: &mut [[Word; RECORD_WORDS]; KEPT],
 ) -> Session {
-    if is_remark(piece(line, 0, s.length)) {
-        return emptied(s);
+    let text = piece(line, 0, s.length);
+    if is_remark(text) {
+        return emptied(s.held);
     }
     if s.excess {
-        tell(rt, b"bad line\n");
-        return emptied(s);
+        bad_line(rt);
+        return emptied(s.held);
     }
-    let held = Held {
-        loaded: s.loaded,
-        records: s.records,
-    };
-    let h = command(rt, piece(line, 0, s.length), held, t, z, rs);
-    Session {
-        length: 0,
-        excess: false,
-        loaded: h.loaded,
-        records: h.records,
-        over: false,
-    }
+    emptied(do_line(rt, text, s.held, t, z, rs))
 }
 
 // One byte more in the line.
@@ -111,36 +86,9 @@ fn extend(s: Session, line: &mut [u8; LINE], b: u8) -> Session {
     let n = s.length;
     if n < LINE {
         line[n] = b;
-        return Session {
-            length: n + 1,
-            excess: false,
-            loaded: s.loaded,
-            records: s.records,
-            over: false,
-        };
+        return Session { length: n + 1, ..s };
     }
-    Session {
-        length: n,
-        excess: true,
-        loaded: s.loaded,
-        records: s.records,
-        over: false,
-    }
-}
-
-fn take_byte(
-    rt: &impl Print,
-    s: Session,
-    b: u8,
-    line: &mut [u8; LINE],
-    t: &mut [Word; TABLE_WORDS],
-    z: &mut [Word; STATE_WORDS],
-    rs: &mut [[Word; RECORD_WORDS]; KEPT],
-) -> Session {
-    if b == NEWLINE {
-        return complete(rt, s, line, t, z, rs);
-    }
-    extend(s, line, b)
+    Session { excess: true, ..s }
 }
 
 fn take_piece(
@@ -153,36 +101,16 @@ fn take_piece(
     rs: &mut [[Word; RECORD_WORDS]; KEPT],
 ) -> Session {
     let mut s = first;
-    let mut i: usize = 0;
-    while i < piece.len() {
-        s = take_byte(rt, s, piece[i], line, t, z, rs);
-        i += 1;
+    for b in piece {
+        s = match *b {
+            NEWLINE => complete(rt, s, line, t, z, rs),
+            other => extend(s, line, other),
+        };
     }
     s
 }
 
-// A last line without newline counts.
-fn take_rest(
-    rt: &impl Print,
-    s: Session,
-    line: &[u8; LINE],
-    t: &mut [Word; TABLE_WORDS],
-    z: &mut [Word; STATE_WORDS],
-    rs: &mut [[Word; RECORD_WORDS]; KEPT],
-) {
-    if s.length > 0 {
-        complete(rt, s, line, t, z, rs);
-    }
-}
-
-// Says the prompt, where no part of a line was read yet.
-fn invite(rt: &impl Print, length: usize, prompt: &[u8]) {
-    if length == 0 {
-        tell(rt, prompt);
-    }
-}
-
-// Reads what is there, and does what came: a line is answered before the next one is waited for.
+// Reads what is there, and does what came: a line is answered before the next one is waited for. None at the input's end.
 fn read_some(
     rt: &(impl Print + Input),
     s: Session,
@@ -191,21 +119,18 @@ fn read_some(
     t: &mut [Word; TABLE_WORDS],
     z: &mut [Word; STATE_WORDS],
     rs: &mut [[Word; RECORD_WORDS]; KEPT],
-) -> Session {
+) -> Option<Session> {
     let mut piece = [0u8; PIECE];
     let n = read_part(rt, &mut piece);
     if n == 0 {
-        return Session {
-            length: s.length,
-            excess: s.excess,
-            loaded: s.loaded,
-            records: s.records,
-            over: true,
-        };
+        return None;
     }
     let next = take_piece(rt, s, &piece[..n], line, t, z, rs);
-    invite(rt, next.length, prompt);
-    next
+    // The prompt is said where no part of a line was read yet.
+    if next.length == 0 {
+        tell(rt, prompt);
+    }
+    Some(next)
 }
 
 fn talk(rt: &(impl Print + Input), prompt: &[u8]) {
@@ -213,14 +138,18 @@ fn talk(rt: &(impl Print + Input), prompt: &[u8]) {
     let mut z: [Word; STATE_WORDS] = [0; STATE_WORDS];
     let mut rs: [[Word; RECORD_WORDS]; KEPT] = [[0; RECORD_WORDS]; KEPT];
     let mut line: [u8; LINE] = [0; LINE];
-    let mut s = opened();
+    let mut s = emptied(None);
     // A proved loop has to end, and nothing says that an input does: the turns are more than any run uses up.
-    let mut turns = u64::MAX;
-    while turns > 0 && !s.over {
-        s = read_some(rt, s, prompt, &mut line, &mut t, &mut z, &mut rs);
-        turns -= 1;
+    for _ in 0..u64::MAX {
+        let Some(next) = read_some(rt, s, prompt, &mut line, &mut t, &mut z, &mut rs) else {
+            break;
+        };
+        s = next;
     }
-    take_rest(rt, s, &line, &mut t, &mut z, &mut rs);
+    // A last line without newline counts.
+    if s.length > 0 {
+        complete(rt, s, &line, &mut t, &mut z, &mut rs);
+    }
 }
 
 fn main(rt: HostRuntime) {

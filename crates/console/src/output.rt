@@ -23,10 +23,14 @@ pub(super) fn tell_refused(rt: &impl Print, number: Word) {
     tell(rt, b"\n");
 }
 
+pub(super) fn tell_ok(rt: &impl Print) {
+    tell(rt, b"ok\n");
+}
+
 // A call that gives back only a number.
 pub(super) fn tell_done(rt: &impl Print, number: Word) {
     if number == 0 {
-        tell(rt, b"ok\n");
+        tell_ok(rt);
         return;
     }
     tell_refused(rt, number);

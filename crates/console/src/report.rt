@@ -33,11 +33,9 @@ fn pair_if(rt: &impl Print, is_first: bool, flag: Word, number: Word, value: Wor
 // The counts of n places that are not 0: their numbers count from 1.
 fn tell_counts(rt: &impl Print, h: &[Word], n: Word) {
     let mut is_first = true;
-    let mut k: Word = 0;
-    while k < n {
+    for k in 0..n {
         let count = word(h, k as usize);
-        k += 1;
-        is_first = pair_if(rt, is_first, count, k, count);
+        is_first = pair_if(rt, is_first, count, k + 1, count);
     }
     if is_first {
         tell(rt, b"-");
@@ -47,10 +45,8 @@ fn tell_counts(rt: &impl Print, h: &[Word], n: Word) {
 // The fields that are defined.
 fn tell_fields(rt: &impl Print, h: &[Word]) {
     let mut is_first = true;
-    let mut d: Word = 0;
-    while d < FIELDS {
+    for d in 0..FIELDS {
         is_first = pair_if(rt, is_first, defined_at(h, d), d, value_at(h, d));
-        d += 1;
     }
     if is_first {
         tell(rt, b"-");
@@ -59,14 +55,7 @@ fn tell_fields(rt: &impl Print, h: &[Word]) {
 
 // Whether one of the fields is defined.
 fn has_fields(h: &[Word]) -> bool {
-    let mut d: Word = 0;
-    while d < FIELDS {
-        if defined_at(h, d) != 0 {
-            return true;
-        }
-        d += 1;
-    }
-    false
+    (0..FIELDS).any(|d| defined_at(h, d) != 0)
 }
 
 // The stores stand as fields do, in a block that starts as far before them.
@@ -98,11 +87,9 @@ fn tell_instance(rt: &impl Print, number: Word, i: Word, h: &[Word]) {
 
 fn tell_pool(rt: &impl Print, t: &[Word], z: &[Word], p: Word) {
     let number = word(t, FIRST_POOL + POOL_WORDS * (p as usize));
-    let made = at_most(made_count(z, p), INSTANCES);
-    let mut i: Word = 0;
-    while i < made {
+    let made = made_count(z, p).min(INSTANCES);
+    for i in 0..made {
         tell_instance(rt, number, i, instance_at(z, p, i));
-        i += 1;
     }
 }
 
@@ -112,47 +99,36 @@ fn tell_message(rt: &impl Print, g: Tuple) {
     tell_tuple(
         rt,
         Tuple {
-            length: at_most(g.length, VALUES),
-            values: values,
+            length: g.length.min(VALUES),
+            values,
         },
     );
 }
 
 fn tell_queue(rt: &impl Print, q: &[Word], m: Word) {
-    let n = at_most(queued_in(q, m), MESSAGES);
+    let n = queued_in(q, m).min(MESSAGES);
     if n == 0 {
         return;
     }
     tell(rt, b"queue ");
     tell_number(rt, m);
-    let mut k: Word = 0;
-    while k < n {
+    for k in 0..n {
         tell_message(rt, message_at(q, m, k));
-        k += 1;
     }
     tell(rt, b"\n");
 }
 
 fn tell_pools(rt: &impl Print, t: &[Word], z: &[Word]) {
-    let n = at_most(pool_count(t), POOLS);
-    let mut p: Word = 0;
-    while p < n {
+    let n = pool_count(t).min(POOLS);
+    for p in 0..n {
         tell_pool(rt, t, z, p);
-        p += 1;
     }
 }
 
 fn tell_queues(rt: &impl Print, q: &[Word]) {
-    let mut m: Word = 0;
-    while m < NAMES {
+    for m in 0..NAMES {
         tell_queue(rt, q, m);
-        m += 1;
     }
-}
-
-// A count, as far as there is room in the layout.
-fn at_most(n: Word, most: Word) -> Word {
-    if n < most { n } else { most }
 }
 
 // The present version is not said.

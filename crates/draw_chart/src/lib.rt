@@ -115,10 +115,8 @@ fn put_every(
 {
     let owned = has_participants(w, n);
     let mut end = from;
-    let mut k: Note = 0;
-    while k < n {
+    for k in 0..n {
         end = put_part(out, end, class, owned, text, table, w, n, k);
-        k += 1;
     }
     end
 }

@@ -1,7 +1,7 @@
 // A line of the map: a word, numbers behind it, each after a blank, and a newline.
 ghost use Rattle.draw_map.specs.Map.{Puts, next, numbers, line};
 
-use base_words::{Word, word};
+use base_words::Word;
 use write_buffer::{put_byte, put_bytes};
 use write_decimals::put_number;
 
@@ -16,11 +16,8 @@ fn put_numbers(out: &mut [u8], from: usize, xs: &[Word]) -> usize
     ensures { Puts (numbers xs.now) from out.old result out.new }
 {
     let mut end = from;
-    let mut j: usize = 0;
-    while j < xs.len() {
-        let x = word(xs, j);
-        end = put_next(out, end, x);
-        j += 1;
+    for x in xs {
+        end = put_next(out, end, *x);
     }
     end
 }

@@ -1,6 +1,5 @@
 // The lines of a pool: its elements with what belongs to them, the ends behind its message end events, its edges. i is its place in the table, p its process.
-ghost use Rattle.std.specs.Prelude.{◌≡◌, ◌≤◌};
-ghost use Rattle.base_words.specs.Sum.{one_if};
+ghost use Rattle.std.specs.Prelude.{◌≡◌};
 ghost use Rattle.draw_numbers.specs.Numbers.{count_before};
 ghost use Rattle.draw_map.specs.Map.{Puts, within_line, element_line, branch_line, branch_lines, belonging, with_belonging, element_lines, is_message_end, end_place, with_end, end_lines, edge_line, lines_of, all_of, inside, with_inside};
 
@@ -62,10 +61,8 @@ fn put_branches(
     ensures { Puts (branch_lines i e w.now n k) from out.old result out.new }
 {
     let mut end = from;
-    let mut j: Note = 0;
-    while j < n {
+    for j in 0..n {
         end = put_branch(out, end, i, e, w, k, j);
-        j += 1;
     }
     end
 }
@@ -132,22 +129,10 @@ fn is_message_end(p: Note, w: &[Note], k: Note) -> bool
     is_of_kind(END_SND, w, k) && within_of(w, k) == p
 }
 
-fn one_message_end(p: Note, w: &[Note], k: Note) -> Word
-    ensures { (result ≡ one_if (is_message_end p w.now k)) × (result ≤ 1) }
-{
-    if is_message_end(p, w, k) { 1 } else { 0 }
-}
-
 fn count_message_ends(p: Note, w: &[Note], k: Note) -> Word
     ensures { result ≡ count_before (is_message_end p w.now) k }
 {
-    let mut count: Word = 0;
-    let mut j: Note = 0;
-    while j < k {
-        count += one_message_end(p, w, j);
-        j += 1;
-    }
-    count
+    (0..k).filter(|&j| is_message_end(p, w, j)).count() as Word
 }
 
 fn end_place(w: &[Note], n: Note, p: Note, k: Note) -> Word
@@ -229,10 +214,8 @@ fn put_all_of(
     ensures { Puts (all_of class table.now w.now n i p) from out.old result out.new }
 {
     let mut end = from;
-    let mut k: Note = 0;
-    while k < n {
+    for k in 0..n {
         end = put_lines_of(out, end, class, table, w, n, i, p, k);
-        k += 1;
     }
     end
 }

@@ -26,7 +26,7 @@ use Rattle.xml_document.specs.Decoding.{behind_line, plain_at, decoded}
 use Rattle.draw_conditions.specs.declared.saying.Spot.{Spot}
 use Rattle.draw_conditions.specs.declared.saying.Step.{Step}
 use Rattle.draw_conditions.specs.declared.saying.Step.TheVariants.{Byte, On, End}
-use Rattle.draw_conditions.specs.declared.saying.View.TheVariants.{Byte as Seen, End as Over}
+use Rattle.std.proofs.Common.{Some, None}
 use Rattle.draw_conditions.specs.Saying.{Said, spot, inside, forward, plain_step, is_skipped, tag_step, step_by, markup_step, skip_by, skip_markup, skip_step, text_step, section_step, step_at, further, said_in, said, seen}
 
 -- n bytes on
@@ -174,12 +174,12 @@ said_is : (t : List ℕ) (s : Spot) → said t s ≡ further (step_at t s) (said
 unfolding said said_in
 said_is t s = stable (length t) (suc (length t)) t s (omega arith) (omega arith)
 
-pub said_end : (t : List ℕ) (s : Spot) → length t ≤ s.at → said t s ≡ seen t Over
+pub said_end : (t : List ℕ) (s : Spot) → length t ≤ s.at → said t s ≡ seen t None
 unfolding further seen
 said_end t s h = said_is t s ∙ rw (step_end t s h)
 
 module _ (t : List ℕ) (s : Spot) (g : Step) (eg : g ≡ step_at t s) where
-  pub said_byte : (b i : ℕ) (q : Spot) → g ≡ Byte b i q → said t s ≡ seen t (Seen b i q)
+  pub said_byte : (b i : ℕ) (q : Spot) → g ≡ Byte b i q → said t s ≡ seen t (Some (record { byte = b; place = i; next = q }))
   unfolding further seen
   said_byte b i q e = said_is t s ∙ rw (← eg, e)
 
@@ -187,7 +187,7 @@ module _ (t : List ℕ) (s : Spot) (g : Step) (eg : g ≡ step_at t s) where
   unfolding further
   said_on q e = said_is t s ∙ rw (← eg, e)
 
-  pub said_over : g ≡ End → said t s ≡ seen t Over
+  pub said_over : g ≡ End → said t s ≡ seen t None
   unfolding further seen
   said_over e = said_is t s ∙ rw (← eg, e)
 

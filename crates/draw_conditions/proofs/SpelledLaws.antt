@@ -1,6 +1,6 @@
 -- Words in what is said, byte by byte, as the loops go. Assumes nothing.
 use mathlib.Core.Path.{◌≡◌, ◌∙◌, refl, sym, ap}
-use mathlib.Core.Bool.{Bool, true, false, not, ◌&&◌}
+use mathlib.Core.Bool.{Bool, true, false, not, ◌&&◌, false≢true}
 use mathlib.Core.List.{List, [], ◌∷◌}
 use Prim.Native.Nat.{ℕ, suc, ◌+◌, ◌*◌, ◌-◌, ◌<◌, ◌≤◌}
 use native.Mathlib.Numerals.{add-one}
@@ -21,90 +21,91 @@ use Rattle.base_bytes.specs.Bytes.{same_bytes}
 use Rattle.text_numerals.proofs.NumberLaws.{value_large}
 use Rattle.text_numerals.proofs.NumeralLaws.{letter_word}
 use Rattle.draw_conditions.specs.declared.saying.Spot.{Spot}
-use Rattle.draw_conditions.specs.declared.saying.View.{View}
-use Rattle.draw_conditions.specs.declared.saying.View.TheVariants.{Byte as Seen, End as Over}
+use Rattle.draw_conditions.specs.declared.saying.Seen.{Seen}
+use Rattle.std.proofs.Common.{Option, Some, None}
+use Rattle.std.specs.Option.{is_some}
 use Rattle.draw_conditions.specs.declared.spelled.Class.{Class}
 use Rattle.draw_conditions.specs.declared.spelled.Side.{Side}
 use Rattle.draw_conditions.specs.Saying.{says, said, seen}
 use Rattle.draw_conditions.specs.Words.{is_of, behind, letters, spelt, goes_on, grown, place_said, is_over, nothing, side, side_of, side_at}
 
 -- the next byte of what is said
-module _ (t : List ℕ) (s : Spot) (v : View) (e : said t s ≡ seen t v) where
-  pub over : v ≡ Over → said t s ≡ []
+module _ (t : List ℕ) (s : Spot) (v : Option Seen) (e : said t s ≡ seen t v) where
+  pub over : v ≡ None → said t s ≡ []
   unfolding seen
   over k = e ∙ rw k
 
-  pub is_over_lem : v ≡ Over → true ≡ is_over (said t s)
+  pub is_over_lem : v ≡ None → true ≡ is_over (said t s)
   unfolding is_over
   is_over_lem k = rw (over k)
 
-  pub behind_over : (class : Class) → v ≡ Over → said t s ≡ behind class (said t s)
+  pub behind_over : (class : Class) → v ≡ None → said t s ≡ behind class (said t s)
   unfolding behind
   behind_over class k = rw (over k)
 
-  pub letter_over : v ≡ Over → letters (said t s) ≡ spelt t Over
+  pub letter_over : v ≡ None → letters (said t s) ≡ spelt t None
   unfolding letters spelt
   letter_over k = rw (over k)
 
-  pub side_over : (r : Side) → v ≡ Over → r ≡ side false nothing 0 → r ≡ side_at (said t s)
+  pub side_over : (r : Side) → v ≡ None → r ≡ side false nothing 0 → r ≡ side_at (said t s)
   unfolding side_at side_of letters operand_of is_field_letter number_of as_number if◌then◌or_else◌
   side_over r k h = h ∙ sym (rw (over k))
 
-  module _ (b i : ℕ) (q : Spot) (k : v ≡ Seen b i q) where
-    pub byte : said t s ≡ says b i ∷ said t q
+  module _ (x : Seen) (k : v ≡ Some x) where
+    pub byte : said t s ≡ says x.byte x.place ∷ said t x.next
     unfolding seen
     byte = e ∙ rw k
 
-    pub shorter : length (said t q) < length (said t s)
+    pub shorter : length (said t x.next) < length (said t s)
     shorter = rw byte (omega arith)
 
     pub not_over : false ≡ is_over (said t s)
     unfolding is_over
     not_over = rw byte
 
-    pub behind_on : (class : Class) → is_of class b ≡ true → behind class (said t s) ≡ behind class (said t q)
+    pub behind_on : (class : Class) → is_of class x.byte ≡ true → behind class (said t s) ≡ behind class (said t x.next)
     unfolding behind if◌then◌or_else◌
     behind_on class y = rw (byte, y)
 
-    pub behind_here : (class : Class) → is_of class b ≡ false → said t s ≡ behind class (said t s)
+    pub behind_here : (class : Class) → is_of class x.byte ≡ false → said t s ≡ behind class (said t s)
     unfolding behind if◌then◌or_else◌
     behind_here class y = rw (byte, y)
 
-    pub letter_yes : is_word b ≡ true → letters (said t s) ≡ spelt t (Seen b i q)
+    pub letter_yes : is_word x.byte ≡ true → letters (said t s) ≡ spelt t (Some x)
     unfolding letters spelt if◌then◌or_else◌
     letter_yes y = rw (byte, y)
 
-    pub letter_no : is_word b ≡ false → letters (said t s) ≡ spelt t Over
+    pub letter_no : is_word x.byte ≡ false → letters (said t s) ≡ spelt t None
     unfolding letters spelt if◌then◌or_else◌
     letter_no y = rw (byte, y)
 
     -- an operand by its first byte
-    pub side_field : (n f : Number) (r : Side) → is_field_letter b ≡ true → n ≡ number_of (letters (said t q)) → f ≡ field_from b n → r ≡ side_of (as_field f) i → r ≡ side_at (said t s)
+    pub side_field : (n f : Number) (r : Side) → is_field_letter x.byte ≡ true → n ≡ number_of (letters (said t x.next)) → f ≡ field_from x.byte n → r ≡ side_of (as_field f) x.place → r ≡ side_at (said t s)
     unfolding side_at letters place_said operand_of field_of if◌then◌or_else◌
-    side_field n f r y e k h = h ∙ rw (k, e, byte, letter_word b y, y)
+    side_field n f r y e k h = h ∙ rw (k, e, byte, letter_word x.byte y, y)
 
-    pub side_number : (n : Number) (r : Side) → is_field_letter b ≡ false → n ≡ number_of (letters (said t s)) → r ≡ side_of (as_number n) i → r ≡ side_at (said t s)
+    pub side_number : (n : Number) (r : Side) → is_field_letter x.byte ≡ false → n ≡ number_of (letters (said t s)) → r ≡ side_of (as_number n) x.place → r ≡ side_at (said t s)
     side_number n r y f h = h ∙ rw f (sym operand)
       where
-        first : (w : Bool) → is_field_letter (at (if w then b ∷ letters (said t q) or_else []) 0) ≡ false
+        first : (w : Bool) → is_field_letter (at (if w then x.byte ∷ letters (said t x.next) or_else []) 0) ≡ false
         first true = unfold if◌then◌or_else◌ in y
         first false = unfold if◌then◌or_else◌ is_field_letter in refl
 
         same : is_field_letter (at (letters (said t s)) 0) ≡ false
-        same = unfold letters in rw byte (first (is_word b))
+        same = unfold letters in rw byte (first (is_word x.byte))
 
-        operand : side_at (said t s) ≡ side_of (as_number (number_of (letters (said t s)))) i
+        operand : side_at (said t s) ≡ side_of (as_number (number_of (letters (said t s)))) x.place
         operand = unfold side_at operand_of if◌then◌or_else◌ in rw same (ap (side_of (as_number (number_of (letters (said t s))))) (unfold place_said in rw byte))
 
 -- the next byte of a word
-module _ (t : List ℕ) (s : Spot) (v : View) (e : letters (said t s) ≡ spelt t v) where
-  pub no_letter : v ≡ Over → letters (said t s) ≡ []
+module _ (t : List ℕ) (s : Spot) (v : Option Seen) (e : letters (said t s) ≡ spelt t v) where
+  pub no_letter : v ≡ None → letters (said t s) ≡ []
   unfolding spelt
   no_letter k = e ∙ rw k
 
-  pub a_letter : (b i : ℕ) (q : Spot) → v ≡ Seen b i q → letters (said t s) ≡ b ∷ letters (said t q)
+  pub a_letter : (x : Seen) → v ≡ Some x → letters (said t s) ≡ x.byte ∷ letters (said t x.next)
   unfolding spelt
-  a_letter b i q k = e ∙ rw k
+  a_letter x k = e ∙ rw k
 
 -- a word w, by its first byte
 pub ends : (w : List ℕ) → w ≡ [] → false ≡ goes_on w
@@ -114,6 +115,18 @@ ends w e = rw e
 pub goes : (w : List ℕ) (b : ℕ) (u : List ℕ) → w ≡ b ∷ u → true ≡ goes_on w
 unfolding goes_on
 goes w b u e = rw e
+
+-- whether there is a next byte, as it is told
+module _ (t : List ℕ) (s : Spot) where
+  pub over_told : (v : Option Seen) (r : Bool) → said t s ≡ seen t v → is_some v ≡ not r → r ≡ is_over (said t s)
+  over_told None true e h = is_over_lem t s None e refl
+  over_told None false e h = absurd (false≢true h)
+  over_told (Some x) true e h = absurd (false≢true (sym h))
+  over_told (Some x) false e h = not_over t s (Some x) e x refl
+
+  pub goes_told : (v : Option Seen) (r : Bool) → letters (said t s) ≡ spelt t v → r ≡ is_some v → r ≡ goes_on (letters (said t s))
+  goes_told None r e h = h ∙ ends _ (no_letter t s None e refl)
+  goes_told (Some x) r e h = h ∙ goes _ _ _ (a_letter t s (Some x) e x refl)
 
 pub fewer : (w : List ℕ) (b : ℕ) (u : List ℕ) → w ≡ b ∷ u → length u < length w
 fewer w b u e = rw e (omega arith)

@@ -2,7 +2,7 @@
 -- place where it stands, a reference's byte that of the `&`. documentation and extensionElements in it are skipped whole, as everywhere (R13); another element is said as a byte 0, which no token of
 -- document 01 holds; the first end tag that is its own ends it, or a fault, or the text. (RULES: flows)
 use Prim.Native.Char.{code}
-use Rattle.std.specs.Prelude.{ℕ, zero, suc, ◌+◌, ◌-◌, min, Bool, true, false, ◌||◌, List, [], ◌∷◌, leb, ltb, eqb, length}
+use Rattle.std.specs.Prelude.{ℕ, zero, suc, ◌+◌, ◌-◌, min, Bool, true, false, ◌||◌, List, [], ◌∷◌, leb, ltb, eqb, length, Option, Some, None}
 use Rattle.base_words.specs.Blocks.{Bytes}
 use Rattle.base_words.specs.Pick.{if◌then◌or_else◌}
 use Rattle.base_words.specs.Text.{bytes}
@@ -17,8 +17,7 @@ use Rattle.draw_conditions.specs.Outline.{outline, if_past}
 use Rattle.draw_conditions.specs.declared.saying.Spot.{Spot}
 use Rattle.draw_conditions.specs.declared.saying.Step.{Step}
 use Rattle.draw_conditions.specs.declared.saying.Step.TheVariants.{Byte, On, End}
-use Rattle.draw_conditions.specs.declared.saying.View.{View}
-use Rattle.draw_conditions.specs.declared.saying.View.TheVariants.{Byte as Seen, End as Over}
+use Rattle.draw_conditions.specs.declared.saying.Seen.{Seen}
 
 -- a byte that is said, and its place in the text
 pub record Said : Type 0 where
@@ -119,9 +118,9 @@ unfoldable pub said : Bytes → Spot → List Said
 said t s = said_in (length t) t s
 
 -- the next byte that is said, and all behind it
-unfoldable pub seen : Bytes → View → List Said
-seen t (Seen b i s) = says b i ∷ said t s
-seen t Over = []
+unfoldable pub seen : Bytes → Option Seen → List Said
+seen t (Some v) = says v.byte v.place ∷ said t v.next
+seen t None = []
 
 -- what the element whose tag is at p says; an empty tag says nothing
 unfoldable pub said_by : Sort → Bytes → ℕ → List Said

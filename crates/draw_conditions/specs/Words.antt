@@ -1,6 +1,6 @@
 -- Tokens of document 01 in what is said: "blank, tab and newline may stand between tokens. A word is the longest run of letters, digits and `_`." (RULES: flows)
 use Prim.Native.Char.{code}
-use Rattle.std.specs.Prelude.{ℕ, ◌+◌, ◌-◌, ◌*◌, Bool, true, false, List, [], ◌∷◌, leb}
+use Rattle.std.specs.Prelude.{ℕ, ◌+◌, ◌-◌, ◌*◌, Bool, true, false, List, [], ◌∷◌, leb, Option, Some, None}
 use Rattle.base_words.specs.Blocks.{Bytes}
 use Rattle.base_words.specs.Pick.{if◌then◌or_else◌}
 use Rattle.base_words.specs.Words.{greatest}
@@ -14,8 +14,7 @@ use Rattle.draw_conditions.specs.declared.spelled.Class.{Class}
 use Rattle.draw_conditions.specs.declared.spelled.Class.TheVariants.{Blanks, Word}
 use Rattle.draw_conditions.specs.declared.spelled.Side.{Side}
 use Rattle.draw_conditions.specs.Saying.{Said, said}
-use Rattle.draw_conditions.specs.declared.saying.View.{View}
-use Rattle.draw_conditions.specs.declared.saying.View.TheVariants.{Byte as Seen, End as Over}
+use Rattle.draw_conditions.specs.declared.saying.Seen.{Seen}
 
 unfoldable pub is_of : Class → ℕ → Bool
 is_of Blanks b = is_blank b
@@ -32,9 +31,9 @@ letters [] = []
 letters (x ∷ s) = if is_word x.byte then x.byte ∷ letters s or_else []
 
 -- the same by the view of the next byte, where it is of a word
-unfoldable pub spelt : Bytes → View → Bytes
-spelt t (Seen b i s) = b ∷ letters (said t s)
-spelt t Over = []
+unfoldable pub spelt : Bytes → Option Seen → Bytes
+spelt t (Some v) = v.byte ∷ letters (said t v.next)
+spelt t None = []
 
 unfoldable pub goes_on : List ℕ → Bool
 goes_on [] = false

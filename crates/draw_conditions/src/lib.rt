@@ -8,7 +8,7 @@ ghost use Rattle.draw_conditions.specs.Conditions.{bare, alone, leftmost, both, 
 use base_table::places::{ALWAYS, BELOW, DEFAULT, EQUALS};
 use base_words::Word;
 use outline::outline;
-use saying::{Spot, View, look};
+use saying::{Spot, look};
 use spelled::{Class, Side, behind, is_over, side_at, spells};
 use xml_markup::Scan;
 use xml_scanner::Sort;
@@ -42,13 +42,14 @@ fn bare(form: Word) -> Condition
     ensures { result ≡ bare form }
 {
     Condition {
-        form: form,
+        form,
         left: Term { flag: 0, number: 0 },
         right: Term { flag: 0, number: 0 },
         beyond: 0,
     }
 }
 
+#[tactic(auto, using(base_words::proofs::PickLaws::picks), unfolding(crate::specs::Conditions::alone))]
 fn alone(text: &[u8], s: Spot, form: Word) -> Condition
     ensures { result ≡ alone form (said text.now s) }
 {
@@ -59,12 +60,14 @@ fn alone(text: &[u8], s: Spot, form: Word) -> Condition
     bare(FOREIGN)
 }
 
+#[tactic(auto, using(base_words::proofs::PickLaws::picks), unfolding(crate::specs::Conditions::leftmost))]
 fn leftmost(a: usize, b: usize) -> usize
     ensures { result ≡ leftmost a b }
 {
     if a == 0 { b } else { a }
 }
 
+#[tactic(auto, using(base_words::proofs::PickLaws::picks), unfolding(crate::specs::Conditions::both))]
 fn both(form: Word, l: Side, r: Side) -> Condition
     ensures { result ≡ both form l r }
 {
@@ -78,13 +81,14 @@ fn both(form: Word, l: Side, r: Side) -> Condition
     let y = r.term;
     let place = leftmost(l.beyond, r.beyond);
     Condition {
-        form: form,
+        form,
         left: x,
         right: y,
         beyond: place,
     }
 }
 
+#[tactic(auto, using(base_words::proofs::PickLaws::picks), unfolding(crate::specs::Conditions::form_of))]
 fn form_of(b: u8) -> Word
     ensures { result ≡ form_of b }
 {
@@ -97,6 +101,7 @@ fn form_of(b: u8) -> Word
     FOREIGN
 }
 
+#[tactic(auto, using(base_words::proofs::PickLaws::picks), unfolding(crate::specs::Conditions::second))]
 fn second(text: &[u8], s: Spot, form: Word, l: Side) -> Condition
     ensures { result ≡ second form l (said text.now s) }
 {
@@ -110,17 +115,17 @@ fn second(text: &[u8], s: Spot, form: Word, l: Side) -> Condition
 fn joined(text: &[u8], s: Spot, l: Side) -> Condition
     ensures { result ≡ joined l (said text.now s) }
 {
-    let v = look(text, s);
-    let View::Byte(b, i, next) = v else {
+    let Some(v) = look(text, s) else {
         return bare(FOREIGN);
     };
-    let form = form_of(b);
+    let form = form_of(v.byte);
     if form == FOREIGN {
         return bare(FOREIGN);
     }
-    second(text, behind(text, next, Class::Blanks), form, l)
+    second(text, behind(text, v.next, Class::Blanks), form, l)
 }
 
+#[tactic(auto, unfolding(crate::specs::Conditions::compared))]
 fn compared(text: &[u8], s: Spot) -> Condition
     ensures { result ≡ compared (said text.now s) }
 {
@@ -129,6 +134,7 @@ fn compared(text: &[u8], s: Spot) -> Condition
     joined(text, e, l)
 }
 
+#[tactic(auto, using(base_words::proofs::PickLaws::picks), unfolding(crate::specs::Conditions::condition_of))]
 fn condition_of(text: &[u8], s: Spot) -> Condition
     ensures { result ≡ condition_of (said text.now s) }
 {

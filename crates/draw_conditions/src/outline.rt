@@ -13,6 +13,7 @@ pub(super) fn outline(text: &[u8], p: usize) -> Scan
 {
     let mut c = begun(p);
     let mut i = p;
+    // Stays a while: bytes in which the scanner stays are passed together.
     while i < text.len() {
         let a = moved(c, byte(text, i), i, i + 1);
         let Scan::On(next) = a else {

@@ -29,13 +29,15 @@ pub enum Step {
     End,
 }
 
-// The next byte that is said, with its place and the spot behind it.
+// A byte that is said, with its place and the spot behind it.
 #[derive(Clone, Copy)]
-pub enum View {
-    Byte(u8, usize, Spot),
-    End,
+pub struct Seen {
+    pub byte: u8,
+    pub place: usize,
+    pub next: Spot,
 }
 
+#[tactic(auto, unfolding(crate::specs::Saying::forward))]
 fn forward(text: &[u8], i: usize, n: usize) -> usize
     ensures { result ≡ forward text.now i n }
 {
@@ -48,6 +50,7 @@ fn forward(text: &[u8], i: usize, n: usize) -> usize
     i + n
 }
 
+#[tactic(auto, unfolding(crate::specs::Saying::plain_step))]
 fn plain_step(text: &[u8], section: bool, i: usize) -> Step
     ensures { result ≡ plain_step text.now section i }
 {
@@ -56,7 +59,7 @@ fn plain_step(text: &[u8], section: bool, i: usize) -> Step
         d.byte,
         i,
         Spot {
-            section: section,
+            section,
             deep: 0,
             at: d.next,
         },
@@ -69,13 +72,14 @@ fn is_skipped(text: &[u8], i: usize) -> bool
     is_called(text, i, b"documentation") || is_called(text, i, b"extensionElements")
 }
 
+#[tactic(auto, using(base_words::proofs::PickLaws::picks), unfolding(crate::specs::Saying::tag_step))]
 fn tag_step(text: &[u8], deep: u8, i: usize, q: usize) -> Step
     ensures { result ≡ tag_step text.now deep i q }
 {
     if is_skipped(text, i) {
         return Step::On(Spot {
             section: false,
-            deep: deep,
+            deep,
             at: q,
         });
     }
@@ -90,6 +94,7 @@ fn tag_step(text: &[u8], deep: u8, i: usize, q: usize) -> Step
     )
 }
 
+#[tactic(auto, unfolding(crate::specs::Saying::step_by))]
 fn step_by(sort: Sort, text: &[u8], i: usize, q: usize) -> Step
     ensures { result ≡ step_by sort text.now i q }
 {
@@ -129,6 +134,7 @@ fn markup_step(text: &[u8], i: usize) -> Step
     step_by(sort, text, i, q)
 }
 
+#[tactic(auto, using(base_words::proofs::PickLaws::picks), unfolding(crate::specs::Saying::text_step))]
 fn text_step(text: &[u8], i: usize) -> Step
     ensures { result ≡ text_step text.now i }
 {
@@ -142,6 +148,7 @@ fn text_step(text: &[u8], i: usize) -> Step
     plain_step(text, false, i)
 }
 
+#[tactic(auto, using(base_words::proofs::PickLaws::picks), unfolding(crate::specs::Saying::section_step))]
 fn section_step(text: &[u8], i: usize) -> Step
     ensures { result ≡ section_step text.now i }
 {
@@ -161,12 +168,13 @@ fn less(deep: u8) -> u8
     if deep == 0 { 0 } else { deep - 1 }
 }
 
+#[tactic(auto, using(base_words::proofs::PickLaws::picks), unfolding(crate::specs::Saying::skip_by))]
 fn skip_by(sort: Sort, deep: u8, q: usize) -> Step
     ensures { result ≡ skip_by sort deep q }
 {
     let same = Spot {
         section: false,
-        deep: deep,
+        deep,
         at: q,
     };
     match sort {
@@ -206,6 +214,7 @@ fn skip_markup(text: &[u8], deep: u8, i: usize) -> Step
     skip_by(sort, deep, q)
 }
 
+#[tactic(auto, using(base_words::proofs::PickLaws::picks), unfolding(crate::specs::Saying::skip_step))]
 fn skip_step(text: &[u8], deep: u8, i: usize) -> Step
     ensures { result ≡ skip_step text.now deep i }
 {
@@ -214,11 +223,12 @@ fn skip_step(text: &[u8], deep: u8, i: usize) -> Step
     }
     Step::On(Spot {
         section: false,
-        deep: deep,
+        deep,
         at: forward(text, i, 1),
     })
 }
 
+#[tactic(auto, using(base_words::proofs::PickLaws::picks), unfolding(crate::specs::Saying::step_at))]
 fn step_at(text: &[u8], s: Spot) -> Step
     ensures { result ≡ step_at text.now s }
 {
@@ -235,25 +245,26 @@ fn step_at(text: &[u8], s: Spot) -> Step
 }
 
 // What is said next from a spot on.
-pub(super) fn look(text: &[u8], s: Spot) -> View
+pub(super) fn look(text: &[u8], s: Spot) -> Option<Seen>
     ensures { said text.now s ≡ seen text.now result }
 {
     let mut at = s;
+    // Stays a while: each step tells where the next one begins.
     while at.at < text.len() {
         let step = step_at(text, at);
         match step {
-            Step::Byte(b, i, next) => {
-                return View::Byte(b, i, next);
+            Step::Byte(byte, place, next) => {
+                return Some(Seen { byte, place, next });
             }
             Step::On(next) => {
                 at = next;
             }
             Step::End => {
-                return View::End;
+                return None;
             }
         }
     }
-    View::End
+    None
 }
 
 // Past what says nothing: the same is said from there, and looked at without passing it again.
@@ -261,6 +272,7 @@ pub(super) fn arrive(text: &[u8], s: Spot) -> Spot
     ensures { said text.now result ≡ said text.now s }
 {
     let mut at = s;
+    // Stays a while: each step tells where the next one begins.
     while at.at < text.len() {
         let step = step_at(text, at);
         let Step::On(next) = step else {

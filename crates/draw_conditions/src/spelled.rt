@@ -7,7 +7,7 @@ ghost use Rattle.draw_conditions.specs.Saying.{said};
 ghost use Rattle.draw_conditions.specs.Words.{is_of, behind, letters, spelt, goes_on, is_over, grown, term, nothing, side, side_of, side_at};
 
 use super::Term;
-use super::saying::{Spot, View, arrive, look};
+use super::saying::{Seen, Spot, arrive, look};
 use base_bytes::is_digit;
 use base_table::places::A_FIELD;
 use base_words::{GREATEST, Word};
@@ -33,10 +33,7 @@ pub struct Side {
 fn is_separator(b: u8) -> bool
     ensures { result ≡ is_blank b }
 {
-    if b == b'\r' {
-        return false;
-    }
-    is_blank(b)
+    b != b'\r' && is_blank(b)
 }
 
 // Letters of document 01 are those of an XML name, without `:` and what stands above ASCII.
@@ -55,6 +52,7 @@ fn is_word(b: u8) -> bool
     begins_name(b)
 }
 
+#[tactic(auto, unfolding(crate::specs::Words::is_of))]
 fn is_of(class: Class, b: u8) -> bool
     ensures { result ≡ is_of class b }
 {
@@ -70,14 +68,13 @@ pub(super) fn behind(text: &[u8], s: Spot, class: Class) -> Spot
 {
     let mut at = s;
     loop {
-        let v = look(text, at);
-        let View::Byte(b, i, next) = v else {
+        let Some(v) = look(text, at) else {
             return at;
         };
-        if !is_of(class, b) {
+        if !is_of(class, v.byte) {
             return arrive(text, at);
         }
-        at = next;
+        at = v.next;
     }
 }
 
@@ -85,35 +82,21 @@ pub(super) fn behind(text: &[u8], s: Spot, class: Class) -> Spot
 pub(super) fn is_over(text: &[u8], s: Spot) -> bool
     ensures { result ≡ is_over (said text.now s) }
 {
-    let v = look(text, s);
-    let View::Byte(b, i, next) = v else {
-        return true;
-    };
-    false
+    look(text, s).is_none()
 }
 
 // The next byte, where it is of a word.
-fn letter(text: &[u8], s: Spot) -> View
+fn letter(text: &[u8], s: Spot) -> Option<Seen>
     ensures { letters (said text.now s) ≡ spelt text.now result }
 {
-    let v = look(text, s);
-    let View::Byte(b, i, next) = v else {
-        return View::End;
-    };
-    if is_word(b) {
-        return v;
-    }
-    View::End
+    let v = look(text, s)?;
+    if is_word(v.byte) { Some(v) } else { None }
 }
 
 fn goes_on(text: &[u8], s: Spot) -> bool
     ensures { result ≡ goes_on (letters (said text.now s)) }
 {
-    let v = letter(text, s);
-    let View::Byte(b, i, next) = v else {
-        return false;
-    };
-    true
+    letter(text, s).is_some()
 }
 
 // Whether the word that comes first is this one.
@@ -121,17 +104,14 @@ pub(super) fn spells(text: &[u8], s: Spot, word: &[u8]) -> bool
     ensures { result ≡ same_bytes (letters (said text.now s)) word.now }
 {
     let mut at = s;
-    let mut k = 0;
-    while k < word.len() {
-        let v = letter(text, at);
-        let View::Byte(b, i, next) = v else {
+    for b in word {
+        let Some(v) = letter(text, at) else {
             return false;
         };
-        if b != word[k] {
+        if v.byte != *b {
             return false;
         }
-        at = next;
-        k += 1;
+        at = v.next;
     }
     !goes_on(text, at)
 }
@@ -143,6 +123,7 @@ fn worth(b: u8) -> u8
 }
 
 // A value above the greatest word grows no more.
+#[tactic(auto, using(base_words::proofs::PickLaws::picks), unfolding(crate::specs::Words::grown))]
 fn grown(v: u64, b: u8) -> u64
     ensures { result ≡ grown v b }
 {
@@ -152,6 +133,7 @@ fn grown(v: u64, b: u8) -> u64
     v
 }
 
+#[tactic(auto, using(base_words::proofs::PickLaws::picks), unfolding(text_numerals::specs::Numerals::value_from))]
 fn value_of(v: u64) -> Number
     ensures { result ≡ value_from v [] }
 {
@@ -168,35 +150,30 @@ fn digits(text: &[u8], s: Spot) -> Number
     let mut v: u64 = 0;
     let mut at = s;
     loop {
-        let x = letter(text, at);
-        let View::Byte(b, i, next) = x else {
+        let Some(x) = letter(text, at) else {
             return value_of(v);
         };
-        if !is_digit(b) {
+        if !is_digit(x.byte) {
             return Number::NotANumber;
         }
-        v = grown(v, b);
-        at = next;
+        v = grown(v, x.byte);
+        at = x.next;
     }
 }
 
 fn leading_zero(text: &[u8], b: u8, next: Spot) -> bool
     ensures { result ≡ leading_zero (b ∷ letters (said text.now next)) }
 {
-    if b != b'0' {
-        return false;
-    }
-    goes_on(text, next)
+    b == b'0' && goes_on(text, next)
 }
 
 fn number_at(text: &[u8], s: Spot) -> Number
     ensures { result ≡ number_of (letters (said text.now s)) }
 {
-    let v = letter(text, s);
-    let View::Byte(b, i, next) = v else {
+    let Some(v) = letter(text, s) else {
         return Number::NotANumber;
     };
-    if leading_zero(text, b, next) {
+    if leading_zero(text, v.byte, v.next) {
         return Number::NotANumber;
     }
     digits(text, s)
@@ -217,10 +194,7 @@ fn within(flag: Word, v: Word) -> Side
 {
     Side {
         stands: true,
-        term: Term {
-            flag: flag,
-            number: v,
-        },
+        term: Term { flag, number: v },
         beyond: 0,
     }
 }
@@ -259,12 +233,11 @@ fn field_side(n: Number, place: usize) -> Side
 pub(super) fn side_at(text: &[u8], s: Spot) -> Side
     ensures { result ≡ side_at (said text.now s) }
 {
-    let v = look(text, s);
-    let View::Byte(b, i, next) = v else {
+    let Some(v) = look(text, s) else {
         return none();
     };
-    if is_field_letter(b) {
-        return field_side(field_from(b, number_at(text, next)), i);
+    if is_field_letter(v.byte) {
+        return field_side(field_from(v.byte, number_at(text, v.next)), v.place);
     }
-    number_side(number_at(text, s), i)
+    number_side(number_at(text, s), v.place)
 }

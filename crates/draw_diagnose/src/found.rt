@@ -12,14 +12,7 @@ use draw_things::things::{Note, ROOM, place_of};
 fn first_breaking(rule: Word, text: &[u8], w: &[Note], n: Note) -> Note
     ensures { result ≡ first_breaking rule text.now w.now n }
 {
-    let mut k: Note = 0;
-    while k < n {
-        if breaks(rule, text, w, n, k) {
-            return k;
-        }
-        k += 1;
-    }
-    k
+    (0..n).find(|&k| breaks(rule, text, w, n, k)).unwrap_or(n)
 }
 
 fn is_broken(text: &[u8], w: &[Note], n: Note, r: Word) -> bool
@@ -32,14 +25,12 @@ fn is_broken(text: &[u8], w: &[Note], n: Note, r: Word) -> bool
 fn first_broken(text: &[u8], w: &[Note], n: Note) -> Word
     ensures { result ≡ first_broken text.now w.now n }
 {
-    let mut r: Word = 0;
-    while r < RULES_OF_THINGS {
+    for r in 0..RULES_OF_THINGS {
         if is_broken(text, w, n, r) {
             return r;
         }
-        r += 1;
     }
-    r
+    RULES_OF_THINGS
 }
 
 fn has_pools(w: &[Note], n: Note) -> bool

@@ -1,6 +1,5 @@
 // Where a check is broken, or room is missing.
-ghost use Rattle.std.specs.Prelude.{◌≡◌, ◌≤◌};
-ghost use Rattle.base_words.specs.Sum.{one_if};
+ghost use Rattle.std.specs.Prelude.{◌≡◌};
 ghost use Rattle.check_occurrences.specs.Occurrences.{default_once};
 ghost use Rattle.draw_model.specs.Drawn.{element_drawn};
 ghost use Rattle.draw_model.specs.Content.{process_of};
@@ -35,22 +34,10 @@ fn is_kind_in(c: Word, p: Note, w: &[Note], j: Note) -> bool
     is_of_kind(c, w, j) && within_of(w, j) == p
 }
 
-fn one_kind(c: Word, p: Note, w: &[Note], j: Note) -> Word
-    ensures { (result ≡ one_if (is_kind_in c p w.now j)) × (result ≤ 1) }
-{
-    if is_kind_in(c, p, w, j) { 1 } else { 0 }
-}
-
 fn count_kind(c: Word, p: Note, w: &[Note], n: Note) -> Word
     ensures { result ≡ count_kind c p w.now n }
 {
-    let mut count: Word = 0;
-    let mut j: Note = 0;
-    while j < n {
-        count += one_kind(c, p, w, j);
-        j += 1;
-    }
-    count
+    (0..n).filter(|&j| is_kind_in(c, p, w, j)).count() as Word
 }
 
 fn is_misstarted(w: &[Note], n: Note, p: Note) -> bool
@@ -152,14 +139,9 @@ fn first_seat(check: usize, text: &[u8], w: &[Note], n: Note) -> Note
     ensures { result ≡ first_seat check text.now w.now n }
 {
     let owned = has_participants(w, n);
-    let mut k: Note = 0;
-    while k < n {
-        if is_seat(check, owned, text, w, n, k) {
-            return k;
-        }
-        k += 1;
-    }
-    k
+    (0..n)
+        .find(|&k| is_seat(check, owned, text, w, n, k))
+        .unwrap_or(n)
 }
 
 // The place of the first thing that breaks a check; with 0, of the first pool without room.

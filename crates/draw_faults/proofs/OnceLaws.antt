@@ -1,20 +1,49 @@
 -- What is known of each thing once it was asked of all of them. Assumes nothing.
 use Prim.Native.Nat.{ℕ, ◌≤◌, ◌<◌}
-use mathlib.Core.Path.{◌≡◌, refl, sym, ◌∙◌, ap}
+use mathlib.Core.Path.{◌≡◌, refl, sym, ◌∙◌, ap, subst}
 use mathlib.Core.Bool.{Bool, true, false, not, ◌&&◌, ◌||◌, false≢true}
 use mathlib.Core.List.{List}
 use native.Mathlib.Omega.{arith}
 use lib.Dec.{eqb}
+use lib.ListN.{length, get_or}
+use denote.Param.Members.{Mut}
+use Rattle.std.proofs.Common.{Option}
+use Rattle.std.proofs.lemmas.Iterator.{cases_from_all, YieldsList-from_range}
+use Rattle.std.proofs.lemmas.List.FromFn.{length-range_with_len, get_or-range_with_len}
+use Rattle.std.proofs.iter.Yields.{nat_range_steps}
+use Rattle.std.specs.declared.ops.Range.{Range}
+use Rattle.std.specs.Fn.{Called}
+use Rattle.std.specs.Iterator.{YieldsThen}
+use Rattle.std.specs.List.{range_with_len, FoldsTo, AllWithin, HoldsAt}
+use Rattle.std.specs.Option.{MatchOption}
+use Rattle.std.specs.Bool.{MatchBool}
 use Rattle.base_words.specs.All.{all}
 use Rattle.base_words.specs.Pick.{if◌then◌or_else◌}
 use Rattle.base_words.specs.Seek.{seek}
 use Rattle.base_words.specs.Text.{bytes}
-use Rattle.base_words.proofs.AllLaws.{all_fails'}
+use Rattle.base_words.proofs.AllLaws.{all_of, all_fails, all_fails'}
 use Rattle.base_words.proofs.SeekLaws.{sought}
 use Rattle.draw_things.specs.Things.{source, participant}
 use Rattle.draw_kinds.specs.Counting.{of_sort}
 use Rattle.draw_faults.specs.Amiss.{has, is_strange, is_repeated, is_second_collaboration, is_lost, is_unowned, is_second_multiplicity, amiss_as_flow, amiss_as_node, amiss_as_pool, is_amiss, is_right}
 use Rattle.draw_faults.specs.Once.{is_odd}
+
+-- A TEST OF EACH BELOW n, by a call of `all` whose test may be known only there
+at_range : (n j : ℕ) → j < n → get_or (range_with_len 0 n) j 0 ≡ j
+at_range n j l = omega (arith, get_or-range_with_len 0 n j 0 l)
+
+holds : (P : ℕ → Type 0) (n : ℕ) → AllWithin P (range_with_len 0 n) 0 (length (range_with_len 0 n)) → (j : ℕ) → j < n → P j
+holds P n h j l =
+    let k : j < length (range_with_len 0 n) = omega (arith, length-range_with_len 0 n) in
+    subst P (at_range n j l) (h j 0 (omega arith) k)
+
+all_from : (r : Bool) (p : ℕ → Bool) (n : ℕ) → MatchBool r (AllWithin (λ x. x < n → p x ≡ true) (range_with_len 0 n) 0 (length (range_with_len 0 n))) ((k : ℕ) × (k < length (range_with_len 0 n)) × HoldsAt (λ x. x < n → p x ≡ false) (range_with_len 0 n) k) → r ≡ all p n
+all_from true p n h = sym (all_of p n (λ j l. holds (λ x. x < n → p x ≡ true) n h j l l))
+all_from false p n h = let l : h.0 < n = omega (arith, h.1, length-range_with_len 0 n) in sym (all_fails p n h.0 l (subst (λ (x : ℕ). x < n → p x ≡ false) (at_range n h.0 l) (h.2 0) l))
+
+module _ {F : Type 0} {g : Mut F (ℕ × Unit {0}) Bool} {s : Range ℕ} (u : Range ℕ) (f : F) (r : Bool) where
+  pub all_in_range : (p : ℕ → Bool) (n : ℕ) → (xs : List ℕ) × (o : Option ℕ) × (j : F) × YieldsThen nat_range_steps s xs o u × FoldsTo (λ k x q. Called g k (x, tt) true q) f xs j × MatchOption o (r ≡ true) (λ x. (r ≡ false) × ((h : F) × Called g j (x, tt) false h)) → s ≡ record { start = 0; end = n } → ((x : ℕ) (q : F) → Called g f (x, tt) true q → (q ≡ f) × (x < n → p x ≡ true)) → ((x : ℕ) (q : F) → Called g f (x, tt) false q → x < n → p x ≡ false) → r ≡ all p n
+  all_in_range p n ran e pass miss = all_from r p n (cases_from_all u f r (λ x. x < n → p x ≡ true) (λ x. x < n → p x ≡ false) ran (YieldsList-from_range 0 n n e (omega arith)) pass miss)
 
 pub or_last : (v a b : Bool) → v ≡ a → b ≡ false → v ≡ a || b
 or_last v true b e h = e

@@ -1,7 +1,9 @@
 -- Ids put in order, and what follows of those that are new there. Assumes nothing.
+use Rattle.std.proofs.lemmas.Option.{none-some, same_Some, some_pair_parts}
+use Rattle.std.specs.Prelude.{Option, Some, None}
 use Prim.Native.Nat.{ℕ, ◌+◌, ◌≤◌, ◌<◌}
 use mathlib.Core.Path.{◌≡◌, refl, sym, ◌∙◌, ap, ap₂, subst}
-use mathlib.Core.Bool.{Bool, true, false, not, ◌&&◌, false≢true}
+use mathlib.Core.Bool.{Bool, true, false, ◌&&◌, false≢true}
 use mathlib.Core.List.{List, [], ◌∷◌}
 use mathlib.Core.Logic.{⊎_elim}
 use native.Mathlib.Nat.{eq-or-lt_of_le}
@@ -16,10 +18,6 @@ use Rattle.base_words.proofs.AllLaws.{and_left, and_right}
 use Rattle.base_words.proofs.SeekLaws.{sought}
 use Rattle.base_bytes.proofs.PieceLaws.{by_order}
 use Rattle.base_bytes.specs.Bytes.{same_bytes}
-use Rattle.xml_markup.specs.declared.Attribute.{Attribute}
-use Rattle.xml_markup.specs.declared.Attribute.TheVariants.{Is, Absent}
-use Rattle.xml_markup.specs.declared.Taken.{Taken}
-use Rattle.xml_markup.specs.declared.Taken.TheVariants.{To, Not}
 use Rattle.xml_markup.specs.Ahead.{key_of, key_at, Rising, Kept, More, With}
 use Rattle.xml_markup.specs.Spans.{attribute}
 use Rattle.draw_things.specs.Things.{place}
@@ -34,39 +32,18 @@ same_true [] (y ∷ b) e = absurd (false≢true e)
 same_true (x ∷ a) [] e = absurd (false≢true e)
 same_true (x ∷ a) (y ∷ b) e = ap₂ ◌∷◌ (eqb-true x y (and_left (eqb x y) (same_bytes a b) e)) (same_true a b (and_right (eqb x y) (same_bytes a b) e))
 
--- the span of an attribute that is there
-abbrev from_of : Attribute → ℕ
-from_of (Is from to) = from
-from_of Absent = 0
-
-abbrev to_of : Attribute → ℕ
-to_of (Is from to) = to
-to_of Absent = 0
-
-abbrev is_there : Attribute → Bool
-is_there (Is from to) = true
-is_there Absent = false
-
-abbrev count : Taken → ℕ
-count (To m) = m
-count Not = 0
-
-abbrev is_to : Taken → Bool
-is_to (To m) = true
-is_to Not = false
-
-pub not_taken : {P : Type 0} (q : ℕ) → Not ≡ To q → P
-not_taken q e = absurd (false≢true (ap is_to e))
+pub not_taken : {P : Type 0} (q : ℕ) → None ≡ Some q → P
+not_taken q e = absurd (none-some q e)
 
 module _ (t w : List ℕ) where
   id_unread : {P : Type 0} (k : ℕ) (u : List ℕ) → is_read w k ≡ false → IdIs t w k u → P
   id_unread k u n (from, to, r, q, e) = absurd (false≢true (sym n ∙ r))
 
-  id_absent : {P : Type 0} (k : ℕ) (u : List ℕ) → attribute t (place w k) (bytes "id") ≡ Absent → IdIs t w k u → P
-  id_absent k u n (from, to, r, q, e) = absurd (false≢true (ap is_there (sym n ∙ q)))
+  id_absent : {P : Type 0} (k : ℕ) (u : List ℕ) → attribute t (place w k) (bytes "id") ≡ None → IdIs t w k u → P
+  id_absent k u n (from, to, r, q, e) = absurd (none-some _ (sym n ∙ q))
 
-  id_there : (k from to : ℕ) (u : List ℕ) → attribute t (place w k) (bytes "id") ≡ Is from to → IdIs t w k u → part t from to ≡ u
-  id_there k from to u a (from', to', r, q, e) = ap₂ (part t) (ap from_of (sym a ∙ q)) (ap to_of (sym a ∙ q)) ∙ e
+  id_there : (k from to : ℕ) (u : List ℕ) → attribute t (place w k) (bytes "id") ≡ Some (from, to) → IdIs t w k u → part t from to ≡ u
+  id_there k from to u a (from', to', r, q, e) = let h = some_pair_parts _ _ _ _ (sym a ∙ q) in ap₂ (part t) h.0 h.1 ∙ e
 
   id_of : (v : List ℕ) (y : ℕ) → is_read w y && has_id t v w y ≡ true → IdIs t w y v
   unfolding has_id
@@ -75,9 +52,9 @@ module _ (t w : List ℕ) where
       r : is_read w y ≡ true
       r = and_left (is_read w y) _ h
 
-      go : (a : Attribute) → attribute t (place w y) (bytes "id") ≡ a → if_is a (λ from to. same_bytes (part t from to) v) false ≡ true → IdIs t w y v
-      go (Is from to) q e = (from, to, r, q, same_true (part t from to) v (unfold if_is in e))
-      go Absent q e = absurd (false≢true (unfold if_is in e))
+      go : (a : Option (ℕ × ℕ)) → attribute t (place w y) (bytes "id") ≡ a → if_is a (λ from to. same_bytes (part t from to) v) false ≡ true → IdIs t w y v
+      go (Some (from, to)) q e = (from, to, r, q, same_true (part t from to) v (unfold if_is in e))
+      go None q e = absurd (false≢true (unfold if_is in e))
 
   -- a thing whose id none before it has is not repeated
   not_repeated : (k : ℕ) → ((y : ℕ) → y < k → (u : List ℕ) → IdIs t w k u → IdIs t w y u → ⊥) → is_repeated t w k ≡ false
@@ -90,37 +67,37 @@ module _ (t w : List ℕ) where
           (λ h. h)
           (λ l. absurd (none (seek (λ j. is_read w j && has_id t v w j) k) l v i (id_of v (seek (λ j. is_read w j && has_id t v w j) k) ((sought (λ j. is_read w j && has_id t v w j) k).1 l))))
 
-      go : (b : Bool) → is_read w k ≡ b → (a : Attribute) → attribute t (place w k) (bytes "id") ≡ a → b && if_is a (λ from to. is_taken t (part t from to) w k) false ≡ false
+      go : (b : Bool) → is_read w k ≡ b → (a : Option (ℕ × ℕ)) → attribute t (place w k) (bytes "id") ≡ a → b && if_is a (λ from to. is_taken t (part t from to) w k) false ≡ false
       go false r a q = refl
-      go true r Absent q = unfold if_is in refl
-      go true r (Is from to) q = unfold if_is is_taken in le-ltb _ k (nowhere (part t from to) (from, to, r, q, refl))
+      go true r None q = unfold if_is in refl
+      go true r (Some (from, to)) q = unfold if_is is_taken in le-ltb _ k (nowhere (part t from to) (from, to, r, q, refl))
 
 -- ONE ID MORE
 module _ (t w v : List ℕ) (k m q : ℕ) (up : Rising (key_at t) v m) where
-  stays_so : m ≤ length v → To m ≡ To q → ((u : List ℕ) → IdIs t w k u → ⊥) → More (key_at t) v m v q × ((u : List ℕ) → IdIs t w k u → With (key_at t) (key_of u) v m v q)
-  stays_so h e n = rw (sym (ap count e)) (record { rising = up; fits = h; kept = λ x y. y }, λ u i. absurd (n u i))
+  stays_so : m ≤ length v → Some m ≡ Some q → ((u : List ℕ) → IdIs t w k u → ⊥) → More (key_at t) v m v q × ((u : List ℕ) → IdIs t w k u → With (key_at t) (key_of u) v m v q)
+  stays_so h e n = rw (sym (same_Some _ _ e)) (record { rising = up; fits = h; kept = λ x y. y }, λ u i. absurd (n u i))
 
-  pub shelf_unread : is_read w k ≡ false → m ≤ length v → To m ≡ To q → More (key_at t) v m v q × ((u : List ℕ) → IdIs t w k u → With (key_at t) (key_of u) v m v q)
+  pub shelf_unread : is_read w k ≡ false → m ≤ length v → Some m ≡ Some q → More (key_at t) v m v q × ((u : List ℕ) → IdIs t w k u → With (key_at t) (key_of u) v m v q)
   shelf_unread n h e = stays_so h e (λ u i. id_unread t w k u n i)
 
-  pub shelf_absent : (a : Attribute) → a ≡ attribute t (place w k) (bytes "id") → a ≡ Absent → m ≤ length v → To m ≡ To q → More (key_at t) v m v q × ((u : List ℕ) → IdIs t w k u → With (key_at t) (key_of u) v m v q)
+  pub shelf_absent : (a : Option (ℕ × ℕ)) → a ≡ attribute t (place w k) (bytes "id") → a ≡ None → m ≤ length v → Some m ≡ Some q → More (key_at t) v m v q × ((u : List ℕ) → IdIs t w k u → With (key_at t) (key_of u) v m v q)
   shelf_absent a ea n h e = stays_so h e (λ u i. id_absent t w k u (sym ea ∙ n) i)
 
-  pub shelf_more : (a : Attribute) (from to : ℕ) (x : List ℕ) → a ≡ attribute t (place w k) (bytes "id") → a ≡ Is from to
-      → More (key_at t) v m x (m + 1) × With (key_at t) (key_of (part t from to)) v m x (m + 1) → To (m + 1) ≡ To q
+  pub shelf_more : (a : Option (ℕ × ℕ)) (from to : ℕ) (x : List ℕ) → a ≡ attribute t (place w k) (bytes "id") → a ≡ Some (from, to)
+      → More (key_at t) v m x (m + 1) × With (key_at t) (key_of (part t from to)) v m x (m + 1) → Some (m + 1) ≡ Some q
       → More (key_at t) v m x q × ((u : List ℕ) → IdIs t w k u → With (key_at t) (key_of u) v m x q)
   shelf_more a from to x ea is (more, one) e =
-      rw (sym (ap count e)) (more, λ u i. subst (λ (z : List ℕ). With (key_at t) (key_of z) v m x (m + 1)) (id_there t w k from to u (sym ea ∙ is) i) one)
+      rw (sym (same_Some _ _ e)) (more, λ u i. subst (λ (z : List ℕ). With (key_at t) (key_of z) v m x (m + 1)) (id_there t w k from to u (sym ea ∙ is) i) one)
 
 -- what is not kept
 module _ (t w v : List ℕ) (y m : ℕ) where
   pub kept_unread : is_read w y ≡ false → (u : List ℕ) → IdIs t w y u → Kept (key_at t) v m (key_of u) → ⊥
   kept_unread n u i k = id_unread t w y u n i
 
-  pub kept_absent : (a : Attribute) → a ≡ attribute t (place w y) (bytes "id") → a ≡ Absent → (u : List ℕ) → IdIs t w y u → Kept (key_at t) v m (key_of u) → ⊥
+  pub kept_absent : (a : Option (ℕ × ℕ)) → a ≡ attribute t (place w y) (bytes "id") → a ≡ None → (u : List ℕ) → IdIs t w y u → Kept (key_at t) v m (key_of u) → ⊥
   kept_absent a ea n u i k = id_absent t w y u (sym ea ∙ n) i
 
-  pub kept_not : (a : Attribute) (from to : ℕ) (s : List ℕ) → a ≡ attribute t (place w y) (bytes "id") → a ≡ Is from to → s ≡ part t from to
+  pub kept_not : (a : Option (ℕ × ℕ)) (from to : ℕ) (s : List ℕ) → a ≡ attribute t (place w y) (bytes "id") → a ≡ Some (from, to) → s ≡ part t from to
       → (Kept (key_at t) v m (key_of s) → ⊥) → (u : List ℕ) → IdIs t w y u → Kept (key_at t) v m (key_of u) → ⊥
   kept_not a from to s ea is es n u i k = n (subst (λ (z : List ℕ). Kept (key_at t) v m (key_of z)) (sym (es ∙ id_there t w y from to u (sym ea ∙ is) i)) k)
 

@@ -10,7 +10,7 @@ use Rattle.base_words.proofs.PickLaws.{and_false_right}
 use Rattle.draw_things.specs.Things.{room}
 use Rattle.draw_kinds.specs.Roles.{roles, is_unsettled, first_unsettled, are_settled}
 use Rattle.draw_kinds.proofs.KindLaws.{kinds_not}
-use Rattle.draw_faults.specs.Amiss.{is_strange, is_repeated, is_of_no_kind, amiss_as_flow, amiss_as_node, amiss_as_pool, is_amiss, is_right, is_drawing}
+use Rattle.draw_faults.specs.Amiss.{is_strange, is_of_no_kind, amiss_as_flow, amiss_as_node, is_amiss, is_right, is_drawing}
 use Rattle.draw_numbers.specs.Who.{is_of_kind, has_participants, has_pool}
 
 or_left : (a b : Bool) → a ≡ true → a || b ≡ true

@@ -1,10 +1,9 @@
 -- WHAT IS ASKED ONCE of all things, and not for each pair of them. t is the text, w the things drawn, n their count.
-use Rattle.std.specs.Prelude.{ℕ, ◌<◌, ◌≤◌, ◌≡◌, Bool, true, false, not, ◌&&◌, List, eqb}
+use Rattle.std.specs.Prelude.{ℕ, ◌<◌, ◌≤◌, ◌≡◌, Bool, true, false, not, ◌&&◌, List, eqb, Some}
 use Rattle.base_words.specs.Blocks.{Bytes, Drawing}
 use Rattle.base_words.specs.Pick.{if◌then◌or_else◌}
 use Rattle.base_words.specs.Text.{bytes}
 use Rattle.base_words.specs.Words.{part}
-use Rattle.xml_markup.specs.declared.Attribute.TheVariants.{Is}
 use Rattle.xml_markup.specs.Ahead.{key_of, key_at, Rising, Kept}
 use Rattle.xml_markup.specs.Spans.{attribute}
 use Rattle.draw_things.specs.Things.{place, source, participant}
@@ -13,7 +12,7 @@ use Rattle.draw_faults.specs.Amiss.{has, is_read}
 
 -- thing k is one that is read, and has the id v
 abbrev pub IdIs : Bytes → Drawing → ℕ → Bytes → Type 0
-IdIs t w k v = (from : ℕ) × (to : ℕ) × (is_read w k ≡ true) × (attribute t (place w k) (bytes "id") ≡ Is from to) × (part t from to ≡ v)
+IdIs t w k v = (from : ℕ) × (to : ℕ) × (is_read w k ≡ true) × (attribute t (place w k) (bytes "id") ≡ Some (from, to)) × (part t from to ≡ v)
 
 -- the ids of the things from b up to k stand in order in the first m words of v, and no two are equal
 pub record Shelved (t w : List ℕ) (b k : ℕ) (v : List ℕ) (m : ℕ) : Type 0 where

@@ -18,6 +18,7 @@ use draw_things::things::{
 };
 
 // Whether a sequence flow doesn't join two nodes of its process.
+#[tactic(auto, unfolding(crate::specs::Amiss::is_loose))]
 pub fn is_loose(w: &[Note], k: Note) -> bool
     ensures { result ≡ is_loose w.now k }
 {
@@ -40,6 +41,7 @@ fn target_is(c: Word, w: &[Note], k: Note) -> bool
 }
 
 // Whether a flow from an event gateway leads to no catch event of its own.
+#[tactic(auto, unfolding(crate::specs::Amiss::is_wrong_branch))]
 pub fn is_wrong_branch(w: &[Note], k: Note) -> bool
     ensures { result ≡ is_wrong_branch w.now k }
 {
@@ -55,6 +57,7 @@ fn leaves_split(w: &[Note], k: Note) -> bool
     is_split(w, source_of(w, within_of(w, k)))
 }
 
+#[tactic(auto, unfolding(crate::specs::Amiss::is_wrong_form))]
 fn is_wrong_form(form: Word, w: &[Note], k: Note) -> bool
     ensures { result ≡ is_wrong_form form w.now k }
 {
@@ -72,18 +75,21 @@ fn form_of(text: &[u8], w: &[Note], k: Note) -> Word
 }
 
 // Whether a condition is not in our notation, or stands where none may.
+#[tactic(auto, unfolding(crate::specs::Amiss::is_wrong_condition))]
 pub fn is_wrong_condition(text: &[u8], w: &[Note], k: Note) -> bool
     ensures { result ≡ is_wrong_condition text.now w.now k }
 {
     of_sort(CONDITION_EXPRESSION, w, k) && is_wrong_form(form_of(text, w, k), w, k)
 }
 
+#[tactic(auto, unfolding(crate::specs::Amiss::may_send))]
 fn may_send(plain: bool, n: Note, text: &[u8], w: &[Note], j: Note) -> bool
     ensures { (plain ≡ true → Plain text.now w.now n) → result ≡ may_send text.now w.now j }
 {
     is_sender(w, j) || is_outside_by(plain, n, text, w, j)
 }
 
+#[tactic(auto, unfolding(crate::specs::Amiss::may_receive))]
 fn may_receive(plain: bool, n: Note, text: &[u8], w: &[Note], j: Note) -> bool
     ensures { (plain ≡ true → Plain text.now w.now n) → result ≡ may_receive text.now w.now j }
 {
@@ -97,6 +103,7 @@ fn has_right_ends(plain: bool, n: Note, text: &[u8], w: &[Note], k: Note) -> boo
 }
 
 // Whether a message flow has an end that doesn't send or receive, where it is known whether all participants are plain.
+#[tactic(auto, unfolding(crate::specs::Amiss::is_wrong_message))]
 pub fn is_wrong_message_by(plain: bool, n: Note, text: &[u8], w: &[Note], k: Note) -> bool
     ensures { (plain ≡ true → Plain text.now w.now n) → result ≡ is_wrong_message text.now w.now k }
 {

@@ -8,8 +8,8 @@ use draw_links::{attribute_of, has_id};
 use draw_things::things::{
     MESSAGE_FLOW, Note, PARTICIPANT, PROCESS, SEQUENCE_FLOW, is_node, sort_of,
 };
-use xml_markup::Attribute;
 
+#[tactic(auto, unfolding(crate::specs::Amiss::is_read_sort))]
 fn is_read_sort(s: Note) -> bool
     ensures { result ≡ is_read_sort s }
 {
@@ -26,6 +26,7 @@ fn is_read_sort(s: Note) -> bool
 }
 
 // Whether thing j is one of the elements read.
+#[tactic(auto, unfolding(crate::specs::Amiss::is_read))]
 pub fn is_read(w: &[Note], j: Note) -> bool
     ensures { result ≡ is_read w.now j }
 {
@@ -41,14 +42,7 @@ fn is_read_as(text: &[u8], v: &[u8], w: &[Note], j: Note) -> bool
 fn is_taken(text: &[u8], v: &[u8], w: &[Note], k: Note) -> bool
     ensures { result ≡ is_taken text.now v.now w.now k }
 {
-    let mut j: Note = 0;
-    while j < k {
-        if is_read_as(text, v, w, j) {
-            return true;
-        }
-        j += 1;
-    }
-    false
+    (0..k).any(|j| is_read_as(text, v, w, j))
 }
 
 // Whether an element read before thing k has its id.
@@ -59,7 +53,7 @@ pub fn is_repeated(text: &[u8], w: &[Note], k: Note) -> bool
         return false;
     }
     let a = attribute_of(text, w, k, b"id");
-    let Attribute::Is(from, to) = a else {
+    let Some((from, to)) = a else {
         return false;
     };
     is_taken(text, piece(text, from, to), w, k)

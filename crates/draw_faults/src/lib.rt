@@ -15,7 +15,6 @@ use flows::{is_loose, is_wrong_branch, is_wrong_condition, is_wrong_message_by};
 use nodes::{has_wrong_default, is_unheard, is_untold};
 use pools::{first_odd, is_lost, is_second, is_second_collaboration, is_unowned_by};
 use repeats::first_repeated;
-use xml_markup::Attribute;
 
 pub mod flows;
 pub mod ids;
@@ -28,12 +27,13 @@ pub fn has(text: &[u8], name: &[u8], w: &[Note], k: Note) -> bool
     ensures { result ≡ has text.now name.now w.now k }
 {
     let a = attribute_of(text, w, k, name);
-    let Attribute::Is(_, _) = a else {
+    let Some((_, _)) = a else {
         return false;
     };
     true
 }
 
+#[tactic(auto, unfolding(crate::specs::Amiss::amiss_as_flow, crate::specs::Amiss::is_second_condition))]
 fn amiss_as_flow(plain: bool, text: &[u8], w: &[Note], n: Note, k: Note) -> bool
     ensures { (plain ≡ true → Plain text.now w.now n) → result ≡ amiss_as_flow text.now w.now k }
 {
@@ -49,6 +49,7 @@ fn amiss_as_flow(plain: bool, text: &[u8], w: &[Note], n: Note, k: Note) -> bool
     is_wrong_condition(text, w, k) || is_wrong_message_by(plain, n, text, w, k)
 }
 
+#[tactic(auto, unfolding(crate::specs::Amiss::amiss_as_node, crate::specs::Amiss::is_of_no_kind))]
 fn amiss_as_node(text: &[u8], w: &[Note], n: Note, k: Note) -> bool
     ensures { result ≡ amiss_as_node text.now w.now n k }
 {
@@ -61,6 +62,7 @@ fn amiss_as_node(text: &[u8], w: &[Note], n: Note, k: Note) -> bool
     is_unheard(w, n, k) || is_untold(w, n, k)
 }
 
+#[tactic(auto, unfolding(crate::specs::Amiss::amiss_as_pool, crate::specs::Amiss::is_second_multiplicity))]
 fn amiss_as_pool(owned: bool, text: &[u8], w: &[Note], n: Note, k: Note) -> bool
     ensures { owned ≡ has_participants w.now n → result ≡ amiss_as_pool text.now w.now n k }
 {
@@ -74,6 +76,7 @@ fn amiss_as_pool(owned: bool, text: &[u8], w: &[Note], n: Note, k: Note) -> bool
 }
 
 // Whether thing k is amiss, where its id is not repeated and it is known whether there are participants and all are plain.
+#[tactic(auto, unfolding(crate::specs::Amiss::is_amiss, crate::specs::Amiss::is_strange))]
 fn is_amiss(owned: bool, plain: bool, text: &[u8], w: &[Note], n: Note, k: Note) -> bool
     ensures { owned ≡ has_participants w.now n → (plain ≡ true → Plain text.now w.now n) → is_repeated text.now w.now k ≡ false → result ≡ is_amiss text.now w.now n k }
 {
@@ -89,14 +92,7 @@ fn is_amiss(owned: bool, plain: bool, text: &[u8], w: &[Note], n: Note, k: Note)
 fn all_right(owned: bool, plain: bool, text: &[u8], w: &[Note], n: Note) -> bool
     ensures { owned ≡ has_participants w.now n → (plain ≡ true → Plain text.now w.now n) → ((k : ℕ) → k < n → is_repeated text.now w.now k ≡ false) → result ≡ all (is_right text.now w.now n) n }
 {
-    let mut k: Note = 0;
-    while k < n {
-        if is_amiss(owned, plain, text, w, n, k) {
-            return false;
-        }
-        k += 1;
-    }
-    true
+    (0..n).all(|k| !is_amiss(owned, plain, text, w, n, k))
 }
 
 // Whether all things are right: what can be asked of all of them at once is asked first.
@@ -120,6 +116,7 @@ fn has_pools(w: &[Note], n: Note) -> bool
 }
 
 // Whether nothing is amiss in what is drawn, its flows joined and its kinds settled.
+#[tactic(auto, unfolding(crate::specs::Amiss::is_drawing))]
 pub fn is_drawing(text: &[u8], w: &[Note], n: Note) -> bool
     ensures { result ≡ is_drawing text.now w.now n }
 {

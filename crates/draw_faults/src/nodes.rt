@@ -9,6 +9,7 @@ use draw_numbers::who::{is_receiver, is_sender, is_split};
 use draw_things::things::{MESSAGE_FLOW, Note};
 
 // Whether the default of a split is none of its own flows.
+#[tactic(auto, unfolding(crate::specs::Amiss::has_wrong_default))]
 pub fn has_wrong_default(text: &[u8], w: &[Note], n: Note, k: Note) -> bool
     ensures { result ≡ has_wrong_default text.now w.now n k }
 {
@@ -16,6 +17,7 @@ pub fn has_wrong_default(text: &[u8], w: &[Note], n: Note, k: Note) -> bool
 }
 
 // Whether no message flow leaves sender k, or two do.
+#[tactic(auto, unfolding(crate::specs::Amiss::is_unheard))]
 pub fn is_unheard(w: &[Note], n: Note, k: Note) -> bool
     ensures { result ≡ is_unheard w.now n k }
 {
@@ -23,6 +25,7 @@ pub fn is_unheard(w: &[Note], n: Note, k: Note) -> bool
 }
 
 // Whether no message flow comes to receiver k, or two do.
+#[tactic(auto, unfolding(crate::specs::Amiss::is_untold))]
 pub fn is_untold(w: &[Note], n: Note, k: Note) -> bool
     ensures { result ≡ is_untold w.now n k }
 {

@@ -11,6 +11,7 @@ use draw_numbers::who::has_participants;
 use draw_things::things::{COLLABORATION, Note, PARTICIPANT, PROCESS, source_of, within_of};
 
 // Whether a collaboration stands before collaboration k.
+#[tactic(auto, unfolding(crate::specs::Amiss::is_second_collaboration))]
 pub fn is_second_collaboration(w: &[Note], k: Note) -> bool
     ensures { result ≡ is_second_collaboration w.now k }
 {
@@ -18,6 +19,7 @@ pub fn is_second_collaboration(w: &[Note], k: Note) -> bool
 }
 
 // Whether participant k names no process.
+#[tactic(auto, unfolding(crate::specs::Amiss::is_lost))]
 pub fn is_lost(text: &[u8], w: &[Note], k: Note) -> bool
     ensures { result ≡ is_lost text.now w.now k }
 {
@@ -25,6 +27,7 @@ pub fn is_lost(text: &[u8], w: &[Note], k: Note) -> bool
 }
 
 // Whether process k belongs to no participant, or to two.
+#[tactic(auto, unfolding(crate::specs::Amiss::is_unowned))]
 pub fn is_unowned(w: &[Note], n: Note, k: Note) -> bool
     ensures { result ≡ is_unowned w.now n k }
 {
@@ -33,6 +36,7 @@ pub fn is_unowned(w: &[Note], n: Note, k: Note) -> bool
 }
 
 // Whether one of the same sort stands before thing k in the same thing.
+#[tactic(auto, unfolding(crate::specs::Amiss::is_second))]
 pub fn is_second(s: Note, w: &[Note], k: Note) -> bool
     ensures { result ≡ is_second s w.now k }
 {
@@ -40,6 +44,7 @@ pub fn is_second(s: Note, w: &[Note], k: Note) -> bool
 }
 
 // Whether thing j is a participant without a process.
+#[tactic(auto, unfolding(crate::specs::Amiss::is_outside))]
 pub fn is_outside(text: &[u8], w: &[Note], j: Note) -> bool
     ensures { result ≡ is_outside text.now w.now j }
 {
@@ -47,6 +52,7 @@ pub fn is_outside(text: &[u8], w: &[Note], j: Note) -> bool
 }
 
 // Whether the source of participant j doesn't say whether it is outside.
+#[tactic(auto, using(base_words::proofs::PickLaws::picks), unfolding(crate::specs::Once::is_odd))]
 fn is_odd(text: &[u8], w: &[Note], j: Note) -> bool
     ensures { result ≡ is_odd text.now w.now j }
 {
@@ -63,14 +69,7 @@ fn is_odd(text: &[u8], w: &[Note], j: Note) -> bool
 pub fn first_odd(text: &[u8], w: &[Note], n: Note) -> Note
     ensures { result ≡ seek (is_odd text.now w.now) n }
 {
-    let mut j: Note = 0;
-    while j < n {
-        if is_odd(text, w, j) {
-            return j;
-        }
-        j += 1;
-    }
-    j
+    (0..n).find(|&j| is_odd(text, w, j)).unwrap_or(n)
 }
 
 // Whether thing j is a participant without a process, by its source where all participants are plain.
@@ -87,6 +86,7 @@ pub fn is_outside_by(plain: bool, n: Note, text: &[u8], w: &[Note], j: Note) -> 
 }
 
 // Whether process k belongs to no participant, or to two, where it is known whether there are participants.
+#[tactic(auto, unfolding(crate::specs::Amiss::is_unowned))]
 pub fn is_unowned_by(owned: bool, w: &[Note], n: Note, k: Note) -> bool
     ensures { owned ≡ has_participants w.now n → result ≡ is_unowned w.now n k }
 {

@@ -1,7 +1,6 @@
 // The first id that stands twice: ids are put in order, many at a time, and those before them are looked for there.
 ghost use Rattle.std.specs.Prelude.{◌≡◌, true, false, List, ℕ, ◌<◌, ◌≤◌, length};
 ghost use Rattle.base_words.specs.Seek.{seek};
-ghost use Rattle.xml_markup.specs.declared.Taken.TheVariants.{To};
 ghost use Rattle.xml_markup.specs.Ahead.{key_of, key_at, Rising, Kept, More, With};
 ghost use Rattle.draw_faults.specs.Amiss.{is_repeated};
 ghost use Rattle.draw_faults.specs.Once.{IdIs};
@@ -11,7 +10,6 @@ use base_bytes::piece;
 use draw_links::attribute_of;
 use draw_things::things::Note;
 use xml_markup::shelf::{PLACES, keep, kept_at};
-use xml_markup::{Attribute, Taken};
 
 // How many things are looked at together.
 const TOGETHER: Note = 64;
@@ -19,24 +17,24 @@ const TOGETHER: Note = 64;
 const SHELF: usize = 64;
 
 // Puts the id of thing k among the first m.
-fn shelve(text: &[u8], w: &[Note], k: Note, v: &mut [usize], m: usize) -> Taken
+fn shelve(text: &[u8], w: &[Note], k: Note, v: &mut [usize], m: usize) -> Option<usize>
     requires { m ≤ length v.old }
-    ensures { (q : ℕ) → result ≡ To q → Rising (key_at text.now) v.old m → More (key_at text.now) v.old m v.new q × ((u : List ℕ) → IdIs text.now w.now k u → With (key_at text.now) (key_of u) v.old m v.new q) }
+    ensures { (q : ℕ) → result ≡ Some q → Rising (key_at text.now) v.old m → More (key_at text.now) v.old m v.new q × ((u : List ℕ) → IdIs text.now w.now k u → With (key_at text.now) (key_of u) v.old m v.new q) }
 {
     if !is_read(w, k) {
-        return Taken::To(m);
+        return Some(m);
     }
     let a = attribute_of(text, w, k, b"id");
-    let Attribute::Is(from, to) = a else {
-        return Taken::To(m);
+    let Some((from, to)) = a else {
+        return Some(m);
     };
     if v.len() <= m {
-        return Taken::Not;
+        return None;
     }
     if keep(text, v, m, from, to) {
-        return Taken::To(m + 1);
+        return Some(m + 1);
     }
-    Taken::Not
+    None
 }
 
 // Whether the id of thing y may be one of the first m.
@@ -48,7 +46,7 @@ fn is_kept(text: &[u8], w: &[Note], y: Note, v: &[usize], m: usize) -> bool
         return false;
     }
     let a = attribute_of(text, w, y, b"id");
-    let Attribute::Is(from, to) = a else {
+    let Some((from, to)) = a else {
         return false;
     };
     kept_at(text, v, m, piece(text, from, to)) != PLACES
@@ -58,12 +56,10 @@ fn none_kept(text: &[u8], w: &[Note], b: Note, v: &[usize], m: usize) -> bool
     requires { m ≤ length v.now }
     ensures { result ≡ true → Rising (key_at text.now) v.now m → (y : ℕ) → y < b → (u : List ℕ) → IdIs text.now w.now y u → Kept (key_at text.now) v.now m (key_of u) → ⊥ }
 {
-    let mut y: Note = 0;
-    while y < b {
+    for y in 0..b {
         if is_kept(text, w, y, v, m) {
             return false;
         }
-        y += 1;
     }
     true
 }
@@ -72,14 +68,12 @@ fn are_shelved(text: &[u8], w: &[Note], b: Note, e: Note, v: &mut [usize]) -> bo
     ensures { result ≡ true → (k : ℕ) → b ≤ k → k < e → is_repeated text.now w.now k ≡ false }
 {
     let mut m: usize = 0;
-    let mut k = b;
-    while k < e {
+    for k in b..e {
         let t = shelve(text, w, k, v, m);
-        let Taken::To(q) = t else {
+        let Some(q) = t else {
             return false;
         };
         m = q;
-        k += 1;
     }
     none_kept(text, w, b, v, m)
 }
@@ -105,6 +99,7 @@ pub fn first_repeated(text: &[u8], w: &[Note], n: Note) -> Note
 {
     let mut b: Note = 0;
     let mut s = TOGETHER;
+    // Stays a while: many things are passed at once, and fewer where that fails.
     while b < n {
         let e = end_of(b, s, n);
         if are_new(text, w, b, e) {

@@ -1,13 +1,12 @@
 -- What things draw round a node, one more of them; and which nodes are settled. Assumes nothing.
 use mathlib.Core.Path.{◌≡◌, ◌∙◌, refl, sym, ap}
-use mathlib.Core.Bool.{Bool, true, false, ◌&&◌}
+use mathlib.Core.Bool.{Bool, true, false}
 use mathlib.Core.List.{List}
 use mathlib.Core.Logic.{⊎_elim}
-use Prim.Native.Nat.{ℕ, zero, suc, ◌+◌, ◌-◌, ◌*◌, ◌≤◌, ◌<◌, min}
+use Prim.Native.Nat.{ℕ, zero, suc, ◌+◌, ◌-◌, ◌≤◌, ◌<◌}
 use native.Mathlib.Nat.{not-suc-le-zero, le_of_suc-le-suc, eq-or-lt_of_le, min-eq_left, min-eq_right}
-use native.Mathlib.Numerals.{add-one}
 use native.Mathlib.Omega.{arith}
-use lib.Dec.{eqb, leb}
+use lib.Dec.{eqb}
 use lib.Seq.{get_or-set_other}
 use borrow.Author.Tests.{eq-eqb, ne_eqb, le-leb, lt-leb, leb-true, leb-false}
 use Rattle.base_words.specs.Iter.{iter}
@@ -17,7 +16,7 @@ use Rattle.base_words.specs.Sum.{sum, one_if}
 use Rattle.base_words.proofs.IterLaws.{iter_more}
 use Rattle.base_words.proofs.SumLaws.{sum_more, sum_le}
 use Rattle.base_words.proofs.SeekLaws.{seek_more, seek_found, seek_done, sought}
-use Rattle.draw_things.specs.Things.{sort, source, target, within, kind, is_node, with_source, source_place, sort_place, sequence_flow, message_event_definition, terminate_event_definition, start_event, end_event, intermediate_catch_event}
+use Rattle.draw_things.specs.Things.{sort, source, target, within, is_node, with_source, source_place, sort_place, sequence_flow, message_event_definition, terminate_event_definition, start_event, end_event, intermediate_catch_event}
 use Rattle.draw_kinds.specs.declared.Shape.{Shape}
 use Rattle.draw_kinds.specs.Counting.{within_in, source_in, target_in, column, is_with, count_with}
 use Rattle.draw_kinds.specs.Roles.{flows_in, flows_out, messages_of, terminates_of, shape_of, Before, start_drawn, end_drawn, intermediate, kind_by, kind_drawn, kind_settled, roles, is_unsettled, first_unsettled, are_settled, settled_up_to}
@@ -32,13 +31,13 @@ module _ (s c v : ℕ) (w : List ℕ) where
   unfolding count_with
   count_few n = omega (arith, sum_le (λ j. one_if (is_with s c v w j)) 1 n (λ k l. one_few (is_with s c v w k)))
 
-  -- the last of `many`
-  count_last : (many x a : ℕ) → 0 < many → x ≡ count_with s c v w (many - 1) → a ≡ one_if (is_with s c v w (many - 1)) → x + a ≡ count_with s c v w many
+  -- with thing j
+  count_last : (j x a : ℕ) → x ≡ count_with s c v w j → a ≡ one_if (is_with s c v w j) → x + a ≡ count_with s c v w (j + 1)
   unfolding count_with
-  count_last many x a h p q = sum_more (λ j. one_if (is_with s c v w j)) (many - 1) x a p q ∙ ap (sum (λ j. one_if (is_with s c v w j))) (let z : many - 1 + 1 ≡ many = omega arith in z)
+  count_last j x a p q = sum_more (λ j. one_if (is_with s c v w j)) j x a p q
 
-  count_same : (many x : ℕ) → 0 < many → x ≡ count_with s c v w (many - 1) → 0 ≡ one_if (is_with s c v w (many - 1)) → x ≡ count_with s c v w many
-  count_same many x h p q = let z : x ≡ x + 0 = omega arith in z ∙ count_last many x 0 h p q
+  count_same : (j x : ℕ) → x ≡ count_with s c v w j → 0 ≡ one_if (is_with s c v w j) → x ≡ count_with s c v w (j + 1)
+  count_same j x p q = let z : x ≡ x + 0 = omega arith in z ∙ count_last j x 0 p q
 
 module _ (w : List ℕ) (s c v j : ℕ) where
   -- of that sort, by its column x; of another sort
@@ -50,72 +49,75 @@ module _ (w : List ℕ) (s c v j : ℕ) where
   unfolding is_with
   none_here e = rw (ne_eqb (sort w j) s e) refl
 
-module _ (w : List ℕ) (many k : ℕ) (d : Shape) (b : Before w many k d) where
-  shape_by : (i o m e : ℕ) → i ≡ flows_in w many k → o ≡ flows_out w many k → m ≡ messages_of w many k → e ≡ terminates_of w many k → record { ins = i; outs = o; messages = m; terminates = e } ≡ shape_of w many k
+module _ (w : List ℕ) (j k : ℕ) (d : Shape) (b : Before w (j + 1) k d) where
+  was : d ≡ shape_of w j k
+  was = b.5 ∙ ap (λ (m : ℕ). shape_of w m k) (let z : j + 1 - 1 ≡ j = omega arith in z)
+
+  shape_by : (i o m e : ℕ) → i ≡ flows_in w (j + 1) k → o ≡ flows_out w (j + 1) k → m ≡ messages_of w (j + 1) k → e ≡ terminates_of w (j + 1) k → record { ins = i; outs = o; messages = m; terminates = e } ≡ shape_of w (j + 1) k
   unfolding shape_of
   shape_by i o m e pi po pm pe = λ z. record { ins = pi z; outs = po z; messages = pm z; terminates = pe z }
 
-  was_ins : d.ins ≡ flows_in w (many - 1) k
+  was_ins : d.ins ≡ flows_in w j k
   unfolding shape_of
-  was_ins = ap (λ (x : Shape). x.ins) b.5
+  was_ins = ap (λ (x : Shape). x.ins) was
 
-  was_outs : d.outs ≡ flows_out w (many - 1) k
+  was_outs : d.outs ≡ flows_out w j k
   unfolding shape_of
-  was_outs = ap (λ (x : Shape). x.outs) b.5
+  was_outs = ap (λ (x : Shape). x.outs) was
 
-  was_messages : d.messages ≡ messages_of w (many - 1) k
+  was_messages : d.messages ≡ messages_of w j k
   unfolding shape_of
-  was_messages = ap (λ (x : Shape). x.messages) b.5
+  was_messages = ap (λ (x : Shape). x.messages) was
 
-  was_terminates : d.terminates ≡ terminates_of w (many - 1) k
+  was_terminates : d.terminates ≡ terminates_of w j k
   unfolding shape_of
-  was_terminates = ap (λ (x : Shape). x.terminates) b.5
+  was_terminates = ap (λ (x : Shape). x.terminates) was
 
   -- the last thing is no flow, no message, no terminate
-  no_flow_in : (sort w (many - 1) ≡ sequence_flow → ⊥) → d.ins ≡ flows_in w many k
+  no_flow_in : (sort w j ≡ sequence_flow → ⊥) → d.ins ≡ flows_in w (j + 1) k
   unfolding flows_in
-  no_flow_in e = count_same sequence_flow target_in k w many d.ins b.0 was_ins (none_here w sequence_flow target_in k (many - 1) e)
+  no_flow_in e = count_same sequence_flow target_in k w j d.ins was_ins (none_here w sequence_flow target_in k j e)
 
-  no_flow_out : (sort w (many - 1) ≡ sequence_flow → ⊥) → d.outs ≡ flows_out w many k
+  no_flow_out : (sort w j ≡ sequence_flow → ⊥) → d.outs ≡ flows_out w (j + 1) k
   unfolding flows_out
-  no_flow_out e = count_same sequence_flow source_in k w many d.outs b.0 was_outs (none_here w sequence_flow source_in k (many - 1) e)
+  no_flow_out e = count_same sequence_flow source_in k w j d.outs was_outs (none_here w sequence_flow source_in k j e)
 
-  no_message : (sort w (many - 1) ≡ message_event_definition → ⊥) → d.messages ≡ messages_of w many k
+  no_message : (sort w j ≡ message_event_definition → ⊥) → d.messages ≡ messages_of w (j + 1) k
   unfolding messages_of
-  no_message e = count_same message_event_definition within_in k w many d.messages b.0 was_messages (none_here w message_event_definition within_in k (many - 1) e)
+  no_message e = count_same message_event_definition within_in k w j d.messages was_messages (none_here w message_event_definition within_in k j e)
 
-  no_terminate : (sort w (many - 1) ≡ terminate_event_definition → ⊥) → d.terminates ≡ terminates_of w many k
+  no_terminate : (sort w j ≡ terminate_event_definition → ⊥) → d.terminates ≡ terminates_of w (j + 1) k
   unfolding terminates_of
-  no_terminate e = count_same terminate_event_definition within_in k w many d.terminates b.0 was_terminates (none_here w terminate_event_definition within_in k (many - 1) e)
+  no_terminate e = count_same terminate_event_definition within_in k w j d.terminates was_terminates (none_here w terminate_event_definition within_in k j e)
 
-  pub shape_flow : sort w (many - 1) ≡ sequence_flow → (x y i o : ℕ) → x ≡ target w (many - 1) → i ≡ one_if (eqb x k) → y ≡ source w (many - 1) → o ≡ one_if (eqb y k) → record { ins = d.ins + i; outs = d.outs + o; messages = d.messages; terminates = d.terminates } ≡ shape_of w many k
+  pub shape_flow : sort w j ≡ sequence_flow → (x y i o : ℕ) → x ≡ target w j → i ≡ one_if (eqb x k) → y ≡ source w j → o ≡ one_if (eqb y k) → record { ins = d.ins + i; outs = d.outs + o; messages = d.messages; terminates = d.terminates } ≡ shape_of w (j + 1) k
   unfolding flows_in flows_out
   shape_flow e x y i o ex hi ey ho =
       shape_by (d.ins + i) (d.outs + o) d.messages d.terminates
-      (count_last sequence_flow target_in k w many d.ins i b.0 was_ins (one_here w sequence_flow target_in k (many - 1) x i e ex hi))
-      (count_last sequence_flow source_in k w many d.outs o b.0 was_outs (one_here w sequence_flow source_in k (many - 1) y o e ey ho))
+      (count_last sequence_flow target_in k w j d.ins i was_ins (one_here w sequence_flow target_in k j x i e ex hi))
+      (count_last sequence_flow source_in k w j d.outs o was_outs (one_here w sequence_flow source_in k j y o e ey ho))
       (no_message (λ q. omega (arith, e, q)))
       (no_terminate (λ q. omega (arith, e, q)))
 
-  pub shape_message : sort w (many - 1) ≡ message_event_definition → (x m : ℕ) → x ≡ within w (many - 1) → m ≡ one_if (eqb x k) → record { ins = d.ins; outs = d.outs; messages = d.messages + m; terminates = d.terminates } ≡ shape_of w many k
+  pub shape_message : sort w j ≡ message_event_definition → (x m : ℕ) → x ≡ within w j → m ≡ one_if (eqb x k) → record { ins = d.ins; outs = d.outs; messages = d.messages + m; terminates = d.terminates } ≡ shape_of w (j + 1) k
   unfolding messages_of
   shape_message e x m ex hm =
       shape_by d.ins d.outs (d.messages + m) d.terminates
       (no_flow_in (λ q. omega (arith, e, q)))
       (no_flow_out (λ q. omega (arith, e, q)))
-      (count_last message_event_definition within_in k w many d.messages m b.0 was_messages (one_here w message_event_definition within_in k (many - 1) x m e ex hm))
+      (count_last message_event_definition within_in k w j d.messages m was_messages (one_here w message_event_definition within_in k j x m e ex hm))
       (no_terminate (λ q. omega (arith, e, q)))
 
-  pub shape_terminate : sort w (many - 1) ≡ terminate_event_definition → (x t : ℕ) → x ≡ within w (many - 1) → t ≡ one_if (eqb x k) → record { ins = d.ins; outs = d.outs; messages = d.messages; terminates = d.terminates + t } ≡ shape_of w many k
+  pub shape_terminate : sort w j ≡ terminate_event_definition → (x t : ℕ) → x ≡ within w j → t ≡ one_if (eqb x k) → record { ins = d.ins; outs = d.outs; messages = d.messages; terminates = d.terminates + t } ≡ shape_of w (j + 1) k
   unfolding terminates_of
   shape_terminate e x t ex ht =
       shape_by d.ins d.outs d.messages (d.terminates + t)
       (no_flow_in (λ q. omega (arith, e, q)))
       (no_flow_out (λ q. omega (arith, e, q)))
       (no_message (λ q. omega (arith, e, q)))
-      (count_last terminate_event_definition within_in k w many d.terminates t b.0 was_terminates (one_here w terminate_event_definition within_in k (many - 1) x t e ex ht))
+      (count_last terminate_event_definition within_in k w j d.terminates t was_terminates (one_here w terminate_event_definition within_in k j x t e ex ht))
 
-  pub shape_other : (s : ℕ) → s ≡ sort w (many - 1) → (s ≡ sequence_flow → ⊥) → (s ≡ message_event_definition → ⊥) → (s ≡ terminate_event_definition → ⊥) → d ≡ shape_of w many k
+  pub shape_other : (s : ℕ) → s ≡ sort w j → (s ≡ sequence_flow → ⊥) → (s ≡ message_event_definition → ⊥) → (s ≡ terminate_event_definition → ⊥) → d ≡ shape_of w (j + 1) k
   unfolding shape_of
   shape_other s es f m t =
       shape_by d.ins d.outs d.messages d.terminates (no_flow_in (λ q. f (es ∙ q))) (no_flow_out (λ q. f (es ∙ q))) (no_message (λ q. m (es ∙ q))) (no_terminate (λ q. t (es ∙ q)))
@@ -131,9 +133,6 @@ module _ (w : List ℕ) (k : ℕ) where
   pub shape_none : record { ins = 0; outs = 0; messages = 0; terminates = 0 } ≡ shape_of w 0 k
   unfolding shape_of flows_in flows_out messages_of terminates_of count_with sum
   shape_none = refl
-
-  pub shape_done : (n j : ℕ) (d : Shape) → n ≤ j → j ≤ n → d ≡ shape_of w j k → d ≡ shape_of w n k
-  shape_done n j d h l e = e ∙ ap (λ (m : ℕ). shape_of w m k) (let z : j ≡ n = omega arith in z)
 
 -- WHAT IS CAUGHT is asked of a catch event alone
 caught_once : (b : Bool) (f : ℕ → ℕ) (c y : ℕ) → (if b then f (if b then c or_else 0) or_else y) ≡ (if b then f c or_else y)

@@ -1,5 +1,5 @@
 -- WHICH OF THE FIFTEEN KINDS A NODE IS (R15, R16, R23). w is the things drawn, their flows joined; n their count. 0: no kind of ours. (RULES: nodes)
-use Rattle.std.specs.Prelude.{ℕ, ◌+◌, ◌-◌, ◌<◌, min, ◌≡◌, Bool, ◌&&◌, List, eqb, leb}
+use Rattle.std.specs.Prelude.{ℕ, ◌+◌, ◌-◌, ◌<◌, min, ◌≡◌, Bool, ◌&&◌, eqb, leb}
 use Rattle.base_words.specs.Blocks.{Drawing}
 use Rattle.base_words.specs.Iter.{iter}
 use Rattle.base_words.specs.Pick.{if◌then◌or_else◌}

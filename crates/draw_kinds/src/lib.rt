@@ -1,7 +1,7 @@
 // Which of the kinds of document 01 a node of a drawing is: what stands round it, counted.
 #![tactic(auto)]
 
-ghost use Rattle.std.specs.Prelude.{◌≡◌, ◌-◌, ◌≤◌, eqb};
+ghost use Rattle.std.specs.Prelude.{◌≡◌, ◌+◌, ◌≤◌, eqb};
 ghost use Rattle.draw_kinds.specs.Roles.{shape_of, Before, flows, defines, when, start_drawn, end_drawn, intermediate, activity, splits, joins, gateway, kind_by, caught_as, kind_drawn, kind_settled, roles, is_unsettled, are_settled, settled_up_to};
 ghost use Rattle.draw_things.specs.Things.{sort, sequence_flow, message_event_definition, terminate_event_definition, intermediate_catch_event};
 ghost use Rattle.base_words.specs.Pick.{if◌then◌or_else◌};
@@ -35,60 +35,55 @@ fn one_if(same: bool) -> Word
     if same { 1 } else { 0 }
 }
 
-fn with_flow(w: &[Note], many: Note, k: Note, d: Shape) -> Shape
-    requires { Before w.now many k d × (sort w.now (many - 1) ≡ sequence_flow) }
-    ensures { result ≡ shape_of w.now many k }
+fn with_flow(w: &[Note], j: Note, k: Note, d: Shape) -> Shape
+    requires { Before w.now (j + 1) k d × (sort w.now j ≡ sequence_flow) }
+    ensures { result ≡ shape_of w.now (j + 1) k }
 {
-    let into = one_if(target_of(w, many - 1) == k);
-    let out = one_if(source_of(w, many - 1) == k);
+    let into = one_if(target_of(w, j) == k);
+    let out = one_if(source_of(w, j) == k);
     Shape {
         ins: d.ins + into,
         outs: d.outs + out,
-        messages: d.messages,
-        terminates: d.terminates,
+        ..d
     }
 }
 
-fn with_message(w: &[Note], many: Note, k: Note, d: Shape) -> Shape
-    requires { Before w.now many k d × (sort w.now (many - 1) ≡ message_event_definition) }
-    ensures { result ≡ shape_of w.now many k }
+fn with_message(w: &[Note], j: Note, k: Note, d: Shape) -> Shape
+    requires { Before w.now (j + 1) k d × (sort w.now j ≡ message_event_definition) }
+    ensures { result ≡ shape_of w.now (j + 1) k }
 {
-    let inside = one_if(within_of(w, many - 1) == k);
+    let inside = one_if(within_of(w, j) == k);
     Shape {
-        ins: d.ins,
-        outs: d.outs,
         messages: d.messages + inside,
-        terminates: d.terminates,
+        ..d
     }
 }
 
-fn with_terminate(w: &[Note], many: Note, k: Note, d: Shape) -> Shape
-    requires { Before w.now many k d × (sort w.now (many - 1) ≡ terminate_event_definition) }
-    ensures { result ≡ shape_of w.now many k }
+fn with_terminate(w: &[Note], j: Note, k: Note, d: Shape) -> Shape
+    requires { Before w.now (j + 1) k d × (sort w.now j ≡ terminate_event_definition) }
+    ensures { result ≡ shape_of w.now (j + 1) k }
 {
-    let inside = one_if(within_of(w, many - 1) == k);
+    let inside = one_if(within_of(w, j) == k);
     Shape {
-        ins: d.ins,
-        outs: d.outs,
-        messages: d.messages,
         terminates: d.terminates + inside,
+        ..d
     }
 }
 
-// The last of so many things added to what those before it draw round node k.
-fn with_thing(w: &[Note], many: Note, k: Note, d: Shape) -> Shape
-    requires { Before w.now many k d }
-    ensures { result ≡ shape_of w.now many k }
+// Thing j added to what those before it draw round node k.
+fn with_thing(w: &[Note], j: Note, k: Note, d: Shape) -> Shape
+    requires { Before w.now (j + 1) k d }
+    ensures { result ≡ shape_of w.now (j + 1) k }
 {
-    let s = sort_of(w, many - 1);
+    let s = sort_of(w, j);
     if s == SEQUENCE_FLOW {
-        return with_flow(w, many, k, d);
+        return with_flow(w, j, k, d);
     }
     if s == MESSAGE_EVENT_DEFINITION {
-        return with_message(w, many, k, d);
+        return with_message(w, j, k, d);
     }
     if s == TERMINATE_EVENT_DEFINITION {
-        return with_terminate(w, many, k, d);
+        return with_terminate(w, j, k, d);
     }
     d
 }
@@ -102,32 +97,34 @@ fn shape_of(w: &[Note], n: Note, k: Note) -> Shape
         messages: 0,
         terminates: 0,
     };
-    let mut many: Note = 0;
-    while many < n {
-        many += 1;
-        d = with_thing(w, many, k, d);
+    for j in 0..n {
+        d = with_thing(w, j, k, d);
     }
     d
 }
 
+#[tactic(auto, unfolding(crate::specs::Roles::flows))]
 fn flows(i: Word, o: Word, d: Shape) -> bool
     ensures { result ≡ flows i o d }
 {
     d.ins == i && d.outs == o
 }
 
+#[tactic(auto, unfolding(crate::specs::Roles::defines))]
 fn defines(m: Word, e: Word, d: Shape) -> bool
     ensures { result ≡ defines m e d }
 {
     d.messages == m && d.terminates == e
 }
 
+#[tactic(auto, using(base_words::proofs::PickLaws::picks), unfolding(crate::specs::Roles::when))]
 fn when(right: bool, kind: Note) -> Note
     ensures { result ≡ when right kind }
 {
     if right { kind } else { 0 }
 }
 
+#[tactic(auto, using(base_words::proofs::PickLaws::picks), unfolding(crate::specs::Roles::start_drawn, crate::specs::Roles::when))]
 fn start_drawn(d: Shape) -> Note
     ensures { result ≡ start_drawn d }
 {
@@ -140,6 +137,7 @@ fn start_drawn(d: Shape) -> Note
     when(defines(1, 0, d), kinds::START_RCV)
 }
 
+#[tactic(auto, using(base_words::proofs::PickLaws::picks), unfolding(crate::specs::Roles::end_drawn, crate::specs::Roles::when))]
 fn end_drawn(d: Shape) -> Note
     ensures { result ≡ end_drawn d }
 {
@@ -155,6 +153,7 @@ fn end_drawn(d: Shape) -> Note
     when(defines(0, 1, d), kinds::TERMINATE)
 }
 
+#[tactic(auto, using(base_words::proofs::PickLaws::picks), unfolding(crate::specs::Roles::intermediate, crate::specs::Roles::when))]
 fn intermediate(kind: Note, d: Shape) -> Note
     ensures { result ≡ intermediate kind d }
 {
@@ -164,24 +163,28 @@ fn intermediate(kind: Note, d: Shape) -> Note
     when(defines(1, 0, d), kind)
 }
 
+#[tactic(auto, unfolding(crate::specs::Roles::activity))]
 fn activity(kind: Note, d: Shape) -> Note
     ensures { result ≡ activity kind d }
 {
     when(flows(1, 1, d), kind)
 }
 
+#[tactic(auto, unfolding(crate::specs::Roles::splits))]
 fn splits(d: Shape) -> bool
     ensures { result ≡ splits d }
 {
     d.ins == 1 && 2 <= d.outs
 }
 
+#[tactic(auto, unfolding(crate::specs::Roles::joins))]
 fn joins(d: Shape) -> bool
     ensures { result ≡ joins d }
 {
     2 <= d.ins && d.outs == 1
 }
 
+#[tactic(auto, using(base_words::proofs::PickLaws::picks), unfolding(crate::specs::Roles::gateway))]
 fn gateway(split: Note, join: Note, d: Shape) -> Note
     ensures { result ≡ gateway split join d }
 {
@@ -191,6 +194,7 @@ fn gateway(split: Note, join: Note, d: Shape) -> Note
     when(joins(d), join)
 }
 
+#[tactic(auto, using(base_words::proofs::PickLaws::picks), unfolding(crate::specs::Roles::kind_by))]
 fn kind_by(s: Note, caught: Note, d: Shape) -> Note
     ensures { result ≡ kind_by s caught d }
 {
@@ -224,6 +228,7 @@ fn kind_by(s: Note, caught: Note, d: Shape) -> Note
     gateway(kinds::EVENT_BASED, 0, d)
 }
 
+#[tactic(auto, using(base_words::proofs::PickLaws::picks), unfolding(crate::specs::Roles::caught_as))]
 fn caught_as(w: &[Note], n: Note, k: Note) -> Note
     ensures { result ≡ caught_as w.now n k }
 {
@@ -235,6 +240,7 @@ fn caught_as(w: &[Note], n: Note, k: Note) -> Note
 }
 
 // The same where it is asked for: of a catch event.
+#[tactic(auto, using(base_words::proofs::PickLaws::picks))]
 fn caught_by(s: Note, w: &[Note], n: Note, k: Note) -> Note
     ensures { result ≡ (if eqb s intermediate_catch_event then caught_as w.now n k or_else 0) }
 {
@@ -251,6 +257,7 @@ fn kind_drawn(w: &[Note], n: Note, k: Note) -> Note
     kind_by(s, caught_by(s, w, n, k), shape_of(w, n, k))
 }
 
+#[tactic(auto, using(base_words::proofs::PickLaws::picks), unfolding(crate::specs::Roles::kind_settled))]
 fn settle(w: &mut [Note], n: Note, k: Note)
     ensures { w.new ≡ kind_settled n k w.old }
 {
@@ -264,13 +271,12 @@ fn settle(w: &mut [Note], n: Note, k: Note)
 pub fn roles(w: &mut [Note], n: Note)
     ensures { w.new ≡ roles n w.old }
 {
-    let mut k: Note = 0;
-    while k < n {
+    for k in 0..n {
         settle(w, n, k);
-        k += 1;
     }
 }
 
+#[tactic(auto, unfolding(crate::specs::Roles::is_unsettled))]
 fn is_unsettled(w: &[Note], k: Note) -> bool
     ensures { result ≡ is_unsettled w.now k }
 {
@@ -281,13 +287,11 @@ fn is_unsettled(w: &[Note], k: Note) -> bool
 pub fn settle_kinds(w: &mut [Note], n: Note) -> bool
     ensures { (result ≡ are_settled n w.old) × (w.new ≡ settled_up_to n w.old) }
 {
-    let mut k: Note = 0;
-    while k < n {
+    for k in 0..n {
         settle(w, n, k);
         if is_unsettled(w, k) {
             return false;
         }
-        k += 1;
     }
     true
 }

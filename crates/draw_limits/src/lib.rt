@@ -20,7 +20,6 @@ use draw_things::things::{
     CONDITION_EXPRESSION, MESSAGE_FLOW, Note, PARTICIPANT_MULTIPLICITY, SEQUENCE_FLOW, place_of,
     source_of, target_of, within_of,
 };
-use xml_markup::Attribute;
 
 fn is_fifth_pool(owned: bool, w: &[Note], k: Note) -> bool
     ensures { result ≡ is_fifth_pool owned w.now k }
@@ -138,21 +137,16 @@ pub fn first_beyond(text: &[u8], w: &[Note], n: Note) -> Note
     ensures { result ≡ first_beyond text.now w.now n }
 {
     let owned = has_participants(w, n);
-    let mut k: Note = 0;
-    while k < n {
-        if is_beyond(owned, text, w, n, k) {
-            return k;
-        }
-        k += 1;
-    }
-    k
+    (0..n)
+        .find(|&k| is_beyond(owned, text, w, n, k))
+        .unwrap_or(n)
 }
 
 fn value_place(text: &[u8], w: &[Note], k: Note) -> usize
     ensures { result ≡ value_place text.now w.now k }
 {
     let a = attribute_of(text, w, k, b"maximum");
-    let Attribute::Is(from, _) = a else {
+    let Some((from, _)) = a else {
         return 0;
     };
     from

@@ -1,4 +1,5 @@
 -- An id compared where its note says that it stands, and what is named by the notes. Assumes nothing.
+use Rattle.std.specs.Prelude.{Option, Some, None}
 use Prim.Native.Nat.{ℕ, suc, ◌+◌, ◌*◌, ◌-◌, ◌≤◌, ◌<◌}
 use mathlib.Core.Path.{◌≡◌, refl, sym, ◌∙◌, ap}
 use mathlib.Core.Bool.{Bool, true, false, ◌&&◌, ◌||◌}
@@ -19,8 +20,6 @@ use Rattle.base_bytes.proofs.PastLaws.{past_from}
 use Rattle.base_bytes.proofs.PieceLaws.{by_order}
 use Rattle.base_bytes.specs.Bytes.{same_bytes}
 use Rattle.xml_markup.specs.declared.Class.TheVariants.{Value}
-use Rattle.xml_markup.specs.declared.Found.{Found}
-use Rattle.xml_markup.specs.declared.Found.TheVariants.{Behind, Nowhere}
 use Rattle.xml_markup.specs.Tokens.{found}
 use Rattle.xml_markup.specs.Spans.{is_of, run, after, quote_at, value_at, value_of, attribute}
 use Rattle.draw_things.specs.Things.{sort, place, within, target, is_node, thing_words, target_place, participant, message_flow, process, sequence_flow}
@@ -53,17 +52,20 @@ module _ (q : ℕ) (v s : List ℕ) (i : ℕ) (r : Bool) (k : is_up_to q (drop i
       step : is_up_to q (drop i v) (drop i s) ≡ is_up_to q (drop (i + 1) v) (drop (i + 1) s)
       step = unfold is_up_to in rw (drop-cons v i 0 h, drop-cons s i 0 l, eq-eqb (at s i) (at v i) e, ne_eqb (at s i) q n, add-one i)
 
-  pub up_end : length v ≤ i → length s ≤ i → true ≡ r
-  up_end h l = sym step ∙ k
+  pub up_end : length v ≤ i → i ≤ length v → length s ≤ length v → true ≡ r
+  up_end h e l = sym step ∙ k
     where
       step : is_up_to q (drop i v) (drop i s) ≡ true
-      step = unfold is_up_to in rw (drop_of_length-le v h, drop_of_length-le s l)
+      step = unfold is_up_to in rw (drop_of_length-le v h, drop_of_length-le s (let z : length s ≤ i = omega arith in z))
 
-  pub up_last : length v ≤ i → i < length s → eqb (at s i) q ≡ r
-  up_last h l = sym step ∙ k
+  pub up_last : length v ≤ i → i ≤ length v → length v < length s → eqb (at s (length v)) q ≡ r
+  up_last h e l = ap (λ (m : ℕ). eqb (at s m) q) (let z : length v ≡ i = omega arith in z) ∙ sym step ∙ k
     where
+      m : i < length s
+      m = omega arith
+
       step : is_up_to q (drop i v) (drop i s) ≡ eqb (at s i) q
-      step = unfold is_up_to in rw (drop_of_length-le v h, drop-cons s i 0 l)
+      step = unfold is_up_to in rw (drop_of_length-le v h, drop-cons s i 0 m)
 
 pub up_otherwise : (t v : List ℕ) (a q : ℕ) → 0 < length v → a < length t → (at t a ≡ at v 0 → ⊥) → false ≡ is_up_to q v (drop a t)
 up_otherwise t v a q h l n = sym step
@@ -117,7 +119,7 @@ in_block w j a e n = by_order (length w) (target_place j) (λ h. absurd (n (e �
 
 -- WHAT A NOTE SAYS
 module _ (t v w : List ℕ) (j : ℕ) (is : IdNoted t w j) where
-  abbrev f₀ : Found
+  abbrev f₀ : Option ℕ
   f₀ = found t (bytes "id") (place w j)
 
   quote_some : (q : ℕ) → behind_quote q ≡ 0 → ⊥
@@ -136,15 +138,15 @@ module _ (t v w : List ℕ) (j : ℕ) (is : IdNoted t w j) where
       go true e n = sym (unfold if◌then◌or_else◌ in e)
       go false e n = absurd (n (sym (unfold if◌then◌or_else◌ in e)))
 
-  noted_none : (f : Found) → f₀ ≡ f → note_by t f ≡ 0 → false ≡ has_id t v w j
+  noted_none : (f : Option ℕ) → f₀ ≡ f → note_by t f ≡ 0 → false ≡ has_id t v w j
   unfolding note_by has_id attribute value_of if_is
-  noted_none Nowhere e z = rw e
-  noted_none (Behind i) e z = absurd (quote_some (quote_at t i) z)
+  noted_none None e z = rw e
+  noted_none (Some i) e z = absurd (quote_some (quote_at t i) z)
 
-  noted_some : (f : Found) (a : ℕ) (r : Bool) → f₀ ≡ f → note_by t f ≡ a → (a ≡ 0 → ⊥) → (a ≡ far → ⊥) → r ≡ is_up_to (at t (a - 1)) v (drop a t) → r ≡ has_id t v w j
+  noted_some : (f : Option ℕ) (a : ℕ) (r : Bool) → f₀ ≡ f → note_by t f ≡ a → (a ≡ 0 → ⊥) → (a ≡ far → ⊥) → r ≡ is_up_to (at t (a - 1)) v (drop a t) → r ≡ has_id t v w j
   unfolding note_by has_id attribute value_of value_at if_is
-  noted_some Nowhere a r e z n m h = absurd (n (sym z))
-  noted_some (Behind i) a r e z n m h =
+  noted_some None a r e z n m h = absurd (n (sym z))
+  noted_some (Some i) a r e z n m h =
       let p : a ≡ quote_at t i + 1 = quote_told (quote_at t i) a z m in
       let o : a - 1 ≡ quote_at t i = omega (arith, p) in
       rw e (h ∙ rw (o, p) refl ∙ sym (value_up_to t v (quote_at t i)))
@@ -172,11 +174,11 @@ module _ (t w : List ℕ) (n k : ℕ) (v : List ℕ) (r s : ℕ) (es : s ≡ sor
   process-meant a b f h = rw (ne_eqb (sort w k) sequence_flow (λ q. a (es ∙ q)), ne_eqb (sort w k) message_flow (λ q. b (es ∙ q)), eq-eqb (sort w k) participant (sym es ∙ f)) h
 
 -- the note of a thing, as it is found
-module _ (t w : List ℕ) (j p : ℕ) (f : Found) (ep : p ≡ place w j) (ef : f ≡ found t (bytes "id") p) where
-  pub note_nowhere : f ≡ Nowhere → 0 ≡ note_of t w j
+module _ (t w : List ℕ) (j p : ℕ) (f : Option ℕ) (ep : p ≡ place w j) (ef : f ≡ found t (bytes "id") p) where
+  pub note_nowhere : f ≡ None → 0 ≡ note_of t w j
   unfolding note_of note_by
   note_nowhere e = rw (← ep, ← ef, e)
 
-  pub note_behind : (i x r : ℕ) → f ≡ Behind i → x ≡ quote_at t i → r ≡ behind_quote x → r ≡ note_of t w j
+  pub note_behind : (i x r : ℕ) → f ≡ Some i → x ≡ quote_at t i → r ≡ behind_quote x → r ≡ note_of t w j
   unfolding note_of note_by
   note_behind i x r e g h = rw (← ep, ← ef, e, ← g) h

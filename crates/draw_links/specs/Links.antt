@@ -1,6 +1,6 @@
 -- WHAT A REFERENCE NAMES. "References (sourceRef, targetRef, processRef, default) name what has that id: the bytes as they stand in the tag, without the reference's part up to its last
 -- colon, no entity resolved. Missing, or naming nothing of the right sort: 21" (R17): then it names thing 0. t is the text, w the things drawn, n their count. (RULES: drawn)
-use Rattle.std.specs.Prelude.{ℕ, Bool, false, ◌&&◌, ◌||◌, List, eqb, ltb}
+use Rattle.std.specs.Prelude.{ℕ, Bool, false, ◌&&◌, ◌||◌, eqb, ltb, Option, Some, None}
 use Rattle.base_words.specs.Blocks.{Bytes, Drawing}
 use Rattle.base_words.specs.Iter.{iter}
 use Rattle.base_words.specs.Pick.{if◌then◌or_else◌}
@@ -8,14 +8,12 @@ use Rattle.base_words.specs.Seek.{seek}
 use Rattle.base_words.specs.Text.{bytes}
 use Rattle.base_words.specs.Words.{part}
 use Rattle.base_bytes.specs.Bytes.{same_bytes}
-use Rattle.xml_markup.specs.declared.Attribute.{Attribute}
-use Rattle.xml_markup.specs.declared.Attribute.TheVariants.{Is, Absent}
 use Rattle.xml_markup.specs.Spans.{local_of, attribute}
 use Rattle.draw_things.specs.Things.{sort, place, within, source, is_node, with_source, with_target, participant, message_flow, process, sequence_flow}
 
-unfoldable pub if_is : {A : Type 0} → Attribute → (ℕ → ℕ → A) → A → A
-if_is (Is from to) f a = f from to
-if_is Absent f a = a
+unfoldable pub if_is : {A : Type 0} → Option (ℕ × ℕ) → (ℕ → ℕ → A) → A → A
+if_is (Some (from, to)) f a = f from to
+if_is None f a = a
 
 -- thing j has the id v
 unfoldable pub has_id : Bytes → Bytes → Drawing → ℕ → Bool

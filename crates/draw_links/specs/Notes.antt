@@ -1,11 +1,9 @@
 -- WHERE IDS STAND, noted once for every thing that is no flow, so that no tag is gone through again for its id: in its target, which flows alone have. t is the text, w the things drawn, n their count.
-use Rattle.std.specs.Prelude.{ℕ, ◌+◌, ◌*◌, ◌≤◌, ◌<◌, ◌≡◌, Bool, true, false, not, ◌&&◌, ◌||◌, [], ◌∷◌, eqb, ltb, length}
+use Rattle.std.specs.Prelude.{ℕ, ◌+◌, ◌*◌, ◌≤◌, ◌<◌, ◌≡◌, Bool, true, false, not, ◌&&◌, ◌||◌, [], ◌∷◌, eqb, ltb, length, Option, Some, None}
 use Rattle.base_words.specs.Blocks.{Bytes, Drawing}
 use Rattle.base_words.specs.Iter.{iter}
 use Rattle.base_words.specs.Pick.{if◌then◌or_else◌}
 use Rattle.base_words.specs.Text.{bytes}
-use Rattle.xml_markup.specs.declared.Found.{Found}
-use Rattle.xml_markup.specs.declared.Found.TheVariants.{Behind, Nowhere}
 use Rattle.xml_markup.specs.Tokens.{found}
 use Rattle.xml_markup.specs.Spans.{quote_at}
 use Rattle.draw_things.specs.Things.{thing_words, sort, place, target, with_target, message_flow, sequence_flow}
@@ -18,9 +16,9 @@ far = 65535
 unfoldable pub behind_quote : ℕ → ℕ
 behind_quote q = if ltb q 65534 then q + 1 or_else far
 
-unfoldable pub note_by : Bytes → Found → ℕ
-note_by t (Behind i) = behind_quote (quote_at t i)
-note_by t Nowhere = 0
+unfoldable pub note_by : Bytes → Option ℕ → ℕ
+note_by t (Some i) = behind_quote (quote_at t i)
+note_by t None = 0
 
 unfoldable pub note_of : Bytes → Drawing → ℕ → ℕ
 note_of t w j = note_by t (found t (bytes "id") (place w j))

@@ -1,5 +1,5 @@
 -- What R17 says of references, tried at the boundary of each sentence: one table. A row says what is tried, and names a text, the things drawn, one of them, its attribute, and the thing that this names. (RULES: drawn)
-use Rattle.std.specs.Prelude.{ℕ, ◌+◌, List, [], ◌∷◌, ◌++◌, length}
+use Rattle.std.specs.Prelude.{ℕ, List, [], ◌∷◌, ◌++◌, length}
 use Prim.Native.String.{String}
 use Rattle.base_words.specs.Text.{bytes}
 use Rattle.draw_things.specs.Things.{definitions, participant, message_flow, process, sequence_flow, task, exclusive_gateway}

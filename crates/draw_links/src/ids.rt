@@ -8,13 +8,13 @@ ghost use Rattle.draw_links.specs.Notes.{behind_quote, note_of, retargeted, no_n
 use super::{has_id, is_flow};
 use base_bytes::{byte, piece};
 use draw_things::things::{Note, THING_WORDS, place_of, set_target, target_of};
-use xml_markup::Found;
 use xml_markup::spans::quote_at;
 use xml_markup::tokens::found;
 
 // The greatest note: the id stands further.
 const FAR: u16 = 65535;
 
+#[tactic(auto, using(base_words::proofs::PickLaws::picks), unfolding(crate::specs::Notes::behind_quote))]
 fn behind_quote(q: usize) -> u16
     ensures { result ≡ behind_quote q }
 {
@@ -25,7 +25,7 @@ fn note_of(text: &[u8], w: &[Note], j: Note) -> u16
     ensures { result ≡ note_of text.now w.now j }
 {
     let f = found(text, b"id", place_of(w, j) as usize);
-    let Found::Behind(i) = f else {
+    let Some(i) = f else {
         return 0;
     };
     behind_quote(quote_at(text, i))
@@ -49,13 +49,12 @@ fn note_id(text: &[u8], w: &mut [Note], k: Note)
 pub fn note_ids(text: &[u8], w: &mut [Note], n: Note)
     ensures { w.new ≡ noted text.now n w.old }
 {
-    let mut k: Note = 0;
-    while k < n {
+    for k in 0..n {
         note_id(text, w, k);
-        k += 1;
     }
 }
 
+#[tactic(auto, using(base_words::proofs::PickLaws::picks), unfolding(crate::specs::Notes::retargeted))]
 fn clear_id(w: &mut [Note], k: Note)
     ensures { w.new ≡ retargeted no_note k w.old }
 {
@@ -69,13 +68,12 @@ fn clear_id(w: &mut [Note], k: Note)
 pub fn clear_ids(w: &mut [Note], n: Note)
     ensures { w.new ≡ bared n w.old }
 {
-    let mut k: Note = 0;
-    while k < n {
+    for k in 0..n {
         clear_id(w, k);
-        k += 1;
     }
 }
 
+#[tactic(auto, unfolding(crate::specs::Notes::is_free))]
 fn is_free(w: &[Note], k: Note) -> bool
     ensures { result ≡ is_free w.now k }
 {
@@ -86,34 +84,18 @@ fn is_free(w: &[Note], k: Note) -> bool
 pub fn are_free(w: &[Note], n: Note) -> bool
     ensures { result ≡ all (is_free w.now) n }
 {
-    let mut k: Note = 0;
-    while k < n {
-        if !is_free(w, k) {
-            return false;
-        }
-        k += 1;
-    }
-    true
+    (0..n).all(|k| is_free(w, k))
 }
 
 fn is_up_to(q: u8, v: &[u8], s: &[u8]) -> bool
     ensures { result ≡ is_up_to q v.now s.now }
 {
-    let mut i = 0;
-    while i < v.len() {
-        if s.len() <= i {
+    for i in 0..v.len() {
+        if s.len() <= i || s[i] != v[i] || s[i] == q {
             return false;
         }
-        let b = s[i];
-        if b != v[i] {
-            return false;
-        }
-        if b == q {
-            return false;
-        }
-        i += 1;
     }
-    s.len() <= i || s[i] == q
+    s.len() <= v.len() || s[v.len()] == q
 }
 
 // Whether the value whose first byte stands at a place is these bytes.
@@ -128,16 +110,7 @@ fn stands_at(text: &[u8], a: usize, v: &[u8]) -> bool
 fn begins_otherwise(text: &[u8], a: usize, v: &[u8]) -> bool
     ensures { result ≡ true → (q : ℕ) → false ≡ is_up_to q v.now (drop a text.now) }
 {
-    if v.len() == 0 {
-        return false;
-    }
-    if text.len() <= a {
-        return false;
-    }
-    if text[a] != v[0] {
-        return true;
-    }
-    false
+    !v.is_empty() && a < text.len() && text[a] != v[0]
 }
 
 // Whether thing j has an id, by its note.

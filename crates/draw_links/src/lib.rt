@@ -15,13 +15,12 @@ use draw_things::things::{
     set_target, sort_of, source_of, within_of,
 };
 use ids::{are_free, clear_ids, has_noted_id, note_ids};
-use xml_markup::Attribute;
 use xml_markup::spans::{attribute, local_of};
 
 pub mod ids;
 
 // An attribute of a thing.
-pub fn attribute_of(text: &[u8], w: &[Note], k: Note, name: &[u8]) -> Attribute
+pub fn attribute_of(text: &[u8], w: &[Note], k: Note, name: &[u8]) -> Option<(usize, usize)>
     ensures { result ≡ attribute text.now (place w.now k) name.now }
 {
     let p = place_of(w, k) as usize;
@@ -33,7 +32,7 @@ pub fn has_id(text: &[u8], v: &[u8], w: &[Note], j: Note) -> bool
     ensures { result ≡ has_id text.now v.now w.now j }
 {
     let a = attribute_of(text, w, j, b"id");
-    let Attribute::Is(from, to) = a else {
+    let Some((from, to)) = a else {
         return false;
     };
     same(piece(text, from, to), v)
@@ -65,6 +64,7 @@ fn is_exit(w: &[Note], k: Note, j: Note) -> bool
 }
 
 // Whether thing j is of a sort that thing k may name.
+#[tactic(auto, using(base_words::proofs::PickLaws::picks), unfolding(crate::specs::Links::may_name))]
 fn may_name(w: &[Note], k: Note, j: Note) -> bool
     ensures { result ≡ may_name w.now k j }
 {
@@ -90,14 +90,7 @@ fn is_meant(text: &[u8], w: &[Note], k: Note, v: &[u8], j: Note) -> bool
 fn meant(text: &[u8], w: &[Note], n: Note, k: Note, v: &[u8]) -> Note
     ensures { result ≡ meant text.now w.now n k v.now }
 {
-    let mut j: Note = 0;
-    while j < n {
-        if is_meant(text, w, k, v, j) {
-            return j;
-        }
-        j += 1;
-    }
-    0
+    (0..n).find(|&j| is_meant(text, w, k, v, j)).unwrap_or(0)
 }
 
 // The thing that an attribute of thing k names; 0 for none.
@@ -105,7 +98,7 @@ pub fn named(text: &[u8], w: &[Note], n: Note, k: Note, name: &[u8]) -> Note
     ensures { result ≡ named text.now w.now n k name.now }
 {
     let a = attribute_of(text, w, k, name);
-    let Attribute::Is(from, to) = a else {
+    let Some((from, to)) = a else {
         return 0;
     };
     meant(text, w, n, k, local_of(piece(text, from, to)))
@@ -127,14 +120,9 @@ fn is_node_named(text: &[u8], w: &[Note], p: Note, v: &[u8], j: Note) -> bool
 fn node_named(text: &[u8], w: &[Note], n: Note, p: Note, v: &[u8]) -> Note
     ensures { Noted text.now w.now n → result ≡ or_none n (seek (λ j. (is_node (sort w.now j) && eqb (within w.now j) p) && has_id text.now v.now w.now j) n) }
 {
-    let mut j: Note = 0;
-    while j < n {
-        if is_node_named(text, w, p, v, j) {
-            return j;
-        }
-        j += 1;
-    }
-    0
+    (0..n)
+        .find(|&j| is_node_named(text, w, p, v, j))
+        .unwrap_or(0)
 }
 
 fn is_end_named(text: &[u8], w: &[Note], v: &[u8], j: Note) -> bool
@@ -147,14 +135,7 @@ fn is_end_named(text: &[u8], w: &[Note], v: &[u8], j: Note) -> bool
 fn end_named(text: &[u8], w: &[Note], n: Note, v: &[u8]) -> Note
     ensures { Noted text.now w.now n → result ≡ or_none n (seek (λ j. (is_node (sort w.now j) || eqb (sort w.now j) participant) && has_id text.now v.now w.now j) n) }
 {
-    let mut j: Note = 0;
-    while j < n {
-        if is_end_named(text, w, v, j) {
-            return j;
-        }
-        j += 1;
-    }
-    0
+    (0..n).find(|&j| is_end_named(text, w, v, j)).unwrap_or(0)
 }
 
 fn is_process_named(text: &[u8], w: &[Note], v: &[u8], j: Note) -> bool
@@ -167,14 +148,9 @@ fn is_process_named(text: &[u8], w: &[Note], v: &[u8], j: Note) -> bool
 fn process_named(text: &[u8], w: &[Note], n: Note, v: &[u8]) -> Note
     ensures { Noted text.now w.now n → result ≡ or_none n (seek (λ j. eqb (sort w.now j) process && has_id text.now v.now w.now j) n) }
 {
-    let mut j: Note = 0;
-    while j < n {
-        if is_process_named(text, w, v, j) {
-            return j;
-        }
-        j += 1;
-    }
-    0
+    (0..n)
+        .find(|&j| is_process_named(text, w, v, j))
+        .unwrap_or(0)
 }
 
 fn meant_noted(text: &[u8], w: &[Note], n: Note, k: Note, v: &[u8]) -> Note
@@ -208,12 +184,13 @@ fn named_by(text: &[u8], w: &[Note], noted: bool, n: Note, k: Note, name: &[u8])
     ensures { NotedIf noted text.now w.now n → result ≡ named text.now w.now n k name.now }
 {
     let a = attribute_of(text, w, k, name);
-    let Attribute::Is(from, to) = a else {
+    let Some((from, to)) = a else {
         return 0;
     };
     meant_by(text, w, noted, n, k, local_of(piece(text, from, to)))
 }
 
+#[tactic(auto, unfolding(crate::specs::Links::flow_joined))]
 fn join(text: &[u8], w: &mut [Note], noted: bool, n: Note, k: Note)
     ensures { NotedIf noted text.now w.old n → w.new ≡ flow_joined text.now n k w.old }
 {
@@ -223,6 +200,7 @@ fn join(text: &[u8], w: &mut [Note], noted: bool, n: Note, k: Note)
     set_target(w, k, to);
 }
 
+#[tactic(auto, unfolding(crate::specs::Links::owned))]
 fn own(text: &[u8], w: &mut [Note], noted: bool, n: Note, k: Note)
     ensures { NotedIf noted text.now w.old n → w.new ≡ owned text.now n k w.old }
 {
@@ -237,6 +215,7 @@ fn is_flow(w: &[Note], k: Note) -> bool
     s == SEQUENCE_FLOW || s == MESSAGE_FLOW
 }
 
+#[tactic(auto, using(base_words::proofs::PickLaws::picks), unfolding(crate::specs::Links::linked))]
 fn link(text: &[u8], w: &mut [Note], noted: bool, n: Note, k: Note)
     ensures { NotedIf noted text.now w.old n → w.new ≡ linked text.now n k w.old }
 {
@@ -252,10 +231,8 @@ fn link(text: &[u8], w: &mut [Note], noted: bool, n: Note, k: Note)
 fn link_all(text: &[u8], w: &mut [Note], noted: bool, n: Note)
     ensures { NotedIf noted text.now w.old n → w.new ≡ links text.now n w.old }
 {
-    let mut k: Note = 0;
-    while k < n {
+    for k in 0..n {
         link(text, w, noted, n, k);
-        k += 1;
     }
 }
 

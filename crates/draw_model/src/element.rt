@@ -222,9 +222,7 @@ pub fn element_drawn(text: &[u8], w: &[Note], n: Note, k: Note, x: &mut [Word; E
     ensures { x.new ≡ element_drawn text.now w.now n k }
 {
     put_head(w, n, k, x);
-    let mut j: Note = 0;
-    while j < n {
+    for j in 0..n {
         put_flow(text, w, n, k, j, x);
-        j += 1;
     }
 }

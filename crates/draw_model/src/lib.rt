@@ -48,10 +48,8 @@ fn keep_elements(fills: bool, text: &[u8], w: &[Note], n: Note, p: Note, i: Word
     ensures { v.new ≡ kept_all (kept_element fills i) 0 (elements_of text.now w.now n p) v.old }
 {
     let mut count: Word = 0;
-    let mut k: Note = 0;
-    while k < n {
+    for k in 0..n {
         count = keep_next(fills, text, w, n, p, k, i, count, v);
-        k += 1;
     }
 }
 
@@ -147,9 +145,7 @@ pub fn keep_content(fills: bool, text: &[u8], w: &[Note], n: Note, v: &mut [Word
 {
     let owned = has_participants(w, n);
     let mut i: Word = 0;
-    let mut k: Note = 0;
-    while k < n {
+    for k in 0..n {
         i = keep_next_pool(fills, owned, text, w, n, k, i, v);
-        k += 1;
     }
 }

@@ -1,9 +1,6 @@
 -- The value of a word, where it says one. Assumes nothing.
 use mathlib.Core.Path.{◌≡◌, sym}
-use mathlib.Core.List.{[], ◌∷◌}
 use Prim.Native.Nat.{ℕ}
-use denote.Enum.Declared.{tag_of}
-use Rattle.text_numerals.specs.contracts.Number.{the_type as number-type}
 use Rattle.text_numerals.specs.declared.Number.{Number}
 use Rattle.text_numerals.specs.declared.Number.TheVariants.{Value}
 use Rattle.text_numerals.specs.Numerals.{if_value}

@@ -1,5 +1,5 @@
 -- NUMBERS, "from the lowest allowed, as they stand" (R26): by how many stand before. w is the things of a drawing, n their count, p a process, k a thing. (RULES: numbering)
-use Rattle.std.specs.Prelude.{ℕ, Bool, not, ◌&&◌, ◌||◌, List, eqb, leb, ltb}
+use Rattle.std.specs.Prelude.{ℕ, Bool, not, ◌&&◌, ◌||◌, eqb, leb, ltb}
 use Rattle.base_words.specs.Blocks.{Bytes, Drawing}
 use Rattle.base_words.specs.Pick.{if◌then◌or_else◌}
 use Rattle.base_words.specs.Sum.{sum, one_if}

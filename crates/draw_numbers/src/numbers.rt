@@ -1,6 +1,5 @@
 // The numbers that things of a drawing have: by how many stand before.
-ghost use Rattle.std.specs.Prelude.{◌≡◌, ◌&&◌, ◌≤◌, ltb};
-ghost use Rattle.base_words.specs.Sum.{one_if};
+ghost use Rattle.std.specs.Prelude.{◌≡◌, ◌&&◌, ltb};
 ghost use Rattle.text_numerals.specs.Numerals.{number_of, if_value};
 ghost use Rattle.draw_things.specs.Things.{source};
 ghost use Rattle.base_kinds.specs.Kinds.{event_based};
@@ -18,7 +17,6 @@ use draw_things::things::{
     sort_of, source_of, within_of,
 };
 use text_numerals::{Number, number_of};
-use xml_markup::Attribute;
 
 // What is counted.
 pub const AN_ELEMENT: Word = 0;
@@ -28,18 +26,20 @@ pub const A_TASK: Word = 1;
 pub const AN_EDGE: Word = 2;
 
 // Whether thing j is an element of process p.
+#[tactic(auto, unfolding(crate::specs::Numbers::is_element))]
 pub fn is_element(p: Note, w: &[Note], j: Note) -> bool
     ensures { result ≡ is_element p w.now j }
 {
-    is_node_at(w, j) && (within_of(w, j) == p && kind_of_thing(w, j) != BRANCH)
+    is_node_at(w, j) && within_of(w, j) == p && kind_of_thing(w, j) != BRANCH
 }
 
 // Whether thing j is a task of process p.
+#[tactic(auto, unfolding(crate::specs::Numbers::is_task))]
 pub fn is_task(p: Note, w: &[Note], j: Note) -> bool
     ensures { result ≡ is_task p w.now j }
 {
     let s = sort_of(w, j);
-    TASK <= s && (s <= RECEIVE_TASK && within_of(w, j) == p)
+    TASK <= s && s <= RECEIVE_TASK && within_of(w, j) == p
 }
 
 fn leaves_events(w: &[Note], j: Note) -> bool
@@ -48,13 +48,15 @@ fn leaves_events(w: &[Note], j: Note) -> bool
     is_of_kind(EVENT_BASED, w, source_of(w, j))
 }
 
+#[tactic(auto, unfolding(crate::specs::Numbers::is_edge))]
 fn is_edge(p: Note, w: &[Note], j: Note) -> bool
     ensures { result ≡ is_edge p w.now j }
 {
-    of_sort(SEQUENCE_FLOW, w, j) && (within_of(w, j) == p && !leaves_events(w, j))
+    of_sort(SEQUENCE_FLOW, w, j) && within_of(w, j) == p && !leaves_events(w, j)
 }
 
 // Whether thing j is a start of process p.
+#[tactic(auto, unfolding(crate::specs::Numbers::is_start))]
 pub fn is_start(p: Note, w: &[Note], j: Note) -> bool
     ensures { result ≡ is_start p w.now j }
 {
@@ -62,6 +64,7 @@ pub fn is_start(p: Note, w: &[Note], j: Note) -> bool
 }
 
 // Whether thing j is one of those that are counted, in process p.
+#[tactic(auto, using(base_words::proofs::PickLaws::picks), unfolding(crate::specs::Numbers::is_of))]
 pub fn is_of(class: Word, p: Note, w: &[Note], j: Note) -> bool
     ensures { result ≡ is_of class p w.now j }
 {
@@ -74,23 +77,11 @@ pub fn is_of(class: Word, p: Note, w: &[Note], j: Note) -> bool
     is_edge(p, w, j)
 }
 
-fn one_of(class: Word, p: Note, w: &[Note], j: Note) -> Word
-    ensures { (result ≡ one_if (is_of class p w.now j)) × (result ≤ 1) }
-{
-    if is_of(class, p, w, j) { 1 } else { 0 }
-}
-
 // How many of those that are counted stand before thing k.
 pub fn count_of(class: Word, p: Note, w: &[Note], k: Note) -> Word
     ensures { result ≡ count_before (is_of class p w.now) k }
 {
-    let mut count: Word = 0;
-    let mut j: Note = 0;
-    while j < k {
-        count += one_of(class, p, w, j);
-        j += 1;
-    }
-    count
+    (0..k).filter(|&j| is_of(class, p, w, j)).count() as Word
 }
 
 fn starts_before(p: Note, k: Note, w: &[Note], j: Note) -> bool
@@ -99,50 +90,28 @@ fn starts_before(p: Note, k: Note, w: &[Note], j: Note) -> bool
     is_start(p, w, j) && j < k
 }
 
+#[tactic(auto, unfolding(crate::specs::Numbers::is_before_first))]
 fn is_before_first(p: Note, k: Note, w: &[Note], j: Note) -> bool
     ensures { result ≡ is_before_first p k w.now j }
 {
     is_edge(p, w, j) || starts_before(p, k, w, j)
 }
 
-fn one_before_first(p: Note, k: Note, w: &[Note], j: Note) -> Word
-    ensures { (result ≡ one_if (is_before_first p k w.now j)) × (result ≤ 1) }
-{
-    if is_before_first(p, k, w, j) { 1 } else { 0 }
-}
-
 fn count_before_first(p: Note, k: Note, w: &[Note], n: Note) -> Word
     ensures { result ≡ count_before (is_before_first p k w.now) n }
 {
-    let mut count: Word = 0;
-    let mut j: Note = 0;
-    while j < n {
-        count += one_before_first(p, k, w, j);
-        j += 1;
-    }
-    count
-}
-
-fn one_pool(owned: bool, w: &[Note], j: Note) -> Word
-    ensures { (result ≡ one_if (is_pool owned w.now j)) × (result ≤ 1) }
-{
-    if is_pool(owned, w, j) { 1 } else { 0 }
+    (0..n).filter(|&j| is_before_first(p, k, w, j)).count() as Word
 }
 
 // How many pools stand before thing k.
 pub fn count_pools(owned: bool, w: &[Note], k: Note) -> Word
     ensures { result ≡ count_before (is_pool owned w.now) k }
 {
-    let mut count: Word = 0;
-    let mut j: Note = 0;
-    while j < k {
-        count += one_pool(owned, w, j);
-        j += 1;
-    }
-    count
+    (0..k).filter(|&j| is_pool(owned, w, j)).count() as Word
 }
 
 // The number of task k.
+#[tactic(auto, unfolding(crate::specs::Numbers::task_of))]
 pub fn task_of(w: &[Note], k: Note) -> Word
     ensures { result ≡ task_of w.now k }
 {
@@ -150,6 +119,7 @@ pub fn task_of(w: &[Note], k: Note) -> Word
 }
 
 // The number of the edge that flow k is.
+#[tactic(auto, unfolding(crate::specs::Numbers::edge_of))]
 pub fn edge_of(w: &[Note], k: Note) -> Word
     ensures { result ≡ edge_of w.now k }
 {
@@ -157,6 +127,7 @@ pub fn edge_of(w: &[Note], k: Note) -> Word
 }
 
 // The number of the first edge of start k.
+#[tactic(auto, unfolding(crate::specs::Numbers::first_edge_of))]
 pub fn first_edge_of(w: &[Note], n: Note, k: Note) -> Word
     ensures { result ≡ first_edge_of w.now n k }
 {
@@ -164,6 +135,7 @@ pub fn first_edge_of(w: &[Note], n: Note, k: Note) -> Word
 }
 
 // The name of the message that flow k is.
+#[tactic(auto, unfolding(crate::specs::Numbers::message_of))]
 pub fn message_of(w: &[Note], k: Note) -> Word
     ensures { result ≡ message_of w.now k }
 {
@@ -185,13 +157,14 @@ pub fn maximum_of(text: &[u8], w: &[Note], k: Note) -> Word
     ensures { result ≡ maximum_of text.now w.now k }
 {
     let a = attribute_of(text, w, k, b"maximum");
-    let Attribute::Is(from, to) = a else {
+    let Some((from, to)) = a else {
         return 1;
     };
     value_of(piece(text, from, to))
 }
 
 // The default flow of split k.
+#[tactic(auto, unfolding(crate::specs::Numbers::default_of))]
 pub fn default_of(text: &[u8], w: &[Note], n: Note, k: Note) -> Note
     ensures { result ≡ default_of text.now w.now n k }
 {

@@ -9,6 +9,7 @@ use draw_links::is_node_at;
 use draw_things::things::{BRANCH, Note, PARTICIPANT, PROCESS, kind_of_thing, source_of};
 
 // Whether thing j is a node of a kind.
+#[tactic(auto, unfolding(crate::specs::Who::is_of_kind))]
 pub fn is_of_kind(c: Word, w: &[Note], j: Note) -> bool
     ensures { result ≡ is_of_kind c w.now j }
 {
@@ -16,34 +17,29 @@ pub fn is_of_kind(c: Word, w: &[Note], j: Note) -> bool
 }
 
 // Whether thing k is an exclusive split.
+#[tactic(auto, unfolding(crate::specs::Who::is_split))]
 pub fn is_split(w: &[Note], k: Note) -> bool
     ensures { result ≡ is_split w.now k }
 {
     is_of_kind(XOR_SPLIT, w, k)
 }
 
+#[tactic(auto, unfolding(crate::specs::Who::sends))]
 fn sends(c: Word) -> bool
     ensures { result ≡ sends c }
 {
-    if c == TASK_SND {
-        return true;
-    }
-    c == INTER_SND || c == END_SND
+    c == TASK_SND || c == INTER_SND || c == END_SND
 }
 
+#[tactic(auto, unfolding(crate::specs::Who::receives))]
 fn receives(c: Word) -> bool
     ensures { result ≡ receives c }
 {
-    if c == TASK_RCV {
-        return true;
-    }
-    if c == START_RCV {
-        return true;
-    }
-    c == INTER_RCV || c == BRANCH
+    c == TASK_RCV || c == START_RCV || c == INTER_RCV || c == BRANCH
 }
 
 // Whether thing j sends a message.
+#[tactic(auto, unfolding(crate::specs::Who::is_sender))]
 pub fn is_sender(w: &[Note], j: Note) -> bool
     ensures { result ≡ is_sender w.now j }
 {
@@ -51,6 +47,7 @@ pub fn is_sender(w: &[Note], j: Note) -> bool
 }
 
 // Whether thing j receives a message.
+#[tactic(auto, unfolding(crate::specs::Who::is_receiver))]
 pub fn is_receiver(w: &[Note], j: Note) -> bool
     ensures { result ≡ is_receiver w.now j }
 {
@@ -61,36 +58,24 @@ pub fn is_receiver(w: &[Note], j: Note) -> bool
 pub fn has_participants(w: &[Note], n: Note) -> bool
     ensures { result ≡ has_participants w.now n }
 {
-    let mut j: Note = 0;
-    while j < n {
-        if of_sort(PARTICIPANT, w, j) {
-            return true;
-        }
-        j += 1;
-    }
-    false
+    (0..n).any(|j| of_sort(PARTICIPANT, w, j))
 }
 
 // Whether thing k is a pool: a participant with a process or, where there are no participants, a process.
+#[tactic(auto, using(base_words::proofs::PickLaws::picks), unfolding(crate::specs::Who::is_pool))]
 pub fn is_pool(owned: bool, w: &[Note], k: Note) -> bool
     ensures { result ≡ is_pool owned w.now k }
 {
     if owned {
-        return of_sort(PARTICIPANT, w, k) && source_of(w, k) != 0;
+        of_sort(PARTICIPANT, w, k) && source_of(w, k) != 0
+    } else {
+        of_sort(PROCESS, w, k)
     }
-    of_sort(PROCESS, w, k)
 }
 
 // Whether there is a pool.
 pub fn has_pool(owned: bool, w: &[Note], n: Note) -> bool
     ensures { result ≡ has_pool owned w.now n }
 {
-    let mut j: Note = 0;
-    while j < n {
-        if is_pool(owned, w, j) {
-            return true;
-        }
-        j += 1;
-    }
-    false
+    (0..n).any(|j| is_pool(owned, w, j))
 }

@@ -1,4 +1,6 @@
 -- The ways out of reading a drawing. Assumes nothing.
+use Rattle.xml_skip.specs.Skipping.{Reached, fault_at}
+use Rattle.std.specs.Prelude.{Ok, Err}
 use Prim.Native.Nat.{ℕ, ◌≤◌, ◌<◌}
 use mathlib.Core.Path.{◌≡◌, refl, sym, ◌∙◌, ap, ap₂, subst}
 use mathlib.Core.Bool.{Bool, true, false, not, false≢true}
@@ -23,8 +25,6 @@ use Rattle.text_rewrite.specs.InTable.{rewritten_in}
 use Rattle.text_rewrite.proofs.TableLaws.{table_rewritten}
 use Rattle.text_read.specs.declared.Reading.{Reading}
 use Rattle.text_read.specs.Notation.{ReadInto, table_of, rewritten, has_room, answer_for}
-use Rattle.xml_skip.specs.declared.Reached.{Reached}
-use Rattle.xml_skip.specs.declared.Reached.TheVariants.{Past, Fault}
 use Rattle.draw_things.specs.Things.{room, block_words, place}
 use Rattle.draw_walk.specs.Walk.{Walk, walk, walk_told}
 use Rattle.draw_walk.specs.declared.Walked.{Walked}
@@ -107,15 +107,15 @@ module _ (text t : List ℕ) where
     unfolding walked_text
     walk_met = met
 
-    pub walk_stopped : (q : ℕ) (a : Reading) → r.end ≡ Fault q → a ≡ answer not_xml q → with_table a t ≡ draw_into text t
+    pub walk_stopped : (q : ℕ) (a : Reading) → r.end ≡ fault_at q → a ≡ answer not_xml q → with_table a t ≡ draw_into text t
     unfolding draw_into answered unless_fault walk_told filled_by if◌then◌or_else◌
     walk_stopped q a f e = rw (← walk_met, le-ltb drawing_most (length text) short, f, e) refl
 
-    pub walk_done : (q : ℕ) (w : List ℕ) (u : ReadInto) → r.end ≡ Past q → w ≡ settled_by text n v → u ≡ filled_by (meant_by text w n) (content text w n) t → u ≡ draw_into text t
+    pub walk_done : (q : ℕ) (w : List ℕ) (u : ReadInto) → r.end ≡ Ok q → w ≡ settled_by text n v → u ≡ filled_by (meant_by text w n) (content text w n) t → u ≡ draw_into text t
     unfolding draw_into answered unless_fault walk_told things_of if◌then◌or_else◌
     walk_done q w u f s e = rw (← walk_met, le-ltb drawing_most (length text) short, f, ← s) e
 
-    pub walk_amiss : (q : ℕ) (a : Reading) → r.end ≡ Past q → is_drawing text (settled_by text n v) n ≡ false → a ≡ answer not_run 0 → with_table a t ≡ draw_into text t
+    pub walk_amiss : (q : ℕ) (a : Reading) → r.end ≡ Ok q → is_drawing text (settled_by text n v) n ≡ false → a ≡ answer not_run 0 → with_table a t ≡ draw_into text t
     unfolding draw_into answered unless_fault walk_told things_of meant_by filled_by if◌then◌or_else◌
     walk_amiss q a f d e = rw (← walk_met, le-ltb drawing_most (length text) short, f, d, e) refl
 
@@ -134,15 +134,20 @@ settled_right text w u x n e h f = f ∙ kinds_all n u h ∙ ap (roles n) e
 
 -- an end that is past, or at fault
 is_past : Reached → Bool
-is_past (Past z) = true
-is_past (Fault z) = false
+is_past (Ok z) = true
+is_past (Err z) = false
 
-pub not_stopped : {P : Type 0} (e : Reached) (p q : ℕ) → e ≡ Past p → e ≡ Fault q → P
+pub not_stopped : {P : Type 0} (e : Reached) (p q : ℕ) → e ≡ Ok p → e ≡ fault_at q → P
 unfolding is_past
 not_stopped e p q f g = absurd (false≢true (sym (ap is_past g) ∙ ap is_past f))
 
-pub stopped_there : (e : Reached) (p q : ℕ) (a : Reading) → e ≡ Fault p → a ≡ answer not_xml p → e ≡ Fault q → a ≡ answer not_xml q
-stopped_there e p q a f h g = cc
+fault_place : Reached → ℕ
+fault_place (Ok z) = 0
+fault_place (Err f) = f.place
+
+pub stopped_there : (e : Reached) (p q : ℕ) (a : Reading) → e ≡ fault_at p → a ≡ answer not_xml p → e ≡ fault_at q → a ≡ answer not_xml q
+unfolding fault_place
+stopped_there e p q a f h g = h ∙ ap (answer not_xml) (ap fault_place (sym f ∙ g))
 
 -- a test and what it tells
 pub was_not : (r b : Bool) → r ≡ b → not r ≡ true → not b ≡ true

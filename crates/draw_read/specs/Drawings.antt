@@ -1,6 +1,7 @@
 -- A DRAWING READ into a lent table t. "Refusals: 1 above 65,536 bytes; 20 not the XML named here or nested deeper, with its place; 21 ..; then 3 and 4 as they are", and 28 after 4: a message end event is an endSnd of the same content (wish 11). "By class, not by position: a 20 at the
 -- end of the text goes before a 21 at its start; 21 before 3; 3 before 4" (R1). (RULES: drawings)
-use Rattle.std.specs.Prelude.{ℕ, not, List, map, eqb, ltb, length, replicate}
+use Rattle.xml_skip.specs.Skipping.{Reached}
+use Rattle.std.specs.Prelude.{ℕ, not, List, map, eqb, ltb, length, replicate, Ok, Err}
 use Rattle.base_words.specs.Blocks.{Bytes, Table, Drawing}
 use Rattle.base_words.specs.Each.{each}
 use Rattle.base_words.specs.Pick.{if◌then◌or_else◌}
@@ -8,8 +9,6 @@ use Rattle.check_model.specs.Checks.{Pool, lowest}
 use Rattle.text_readers.specs.Reading.{excessive}
 use Rattle.text_read.specs.declared.Reading.{Reading}
 use Rattle.text_read.specs.Notation.{ReadInto, table_of, rewritten, has_room, answer_for}
-use Rattle.xml_skip.specs.declared.Reached.{Reached}
-use Rattle.xml_skip.specs.declared.Reached.TheVariants.{Past, Fault}
 use Rattle.draw_things.specs.Things.{block_words}
 use Rattle.draw_walk.specs.Walk.{Walk, walk}
 use Rattle.draw_links.specs.Links.{links}
@@ -59,8 +58,8 @@ things_of text = settled_by text (walked_text text).count (walked_text text).wor
 
 -- 20 where the walk stops
 unfoldable pub unless_fault : Reached → Reading → Reading
-unless_fault (Past q) a = a
-unless_fault (Fault q) a = answer not_xml q
+unless_fault (Ok q) a = a
+unless_fault (Err q) a = answer not_xml q.place
 
 unfoldable pub answered : Bytes → Reading
 answered text =

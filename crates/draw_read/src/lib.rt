@@ -7,7 +7,7 @@ ghost use Rattle.text_read.specs.Notation.{table_of, rewritten, has_room};
 ghost use Rattle.draw_model.specs.Content.{content};
 ghost use Rattle.draw_faults.specs.Amiss.{is_drawing};
 ghost use Rattle.draw_limits.specs.Excess.{first_beyond};
-ghost use Rattle.xml_skip.specs.declared.Reached.TheVariants.{Fault};
+ghost use Rattle.xml_skip.specs.Skipping.{fault_at};
 ghost use Rattle.draw_read.specs.Drawings.{not_xml, answer, checked_as, meant_by, settled_by, filled_by, draw_into};
 
 use base_table::places::TABLE_WORDS;
@@ -23,7 +23,7 @@ use draw_walk::walk;
 use text_ends::JUDGED_WORDS;
 use text_read::{Reading, answer_for};
 use text_rewrite::rewrite;
-use xml_skip::Reached;
+use xml_skip::Fault;
 
 // Bytes of a drawing.
 pub const DRAWING_MOST: usize = 65536;
@@ -91,12 +91,12 @@ fn settle(text: &[u8], w: &mut [Note], n: Note) -> bool
     settle_kinds(w, n)
 }
 
-fn stopped(end: Reached) -> Reading
-    ensures { (q : ℕ) → end ≡ Fault q → result ≡ answer not_xml q }
+fn stopped(end: Result<usize, Fault>) -> Reading
+    ensures { (q : ℕ) → end ≡ fault_at q → result ≡ answer not_xml q }
 {
     match end {
-        Reached::Past(_) => answer(ACCEPTED, 0),
-        Reached::Fault(q) => answer(NOT_XML, q),
+        Ok(_) => answer(ACCEPTED, 0),
+        Err(f) => answer(NOT_XML, f.place),
     }
 }
 
@@ -111,7 +111,7 @@ pub fn draw_into(text: &[u8], t: &mut [Word; TABLE_WORDS]) -> Reading
     let met = walk(text, &mut w);
     let n = met.count;
     let end = met.end;
-    let Reached::Past(_) = end else {
+    let Ok(_) = end else {
         return stopped(end);
     };
     if !settle(text, &mut w, n) {

@@ -1,18 +1,14 @@
 -- The attributes of a tag, byte by byte, as the loop goes. Assumes nothing.
+use Rattle.std.specs.Prelude.{Option, Some, None}
 use mathlib.Core.Path.{◌≡◌, ◌∙◌, refl, sym}
 use mathlib.Core.Bool.{Bool, true, false}
-use mathlib.Core.List.{List, [], ◌∷◌}
+use mathlib.Core.List.{List}
 use Prim.Native.Nat.{ℕ, ◌+◌, ◌<◌, ◌≤◌}
 use native.Mathlib.Numerals.{add-one}
-use lib.ListN.{length, drop, take, drop_of_length-le}
+use lib.ListN.{length, drop, drop_of_length-le}
 use lib.Seq.{drop-cons}
-use denote.Enum.Declared.{tag_of}
 use Rattle.base_words.specs.Pick.{if◌then◌or_else◌}
 use Rattle.base_words.specs.Words.{at, part}
-use Rattle.xml_markup.specs.contracts.Scan.{the_type as scan-type}
-use Rattle.xml_markup.specs.contracts.Whole.{the_type as whole-type}
-use Rattle.xml_markup.specs.declared.Attribute.{Attribute as AnAttribute}
-use Rattle.xml_markup.specs.declared.Attribute.TheVariants.{Is, Absent}
 use Rattle.xml_markup.specs.declared.Cursor.{Cursor}
 use Rattle.xml_markup.specs.declared.Scan.{Scan}
 use Rattle.xml_markup.specs.declared.Scan.TheVariants.{On}
@@ -24,11 +20,11 @@ use Rattle.xml_markup.proofs.LeapLaws.{leads_to}
 use Rattle.xml_markup.proofs.TokenLaws.{is_attribute, not_attribute, not_on}
 use Rattle.draw_things.specs.Names.{differs, value_bytes, value_behind, differs_at, differs_from}
 
-pub value_is : (t : List ℕ) (a : AnAttribute) (from to : ℕ) → a ≡ Is from to → (v : List ℕ) → v ≡ part t from to → v ≡ value_bytes t a
+pub value_is : (t : List ℕ) (a : Option (ℕ × ℕ)) (from to : ℕ) → a ≡ Some (from, to) → (v : List ℕ) → v ≡ part t from to → v ≡ value_bytes t a
 unfolding value_bytes
 value_is t a from to e v ev = rw e ev
 
-pub value_absent : (t : List ℕ) (a : AnAttribute) → a ≡ Absent → (v : List ℕ) → v ≡ part t 0 0 → v ≡ value_bytes t a
+pub value_absent : (t : List ℕ) (a : Option (ℕ × ℕ)) → a ≡ None → (v : List ℕ) → v ≡ part t 0 0 → v ≡ value_bytes t a
 unfolding value_bytes
 value_absent t a e v ev = rw e ev
 

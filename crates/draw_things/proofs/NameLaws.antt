@@ -1,15 +1,15 @@
 -- The table of names as the code has it, and the search of it. Assumes nothing.
 use mathlib.Core.Path.{◌≡◌, ◌∙◌, refl, sym, ap}
 use mathlib.Core.Bool.{Bool, true, false}
-use mathlib.Core.List.{List, [], ◌∷◌, ◌++◌, map}
+use mathlib.Core.List.{List, ◌∷◌, map}
 use Prim.Native.Nat.{ℕ, ◌+◌, ◌-◌, ◌<◌, ◌≤◌}
 use native.Mathlib.Numerals.{add-one}
 use native.Mathlib.Omega.{arith}
-use lib.ListN.{length, get_or, take, drop, replicate, length-map, get_or-map, get_or-eq_default, drop_of_length-le}
+use lib.ListN.{length, get_or, drop, replicate, length-map, get_or-map, get_or-eq_default, drop_of_length-le}
 use lib.Seq.{drop-cons, take_at}
 use Rattle.base_words.specs.Pick.{if◌then◌or_else◌}
-use Rattle.base_words.specs.Words.{at, part}
-use Rattle.base_words.proofs.ListLaws.{get_d_in}
+use Rattle.base_words.specs.Words.{part}
+use Rattle.std.proofs.lemmas.List.{get_or_default}
 use Rattle.base_bytes.specs.Bytes.{same_bytes}
 use Rattle.base_bytes.proofs.SameLaws.{same_lengths}
 use Rattle.draw_things.specs.Things.{stranger}
@@ -21,7 +21,7 @@ rows_many = refl
 
 column_in : {A : Type 0} (f : Row → A) (i : ℕ) (d : A) → i < row_count → get_or (map f rows) i d ≡ f (row_of i)
 unfolding row_of
-column_in f i d h = get_d_in (map f rows) i d (f unknown) (rw (length-map, rows_many) h) ∙ get_or-map f rows i unknown
+column_in f i d h = get_or_default (map f rows) i d (f unknown) (rw (length-map, rows_many) h) ∙ get_or-map f rows i unknown
 
 column_at : {A : Type 0} (f : Row → A) (i : ℕ) → get_or (map f rows) i (f unknown) ≡ f (row_of i)
 unfolding row_of

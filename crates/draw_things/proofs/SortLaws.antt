@@ -1,9 +1,8 @@
 -- The sort of an element, by what the calls gave. Assumes nothing.
-use mathlib.Core.Path.{◌≡◌, ◌∙◌, sym}
-use mathlib.Core.Bool.{Bool, true, false, not}
+use mathlib.Core.Path.{◌≡◌}
+use mathlib.Core.Bool.{Bool, true, false}
 use mathlib.Core.List.{List}
 use Prim.Native.Nat.{ℕ}
-use lib.Dec.{eqb}
 use borrow.Author.Tests.{eq-eqb, ne_eqb}
 use Rattle.base_words.specs.Pick.{if◌then◌or_else◌}
 use Rattle.xml_markup.specs.Spans.{name_at, bytes_of, local_of}

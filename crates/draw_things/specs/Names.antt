@@ -1,13 +1,11 @@
 -- WHICH ELEMENT IS WHICH THING. "A child that is none of these here and is not in R13 is 'an element we don't run'. So an unknown name is refused, never passed over" (R12). (RULES: drawn)
-use Rattle.std.specs.Prelude.{ℕ, ◌+◌, ◌-◌, Bool, true, false, not, ◌&&◌, List, [], ◌∷◌, ◌++◌, map, eqb, leb, length, get_or, drop, replicate}
+use Rattle.std.specs.Prelude.{ℕ, ◌+◌, ◌-◌, Bool, true, false, not, ◌&&◌, List, [], ◌∷◌, ◌++◌, map, eqb, leb, length, get_or, drop, replicate, Option, Some, None}
 use Prim.Native.String.{String}
 use Rattle.base_words.specs.Blocks.{Bytes}
 use Rattle.base_words.specs.Pick.{if◌then◌or_else◌}
 use Rattle.base_words.specs.Text.{bytes}
 use Rattle.base_words.specs.Words.{at, part}
 use Rattle.base_bytes.specs.Bytes.{same_bytes}
-use Rattle.xml_markup.specs.declared.Attribute.{Attribute}
-use Rattle.xml_markup.specs.declared.Attribute.TheVariants.{Is, Absent}
 use Rattle.xml_markup.specs.declared.Cursor.{Cursor}
 use Rattle.xml_markup.specs.Tokens.{whole, moved, if_on, if_attribute, begun}
 use Rattle.xml_markup.specs.Spans.{name_at, bytes_of, local_of, quote_at, value_at}
@@ -105,9 +103,9 @@ differs name value =
     or_else if same_bytes name (bytes "eventGatewayType") then not (same_bytes value (bytes "Exclusive"))
     or_else false
 
-unfoldable pub value_bytes : Bytes → Attribute → Bytes
-value_bytes t (Is from to) = part t from to
-value_bytes t Absent = []
+unfoldable pub value_bytes : Bytes → Option (ℕ × ℕ) → Bytes
+value_bytes t (Some (from, to)) = part t from to
+value_bytes t None = []
 
 -- the value of the attribute whose name ends at i
 unfoldable pub value_behind : Bytes → ℕ → Bytes

@@ -1,5 +1,5 @@
 -- The things of a drawing, in the order in which they stand: a block of notes, five for each. Thing 0 is the root, so 0 is none where another thing is named.
-use Rattle.std.specs.Prelude.{ℕ, ◌+◌, ◌*◌, Bool, ◌&&◌, List, leb, ltb, set}
+use Rattle.std.specs.Prelude.{ℕ, ◌+◌, ◌*◌, Bool, ◌&&◌, leb, ltb, set}
 use Rattle.base_words.specs.Blocks.{Drawing}
 use Rattle.base_words.specs.Pick.{if◌then◌or_else◌}
 use Rattle.base_words.specs.Words.{at}

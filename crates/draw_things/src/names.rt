@@ -9,7 +9,7 @@ use base_bytes::{byte, piece, same};
 use xml_markup::leaping::{leap, leap_begin};
 use xml_markup::spans::{bytes_of, local_of, name_at, quote_at, value_at};
 use xml_markup::tokens::{moved, whole};
-use xml_markup::{Attribute, Cursor, Scan, Whole};
+use xml_markup::{Cursor, Scan, Whole};
 
 // The letters of the longest name, and the names that are told.
 const LETTERS: usize = 24;
@@ -121,14 +121,12 @@ fn is_row(name: &[u8], i: usize) -> bool
 fn row_named(name: &[u8]) -> usize
     ensures { result ≡ row_named name.now }
 {
-    let mut i = 0;
-    while i < ROWS {
+    for i in 0..ROWS {
         if is_row(name, i) {
             return i;
         }
-        i += 1;
     }
-    i
+    ROWS
 }
 
 fn row_sort(i: usize) -> Note
@@ -168,6 +166,7 @@ fn is_one(name: &[u8]) -> bool
 }
 
 // Whether an attribute has another value than the one that it may have.
+#[tactic(auto, using(base_words::proofs::PickLaws::picks), unfolding(crate::specs::Names::differs))]
 fn differs(name: &[u8], value: &[u8]) -> bool
     ensures { result ≡ differs name.now value.now }
 {
@@ -183,15 +182,16 @@ fn differs(name: &[u8], value: &[u8]) -> bool
     false
 }
 
-fn value_bytes(text: &[u8], a: Attribute) -> &[u8]
+fn value_bytes(text: &[u8], a: Option<(usize, usize)>) -> &[u8]
     ensures { result.now ≡ value_bytes text.now a }
 {
     match a {
-        Attribute::Is(from, to) => piece(text, from, to),
-        Attribute::Absent => piece(text, 0, 0),
+        Some((from, to)) => piece(text, from, to),
+        None => piece(text, 0, 0),
     }
 }
 
+#[tactic(auto, unfolding(crate::specs::Names::value_behind))]
 fn value_behind(text: &[u8], i: usize) -> &[u8]
     ensures { result.now ≡ value_behind text.now i }
 {
@@ -216,6 +216,7 @@ fn draws_another(text: &[u8], p: usize) -> bool
     let b = leap_begin(text, p);
     let mut c = b.cursor;
     let mut i = b.place;
+    // Stays a while: bytes that change nothing are leapt over.
     while i < text.len() {
         if differs_at(text, c, i) {
             return true;
@@ -225,19 +226,20 @@ fn draws_another(text: &[u8], p: usize) -> bool
             return false;
         };
         let l = leap(next, text, i + 1);
-        let d = l.cursor;
-        c = d;
+        c = l.cursor;
         i = l.place;
     }
     false
 }
 
+#[tactic(auto, unfolding(crate::specs::Names::is_event))]
 fn is_event(s: Note) -> bool
     ensures { result ≡ is_event s }
 {
     START_EVENT <= s && s <= INTERMEDIATE_THROW_EVENT
 }
 
+#[tactic(auto, using(base_words::proofs::PickLaws::picks), unfolding(crate::specs::Names::family))]
 fn family(s: Note) -> Note
     ensures { result ≡ family s }
 {

@@ -80,7 +80,7 @@ const TARGET: usize = 4;
 pub fn note_at(w: &[Note], i: usize) -> Note
     ensures { result ≡ at w.now i }
 {
-    if i < w.len() { w[i] } else { 0 }
+    w.get(i).copied().unwrap_or(0)
 }
 
 fn put(w: &mut [Note], i: usize, v: Note)
@@ -139,6 +139,7 @@ pub fn set_target(w: &mut [Note], k: Note, v: Note)
     put(w, THING_WORDS * (k as usize) + TARGET, v);
 }
 
+#[tactic(auto, unfolding(crate::specs::Things::is_node))]
 pub fn is_node(s: Note) -> bool
     ensures { result ≡ is_node s }
 {
@@ -146,28 +147,23 @@ pub fn is_node(s: Note) -> bool
 }
 
 // A place as a note.
+#[tactic(auto, using(base_words::proofs::PickLaws::picks), unfolding(crate::specs::Things::narrow))]
 fn narrow(p: usize) -> Note
     ensures { result ≡ narrow p }
 {
-    if p < GREATEST_NOTE as usize {
-        p as Note
-    } else {
-        GREATEST_NOTE
-    }
+    p.min(GREATEST_NOTE as usize) as Note
 }
 
 // One more; the greatest note stays.
+#[tactic(auto, using(base_words::proofs::PickLaws::picks), unfolding(crate::specs::Things::one_more))]
 pub fn one_more(n: Note) -> Note
     ensures { result ≡ one_more n }
 {
-    if n < GREATEST_NOTE {
-        n + 1
-    } else {
-        GREATEST_NOTE
-    }
+    n.saturating_add(1)
 }
 
 // The number behind n; the greatest one stays.
+#[tactic(auto, using(base_words::proofs::PickLaws::picks), unfolding(crate::specs::Things::one_more))]
 pub fn next_number(n: Word) -> Word
     ensures { result ≡ one_more n }
 {
@@ -179,6 +175,7 @@ pub fn next_number(n: Word) -> Word
 }
 
 // Thing n: of a sort, at a place, within thing k.
+#[tactic(auto, unfolding(crate::specs::Things::added))]
 pub fn add_thing(sort: Note, p: usize, k: Note, w: &mut [Note], n: Note)
     ensures { w.new ≡ added sort p k w.old n }
 {

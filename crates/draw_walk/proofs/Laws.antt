@@ -1,4 +1,5 @@
 -- The laws of the walk that the proofs cite. Assumes nothing.
+use Rattle.std.specs.Prelude.{Option, Some, None, Ok, Err}
 use mathlib.Core.Path.{◌≡◌, refl, sym, ap, ◌∙◌}
 use mathlib.Core.List.{List}
 use mathlib.Core.Bool.{Bool, true, false}
@@ -11,17 +12,13 @@ use Rattle.base_words.specs.Pick.{if◌then◌or_else◌}
 use Rattle.base_words.specs.Text.{bytes}
 use Rattle.base_words.specs.Words.{part}
 use Rattle.text_numerals.specs.Numerals.{number_of}
-use Rattle.xml_markup.specs.declared.Attribute.{Attribute}
-use Rattle.xml_markup.specs.declared.Attribute.TheVariants.{Is, Absent}
 use Rattle.xml_markup.specs.Markup.{markup}
 use Rattle.xml_markup.specs.Spans.{attribute}
-use Rattle.xml_skip.specs.declared.Reached.{Reached}
-use Rattle.xml_skip.specs.declared.Reached.TheVariants.{Past, Fault}
 use Rattle.xml_skip.specs.declared.Part.{Part}
 use Rattle.xml_skip.specs.declared.Part.TheVariants.{Element, Close, On, Fault as PartFault}
 use Rattle.xml_skip.specs.declared.Tag.{Tag}
 use Rattle.xml_skip.specs.declared.Tag.TheVariants.{Open, Empty, Fault as TagFault}
-use Rattle.xml_skip.specs.Skipping.{part_at, tag_of, skipped}
+use Rattle.xml_skip.specs.Skipping.{part_at, tag_of, skipped, Reached, fault_at}
 use Rattle.xml_skip.proofs.Laws.{Further, Onward, Behind, Within, part_onward, tag_behind, tag_within, skipped_further}
 use Rattle.xml_document.specs.Around.{root_at, last_from}
 use Rattle.draw_things.specs.Things.{definitions}
@@ -32,8 +29,8 @@ use Rattle.draw_walk.specs.Walk.{Walk, walk_told, walked, is_number, judged, mul
 
 -- WHAT IS PASSED IS FURTHER ON
 further_from : (p q : ℕ) (r : Reached) → p < q → Further q r → Further p r
-further_from p q (Past x) h o = omega arith
-further_from p q (Fault x) h o = tt
+further_from p q (Ok x) h o = omega arith
+further_from p q (Err x) h o = tt
 
 further_if : (p : ℕ) (b : Bool) (x y : Reached) → Further p x → Further p y → Further p (if b then x or_else y)
 unfolding if◌then◌or_else◌
@@ -41,10 +38,10 @@ further_if p true x y h k = h
 further_if p false x y h k = k
 
 module _ (t : List ℕ) (p : ℕ) where
-  multiplicity_further : (a : Attribute) → Further p (multiplicity_by a t p)
+  multiplicity_further : (a : Option (ℕ × ℕ)) → Further p (multiplicity_by a t p)
   unfolding multiplicity_by judged
-  multiplicity_further (Is from to) = further_if p (is_number (number_of (part t from to))) (skipped t p) _ (skipped_further t p) (further_if p (leb (markup t p).next to) (skipped t p) (Fault from) (skipped_further t p) tt)
-  multiplicity_further Absent = skipped_further t p
+  multiplicity_further (Some (from, to)) = further_if p (is_number (number_of (part t from to))) (skipped t p) _ (skipped_further t p) (further_if p (leb (markup t p).next to) (skipped t p) (fault_at from) (skipped_further t p) tt)
+  multiplicity_further None = skipped_further t p
 
   passed_further : (s : ℕ) → Further p (passed s t p)
   unfolding passed multiplicity
@@ -63,8 +60,8 @@ entered_by_lem p e (TagFault q) h k = tt
 
 entered_from : (p e : ℕ) (r : Reached) → Further p r → Entered p e (tag_from r)
 unfolding tag_from
-entered_from p e (Past q) h = h
-entered_from p e (Fault q) h = tt
+entered_from p e (Ok q) h = h
+entered_from p e (Err q) h = tt
 
 entered_if : (p e : ℕ) (b : Bool) (x y : Tag) → Entered p e x → Entered p e y → Entered p e (if b then x or_else y)
 unfolding if◌then◌or_else◌
@@ -91,8 +88,8 @@ module _ (C : Content) (on : (o : Outer) (q : ℕ) (w : List ℕ) (n : ℕ) → 
 
   behind_on : (o : Outer) (r : Walk) (e : Reached) → r.end ≡ e → Further p e → Further p (by_end e (λ q. C o q r.words r.count) r).end
   unfolding by_end
-  behind_on o r (Past q) er h = further_from p q (C o q r.words r.count).end h (on o q r.words r.count)
-  behind_on o r (Fault q) er h = rw er tt
+  behind_on o r (Ok q) er h = further_from p q (C o q r.words r.count).end h (on o q r.words r.count)
+  behind_on o r (Err q) er h = rw er tt
 
   by_part_lem : (o : Outer) (g : Part) (r : Walk) → Further p r.end → Onward p g → Further p (by_part g r (C o) w n).end
   unfolding by_part walk_on walk_told
@@ -108,7 +105,7 @@ module _ (C : Content) (on : (o : Outer) (q : ℕ) (w : List ℕ) (n : ℕ) → 
       r : Walk
       r = thing_by C (named_at o.sort t p) (drawn_as (named_at o.sort t p) o.sort t p) t o.thing p w n
 
-      go : (b : Bool) → Further p (if b then walk_told (walked (Fault (length t)) n) w or_else by_part (part_at t o.tag p) r (C o) w n).end
+      go : (b : Bool) → Further p (if b then walk_told (walked (fault_at (length t)) n) w or_else by_part (part_at t o.tag p) r (C o) w n).end
       go true = unfold if◌then◌or_else◌ walk_told in tt
       go false = unfold if◌then◌or_else◌ in by_part_lem o (part_at t o.tag p) r (thing_on (named_at o.sort t p) (drawn_as (named_at o.sort t p) o.sort t p) o.thing) (part_onward t o.tag p)
 
@@ -131,8 +128,8 @@ module _ (C D : Content) (on : (o : Outer) (q : ℕ) (w : List ℕ) (n : ℕ) �
 
   behind_same : (o : Outer) (r : Walk) (e : Reached) → Further p e → by_end e (λ q. C o q r.words r.count) r ≡ by_end e (λ q. D o q r.words r.count) r
   unfolding by_end
-  behind_same o r (Past q) h = same o q r.words r.count h
-  behind_same o r (Fault q) h = refl
+  behind_same o r (Ok q) h = same o q r.words r.count h
+  behind_same o r (Err q) h = refl
 
   part_same : (o : Outer) (g : Part) (r : Walk) → Further p r.end → Onward p g → by_part g r (C o) w n ≡ by_part g r (D o) w n
   unfolding by_part walk_on
@@ -161,7 +158,7 @@ content_is : (t : List ℕ) (o : Outer) (p : ℕ) (w : List ℕ) (n : ℕ) → c
 unfolding content_at content_in
 content_is t o p w n = stable (length t) (suc (length t)) t o p w n (omega arith) (omega arith)
 
-pub content_end : (t : List ℕ) (o : Outer) (p : ℕ) (w : List ℕ) (n : ℕ) → length t ≤ p → content_at t o p w n ≡ walk_told (walked (Fault (length t)) n) w
+pub content_end : (t : List ℕ) (o : Outer) (p : ℕ) (w : List ℕ) (n : ℕ) → length t ≤ p → content_at t o p w n ≡ walk_told (walked (fault_at (length t)) n) w
 unfolding content_by if◌then◌or_else◌
 content_end t o p w n h = content_is t o p w n ∙ rw (le-leb (length t) p h)
 
@@ -174,11 +171,11 @@ module _ (t : List ℕ) (o : Outer) (p : ℕ) (w : List ℕ) (n : ℕ) (in_text 
   unfolding content_by thing_at if◌then◌or_else◌
   content_part = content_is t o p w n ∙ rw (lt-leb (length t) p in_text, ← eg)
 
-  pub content_close : (q : ℕ) → g ≡ Close q → content_at t o p w n ≡ walk_told (walked (Past q) n) w
+  pub content_close : (q : ℕ) → g ≡ Close q → content_at t o p w n ≡ walk_told (walked (Ok q) n) w
   unfolding by_part
   content_close q e = content_part ∙ rw e
 
-  pub content_fault : (q : ℕ) → g ≡ PartFault q → content_at t o p w n ≡ walk_told (walked (Fault q) n) w
+  pub content_fault : (q : ℕ) → g ≡ PartFault q → content_at t o p w n ≡ walk_told (walked (fault_at q) n) w
   unfolding by_part
   content_fault q e = content_part ∙ rw e
 
@@ -191,16 +188,16 @@ module _ (t : List ℕ) (o : Outer) (p : ℕ) (w : List ℕ) (n : ℕ) (in_text 
     unfolding by_part
     content_thing = content_part ∙ rw (k, ← es, ← ed, er)
 
-    pub content_past : (q : ℕ) → r.end ≡ Past q → content_at t o p w n ≡ content_at t o q v r.count
+    pub content_past : (q : ℕ) → r.end ≡ Ok q → content_at t o p w n ≡ content_at t o q v r.count
     unfolding walk_on by_end walk_told
     content_past q e = content_thing ∙ rw e
 
-    pub content_refused : (q : ℕ) → r.end ≡ Fault q → content_at t o p w n ≡ walk_told r v
+    pub content_refused : (q : ℕ) → r.end ≡ fault_at q → content_at t o p w n ≡ walk_told r v
     unfolding walk_on by_end walk_told
     content_refused q e = content_thing ∙ rw e
 
 -- a thing at p
-pub thing_past : (s d : ℕ) (t : List ℕ) (k p : ℕ) (w : List ℕ) (n : ℕ) (r : Walked) (v : List ℕ) → walk_told r v ≡ thing_at s d t k p w n → (q : ℕ) → r.end ≡ Past q → p < q
+pub thing_past : (s d : ℕ) (t : List ℕ) (k p : ℕ) (w : List ℕ) (n : ℕ) (r : Walked) (v : List ℕ) → walk_told r v ≡ thing_at s d t k p w n → (q : ℕ) → r.end ≡ Ok q → p < q
 unfolding thing_at content_at walk_told
 thing_past s d t k p w n r v er q e =
     let f : r.end ≡ (thing_by (content_at t) s d t k p w n).end = ap (λ (x : Walk). x.end) er in
@@ -215,11 +212,11 @@ module _ (s d : ℕ) (t : List ℕ) (k p : ℕ) (w : List ℕ) (n : ℕ) (v : Li
   unfolding by_tag
   thing_open q e = thing_tag ∙ rw e
 
-  pub thing_empty : (q : ℕ) → g ≡ Empty q → thing_at s d t k p w n ≡ walk_told (walked (Past q) m) v
+  pub thing_empty : (q : ℕ) → g ≡ Empty q → thing_at s d t k p w n ≡ walk_told (walked (Ok q) m) v
   unfolding by_tag
   thing_empty q e = thing_tag ∙ rw e
 
-  pub thing_fault : (q : ℕ) → g ≡ TagFault q → thing_at s d t k p w n ≡ walk_told (walked (Fault q) m) v
+  pub thing_fault : (q : ℕ) → g ≡ TagFault q → thing_at s d t k p w n ≡ walk_told (walked (fault_at q) m) v
   unfolding by_tag
   thing_fault q e = thing_tag ∙ rw e
 
@@ -235,19 +232,19 @@ module _ (s : ℕ) (t : List ℕ) (p : ℕ) (g : Tag) (eg : g ≡ entered s t p)
 
 -- the whole walk, by what the calls gave
 module _ (t w : List ℕ) (root : Reached) (er : root ≡ root_at (bytes "definitions") t) where
-  pub walk_rootless : (q : ℕ) → root ≡ Fault q → walk_told (walked root 0) w ≡ walk t w
+  pub walk_rootless : (q : ℕ) → root ≡ fault_at q → walk_told (walked root 0) w ≡ walk t w
   unfolding walk by_end
   walk_rootless q e = rw (← er, e)
 
-  module _ (p : ℕ) (e : root ≡ Past p) (r : Walked) (v : List ℕ) (ew : walk_told r v ≡ thing_at definitions definitions t 0 p w 0) where
+  module _ (p : ℕ) (e : root ≡ Ok p) (r : Walked) (v : List ℕ) (ew : walk_told r v ≡ thing_at definitions definitions t 0 p w 0) where
     walk_root : walk t w ≡ walk_on (walk_told r v) (λ q u n. walk_told (walked (last_from t q) n) u)
     unfolding walk by_end
     walk_root = rw (← er, e, ← ew)
 
-    pub walk_refused : (q : ℕ) → r.end ≡ Fault q → walk_told r v ≡ walk t w
+    pub walk_refused : (q : ℕ) → r.end ≡ fault_at q → walk_told r v ≡ walk t w
     unfolding walk_on by_end walk_told
     walk_refused q f = sym (walk_root ∙ rw f)
 
-    pub walk_whole : (q : ℕ) → r.end ≡ Past q → (l : Reached) → l ≡ last_from t q → walk_told (walked l r.count) v ≡ walk t w
+    pub walk_whole : (q : ℕ) → r.end ≡ Ok q → (l : Reached) → l ≡ last_from t q → walk_told (walked l r.count) v ≡ walk t w
     unfolding walk_on by_end walk_told
     walk_whole q f l el = sym (walk_root ∙ rw (f, ← el))

@@ -1,9 +1,8 @@
 -- Walks tried at the boundary of each sentence: two tables. A row of the first says what is tried, and names a text and the place of its first fault; a row of the second a text without a fault, and its things.
-use Rattle.std.specs.Prelude.{ℕ, zero, suc, List, [], ◌∷◌, ◌++◌, length}
+use Rattle.xml_skip.specs.Skipping.{Reached, fault_at}
+use Rattle.std.specs.Prelude.{ℕ, zero, suc, List, [], ◌∷◌, ◌++◌, length, Ok}
 use Prim.Native.String.{String}
 use Rattle.base_words.specs.Text.{bytes}
-use Rattle.xml_skip.specs.declared.Reached.{Reached}
-use Rattle.xml_skip.specs.declared.Reached.TheVariants.{Past, Fault}
 use Rattle.draw_things.specs.Things.{definitions, collaboration, participant, participant_multiplicity, message_flow, process, sequence_flow, condition_expression, message_event_definition, terminate_event_definition, stranger, start_event, end_event, intermediate_catch_event, task, receive_task, exclusive_gateway, event_based_gateway}
 use Rattle.draw_walk.specs.Walk.{Walk}
 
@@ -13,7 +12,7 @@ pub record Refusal : Type 0 where
   pub place : Reached
 
 abbrev at : String → List ℕ → ℕ → Refusal
-at s t p = record { says = s; text = t; place = Fault p }
+at s t p = record { says = s; text = t; place = fault_at p }
 
 -- a text n times
 unfoldable pub times : ℕ → List ℕ → List ℕ
@@ -66,7 +65,7 @@ drawing s t n w = record { says = s; text = t; count = n; things = w }
 
 -- what the walk gives, in a block with room for its things
 abbrev pub filled : DrawingPoint → Walk
-filled d = record { end = Past (length d.text); count = d.count; words = d.things }
+filled d = record { end = Ok (length d.text); count = d.count; words = d.things }
 
 -- an element of a process
 abbrev in_process : String → List ℕ

@@ -1,5 +1,5 @@
 -- ONE WALK THROUGH A DRAWING, from left to right, that stops at the first fault of the XML text (20) and notes what is drawn on the way. "An element that is not read into is skipped whole" (R11a). (RULES: skipping)
-use Rattle.std.specs.Prelude.{ℕ, zero, suc, Bool, true, false, ◌&&◌, List, ltb, leb, eqb, length}
+use Rattle.std.specs.Prelude.{ℕ, zero, suc, Bool, true, false, ◌&&◌, List, ltb, leb, eqb, length, Option, Some, None, Ok, Err}
 use Rattle.base_words.specs.Blocks.{Bytes, Drawing}
 use Rattle.base_words.specs.Pick.{if◌then◌or_else◌}
 use Rattle.base_words.specs.Text.{bytes}
@@ -7,17 +7,13 @@ use Rattle.base_words.specs.Words.{part}
 use Rattle.text_numerals.specs.declared.Number.{Number}
 use Rattle.text_numerals.specs.declared.Number.TheVariants.{Value, TooLarge, NotANumber}
 use Rattle.text_numerals.specs.Numerals.{number_of}
-use Rattle.xml_markup.specs.declared.Attribute.{Attribute}
-use Rattle.xml_markup.specs.declared.Attribute.TheVariants.{Is, Absent}
 use Rattle.xml_markup.specs.Markup.{markup}
 use Rattle.xml_markup.specs.Spans.{attribute}
-use Rattle.xml_skip.specs.declared.Reached.{Reached}
-use Rattle.xml_skip.specs.declared.Reached.TheVariants.{Past, Fault}
 use Rattle.xml_skip.specs.declared.Part.{Part}
 use Rattle.xml_skip.specs.declared.Part.TheVariants.{Element, Close, On, Fault as PartFault}
 use Rattle.xml_skip.specs.declared.Tag.{Tag}
 use Rattle.xml_skip.specs.declared.Tag.TheVariants.{Open, Empty, Fault as TagFault}
-use Rattle.xml_skip.specs.Skipping.{part_at, tag_of, skipped}
+use Rattle.xml_skip.specs.Skipping.{part_at, tag_of, skipped, Reached, fault_at}
 use Rattle.xml_document.specs.Around.{root_at, last_from}
 use Rattle.draw_things.specs.Things.{nothing, definitions, participant_multiplicity, condition_expression, stranger, one_more, added}
 use Rattle.draw_things.specs.Names.{named_at, drawn_as}
@@ -47,11 +43,11 @@ unfoldable pub judged : Bytes → ℕ → ℕ → ℕ → Reached
 judged t p from to =
     if is_number (number_of (part t from to)) then skipped t p
     or_else if leb (markup t p).next to then skipped t p
-    or_else Fault from
+    or_else fault_at from
 
-unfoldable pub multiplicity_by : Attribute → Bytes → ℕ → Reached
-multiplicity_by (Is from to) t p = judged t p from to
-multiplicity_by Absent t p = skipped t p
+unfoldable pub multiplicity_by : Option (ℕ × ℕ) → Bytes → ℕ → Reached
+multiplicity_by (Some (from, to)) t p = judged t p from to
+multiplicity_by None t p = skipped t p
 
 unfoldable pub multiplicity : Bytes → ℕ → Reached
 multiplicity t p = multiplicity_by (attribute t p (bytes "maximum")) t p
@@ -64,8 +60,8 @@ unfoldable pub passed : ℕ → Bytes → ℕ → Reached
 passed s t p = if eqb s participant_multiplicity then multiplicity t p or_else skipped t p
 
 unfoldable pub tag_from : Reached → Tag
-tag_from (Past q) = Empty q
-tag_from (Fault q) = TagFault q
+tag_from (Ok q) = Empty q
+tag_from (Err q) = TagFault q.place
 
 -- an element of the sort s at p: where its content begins, or the place behind it
 unfoldable pub entered : ℕ → Bytes → ℕ → Tag
@@ -90,8 +86,8 @@ Content = Outer → ℕ → List ℕ → ℕ → Walk
 
 unfoldable pub by_tag : Tag → (ℕ → Walk) → Drawing → ℕ → Walk
 by_tag (Open q) content w n = content q
-by_tag (Empty q) content w n = walk_told (walked (Past q) n) w
-by_tag (TagFault q) content w n = walk_told (walked (Fault q) n) w
+by_tag (Empty q) content w n = walk_told (walked (Ok q) n) w
+by_tag (TagFault q) content w n = walk_told (walked (fault_at q) n) w
 
 -- How an element is walked depends on its name and where it stands, s, not on its attributes: by them it may draw another one, d, and that is noted. (RULES: skipping)
 unfoldable pub thing_by : Content → ℕ → ℕ → Bytes → ℕ → ℕ → Drawing → ℕ → Walk
@@ -99,27 +95,27 @@ thing_by content s d t k p w n = by_tag (entered s t p) (λ q. content (outer s 
 
 -- goes on from the place that was reached; a fault stays
 unfoldable pub by_end : {A : Type 0} → Reached → (ℕ → A) → A → A
-by_end (Past q) on r = on q
-by_end (Fault q) on r = r
+by_end (Ok q) on r = on q
+by_end (Err q) on r = r
 
 unfoldable pub walk_on : Walk → (ℕ → Drawing → ℕ → Walk) → Walk
 walk_on r on = by_end r.end (λ q. on q r.words r.count) r
 
 unfoldable pub by_part : Part → Walk → (ℕ → Drawing → ℕ → Walk) → Drawing → ℕ → Walk
 by_part Element element content w n = walk_on element content
-by_part (Close q) element content w n = walk_told (walked (Past q) n) w
+by_part (Close q) element content w n = walk_told (walked (Ok q) n) w
 by_part (On q) element content w n = content q w n
-by_part (PartFault q) element content w n = walk_told (walked (Fault q) n) w
+by_part (PartFault q) element content w n = walk_told (walked (fault_at q) n) w
 
 -- content of the element o, from p on
 unfoldable pub content_by : Content → Bytes → Outer → ℕ → Drawing → ℕ → Walk
 content_by content t o p w n =
-    if leb (length t) p then walk_told (walked (Fault (length t)) n) w
+    if leb (length t) p then walk_told (walked (fault_at (length t)) n) w
     or_else by_part (part_at t o.tag p) (thing_by content (named_at o.sort t p) (drawn_as (named_at o.sort t p) o.sort t p) t o.thing p w n) (content o) w n
 
 -- the same, in m steps at most
 unfoldable pub content_in : ℕ → Bytes → Content
-content_in zero t o p w n = walk_told (walked (Fault (length t)) n) w
+content_in zero t o p w n = walk_told (walked (fault_at (length t)) n) w
 content_in (suc m) t o p w n = content_by (content_in m t) t o p w n
 
 -- each step passes a byte, so the text's length is enough steps

@@ -8,7 +8,7 @@ use draw_things::names::{drawn_as, named_at};
 use draw_things::things::{DEFINITIONS, NOTHING, Note, add_thing, one_more};
 use xml_document::around::{last_from, root_at};
 use xml_markup::scanning::markup;
-use xml_skip::{Part, Reached, Tag, part_at, skip, tag_of};
+use xml_skip::{Fault, Part, Tag, part_at, skip, tag_of};
 
 pub mod passing;
 
@@ -17,7 +17,7 @@ use passing::{is_passed, pass};
 // The place reached, or that of the fault, and how many things were met.
 #[derive(Clone, Copy)]
 pub struct Walked {
-    pub end: Reached,
+    pub end: Result<usize, Fault>,
     pub count: Note,
 }
 
@@ -29,12 +29,12 @@ pub struct Outer {
     pub tag: usize,
 }
 
-fn tag_from(s: Reached) -> Tag
+fn tag_from(s: Result<usize, Fault>) -> Tag
     ensures { result ≡ tag_from s }
 {
     match s {
-        Reached::Past(q) => Tag::Empty(q),
-        Reached::Fault(q) => Tag::Fault(q),
+        Ok(q) => Tag::Empty(q),
+        Err(f) => Tag::Fault(f.place),
     }
 }
 
@@ -90,13 +90,10 @@ pub fn walk_thing(
             };
             walk_content(text, o, q, w, count)
         }
-        Tag::Empty(q) => Walked {
-            end: Reached::Past(q),
-            count: count,
-        },
+        Tag::Empty(q) => Walked { end: Ok(q), count },
         Tag::Fault(q) => Walked {
-            end: Reached::Fault(q),
-            count: count,
+            end: Err(Fault { place: q }),
+            count,
         },
     }
 }
@@ -108,6 +105,7 @@ pub fn walk_content(text: &[u8], o: Outer, p: usize, w: &mut [Note], n: Note) ->
 {
     let mut at = p;
     let mut count = n;
+    // Stays a while: each part tells where the next one begins.
     while at < text.len() {
         let part = part_at(text, o.tag, at);
         match part {
@@ -116,32 +114,29 @@ pub fn walk_content(text: &[u8], o: Outer, p: usize, w: &mut [Note], n: Note) ->
                 let d = drawn_as(s, o.sort, text, at);
                 let e = walk_thing(s, d, text, o.thing, at, w, count);
                 let end = e.end;
-                let Reached::Past(q) = end else {
+                let Ok(q) = end else {
                     return e;
                 };
                 count = e.count;
                 at = q;
             }
             Part::Close(q) => {
-                return Walked {
-                    end: Reached::Past(q),
-                    count: count,
-                };
+                return Walked { end: Ok(q), count };
             }
             Part::On(q) => {
                 at = q;
             }
             Part::Fault(q) => {
                 return Walked {
-                    end: Reached::Fault(q),
-                    count: count,
+                    end: Err(Fault { place: q }),
+                    count,
                 };
             }
         }
     }
     Walked {
-        end: Reached::Fault(text.len()),
-        count: count,
+        end: Err(Fault { place: text.len() }),
+        count,
     }
 }
 
@@ -150,7 +145,7 @@ pub fn walk(text: &[u8], w: &mut [Note]) -> Walked
     ensures { walk_told result w.new ≡ walk text.now w.old }
 {
     let root = root_at(text, b"definitions");
-    let Reached::Past(p) = root else {
+    let Ok(p) = root else {
         return Walked {
             end: root,
             count: 0,
@@ -158,7 +153,7 @@ pub fn walk(text: &[u8], w: &mut [Note]) -> Walked
     };
     let e = walk_thing(DEFINITIONS, DEFINITIONS, text, 0, p, w, 0);
     let end = e.end;
-    let Reached::Past(q) = end else {
+    let Ok(q) = end else {
         return e;
     };
     Walked {

@@ -98,9 +98,7 @@ fn tell_from(
 {
     let mut c = first;
     let mut b = nothing_told(most);
-    let mut left = text.len();
-    while left > 0 {
-        left -= 1;
+    for _step in 0..text.len() {
         let next = advance(text, c);
         let Move::On(d) = next else {
             return b;

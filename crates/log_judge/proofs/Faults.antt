@@ -7,7 +7,6 @@ use native.Mathlib.Omega.{arith}
 use lib.Dec.{eqb}
 use lib.ListN.{length, take}
 use Rattle.base_words.specs.Pick.{if◌then◌or_else◌}
-use Rattle.xml_skip.specs.declared.Reached.{Reached}
 use Rattle.log_text.specs.Logs.{scan, lines_of}
 use Rattle.log_judge.specs.declared.Judged.{Judged}
 use Rattle.log_judge.specs.Judge.{Taking, judgment, lawful, judged_by, left_by_lines, judged_end, judged_from}

@@ -1,4 +1,6 @@
 -- Laws of the judge: a line that was put, what a line comes to, and the events that are left come to the whole. Assumes nothing.
+use Rattle.xml_skip.specs.Skipping.{fault_at}
+use Rattle.std.specs.Prelude.{Ok}
 use Prim.Native.Nat.{ℕ, ◌+◌, ◌-◌, ◌≤◌, ◌<◌}
 use mathlib.Core.Path.{◌≡◌, refl, sym, ap, ap₂, ◌∙◌}
 use mathlib.Core.Bool.{Bool, true, false, not}
@@ -22,7 +24,6 @@ use Rattle.step_poll.proofs.PollLaws.{post_left, step_left}
 use Rattle.write_lines.specs.Lines.{step_line}
 use Rattle.log_lines.specs.declared.Entry.{Entry}
 use Rattle.log_lines.specs.Entries.{entry_of}
-use Rattle.xml_skip.specs.declared.Reached.TheVariants.{Past, Fault as SkipFault}
 use Rattle.log_text.specs.declared.Cursor.{Cursor}
 use Rattle.log_text.specs.declared.Level.{Level}
 use Rattle.log_text.specs.declared.Level.TheVariants.{Log, Trace, Event}
@@ -108,33 +109,13 @@ module _ (give : List ℕ → List ℕ → Taking) (t z : List ℕ) (m : Move) (
 
 -- the whole text
 module _ (give : List ℕ → List ℕ → Taking) (t z : List ℕ) (s : Scanned) (read : s ≡ scan t) (q : ℕ) where
-  pub judged_log : s.end ≡ Past q → judged_by give (lines_of t) 0 z ≡ judged_from give t z
+  pub judged_log : s.end ≡ Ok q → judged_by give (lines_of t) 0 z ≡ judged_from give t z
   unfolding judged_from judged_end
   judged_log h = rw (← read, h)
 
-  pub judged_fault : s.end ≡ SkipFault q → judgment 23 q 0 ≡ judged_from give t z
+  pub judged_fault : s.end ≡ fault_at q → judgment 23 q 0 ≡ judged_from give t z
   unfolding judged_from judged_end
   judged_fault h = rw (← read, h)
-
--- what closes an event
-pub not_event : (l m : Level) → (l ≡ Event → ⊥) → false ≡ closes_event l m
-unfolding closes_event
-not_event Log m o = refl
-not_event Trace m o = refl
-not_event Event m o = absurd (o refl)
-
-behind_event : (m : Level) → (m ≡ Trace → ⊥) → false ≡ closes_event Event m
-unfolding closes_event
-behind_event Log o = refl
-behind_event Trace o = absurd (o refl)
-behind_event Event o = refl
-
-pub not_trace : (l m : Level) → l ≡ Event → (m ≡ Trace → ⊥) → false ≡ closes_event l m
-not_trace l m e o = rw e (behind_event m o)
-
-pub event_closes : (l m : Level) → l ≡ Event → m ≡ Trace → true ≡ closes_event l m
-unfolding closes_event
-event_closes l m e h = rw (e, h)
 
 -- THE LOOP: the lines that are left come to the whole, j, and m is the reader's next move
 module _ (give : List ℕ → List ℕ → Taking) (t : List ℕ) (j : Judged) (c : Cursor) (left k : ℕ) (z : List ℕ) (inv : judged_by give (lines_in left t c) k z ≡ j) (some : 0 < left)

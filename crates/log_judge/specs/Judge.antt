@@ -1,6 +1,7 @@
 -- WHETHER A RUN WAS LAWFUL, by a way to do one step and one post: "accept the log exactly when every step and post is accepted in turn from the fresh state, and what each line says was sent or consumed is
 -- true. Otherwise name the first event at fault." z is a state, w an event's line. (RULES: lawful)
-use Rattle.std.specs.Prelude.{ℕ, ◌+◌, Bool, true, List, [], ◌∷◌, eqb}
+use Rattle.xml_skip.specs.Skipping.{Reached}
+use Rattle.std.specs.Prelude.{ℕ, ◌+◌, Bool, true, List, [], ◌∷◌, eqb, Ok, Err}
 use Rattle.base_words.specs.Blocks.{Bytes, State}
 use Rattle.base_words.specs.Pick.{if◌then◌or_else◌}
 use Rattle.meaning.specs.declared.Name.{Name}
@@ -8,8 +9,6 @@ use Rattle.meaning.specs.declared.Tuple.{Tuple}
 use Rattle.base_bytes.specs.Bytes.{same_bytes}
 use Rattle.step_poll.specs.Poll.{Left, Stepped}
 use Rattle.write_lines.specs.Lines.{step_line}
-use Rattle.xml_skip.specs.declared.Reached.{Reached}
-use Rattle.xml_skip.specs.declared.Reached.TheVariants.{Past, Fault}
 use Rattle.log_lines.specs.declared.Entry.{Entry}
 use Rattle.log_lines.specs.Entries.{entry_of}
 use Rattle.log_text.specs.Logs.{scan, lines_of}
@@ -53,8 +52,8 @@ left_by_lines take (w ∷ rest) z = left_by_lines take rest (take w z).state
 
 -- "23 is over the whole text and goes before 24, whatever its events say" (RULES: lawful)
 unfoldable pub judged_end : Reached → Judged → Judged
-judged_end (Past q) j = j
-judged_end (Fault q) j = judgment 23 q 0
+judged_end (Ok q) j = j
+judged_end (Err q) j = judgment 23 q.place 0
 
 unfoldable pub judged_from : (Bytes → State → Taking) → Bytes → State → Judged
 judged_from take text z = judged_end (scan text).end (judged_by take (lines_of text) 0 z)

@@ -18,7 +18,6 @@ use log_text::{Cursor, Level, Move, advance, scan, start};
 use meaning::{Answer, Name};
 use step_take::{post_on, step_on};
 use write_lines::{STEP_LINE, put_step};
-use xml_skip::Reached;
 
 // A number; beside 23 the place, beside 24 the event's ordinal from 0 and the step's or post's own number, 0 where only its line is untrue.
 #[repr(C)]
@@ -66,16 +65,11 @@ fn take_line(t: &[Word; TABLE_WORDS], z: &mut [Word; STATE_WORDS], line: &[u8]) 
 }
 
 // Whether a move was out of an event, which is whole then.
+#[tactic(auto, using(base_words::proofs::PickLaws::picks, std::proofs::lemmas::Bool::Decides::nat_tests), unfolding(log_text::specs::Logs::closes_event))]
 pub fn closes_event(from: Level, to: Level) -> bool
     ensures { result ≡ closes_event from to }
 {
-    let Level::Event = from else {
-        return false;
-    };
-    let Level::Trace = to else {
-        return false;
-    };
-    true
+    matches!(from, Level::Event) && matches!(to, Level::Trace)
 }
 
 // The events behind a place of a log, none of which was taken before.
@@ -89,9 +83,7 @@ fn judge_from(
 {
     let mut c = first;
     let mut ordinal: usize = 0;
-    let mut left = text.len();
-    while left > 0 {
-        left -= 1;
+    for _step in 0..text.len() {
         let m = advance(text, c);
         let Move::On(d) = m else {
             return lawful();
@@ -130,7 +122,7 @@ fn at_fault(ordinal: usize, own: Word) -> Judged
     Judged {
         number: AT_FAULT,
         beside: ordinal,
-        own: own,
+        own,
     }
 }
 
@@ -150,12 +142,11 @@ pub fn judge_on(t: &[Word; TABLE_WORDS], z: &mut [Word; STATE_WORDS], text: &[u8
     ensures { (result ≡ judged_from (line_taken (settled_step t.now) settled_post) text.now z.old) × (result.number ≡ 0 → z.new ≡ left_by_lines (line_taken (settled_step t.now) settled_post) (lines_of text.now) z.old) }
 {
     let s = scan(text);
-    let end = s.end;
-    match end {
-        Reached::Past(q) => judge_lines(t, z, text),
-        Reached::Fault(q) => Judged {
+    match s.end {
+        Ok(_) => judge_lines(t, z, text),
+        Err(f) => Judged {
             number: NOT_A_LOG,
-            beside: q,
+            beside: f.place,
             own: 0,
         },
     }

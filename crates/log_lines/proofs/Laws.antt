@@ -36,18 +36,6 @@ use Rattle.base_words.specs.Words.{one_more}
 pub none_is : (r : Given) (b : Bool) (g : Tuple) → r ≡ given b g → g ≡ empty → r ≡ given b empty
 none_is r b g e h = e ∙ ap (λ (x : Tuple). given b x) h
 
-pub numbered_is : (c : ℕ) (w : List ℕ) (p : ℕ) (x : Number) (e v n : ℕ) (s b : Bool) → x ≡ number_up_to c w p → e ≡ run (NotByte c) w p → s ≡ is_small x → b ≡ (s && ltb e (length w)) → v ≡ value_in x → n ≡ after w e → ◌≡◌ {A = Numbered} (record { right = b; value = v; next = n }) (number_before c w p)
-unfolding number_before
-numbered_is c w p x e v n s b hx he hs hb hv hn = rw (hb, hs, hv, hn, he, hx)
-
-pub added_is : (g : Tuple) (v n : ℕ) (vs : List ℕ) → n ≡ one_more g.length → vs ≡ set g.values g.length v → ◌≡◌ {A = Tuple} (record { length = n; values = vs }) (added g v)
-unfolding added
-added_is g v n vs hn hs = rw (hn, hs)
-
-pub placed_is : (w : List ℕ) (a b c d e : Numbered) → a ≡ number_before (code " ") w 0 → b ≡ number_before (code " ") w a.next → c ≡ number_before (code " ") w b.next → d ≡ number_before (code " ") w c.next → e ≡ number_before (code " ") w d.next → ◌≡◌ {A = Placed} (record { pool = a; instance = b; element = c; phase = d; branch = e }) (five_placed w)
-unfolding five_placed number_at number_place
-placed_is w a b c d e ha hb hc hd he = rw (he, hd, hc, hb, ha)
-
 pub message_is_lem : (w : List ℕ) (p : ℕ) (m : Numbered) (g : Given) (b : Bool) → m ≡ number_before (code ":") w p → g ≡ values_from w m.next → b ≡ (m.right && g.right) → ◌≡◌ {A = Message} (record { right = b; name = m.value; tuple = g.tuple }) (message_from w p)
 unfolding message_from
 message_is_lem w p m g b hm hg hb = rw (hb, hg, hm)
@@ -129,10 +117,6 @@ module _ (w : List ℕ) (p : Placed) (ep : p ≡ five_placed w) (g : Given) (eg 
 module _ (w : List ℕ) (m : Message) (em : m ≡ message_from w 5) where
   right_of : (b : Bool) → m.right ≡ b → (message_from w 5).right ≡ b
   right_of b h = sym (ap (λ (x : Message). x.right) em) ∙ h
-
-  pub post_not : m.right ≡ false → no_entry ≡ post_entry w
-  unfolding post_entry
-  post_not h = pick_no _ _ _ _ (right_of false h) refl
 
   pub post_is : m.right ≡ true → (n : Name) → n ≡ post_name m → ◌≡◌ {A = Entry} (record { right = true; posts = true; name = n }) (post_entry w)
   unfolding post_entry

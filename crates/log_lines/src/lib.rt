@@ -1,7 +1,7 @@
 // An entry of a log: the step or the post that a line names.
-#![tactic(auto)]
+#![tactic(auto, using(base_words::proofs::PickLaws::picks, std::proofs::lemmas::Bool::Decides::nat_tests), unfolding(crate::specs::Entries::number_up_to, crate::specs::Entries::is_small, crate::specs::Entries::value_in, crate::specs::Entries::number_before, crate::specs::Entries::added, crate::specs::Entries::message_from, crate::specs::Entries::all_right, crate::specs::Entries::entry_of, crate::specs::Entries::five_placed, crate::specs::Entries::number_at, crate::specs::Entries::number_place, crate::specs::Entries::post_entry))]
 
-ghost use Rattle.std.specs.Prelude.{◌&&◌, ◌≡◌};
+ghost use Rattle.std.specs.Prelude.{◌≡◌};
 ghost use Rattle.meaning.specs.Tuples.{empty};
 ghost use Rattle.log_lines.specs.Entries.{given, no_entry, number_up_to, is_small, value_in, number_before, added, values_from, message_from, traffic_from, five_placed, all_right, name_of, step_entry, post_name, post_entry, entry_of};
 
@@ -20,6 +20,7 @@ const NUMBER_MOST: Word = 65535;
 const POST: usize = 5;
 
 // A number with its mark behind it: whether it is one, its value, and the place behind the mark.
+// No Option: the line is read on from that place whether it is one or not.
 #[derive(Clone, Copy)]
 pub struct Numbered {
     pub right: bool,
@@ -53,20 +54,12 @@ pub struct Placed {
 }
 
 // Whether it is a line, whether of a post, and the step's name; a post has its message's name in place of the pool.
+// No Option: who takes the lines of a log takes a name from each of them.
 #[derive(Clone, Copy)]
 pub struct Entry {
     pub right: bool,
     pub posts: bool,
     pub name: Name,
-}
-
-fn both(a: bool, b: bool) -> bool
-    ensures { result ≡ a && b }
-{
-    if a {
-        return b;
-    }
-    false
 }
 
 fn number_up_to(c: u8, line: &[u8], p: usize) -> Number
@@ -80,8 +73,7 @@ fn is_small(n: Number) -> bool
 {
     match n {
         Number::Value(v) => v <= NUMBER_MOST,
-        Number::TooLarge => false,
-        Number::NotANumber => false,
+        Number::TooLarge | Number::NotANumber => false,
     }
 }
 
@@ -90,8 +82,7 @@ fn value_in(n: Number) -> Word
 {
     match n {
         Number::Value(v) => v,
-        Number::TooLarge => 0,
-        Number::NotANumber => 0,
+        Number::TooLarge | Number::NotANumber => 0,
     }
 }
 
@@ -101,9 +92,8 @@ fn number_before(c: u8, line: &[u8], p: usize) -> Numbered
 {
     let n = number_up_to(c, line, p);
     let end = run(Class::Value(c), line, p);
-    let right = both(is_small(n), end < line.len());
     Numbered {
-        right: right,
+        right: is_small(n) && end < line.len(),
         value: value_in(n),
         next: after(line, end),
     }
@@ -118,17 +108,14 @@ fn added(g: Tuple, v: Word) -> Tuple
     put(&mut values, n as usize, v);
     Tuple {
         length: one_more(n),
-        values: values,
+        values,
     }
 }
 
 fn values_given(right: bool, g: Tuple) -> Given
     ensures { result ≡ given right g }
 {
-    Given {
-        right: right,
-        tuple: g,
-    }
+    Given { right, tuple: g }
 }
 
 // No values, and whether that is right.
@@ -147,8 +134,7 @@ fn values_from(line: &[u8], p: usize) -> Given
     }
     let mut g = empty_tuple();
     let mut q = p;
-    let mut n = line.len();
-    while n > 0 {
+    for _n in 0..line.len() {
         let Number::Value(v) = number_up_to(b',', line, q) else {
             return none(false);
         };
@@ -159,7 +145,6 @@ fn values_from(line: &[u8], p: usize) -> Given
         }
         g = more;
         q = end + 1;
-        n -= 1;
     }
     none(false)
 }
@@ -169,11 +154,10 @@ fn message_from(line: &[u8], p: usize) -> Message
 {
     let name = number_before(b':', line, p);
     let values = values_from(line, name.next);
-    let tuple = values.tuple;
     Message {
-        right: both(name.right, values.right),
+        right: name.right && values.right,
         name: name.value,
-        tuple: tuple,
+        tuple: values.tuple,
     }
 }
 
@@ -190,8 +174,7 @@ fn traffic_from(line: &[u8], p: usize) -> Given
         return none(m.right);
     }
     if sign == b'?' {
-        let tuple = m.tuple;
-        return values_given(m.right, tuple);
+        return values_given(m.right, m.tuple);
     }
     none(false)
 }
@@ -206,48 +189,36 @@ fn numbers_of(line: &[u8]) -> Placed
     let phase = number_before(b' ', line, element.next);
     let branch = number_before(b' ', line, phase.next);
     Placed {
-        pool: pool,
-        instance: instance,
-        element: element,
-        phase: phase,
-        branch: branch,
+        pool,
+        instance,
+        element,
+        phase,
+        branch,
     }
 }
 
 fn all_right(p: Placed) -> bool
     ensures { result ≡ all_right p }
 {
-    let pool = p.pool;
-    let instance = p.instance;
-    let element = p.element;
-    let phase = p.phase;
-    let branch = p.branch;
-    let last = both(element.right, both(phase.right, branch.right));
-    both(pool.right, both(instance.right, last))
+    p.pool.right && p.instance.right && p.element.right && p.phase.right && p.branch.right
 }
 
 fn name_of(p: Placed, given: Tuple) -> Name
     ensures { result ≡ name_of p given }
 {
-    let pool = p.pool;
-    let instance = p.instance;
-    let element = p.element;
-    let phase = p.phase;
-    let branch = p.branch;
     Name {
-        pool: pool.value,
-        instance: instance.value,
-        element: element.value,
-        phase: phase.value,
-        branch: branch.value,
-        given: given,
+        pool: p.pool.value,
+        instance: p.instance.value,
+        element: p.element.value,
+        phase: p.phase.value,
+        branch: p.branch.value,
+        given,
     }
 }
 
 fn no_entry() -> Entry
     ensures { result ≡ no_entry }
 {
-    let given = empty_tuple();
     Entry {
         right: false,
         posts: false,
@@ -257,7 +228,7 @@ fn no_entry() -> Entry
             element: 0,
             phase: 0,
             branch: 0,
-            given: given,
+            given: empty_tuple(),
         },
     }
 }
@@ -266,15 +237,12 @@ fn step_entry(line: &[u8]) -> Entry
     ensures { result ≡ step_entry line.now }
 {
     let p = numbers_of(line);
-    let last = p.branch;
-    let g = traffic_from(line, last.next);
-    if both(all_right(p), g.right) {
-        let tuple = g.tuple;
-        let name = name_of(p, tuple);
+    let g = traffic_from(line, p.branch.next);
+    if all_right(p) && g.right {
         return Entry {
             right: true,
             posts: false,
-            name: name,
+            name: name_of(p, g.tuple),
         };
     }
     no_entry()
@@ -283,14 +251,13 @@ fn step_entry(line: &[u8]) -> Entry
 fn post_name(m: Message) -> Name
     ensures { result ≡ post_name m }
 {
-    let tuple = m.tuple;
     Name {
         pool: m.name,
         instance: 0,
         element: 0,
         phase: 0,
         branch: 0,
-        given: tuple,
+        given: m.tuple,
     }
 }
 

@@ -1,4 +1,5 @@
 -- What a repair gives, by the length that was measured. Assumes nothing.
+use Rattle.std.specs.Prelude.{Ok}
 use Prim.Native.Nat.{ℕ, ◌-◌, ◌<◌, ◌≤◌}
 use mathlib.Core.Path.{◌≡◌, ◌∙◌, refl, sym, ap}
 use mathlib.Core.Bool.{Bool, true, false}
@@ -14,9 +15,7 @@ use Rattle.write_buffer.proofs.OverLaws.{over_all, lesser_is, after, put_as, put
 use Rattle.xml_markup.specs.declared.Markup.{Markup}
 use Rattle.xml_markup.specs.Markup.{markup}
 use Rattle.xml_skip.specs.declared.Tag.{Tag}
-use Rattle.xml_skip.specs.Skipping.{tag_of}
-use Rattle.xml_skip.specs.declared.Reached.{Reached}
-use Rattle.xml_skip.specs.declared.Reached.TheVariants.{Past, Fault}
+use Rattle.xml_skip.specs.Skipping.{tag_of, fault_at}
 use Rattle.log_text.specs.declared.Cursor.{Cursor}
 use Rattle.log_text.specs.declared.Scanned.{Scanned}
 use Rattle.log_text.specs.Logs.{log_most, scan}
@@ -80,19 +79,19 @@ pub closed_put : (t s out o y : List ℕ) (c : Cursor) (k r : ℕ) → s ≡ par
 unfolding closed
 closed_put t s out o y c k r e h i l = put_over (after (put_as (take c.kept t) (e ∙ ap (λ (n : ℕ). take n t) (let z : c.kept - 0 ≡ c.kept = omega arith in z)) h) i) l
 
-pub lost : (t out : List ℕ) (r : Repaired) (q : ℕ) (c : Cursor) → is_lost q t c ≡ true → r ≡ refusal 27 → filled r out ≡ repaired_by (Fault q) t c out
+pub lost : (t out : List ℕ) (r : Repaired) (q : ℕ) (c : Cursor) → is_lost q t c ≡ true → r ≡ refusal 27 → filled r out ≡ repaired_by (fault_at q) t c out
 unfolding repaired_by refused if◌then◌or_else◌
 lost t out r q c e z = rw (z, e) refl
 
 module _ (t out y : List ℕ) (r : Repaired) where
-  pub found : (q : ℕ) (c : Cursor) → is_lost q t c ≡ false → filled r y ≡ repair_given (closed t c) c.events (length t - c.kept) out → filled r y ≡ repaired_by (Fault q) t c out
+  pub found : (q : ℕ) (c : Cursor) → is_lost q t c ≡ false → filled r y ≡ repair_given (closed t c) c.events (length t - c.kept) out → filled r y ≡ repaired_by (fault_at q) t c out
   unfolding repaired_by if◌then◌or_else◌
   found q c e z = rw e z
 
-  pub whole_log : (s : Scanned) → s ≡ scan t → (q : ℕ) → s.end ≡ Past q → filled r y ≡ repair_given t s.last.events 0 out → filled r y ≡ repaired_to t out
+  pub whole_log : (s : Scanned) → s ≡ scan t → (q : ℕ) → s.end ≡ Ok q → filled r y ≡ repair_given t s.last.events 0 out → filled r y ≡ repaired_to t out
   unfolding repaired_to repaired_by
   whole_log s e q k z = rw (← e, k) z
 
-  pub broken_log : (s : Scanned) → s ≡ scan t → (q : ℕ) → s.end ≡ Fault q → filled r y ≡ repaired_by (Fault q) t s.last out → filled r y ≡ repaired_to t out
+  pub broken_log : (s : Scanned) → s ≡ scan t → (q : ℕ) → s.end ≡ fault_at q → filled r y ≡ repaired_by (fault_at q) t s.last out → filled r y ≡ repaired_to t out
   unfolding repaired_to
   broken_log s e q k z = rw (← e, k) z

@@ -1,16 +1,14 @@
 -- A LOG THAT ENDED IN THE MIDDLE: "keeps all up to the end of the last whole event, or of the trace's start tag if there is none, closes the open elements, and reports how many events it kept and how many bytes
 -- it dropped. A complete log comes out as the same bytes with 0 dropped." t is a text, c where its reader was at the end, out the lent buffer. (RULES: repair)
-use Rattle.std.specs.Prelude.{ℕ, ◌-◌, Bool, true, List, [], ◌++◌, eqb, ltb, length, take, drop}
+use Rattle.std.specs.Prelude.{ℕ, ◌-◌, Bool, true, List, [], ◌++◌, eqb, ltb, length, take, drop, Ok, Err}
 use Rattle.base_words.specs.Blocks.{Bytes}
 use Rattle.base_words.specs.Pick.{if◌then◌or_else◌}
 use Rattle.base_words.specs.Text.{bytes}
 use Rattle.xml_markup.specs.Markup.{markup}
 use Rattle.xml_markup.specs.Spans.{name_at, bytes_of}
-use Rattle.xml_skip.specs.declared.Reached.{Reached}
-use Rattle.xml_skip.specs.declared.Reached.TheVariants.{Past, Fault}
 use Rattle.xml_skip.specs.declared.Tag.{Tag}
 use Rattle.xml_skip.specs.declared.Tag.TheVariants.{Open, Empty, Fault as TagFault}
-use Rattle.xml_skip.specs.Skipping.{tag_of}
+use Rattle.xml_skip.specs.Skipping.{tag_of, Reached}
 use Rattle.log_text.specs.declared.Cursor.{Cursor}
 use Rattle.log_text.specs.Logs.{log_most, scan}
 
@@ -56,8 +54,8 @@ repair_given w events dropped out =
 
 -- "27 goes before it, since without a repair there is no output"; "Dropped: bytes of the input that are not in the output; the closing tags don't count" (RULES: repair)
 unfoldable pub repaired_by : Reached → Bytes → Cursor → Bytes → Repair
-repaired_by (Past q) t c out = repair_given t c.events 0 out
-repaired_by (Fault q) t c out = if is_lost q t c then refused 27 out or_else repair_given (closed t c) c.events (length t - c.kept) out
+repaired_by (Ok q) t c out = repair_given t c.events 0 out
+repaired_by (Err q) t c out = if is_lost q.place t c then refused 27 out or_else repair_given (closed t c) c.events (length t - c.kept) out
 
 unfoldable pub repaired_to : Bytes → Bytes → Repair
 repaired_to t out = repaired_by (scan t).end t (scan t).last out

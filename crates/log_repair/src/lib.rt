@@ -3,6 +3,7 @@
 
 ghost use Rattle.std.specs.Prelude.{◌≡◌, ◌-◌, length};
 ghost use Rattle.write_buffer.specs.Buffers.{over, lesser, last_place, Put};
+ghost use Rattle.xml_skip.specs.Skipping.{fault_at};
 ghost use Rattle.log_repair.specs.Repair.{end_tag, trace_end, closing_tags, closed, is_lost, Repair, refused, repair_given, repaired_by, repaired_to};
 
 use base_bytes::piece;
@@ -14,7 +15,7 @@ use log_text::{Cursor, scan};
 use write_buffer::put_bytes;
 use xml_markup::scanning::markup;
 use xml_markup::spans::{bytes_of, name_at};
-use xml_skip::{Reached, Tag, tag_of};
+use xml_skip::{Tag, tag_of};
 
 // A number; beside 0 the length written, the events kept and the bytes dropped.
 #[repr(C)]
@@ -74,7 +75,7 @@ fn refused(number: Word) -> Repaired
     ensures { result ≡ record { number = number; length = 0; kept = 0; dropped = 0 } }
 {
     Repaired {
-        number: number,
+        number,
         length: 0,
         kept: 0,
         dropped: 0,
@@ -119,17 +120,15 @@ fn give_closed(text: &[u8], c: Cursor, out: &mut [u8]) -> Repaired
 }
 
 // Whether a text at fault at a place cannot be repaired.
+#[tactic(auto, using(base_words::proofs::PickLaws::picks, std::proofs::lemmas::Bool::Decides::nat_tests), unfolding(crate::specs::Repair::is_lost))]
 fn is_lost(q: usize, text: &[u8], c: Cursor) -> bool
     ensures { result ≡ is_lost q text.now c }
 {
-    if q < text.len() {
-        return true;
-    }
-    c.opened == 0
+    q < text.len() || c.opened == 0
 }
 
 fn give_broken(q: usize, text: &[u8], c: Cursor, out: &mut [u8]) -> Repaired
-    ensures { record { number = result.number; length = result.length; kept = result.kept; dropped = result.dropped; buffer = out.new } ≡ repaired_by (Reached.Fault q) text.now c out.old }
+    ensures { record { number = result.number; length = result.length; kept = result.kept; dropped = result.dropped; buffer = out.new } ≡ repaired_by (fault_at q) text.now c out.old }
 {
     if is_lost(q, text, c) {
         return refused(NOT_CUT);
@@ -142,10 +141,8 @@ pub fn repair_into(text: &[u8], out: &mut [u8]) -> Repaired
     ensures { record { number = result.number; length = result.length; kept = result.kept; dropped = result.dropped; buffer = out.new } ≡ repaired_to text.now out.old }
 {
     let s = scan(text);
-    let end = s.end;
-    let c = s.last;
-    match end {
-        Reached::Past(_) => give_whole(text, c, out),
-        Reached::Fault(q) => give_broken(q, text, c, out),
+    match s.end {
+        Ok(_) => give_whole(text, s.last, out),
+        Err(f) => give_broken(f.place, text, s.last, out),
     }
 }

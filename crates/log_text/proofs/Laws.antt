@@ -1,4 +1,5 @@
 -- A reader of a log step by step, as the loop goes. Assumes nothing.
+use Rattle.std.specs.Prelude.{Option, Some, None, Ok, Err}
 use mathlib.Core.Path.{◌≡◌, ◌∙◌, refl, sym, ap}
 use mathlib.Core.Bool.{Bool, true, false}
 use mathlib.Core.List.{List, [], ◌∷◌}
@@ -10,19 +11,15 @@ use Rattle.base_words.specs.Pick.{if◌then◌or_else◌}
 use Rattle.base_words.specs.Text.{bytes}
 use Rattle.base_words.specs.Words.{part}
 use Rattle.base_bytes.specs.Bytes.{same_bytes}
-use Rattle.xml_markup.specs.declared.Attribute.{Attribute}
-use Rattle.xml_markup.specs.declared.Attribute.TheVariants.{Is, Absent}
 use Rattle.xml_markup.specs.declared.Class.TheVariants.{Blanks}
 use Rattle.xml_markup.specs.declared.Opener.TheVariants.{Other}
 use Rattle.xml_markup.specs.Markup.{markup}
 use Rattle.xml_markup.specs.Spans.{run, opens_name, opener, is_called, attribute}
-use Rattle.xml_skip.specs.declared.Reached.{Reached}
-use Rattle.xml_skip.specs.declared.Reached.TheVariants.{Past, Fault as SkipFault}
 use Rattle.xml_skip.specs.declared.Part.{Part}
 use Rattle.xml_skip.specs.declared.Part.TheVariants.{Element as PartElement, Close as PartClose, On as PartOn, Fault as PartFault}
 use Rattle.xml_skip.specs.declared.Tag.{Tag}
 use Rattle.xml_skip.specs.declared.Tag.TheVariants.{Open, Empty, Fault as TagFault}
-use Rattle.xml_skip.specs.Skipping.{part_at, tag_of, skipped}
+use Rattle.xml_skip.specs.Skipping.{part_at, tag_of, skipped, Reached, fault_at}
 use Rattle.xml_skip.proofs.Laws.{Further, Onward as PartOnward, Behind, part_onward, tag_behind, skipped_further}
 use Rattle.xml_document.specs.declared.Outside.{Outside}
 use Rattle.xml_document.specs.declared.Outside.TheVariants.{Element as OutsideElement, On as OutsideOn, Nothing, Fault as OutsideFault}
@@ -97,13 +94,13 @@ beyond_if p false x y h k = k
 
 over_beyond : (p : ℕ) (s : Reached) (c : Cursor) → Further p s → Beyond p (over s c)
 unfolding over
-over_beyond p (Past q) c h = h
-over_beyond p (SkipFault q) c h = tt
+over_beyond p (Ok q) c h = h
+over_beyond p (Err q) c h = tt
 
 named_beyond : (p : ℕ) (s : Reached) (c : Cursor) (from to : ℕ) → Further p s → Beyond p (over_named s c from to)
 unfolding over_named
-named_beyond p (Past q) c from to h = h
-named_beyond p (SkipFault q) c from to h = tt
+named_beyond p (Ok q) c from to h = h
+named_beyond p (Err q) c from to h = tt
 
 trace_beyond : (g : Tag) (c : Cursor) (p : ℕ) → Behind p g → Beyond p (trace_by g c p)
 unfolding trace_by
@@ -121,18 +118,18 @@ module _ (t : List ℕ) (c : Cursor) (p : ℕ) where
   skip_beyond : Beyond p (over (skipped t p) c)
   skip_beyond = over_beyond p (skipped t p) c (skipped_further t p)
 
-  line_beyond : (a : Attribute) (end : ℕ) → Beyond p (line_by a t c p end)
+  line_beyond : (a : Option (ℕ × ℕ)) (end : ℕ) → Beyond p (line_by a t c p end)
   unfolding line_by
-  line_beyond (Is from to) end = beyond_if p (entry_of (part t from to)).right _ _ (named_beyond p (skipped t p) c from to (skipped_further t p)) tt
-  line_beyond Absent end = tt
+  line_beyond (Some (from, to)) end = beyond_if p (entry_of (part t from to)).right _ _ (named_beyond p (skipped t p) c from to (skipped_further t p)) tt
+  line_beyond None end = tt
 
-  name_beyond : (a : Attribute) (end : ℕ) → Beyond p (name_by a t c p end)
+  name_beyond : (a : Option (ℕ × ℕ)) (end : ℕ) → Beyond p (name_by a t c p end)
   unfolding name_by
-  name_beyond (Is from to) end =
+  name_beyond (Some (from, to)) end =
       beyond_if p (same_bytes (part t from to) (bytes "concept:name")) _ _
       (beyond_if p (eqb c.to 0) _ _ (line_beyond (attribute t p (bytes "value")) end) tt)
       skip_beyond
-  name_beyond Absent end = skip_beyond
+  name_beyond None end = skip_beyond
 
   string_beyond : (g : Tag) → Beyond p (string_by g t c p)
   unfolding string_by
@@ -196,13 +193,13 @@ scan_stable zero zero t c h k = refl
 scan_stable zero (suc m) t c h k = sym (rw (advance_end t c (omega arith)))
 scan_stable (suc n) zero t c h k = rw (advance_end t c (omega arith))
 scan_stable (suc n) (suc m) t c h k =
-    by_move_same c.at (scan_in n t) (scan_in m t) (λ d l. scan_stable n m t d (omega arith) (omega arith)) (λ d. scanned (last_from t d.at) d) (λ q. scanned (SkipFault q) c) (advance t c) (advance_beyond t c)
+    by_move_same c.at (scan_in n t) (scan_in m t) (λ d l. scan_stable n m t d (omega arith) (omega arith)) (λ d. scanned (last_from t d.at) d) (λ q. scanned (fault_at q) c) (advance t c) (advance_beyond t c)
 
-scan_is : (t : List ℕ) (c : Cursor) → scan_from t c ≡ by_move (advance t c) (scan_from t) (λ d. scanned (last_from t d.at) d) (λ q. scanned (SkipFault q) c)
+scan_is : (t : List ℕ) (c : Cursor) → scan_from t c ≡ by_move (advance t c) (scan_from t) (λ d. scanned (last_from t d.at) d) (λ q. scanned (fault_at q) c)
 unfolding scan_from scan_in
 scan_is t c = scan_stable (length t) (suc (length t)) t c (omega arith) (omega arith)
 
-pub scan_end : (t : List ℕ) (c : Cursor) → length t ≤ c.at → scan_from t c ≡ scanned (SkipFault (length t)) c
+pub scan_end : (t : List ℕ) (c : Cursor) → length t ≤ c.at → scan_from t c ≡ scanned (fault_at (length t)) c
 unfolding by_move
 scan_end t c h = scan_is t c ∙ rw (advance_end t c h)
 
@@ -239,7 +236,7 @@ module _ (t : List ℕ) (c : Cursor) (m : Move) (em : m ≡ advance t c) where
   unfolding by_move
   scan_done d e l el = scan_is t c ∙ rw (← em, e, el)
 
-  pub scan_fault : (q : ℕ) → m ≡ Fault q → scan_from t c ≡ scanned (SkipFault q) c
+  pub scan_fault : (q : ℕ) → m ≡ Fault q → scan_from t c ≡ scanned (fault_at q) c
   unfolding by_move
   scan_fault q e = scan_is t c ∙ rw (← em, e)
 

@@ -1,4 +1,5 @@
 -- What is known of the events' lines: each is an entry, and there are as many as events were counted. Assumes nothing.
+use Rattle.std.specs.Prelude.{Option, Some, None, Ok, Err}
 use mathlib.Core.Path.{◌≡◌, ◌∙◌, refl, sym, ap}
 use mathlib.Core.Bool.{Bool, true, false, false≢true}
 use mathlib.Core.List.{List, [], ◌∷◌}
@@ -13,16 +14,12 @@ use Rattle.base_words.specs.Text.{bytes}
 use Rattle.base_words.specs.Words.{part}
 use Rattle.base_words.proofs.PickLaws.{and_true}
 use Rattle.base_bytes.specs.Bytes.{same_bytes}
-use Rattle.xml_markup.specs.declared.Attribute.{Attribute}
-use Rattle.xml_markup.specs.declared.Attribute.TheVariants.{Is, Absent}
 use Rattle.xml_markup.specs.declared.Class.TheVariants.{Blanks}
 use Rattle.xml_markup.specs.Markup.{markup}
 use Rattle.xml_markup.specs.Spans.{run, after, opener, is_called, attribute}
-use Rattle.xml_skip.specs.declared.Reached.{Reached}
-use Rattle.xml_skip.specs.declared.Reached.TheVariants.{Past, Fault as SkipFault}
 use Rattle.xml_skip.specs.declared.Tag.{Tag}
 use Rattle.xml_skip.specs.declared.Tag.TheVariants.{Open, Empty, Fault as TagFault}
-use Rattle.xml_skip.specs.Skipping.{part_at, tag_of, skipped}
+use Rattle.xml_skip.specs.Skipping.{part_at, tag_of, skipped, Reached, fault_at}
 use Rattle.xml_document.specs.declared.Outside.{Outside}
 use Rattle.xml_document.specs.declared.Outside.TheVariants.{Element as OutsideElement, On as OutsideOn, Nothing, Fault as OutsideFault}
 use Rattle.xml_document.specs.Document.{outside_at}
@@ -75,26 +72,26 @@ module _ (t : List ℕ) (c : Cursor) where
 
   over_tells : (s : Reached) → Tells t c (over s c)
   unfolding over
-  over_tells (Past q) = reached_tells q
-  over_tells (SkipFault q) = tt
+  over_tells (Ok q) = reached_tells q
+  over_tells (Err q) = tt
 
   named_tells : (s : Reached) (from to : ℕ) → (entry_of (part t from to)).right ≡ true → Tells t c (over_named s c from to)
   unfolding over_named
-  named_tells (Past q) from to h = still (named c from to q) (closes_same c.level) refl (λ r e. h)
-  named_tells (SkipFault q) from to h = tt
+  named_tells (Ok q) from to h = still (named c from to q) (closes_same c.level) refl (λ r e. h)
+  named_tells (Err q) from to h = tt
 
-  line_tells : (a : Attribute) (p end : ℕ) → Tells t c (line_by a t c p end)
+  line_tells : (a : Option (ℕ × ℕ)) (p end : ℕ) → Tells t c (line_by a t c p end)
   unfolding line_by
-  line_tells (Is from to) p end = tells_if (entry_of (part t from to)).right _ _ (λ h. named_tells (skipped t p) from to h) (λ h. tt)
-  line_tells Absent p end = tt
+  line_tells (Some (from, to)) p end = tells_if (entry_of (part t from to)).right _ _ (λ h. named_tells (skipped t p) from to h) (λ h. tt)
+  line_tells None p end = tt
 
-  name_tells : (a : Attribute) (p end : ℕ) → Tells t c (name_by a t c p end)
+  name_tells : (a : Option (ℕ × ℕ)) (p end : ℕ) → Tells t c (name_by a t c p end)
   unfolding name_by
-  name_tells (Is from to) p end =
+  name_tells (Some (from, to)) p end =
       tells_if (same_bytes (part t from to) (bytes "concept:name")) _ _
       (λ h. tells_if (eqb c.to 0) _ _ (λ k. line_tells (attribute t p (bytes "value")) p end) (λ k. tt))
       (λ h. over_tells (skipped t p))
-  name_tells Absent p end = over_tells (skipped t p)
+  name_tells None p end = over_tells (skipped t p)
 
   string_tells : (g : Tag) (p : ℕ) → Tells t c (string_by g t c p)
   unfolding string_by
@@ -216,7 +213,7 @@ module _ (t : List ℕ) (c : Cursor) (S : Cursor → Scanned) (R : Cursor → Li
   count_on d h k false e = omega (arith, e, same d (omega (arith, e, few, h)))
 
   count_by : (g : Move) → Beyond c.at g → Room t c g → Tells t c g
-      → (by_move g S (λ d. scanned (last_from t d.at) d) (λ q. scanned (SkipFault q) c)).last.events
+      → (by_move g S (λ d. scanned (last_from t d.at) d) (λ q. scanned (fault_at q) c)).last.events
       ≡ c.events + length (by_move g (λ d. if closes_event c.level d.level then line_of t d ∷ R d or_else R d) (λ d. []) (λ q. []))
   unfolding by_move
   count_by (On d) h k e = count_on d h k (closes_event c.level d.level) e.0
@@ -260,8 +257,8 @@ begin_by_begins (TagFault q) p = tt
 
 begin_begins : (s : Reached) (t : List ℕ) → Begins (begin s t)
 unfolding begin
-begin_begins (Past p) t = begin_by_begins (tag_of (markup t p) p) p
-begin_begins (SkipFault q) t = tt
+begin_begins (Ok p) t = begin_by_begins (tag_of (markup t p) p) p
+begin_begins (Err q) t = tt
 
 begins_if : (b : Bool) (x y : Move) → Begins x → Begins y → Begins (if b then x or_else y)
 unfolding if◌then◌or_else◌
@@ -278,7 +275,7 @@ unfolding scan lines_of
 events_are_lines t = go (start t) (start_begins t)
   where
     go : (g : Move) → Begins g
-        → (by_move g (scan_from t) (λ d. scanned (Past d.at) d) (λ q. scanned (SkipFault q) (in_log 0 0))).last.events ≡ length (by_move g (lines_from t) (λ d. []) (λ q. []))
+        → (by_move g (scan_from t) (λ d. scanned (Ok d.at) d) (λ q. scanned (fault_at q) (in_log 0 0))).last.events ≡ length (by_move g (lines_from t) (λ d. []) (λ q. []))
     go (On c) e = unfold by_move scan_from lines_from in omega (arith, e.0, count_in_lem (length t) t c (omega (arith, e.0)))
     go (Done c) e = unfold by_move in e
     go (Fault q) e = unfold by_move in refl
@@ -294,6 +291,6 @@ lines_are_entries t = go (start t) (start_begins t)
     go (Fault q) e = unfold by_move each in refl
 
 -- "Above 65,536 bytes: 23 with 0, nothing else looked at"
-pub too_long_lem : (t : List ℕ) → log_most < length t → (scan t).end ≡ SkipFault 0
+pub too_long_lem : (t : List ℕ) → log_most < length t → (scan t).end ≡ fault_at 0
 unfolding scan start by_move if◌then◌or_else◌
 too_long_lem t h = rw (lt-ltb log_most (length t) h)

@@ -1,21 +1,17 @@
 -- WHAT IS SUCH A LOG: "The root is `log`. Directly in it stands exactly one `trace`; directly in that, any number of `event`s; directly in each event exactly one `string` whose attribute `key` is `concept:name`; its
 -- attribute `value` is a line. Every other element directly in the log, the trace or an event is skipped whole." Read from left to right, up to the first fault: its place is that of 23.
-use Rattle.std.specs.Prelude.{ℕ, zero, suc, ◌-◌, Bool, true, false, ◌||◌, List, [], ◌∷◌, ltb, eqb, length}
+use Rattle.std.specs.Prelude.{ℕ, zero, suc, ◌-◌, Bool, true, false, ◌||◌, List, [], ◌∷◌, ltb, eqb, length, Option, Some, None, Ok, Err}
 use Rattle.base_words.specs.Blocks.{Bytes}
 use Rattle.base_words.specs.Pick.{if◌then◌or_else◌}
 use Rattle.base_words.specs.Text.{bytes}
 use Rattle.base_words.specs.Words.{part}
 use Rattle.base_bytes.specs.Bytes.{same_bytes}
-use Rattle.xml_markup.specs.declared.Attribute.{Attribute}
-use Rattle.xml_markup.specs.declared.Attribute.TheVariants.{Is, Absent}
 use Rattle.xml_markup.specs.declared.Class.TheVariants.{Blanks}
 use Rattle.xml_markup.specs.Markup.{markup}
 use Rattle.xml_markup.specs.Spans.{run, is_called, attribute}
-use Rattle.xml_skip.specs.declared.Reached.{Reached}
-use Rattle.xml_skip.specs.declared.Reached.TheVariants.{Past, Fault as SkipFault}
 use Rattle.xml_skip.specs.declared.Tag.{Tag}
 use Rattle.xml_skip.specs.declared.Tag.TheVariants.{Open, Empty, Fault as TagFault}
-use Rattle.xml_skip.specs.Skipping.{tag_of, skipped}
+use Rattle.xml_skip.specs.Skipping.{tag_of, skipped, Reached, fault_at}
 use Rattle.xml_document.specs.Around.{root_at, last_from}
 use Rattle.log_lines.specs.Entries.{entry_of}
 use Rattle.log_text.specs.declared.Inside.{Inside}
@@ -35,24 +31,24 @@ log_most = 65536
 
 -- an element skipped whole
 unfoldable pub over : Reached → Cursor → Move
-over (Past q) c = On (reached c q)
-over (SkipFault q) c = Fault q
+over (Ok q) c = On (reached c q)
+over (Err q) c = Fault q.place
 
 -- "A second one in an event is 23"; "the opening quote of its key", "one without a value: the `>` or `/` of its tag; a value that is no line: its opening quote", "in the order second, no value, no line" (RULES: entries)
 unfoldable pub over_named : Reached → Cursor → ℕ → ℕ → Move
-over_named (Past q) c from to = On (named c from to q)
-over_named (SkipFault q) c from to = Fault q
+over_named (Ok q) c from to = On (named c from to q)
+over_named (Err q) c from to = Fault q.place
 
-unfoldable pub line_by : Attribute → Bytes → Cursor → ℕ → ℕ → Move
-line_by (Is from to) t c p end = if (entry_of (part t from to)).right then over_named (skipped t p) c from to or_else Fault (from - 1)
-line_by Absent t c p end = Fault end
+unfoldable pub line_by : Option (ℕ × ℕ) → Bytes → Cursor → ℕ → ℕ → Move
+line_by (Some (from, to)) t c p end = if (entry_of (part t from to)).right then over_named (skipped t p) c from to or_else Fault (from - 1)
+line_by None t c p end = Fault end
 
-unfoldable pub name_by : Attribute → Bytes → Cursor → ℕ → ℕ → Move
-name_by (Is from to) t c p end =
+unfoldable pub name_by : Option (ℕ × ℕ) → Bytes → Cursor → ℕ → ℕ → Move
+name_by (Some (from, to)) t c p end =
     if same_bytes (part t from to) (bytes "concept:name") then
     if eqb c.to 0 then line_by (attribute t p (bytes "value")) t c p end or_else Fault (from - 1)
     or_else over (skipped t p) c
-name_by Absent t c p end = over (skipped t p) c
+name_by None t c p end = over (skipped t p) c
 
 -- "A tag's attributes are looked at when the tag is whole" (RULES: logs)
 unfoldable pub string_by : Tag → Bytes → Cursor → ℕ → Move
@@ -115,8 +111,8 @@ by_move (Fault q) on done fault = fault q
 
 -- from where the reader is, in n steps at most; each passes a byte, so the text's length is enough
 unfoldable pub scan_in : ℕ → Bytes → Cursor → Scanned
-scan_in zero t c = scanned (SkipFault (length t)) c
-scan_in (suc n) t c = by_move (advance t c) (scan_in n t) (λ d. scanned (last_from t d.at) d) (λ q. scanned (SkipFault q) c)
+scan_in zero t c = scanned (fault_at (length t)) c
+scan_in (suc n) t c = by_move (advance t c) (scan_in n t) (λ d. scanned (last_from t d.at) d) (λ q. scanned (fault_at q) c)
 
 unfoldable pub scan_from : Bytes → Cursor → Scanned
 scan_from t c = scan_in (length t) t c
@@ -128,15 +124,15 @@ begin_by (Empty q) p = Fault (q - 2)
 begin_by (TagFault q) p = Fault q
 
 unfoldable pub begin : Reached → Bytes → Move
-begin (Past p) t = begin_by (tag_of (markup t p) p) p
-begin (SkipFault q) t = Fault q
+begin (Ok p) t = begin_by (tag_of (markup t p) p) p
+begin (Err q) t = Fault q.place
 
 -- "Above 65,536 bytes: 23 with 0, nothing else looked at" (RULES: logs)
 unfoldable pub start : Bytes → Move
 start t = if ltb log_most (length t) then Fault 0 or_else begin (root_at (bytes "log") t) t
 
 unfoldable pub scan : Bytes → Scanned
-scan t = by_move (start t) (scan_from t) (λ d. scanned (Past d.at) d) (λ q. scanned (SkipFault q) nowhere)
+scan t = by_move (start t) (scan_from t) (λ d. scanned (Ok d.at) d) (λ q. scanned (fault_at q) nowhere)
 
 -- THE LINES OF THE EVENTS that are whole, as they stand
 unfoldable pub closes_event : Level → Level → Bool

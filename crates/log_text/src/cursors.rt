@@ -1,4 +1,6 @@
 // Where a reader of a log is, and where it is next.
+#![tactic(auto, using(base_words::proofs::PickLaws::picks, std::proofs::lemmas::Bool::Decides::nat_tests), unfolding(crate::specs::Cursors::tag_by, crate::specs::Cursors::lacks_by))]
+
 ghost use Rattle.std.specs.Prelude.{◌≡◌, ◌-◌};
 ghost use Rattle.log_text.specs.Cursors.{nowhere, in_log, reached, traced, in_event, named, behind_event, behind_trace, tag_by, lacks_by};
 
@@ -9,25 +11,14 @@ use xml_markup::spans::after;
 pub fn back(q: usize, n: usize) -> usize
     ensures { result ≡ q - n }
 {
-    if q < n { 0 } else { q - n }
+    q.saturating_sub(n)
 }
 
 // Before the root.
 pub fn nowhere() -> Cursor
     ensures { result ≡ nowhere }
 {
-    Cursor {
-        level: Level::Log,
-        at: 0,
-        log: 0,
-        trace: 0,
-        opened: 0,
-        event: 0,
-        events: 0,
-        kept: 0,
-        from: 0,
-        to: 0,
-    }
+    in_log(0, 0)
 }
 
 // In the log whose tag is at p, with q behind it.
@@ -52,19 +43,7 @@ pub fn in_log(p: usize, q: usize) -> Cursor
 pub fn reached(c: Cursor, q: usize) -> Cursor
     ensures { result ≡ reached c q }
 {
-    let level = c.level;
-    Cursor {
-        level: level,
-        at: q,
-        log: c.log,
-        trace: c.trace,
-        opened: c.opened,
-        event: c.event,
-        events: c.events,
-        kept: c.kept,
-        from: c.from,
-        to: c.to,
-    }
+    Cursor { at: q, ..c }
 }
 
 // Behind the trace's tag at p: in the trace, or, where the tag is empty, in the log.
@@ -72,16 +51,12 @@ pub fn traced(level: Level, c: Cursor, p: usize, q: usize) -> Cursor
     ensures { result ≡ traced level c p q }
 {
     Cursor {
-        level: level,
+        level,
         at: q,
-        log: c.log,
         trace: p,
         opened: q,
-        event: c.event,
-        events: c.events,
         kept: q,
-        from: c.from,
-        to: c.to,
+        ..c
     }
 }
 
@@ -92,14 +67,10 @@ pub fn in_event(c: Cursor, p: usize, q: usize) -> Cursor
     Cursor {
         level: Level::Event,
         at: q,
-        log: c.log,
-        trace: c.trace,
-        opened: c.opened,
         event: p,
-        events: c.events,
-        kept: c.kept,
         from: 0,
         to: 0,
+        ..c
     }
 }
 
@@ -107,18 +78,11 @@ pub fn in_event(c: Cursor, p: usize, q: usize) -> Cursor
 pub fn named(c: Cursor, from: usize, to: usize, q: usize) -> Cursor
     ensures { result ≡ named c from to q }
 {
-    let level = c.level;
     Cursor {
-        level: level,
         at: q,
-        log: c.log,
-        trace: c.trace,
-        opened: c.opened,
-        event: c.event,
-        events: c.events,
-        kept: c.kept,
-        from: from,
-        to: to,
+        from,
+        to,
+        ..c
     }
 }
 
@@ -129,14 +93,9 @@ pub fn behind_event(text: &[u8], c: Cursor, q: usize) -> Cursor
     Cursor {
         level: Level::Trace,
         at: q,
-        log: c.log,
-        trace: c.trace,
-        opened: c.opened,
-        event: c.event,
         events: after(text, c.events),
         kept: q,
-        from: c.from,
-        to: c.to,
+        ..c
     }
 }
 
@@ -147,14 +106,7 @@ pub fn behind_trace(c: Cursor, q: usize) -> Cursor
     Cursor {
         level: Level::Log,
         at: q,
-        log: c.log,
-        trace: c.trace,
-        opened: c.opened,
-        event: c.event,
-        events: c.events,
-        kept: c.kept,
-        from: c.from,
-        to: c.to,
+        ..c
     }
 }
 

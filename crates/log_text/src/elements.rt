@@ -1,4 +1,6 @@
 // An element directly in the log, the trace or an event: it is read into, or skipped whole, or a fault.
+#![tactic(auto, using(base_words::proofs::PickLaws::picks, std::proofs::lemmas::Bool::Decides::nat_tests), unfolding(crate::specs::Logs::over, crate::specs::Logs::over_named, crate::specs::Logs::line_by, crate::specs::Logs::name_by, crate::specs::Logs::string_by, crate::specs::Logs::string_at, crate::specs::Logs::trace_by, crate::specs::Logs::event_by, crate::specs::Logs::is_of_log, crate::specs::Logs::other_at, crate::specs::Logs::entered_by))]
+
 ghost use Rattle.std.specs.Prelude.{◌≡◌};
 ghost use Rattle.base_words.specs.Text.{bytes};
 ghost use Rattle.base_words.specs.Words.{part};
@@ -13,47 +15,52 @@ use super::cursors::{back, in_event, named, reached, traced};
 use super::{Cursor, Level, Move};
 use base_bytes::{piece, same};
 use log_lines::entry_of;
-use xml_markup::Attribute;
 use xml_markup::scanning::markup;
 use xml_markup::spans::{attribute, is_called};
-use xml_skip::{Reached, Tag, skip, skip_from, tag_of};
+use xml_skip::{Fault, Tag, skip, skip_from, tag_of};
 
-fn over(s: Reached, c: Cursor) -> Move
+fn over(s: Result<usize, Fault>, c: Cursor) -> Move
     ensures { result ≡ over s c }
 {
     match s {
-        Reached::Past(q) => Move::On(reached(c, q)),
-        Reached::Fault(q) => Move::Fault(q),
+        Ok(q) => Move::On(reached(c, q)),
+        Err(f) => Move::Fault(f.place),
     }
 }
 
-fn over_named(s: Reached, c: Cursor, from: usize, to: usize) -> Move
+fn over_named(s: Result<usize, Fault>, c: Cursor, from: usize, to: usize) -> Move
     ensures { result ≡ over_named s c from to }
 {
     match s {
-        Reached::Past(q) => Move::On(named(c, from, to, q)),
-        Reached::Fault(q) => Move::Fault(q),
+        Ok(q) => Move::On(named(c, from, to, q)),
+        Err(f) => Move::Fault(f.place),
     }
 }
 
 fn is_line(text: &[u8], from: usize, to: usize) -> bool
     ensures { result ≡ (entry_of (part text.now from to)).right }
 {
-    let e = entry_of(piece(text, from, to));
-    e.right
+    entry_of(piece(text, from, to)).right
 }
 
-fn line_by(a: Attribute, tag: Tag, text: &[u8], c: Cursor, p: usize, end: usize) -> Move
+fn line_by(
+    a: Option<(usize, usize)>,
+    tag: Tag,
+    text: &[u8],
+    c: Cursor,
+    p: usize,
+    end: usize,
+) -> Move
     requires { tag ≡ tag_of (markup text.now p) p }
     ensures { result ≡ line_by a text.now c p end }
 {
-    let Attribute::Is(from, to) = a else {
-        return Move::Fault(end);
-    };
-    if is_line(text, from, to) {
-        return over_named(skip_from(tag, text, p), c, from, to);
+    match a {
+        Some((from, to)) if is_line(text, from, to) => {
+            over_named(skip_from(tag, text, p), c, from, to)
+        }
+        Some((from, _)) => Move::Fault(back(from, 1)),
+        None => Move::Fault(end),
     }
-    Move::Fault(back(from, 1))
 }
 
 fn is_key(text: &[u8], from: usize, to: usize) -> bool
@@ -62,11 +69,18 @@ fn is_key(text: &[u8], from: usize, to: usize) -> bool
     same(piece(text, from, to), b"concept:name")
 }
 
-fn name_by(a: Attribute, tag: Tag, text: &[u8], c: Cursor, p: usize, end: usize) -> Move
+fn name_by(
+    a: Option<(usize, usize)>,
+    tag: Tag,
+    text: &[u8],
+    c: Cursor,
+    p: usize,
+    end: usize,
+) -> Move
     requires { tag ≡ tag_of (markup text.now p) p }
     ensures { result ≡ name_by a text.now c p end }
 {
-    let Attribute::Is(from, to) = a else {
+    let Some((from, to)) = a else {
         return over(skip_from(tag, text, p), c);
     };
     if is_key(text, from, to) {
@@ -119,13 +133,7 @@ fn event_by(tag: Tag, c: Cursor, p: usize) -> Move
 fn is_of_log(text: &[u8], p: usize) -> bool
     ensures { result ≡ is_of_log text.now p }
 {
-    if is_called(text, p, b"log") {
-        return true;
-    }
-    if is_called(text, p, b"trace") {
-        return true;
-    }
-    is_called(text, p, b"event")
+    is_called(text, p, b"log") || is_called(text, p, b"trace") || is_called(text, p, b"event")
 }
 
 fn other_at(text: &[u8], c: Cursor, p: usize) -> Move

@@ -1,5 +1,5 @@
 // A log, read from left to right: the first fault of its text, and how far its whole events go.
-#![tactic(auto)]
+#![tactic(auto, using(base_words::proofs::PickLaws::picks, std::proofs::lemmas::Bool::Decides::nat_tests), unfolding(crate::specs::Logs::left_by, crate::specs::Logs::by_inside, crate::specs::Logs::advance, crate::specs::Logs::begin_by, crate::specs::Logs::begin, crate::specs::Logs::start))]
 
 ghost use Rattle.std.specs.Prelude.{◌≡◌};
 ghost use Rattle.log_text.specs.Logs.{left_by, by_inside, advance, scan_from, begin_by, begin, start, scan};
@@ -11,7 +11,7 @@ use xml_document::around::{last_from, root_at};
 use xml_markup::Class;
 use xml_markup::scanning::markup;
 use xml_markup::spans::run;
-use xml_skip::{Reached, Tag, tag_of};
+use xml_skip::{Fault, Tag, tag_of};
 
 pub mod cursors;
 pub mod elements;
@@ -63,7 +63,7 @@ pub enum Move {
 // The end of the text, or the place of the fault; and where the reader was then.
 #[derive(Clone, Copy)]
 pub struct Scanned {
-    pub end: Reached,
+    pub end: Result<usize, Fault>,
     pub last: Cursor,
 }
 
@@ -104,6 +104,7 @@ fn scan_from(text: &[u8], c: Cursor) -> Scanned
     ensures { result ≡ scan_from text.now c }
 {
     let mut d = c;
+    // Stays a while: each step goes as far as its markup.
     while d.at < text.len() {
         let m = advance(text, d);
         match m {
@@ -118,14 +119,14 @@ fn scan_from(text: &[u8], c: Cursor) -> Scanned
             }
             Move::Fault(q) => {
                 return Scanned {
-                    end: Reached::Fault(q),
+                    end: Err(Fault { place: q }),
                     last: d,
                 };
             }
         }
     }
     Scanned {
-        end: Reached::Fault(text.len()),
+        end: Err(Fault { place: text.len() }),
         last: d,
     }
 }
@@ -140,12 +141,12 @@ fn begin_by(tag: Tag, p: usize) -> Move
     }
 }
 
-fn begin(s: Reached, text: &[u8]) -> Move
+fn begin(s: Result<usize, Fault>, text: &[u8]) -> Move
     ensures { result ≡ begin s text.now }
 {
     match s {
-        Reached::Past(p) => begin_by(tag_of(markup(text, p), p), p),
-        Reached::Fault(q) => Move::Fault(q),
+        Ok(p) => begin_by(tag_of(markup(text, p), p), p),
+        Err(f) => Move::Fault(f.place),
     }
 }
 
@@ -167,11 +168,11 @@ pub fn scan(text: &[u8]) -> Scanned
     match m {
         Move::On(c) => scan_from(text, c),
         Move::Done(c) => Scanned {
-            end: Reached::Past(c.at),
+            end: Ok(c.at),
             last: c,
         },
         Move::Fault(q) => Scanned {
-            end: Reached::Fault(q),
+            end: Err(Fault { place: q }),
             last: nowhere(),
         },
     }

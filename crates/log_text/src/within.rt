@@ -1,4 +1,6 @@
 // What stands at a place directly in the log, the trace or an event.
+#![tactic(auto, using(base_words::proofs::PickLaws::picks, std::proofs::lemmas::Bool::Decides::nat_tests), unfolding(crate::specs::Inside::ends_at, crate::specs::Inside::closing, crate::specs::Inside::between, crate::specs::Inside::inside_at))]
+
 ghost use Rattle.std.specs.Prelude.{◌≡◌};
 ghost use Rattle.log_text.specs.Inside.{ends_at, closing, between, inside_at};
 
@@ -11,20 +13,15 @@ use xml_skip::{Part, part_at};
 fn ends_at(o: Opener) -> bool
     ensures { result ≡ ends_at o }
 {
-    match o {
-        Opener::Start => false,
-        Opener::End => true,
-        Opener::Other => false,
-    }
+    matches!(o, Opener::End)
 }
 
 fn closing(part: Part, p: usize) -> Inside
     ensures { result ≡ closing part p }
 {
     match part {
-        Part::Element => Inside::Fault(p),
+        Part::Element | Part::On(_) => Inside::Fault(p),
         Part::Close(q) => Inside::Close(q),
-        Part::On(_) => Inside::Fault(p),
         Part::Fault(q) => Inside::Fault(q),
     }
 }

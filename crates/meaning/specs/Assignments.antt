@@ -1,12 +1,11 @@
 -- "Assignments go in order, each seeing those before it." (RULES: assignments)
-use Rattle.std.specs.Prelude.{ℕ, Bool, true, false, List, leb, drop}
+use Rattle.std.specs.Prelude.{ℕ, Bool, true, false, List, leb, drop, None, Some}
 use Rattle.base_words.specs.Blocks.{Element, Instance}
 use Rattle.base_words.specs.Iter.{iter}
 use Rattle.base_words.specs.Pick.{if◌then◌or_else◌}
 use Rattle.base_words.specs.Words.{at}
 use Rattle.base_words.specs.Counts.{assignments}
-use Rattle.meaning.specs.declared.Value.{Value}
-use Rattle.meaning.specs.declared.Value.TheVariants.{Undefined, Number}
+use Rattle.meaning.specs.Values.{Value}
 use Rattle.base_table.specs.Places.{assigned_in}
 use Rattle.base_table.specs.Table.{assignment_count, assignment_at}
 use Rattle.base_state.specs.Instances.{with_field}
@@ -18,8 +17,8 @@ pub record Assigned : Type 0 where
   pub instance : Instance
 
 unfoldable pub assigned_value : Instance → ℕ → Value → Assigned
-assigned_value h d (Number v) = record { defined = true; instance = with_field h d v }
-assigned_value h d Undefined = record { defined = false; instance = h }
+assigned_value h d (Some v) = record { defined = true; instance = with_field h d v }
+assigned_value h d None = record { defined = false; instance = h }
 
 unfoldable pub assign_one : Element → ℕ → Assigned → Assigned
 assign_one el j a =

@@ -1,15 +1,13 @@
 -- "A template matches a tuple of equal length whose values equal its expressions, worked out before any binding; the rest is bound." So the template
 -- of branch b is worked out with the given values g where it binds, and matches when that is g. A message is the same without binds. (RULES: templates)
-use Rattle.std.specs.Prelude.{ℕ, ◌+◌, Bool, ◌&&◌, List, [], ◌∷◌, eqb, ltb, leb}
+use Rattle.std.specs.Prelude.{ℕ, ◌+◌, Bool, ◌&&◌, List, [], ◌∷◌, eqb, ltb, leb, Some}
 use Rattle.base_words.specs.Blocks.{Element, Instance}
 use Rattle.base_words.specs.Iter.{iter}
 use Rattle.base_words.specs.Pick.{if◌then◌or_else◌}
 use Rattle.base_words.specs.Words.{at}
 use Rattle.base_words.specs.Counts.{values}
-use Rattle.meaning.specs.declared.Value.{Value}
-use Rattle.meaning.specs.declared.Value.TheVariants.{Number}
 use Rattle.meaning.specs.declared.Tuple.{Tuple}
-use Rattle.meaning.specs.Values.{is_defined, number_in}
+use Rattle.meaning.specs.Values.{Value, is_defined, number_in}
 use Rattle.meaning.specs.Tuples.{value_of}
 use Rattle.base_table.specs.Places.{operand_number, form_place, left_place, binding}
 use Rattle.base_table.specs.Table.{item_at, message_length}
@@ -23,8 +21,8 @@ binds el b j = ltb j (message_length el b) && eqb (at (item_at el b j) form_plac
 
 unfoldable pub item_value : Element → ℕ → Instance → Tuple → ℕ → Value
 item_value el b h g j =
-    if leb (message_length el b) j then Number 0
-    or_else if binds el b j then Number (value_of g j)
+    if leb (message_length el b) j then Some 0
+    or_else if binds el b j then Some (value_of g j)
     or_else expression_of (item_at el b j) h
 
 -- the message or template worked out: whether all of it is defined, and the tuple

@@ -8,11 +8,7 @@ use base_words::Word;
 use base_words::counts::VALUES;
 
 // "A field is 0 to 4,294,967,295 or undefined."
-#[derive(Clone, Copy)]
-pub enum Value {
-    Undefined,
-    Number(Word),
-}
+pub type Value = Option<Word>;
 
 #[derive(Clone, Copy)]
 pub enum Truth {

@@ -7,10 +7,10 @@ use mathlib.Core.List.{List, [], ◌∷◌}
 use mathlib.Core.Logic.{inl, inr, ⊎_elim}
 use native.Mathlib.Omega.{arith}
 use lib.Dec.{eqb}
+use Rattle.std.specs.Prelude.{None, Some}
 use Rattle.base_words.specs.Pick.{if◌then◌or_else◌}
 use Rattle.meaning.specs.declared.Truth.{Truth}
 use Rattle.meaning.specs.declared.Truth.TheVariants.{True, False, Neither}
-use Rattle.meaning.specs.declared.Value.TheVariants.{Undefined, Number}
 use Rattle.meaning.specs.Values.{sum_of, equal_of, less_of, is_true, is_false}
 use Rattle.paper.specs.Syntax.{number, field, sum, equal, less, always, default, ε, ◌:=◌, Mode, a, na_c, na_nc, Choice, Element, start, xor_split, task, Mark, Pool, Stands, here, there}
 use Rattle.paper.specs.States.{Local, unset, unmarked, blank, ◌edges:◌, ◌fields:◌, ◌active:◌, put, inc, dec, same, ◌without◌, Configuration, seen, upd_inst}
@@ -110,10 +110,10 @@ junction = record { mark = Mark.mi_pool; name = 1; process = raising ∷ []; lim
 
 abbrev held : Configuration
 held = record {
-  σi = λ p i. if eqb i 0 then marked or_else blank fields: (λ d. if eqb d 0 then Number 1 or_else Undefined);
+  σi = λ p i. if eqb i 0 then marked or_else blank fields: (λ d. if eqb d 0 then Some 1 or_else None);
   made = λ p. 2;
   σm = λ m. record { times = λ vs. 0; size = 0 };
-  σds = λ d. if eqb d 0 then Number 0 or_else Undefined;
+  σds = λ d. if eqb d 0 then Some 0 or_else None;
 }
 
 abbrev guarded : Configuration → Truth
@@ -129,7 +129,7 @@ raise = record { pool = 1; instance = 0; element = 0; phase = 0; branch = 0; val
 abbrev raised : Configuration
 raised =
     upd_inst held 1 0
-    (seen held 1 0 edges: inc (dec (seen held 1 0).σe 1) 2 fields: put (seen held 1 0).σd 16 (Number 1))
+    (seen held 1 0 edges: inc (dec (seen held 1 0).σe 1) 2 fields: put (seen held 1 0).σd 16 (Some 1))
 
 pub raises : Steps 20 junction raise held (Seen.τ Internal.ε) raised
 unfolding if◌then◌or_else◌ put truth worth operand sum_of

@@ -1,7 +1,7 @@
 -- FIGURES 13 AND B.25: the transitions of a collaboration. A rule for single pools and its twin for multi-instance pools are one here, a pool having
 -- limit 1. (C-Int and P-Int, "if an element of a process evolves then the whole process evolves", are that pool and element stand in theirs.)
 use Rattle.std.specs.Prelude.{ℕ, ◌<◌, ◌≤◌, ◌≡◌, List, [], length}
-use Rattle.meaning.specs.declared.Value.{Value}
+use Rattle.meaning.specs.Values.{Value}
 use Rattle.paper.specs.Syntax.{Evaluated, Assignments, ◌&◌, Element, Pool, Stands}
 use Rattle.paper.specs.States.{Local, blank, ◌fields:◌, Configuration, ◌beside◌, seen, upd_inst, add_inst, add, rm}
 use Rattle.paper.specs.Evaluation.{Matches, Updates}

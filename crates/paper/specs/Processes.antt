@@ -2,7 +2,7 @@
 -- Document 01 names a step's rule by its phase and branch: phase 0 but for tasks that are not atomic, branch 0 but where a line has a choice.
 -- v is the version that the state was made for; no rule changes it. `room` is document 01's: no edge and no task count, after the taking, passes 255. The paper has no such bound. (RULES: steps)
 use Rattle.std.specs.Prelude.{ℕ, ◌<◌, ◌≡◌, List, ◌⊎◌}
-use Rattle.meaning.specs.declared.Value.{Value}
+use Rattle.meaning.specs.Values.{Value}
 use Rattle.meaning.specs.declared.Truth.TheVariants.{True, False}
 use Rattle.paper.specs.Syntax.{Exp, Cond, default, Item, Evaluated, Assignments, Mode, a, na_nc, Choice, Receipt, Element, start, start_rcv, end, terminate, end_snd, inter_rcv, inter_snd, event_based, and_split, and_join, xor_join, xor_split, task, task_rcv, task_snd, Stands, Each}
 use Rattle.paper.specs.States.{Local, unmarked, ◌edges:◌, ◌fields:◌, ◌active:◌, ◌ready:◌, inc, dec, incs, decs}

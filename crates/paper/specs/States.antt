@@ -1,8 +1,7 @@
 -- THE STATES of a process instance and of a collaboration, and the functions of figures 6 and 12 that update them.
-use Rattle.std.specs.Prelude.{ℕ, ◌+◌, ◌-◌, Bool, true, false, ◌&&◌, List, [], ◌∷◌, eqb, ltb}
+use Rattle.std.specs.Prelude.{ℕ, ◌+◌, ◌-◌, Bool, true, false, ◌&&◌, List, [], ◌∷◌, eqb, ltb, None}
 use Rattle.base_words.specs.Pick.{if◌then◌or_else◌}
-use Rattle.meaning.specs.declared.Value.{Value}
-use Rattle.meaning.specs.declared.Value.TheVariants.{Undefined}
+use Rattle.meaning.specs.Values.{Value}
 
 -- ⟨σe, σd, σt⟩: tokens of edges, data, and for tasks how often each is active and how often it is ready. (Ready is the paper's status s of a
 -- taskSnd and its r of a taskRcv: no task has both.) σd is what an instance sees, "the triple (σdo, σdc, σds) representing the state of all data
@@ -18,7 +17,7 @@ abbrev pub unmarked : ℕ → ℕ
 unmarked k = 0
 
 abbrev pub unset : ℕ → Value
-unset d = Undefined
+unset d = None
 
 abbrev pub blank : Local
 blank = record { σe = unmarked; σd = unset; active = unmarked; ready = unmarked }
@@ -90,7 +89,7 @@ abbrev pub ◌beside◌ : Local → (ℕ → Value) → Local
 σ beside ds = σ fields: (λ d. if ltb d 16 then σ.σd d or_else ds (d - 16))
 
 abbrev pub own_of : Local → Local
-own_of σ = σ fields: (λ d. if ltb d 16 then σ.σd d or_else Undefined)
+own_of σ = σ fields: (λ d. if ltb d 16 then σ.σd d or_else None)
 
 abbrev pub stores_of : Local → ℕ → Value
 stores_of σ d = σ.σd (16 + d)

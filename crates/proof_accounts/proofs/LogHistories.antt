@@ -1,5 +1,7 @@
 -- A LAWFUL LOG, ACCOUNTED FOR: what is told of it is the history that the public calls give for its events, in either version; its lines say what these calls answered; and the numbers that are printed of a message
 -- balance. t is a table, v a version. Assumes nothing.
+use Rattle.xml_skip.specs.Skipping.{Reached}
+use Rattle.std.specs.Prelude.{Ok, Err}
 use Prim.Native.Nat.{ℕ, zero, suc, ◌+◌, ◌≤◌}
 use mathlib.Core.Path.{◌≡◌, refl, sym, ◌∙◌, ap, ap₂, subst}
 use mathlib.Core.Bool.{Bool, true, false, false≢true}
@@ -20,8 +22,6 @@ use Rattle.step_poll.specs.Items.{Act, a_step, a_post}
 use Rattle.step_poll.specs.Poll.{settled_step, settled_post}
 use Rattle.step_history.specs.History.{entry_by, state_by, told_by, balances}
 use Rattle.step_history.proofs.HistoryLaws.{told_given, told_same}
-use Rattle.xml_skip.specs.declared.Reached.{Reached}
-use Rattle.xml_skip.specs.declared.Reached.TheVariants.{Past, Fault}
 use Rattle.log_lines.specs.Entries.{entry_of}
 use Rattle.log_text.specs.declared.Cursor.{Cursor}
 use Rattle.log_text.specs.declared.Move.{Move}
@@ -76,8 +76,8 @@ not_lawful k own e = omega (arith, ap (λ (j : Judged). j.number) e)
 
 no_fault : (s : Reached) (j : Judged) → judged_end s j ≡ lawful → j ≡ lawful
 unfolding judged_end
-no_fault (Past q) j e = e
-no_fault (Fault q) j e = absurd (omega (arith, ap (λ (x : Judged). x.number) e))
+no_fault (Ok q) j e = e
+no_fault (Err q) j e = absurd (omega (arith, ap (λ (x : Judged). x.number) e))
 
 module _ (t : List ℕ) (v : ℕ) (asked : asked_number t v ≡ 0) where
   begins : Valid t (fresh t v)

@@ -1,11 +1,11 @@
 -- Records that are what a count gives agree, and of records of three words each only those do. Assumes nothing.
 use Prim.Native.Nat.{ℕ, ◌<◌}
-use mathlib.Core.Path.{◌≡◌, refl, sym, ◌∙◌, ap, subst}
+use mathlib.Core.Path.{◌≡◌, refl, sym, ◌∙◌, subst}
 use mathlib.Core.Bool.{true, ◌&&◌}
 use mathlib.Core.List.{List, []}
 use borrow.Author.Tests.{eqb-true, eq-eqb}
 use lib.Dec.{eqb}
-use lib.ListN.{length, get_or}
+use lib.ListN.{length}
 use lib.Seq.{ext_get_or}
 use Rattle.base_words.specs.All.{all}
 use Rattle.base_words.specs.Each.{tab}
@@ -15,20 +15,12 @@ use Rattle.base_words.proofs.ListLaws.{length-tab, get_d_tab}
 use Rattle.base_words.proofs.PickLaws.{and_true}
 use Rattle.base_table.specs.Table.{pool_count}
 use Rattle.state_figures.specs.Figures.{record_of, counted, record_at, same_record, agree}
-use Rattle.state_figures.proofs.RecordLaws.{third_tells, record_long}
+use Rattle.state_figures.proofs.RecordLaws.{same_is, record_long}
 use Rattle.proof_demands.specs.Demands.{RecordsOfThree}
 
 same_self : (w : List ℕ) → same_record w w ≡ true
 unfolding same_record
 same_self w = rw (eq-eqb (at w 0) (at w 0) refl, eq-eqb (at w 1) (at w 1) refl, eq-eqb (at w 2) (at w 2) refl)
-
--- two records of three words
-same_is : (r w : List ℕ) → length r ≡ 3 → length w ≡ 3 → same_record r w ≡ true → r ≡ w
-unfolding same_record
-same_is r w l k e =
-    let h = and_left (eqb (at r 0) (at w 0) && eqb (at r 1) (at w 1)) (eqb (at r 2) (at w 2)) e in
-    (third_tells r w w refl l k (eqb-true (at r 0) (at w 0) (and_left (eqb (at r 0) (at w 0)) (eqb (at r 1) (at w 1)) h)) (eqb-true (at r 1) (at w 1) (and_right (eqb (at r 0) (at w 0)) (eqb (at r 1) (at w 1)) h))).1
-    (and_right (eqb (at r 0) (at w 0) && eqb (at r 1) (at w 1)) (eqb (at r 2) (at w 2)) e)
 
 module _ (t s : List ℕ) where
   pub record_counted : (p : ℕ) → p < pool_count t → record_at (counted t s) p ≡ record_of s p

@@ -1,4 +1,6 @@
 -- WHAT THE JUDGE ANSWERS: which numbers can come, that 10 comes exactly where the table is not valid and 25 behind it for another version. t is a table, z a state, log a text. Assumes nothing.
+use Rattle.xml_skip.specs.Skipping.{Reached}
+use Rattle.std.specs.Prelude.{Ok, Err}
 use Prim.Native.Nat.{ℕ, ◌+◌}
 use mathlib.Core.Path.{◌≡◌, refl, ◌∙◌, ap}
 use mathlib.Core.Bool.{Bool, true, false}
@@ -12,8 +14,6 @@ use Rattle.meaning.specs.Post.{post_refusals}
 use Rattle.meaning.specs.Step.{refusals_at, refusals}
 use Rattle.state_fits.specs.Fresh.{fresh}
 use Rattle.proof_steps.proofs.Choices.{by_test, by_choice, chosen, passed}
-use Rattle.xml_skip.specs.declared.Reached.{Reached}
-use Rattle.xml_skip.specs.declared.Reached.TheVariants.{Past, Fault}
 use Rattle.log_lines.specs.Entries.{entry_of}
 use Rattle.log_text.specs.Logs.{scan, lines_of}
 use Rattle.log_judge.specs.declared.Judged.{Judged}
@@ -41,8 +41,8 @@ module _ (f : ℕ → Bool) (none : f 0 ≡ true) (event : f 24 ≡ true) where
 
   pub end_among : f 23 ≡ true → (s : Reached) (j : Judged) → f j.number ≡ true → f (judged_end s j).number ≡ true
   unfolding judged_end
-  end_among text (Past q) j h = h
-  end_among text (Fault q) j h = text
+  end_among text (Ok q) j h = h
+  end_among text (Err q) j h = text
 
 module _ (t : List ℕ) (v : ℕ) (log : List ℕ) where
   pub judged_among : (f : ℕ → Bool) → f 0 ≡ true → f 24 ≡ true → f 23 ≡ true → asked_number t v ≡ 0 → f (judged_to t v log).number ≡ true
@@ -103,8 +103,8 @@ module _ (t : List ℕ) where
 
   end_own : (s : Reached) (j : Judged) → Own j → Own (judged_end s j)
   unfolding judged_end is_one_of if◌then◌or_else◌
-  end_own (Past q) j h = h
-  end_own (Fault q) j h = refl
+  end_own (Ok q) j h = h
+  end_own (Err q) j h = refl
 
   pub judge_own : (v : ℕ) (log : List ℕ) → is_one_of own_numbers (judged_to t v log).own ≡ true
   unfolding judged_to judged_from is_one_of if◌then◌or_else◌

@@ -12,9 +12,8 @@ use borrow.Author.Tests.{eqb-true, eq-eqb, ne_eqb, lt-ltb, le-ltb}
 use Rattle.base_words.specs.Counts.{text_most}
 use Rattle.base_words.specs.Each.{each}
 use Rattle.base_words.specs.Pick.{if◌then◌or_else◌}
-use Rattle.text_readers.specs.declared.Read.{Read}
-use Rattle.text_readers.specs.declared.Read.TheVariants.{At, Refused}
-use Rattle.text_readers.specs.Reading.{misplaced, excessive}
+use Rattle.std.specs.declared.result.Result.TheVariants.{Ok, Err}
+use Rattle.text_readers.specs.Reading.{Read, Refused, misplaced, excessive}
 use Rattle.check_model.specs.Checks.{lowest}
 use Rattle.text_read.specs.declared.Reading.{Reading}
 use Rattle.text_read.specs.Notation.{ReadInto, model, table_of, rewritten, has_room, checked, judged, read_into}
@@ -29,7 +28,7 @@ use Rattle.proof_demands.proofs.ReaderNumbers.{told, model_told}
 -- WHAT A READING LEAVES: a table that was read whole, no check broken and with room for what its endSnds become; or a number other than 0 and the table as it was
 pub record Whole (text : List ℕ) (r : ReadInto) : Type 0 where
   pub place : ℕ
-  pub ended : (model text).end ≡ At place
+  pub ended : (model text).end ≡ Ok place
   pub sound : lowest (model text).value ≡ 0
   pub room : each has_room (model text).value ≡ true
   pub is : r ≡ record { number = 0; beside = 0; table = table_of (map rewritten (model text).value) }
@@ -54,7 +53,7 @@ two_or_three n p t h = go (eqb n misplaced) (eqb n excessive) refl refl h
     go false true e f h = stays excessive (eqb-true n excessive f) (λ q. omega (arith, q)) refl
     go false false e f h = absurd (false≢true h)
 
-checked_either : (text t : List ℕ) (q : ℕ) → (model text).end ≡ At q → Either text t (checked (lowest (model text).value) (model text).value t)
+checked_either : (text t : List ℕ) (q : ℕ) → (model text).end ≡ Ok q → Either text t (checked (lowest (model text).value) (model text).value t)
 unfolding checked is_one_of if◌then◌or_else◌
 checked_either text t q e =
     by_choice (Either text t) (eqb (lowest (model text).value) 0)
@@ -68,8 +67,8 @@ checked_either text t q e =
 
 judged_either : (text t : List ℕ) (r : Read) → (model text).end ≡ r → told r ≡ true → Either text t (judged r (model text).value t)
 unfolding judged
-judged_either text t (At q) e h = checked_either text t q e
-judged_either text t (Refused n p) e h = inr (two_or_three n p t h)
+judged_either text t (Ok q) e h = checked_either text t q e
+judged_either text t (Err d) e h = inr (two_or_three d.number d.place t h)
 
 pub taken_either : (text t : List ℕ) → Either text t (read_into text t)
 unfolding read_into is_one_of if◌then◌or_else◌
@@ -93,7 +92,7 @@ module _ (text t : List ℕ) where
     unfolding judged told
     read_misplaced n p e = (subst (λ (r : Read). told r ≡ true) e (model_told text), within ∙ ap (λ (r : Read). judged r (model text).value t) e)
 
-    module _ (q : ℕ) (e : (model text).end ≡ At q) where
+    module _ (q : ℕ) (e : (model text).end ≡ Ok q) where
       to_check : read_into text t ≡ checked (lowest (model text).value) (model text).value t
       unfolding judged
       to_check = within ∙ ap (λ (r : Read). judged r (model text).value t) e

@@ -4,17 +4,16 @@ use mathlib.Core.Path.{◌≡◌, refl}
 use mathlib.Core.Bool.{Bool, true}
 use mathlib.Core.List.{List, [], ◌∷◌}
 use Rattle.base_words.specs.Pick.{if◌then◌or_else◌}
-use Rattle.text_readers.specs.declared.Read.{Read}
-use Rattle.text_readers.specs.declared.Read.TheVariants.{At, Refused}
-use Rattle.text_readers.specs.Reading.{misplaced, excessive}
+use Rattle.std.specs.declared.result.Result.TheVariants.{Ok, Err}
+use Rattle.text_readers.specs.Reading.{Read, misplaced, excessive}
 use Rattle.text_read.specs.Notation.{model}
 use Rattle.proof_places.proofs.Whole.{model_ends}
 use Rattle.proof_demands.specs.Demands.{is_one_of}
 
 -- where reading ended: a place, or a refusal with 2 or 3
 unfoldable pub told : Read → Bool
-told (At q) = true
-told (Refused n p) = is_one_of (misplaced ∷ excessive ∷ []) n
+told (Ok q) = true
+told (Err e) = is_one_of (misplaced ∷ excessive ∷ []) e.number
 
 pub model_told : (text : List ℕ) → told (model text).end ≡ true
 unfolding told is_one_of if◌then◌or_else◌

@@ -1,4 +1,6 @@
 -- WHAT A REPAIR LEAVES: which numbers can come, and that a refused one leaves the buffer as it was. text is a log, out the lent buffer. Assumes nothing.
+use Rattle.xml_skip.specs.Skipping.{Reached}
+use Rattle.std.specs.Prelude.{Ok, Err}
 use Prim.Native.Nat.{ℕ, ◌-◌}
 use mathlib.Core.Path.{◌≡◌, ◌∙◌, refl, ap}
 use mathlib.Core.Bool.{Bool, true, false}
@@ -6,8 +8,6 @@ use mathlib.Core.List.{List, ◌++◌}
 use lib.Dec.{ltb, eqb}
 use lib.ListN.{length, drop}
 use Rattle.base_words.specs.Pick.{if◌then◌or_else◌}
-use Rattle.xml_skip.specs.declared.Reached.{Reached}
-use Rattle.xml_skip.specs.declared.Reached.TheVariants.{Past, Fault}
 use Rattle.log_text.specs.declared.Cursor.{Cursor}
 use Rattle.log_text.specs.Logs.{log_most, scan}
 use Rattle.log_repair.specs.declared.Repaired.{Repaired}
@@ -31,9 +31,9 @@ module _ (out : List ℕ) where
 
   kept_by_lem : (s : Reached) (text : List ℕ) (c : Cursor) → Kept out (repaired_by s text c out)
   unfolding repaired_by refused is_one_of if◌then◌or_else◌
-  kept_by_lem (Past q) text c = given_kept text c.events 0
-  kept_by_lem (Fault q) text c =
-      by_choice (Kept out) (is_lost q text c) _ (repair_given (closed text c) c.events (length text - c.kept) out) (λ e. record { among_them = refl; stays = λ n. (refl, refl) })
+  kept_by_lem (Ok q) text c = given_kept text c.events 0
+  kept_by_lem (Err q) text c =
+      by_choice (Kept out) (is_lost q.place text c) _ (repair_given (closed text c) c.events (length text - c.kept) out) (λ e. record { among_them = refl; stays = λ n. (refl, refl) })
       (λ e. given_kept (closed text c) c.events (length text - c.kept))
 
   repaired_kept : (text : List ℕ) → Kept out (repaired_to text out)

@@ -1,4 +1,6 @@
 -- A TEXT DIAGNOSED: the number told is the one that `draw` gives, and with 21 there is a rule. Assumes nothing.
+use Rattle.xml_skip.specs.Skipping.{Reached}
+use Rattle.std.specs.Prelude.{Ok, Err}
 use Prim.Native.Nat.{ℕ, ◌<◌}
 use mathlib.Core.Path.{◌≡◌, refl, sym, ◌∙◌}
 use mathlib.Core.Bool.{Bool, true, false, not, false≢true}
@@ -15,8 +17,6 @@ use Rattle.check_model.specs.Checks.{Pool, lowest}
 use Rattle.text_readers.specs.Reading.{excessive}
 use Rattle.text_read.specs.declared.Reading.{Reading}
 use Rattle.text_read.specs.Notation.{has_room, answer_for}
-use Rattle.xml_skip.specs.declared.Reached.{Reached}
-use Rattle.xml_skip.specs.declared.Reached.TheVariants.{Past, Fault}
 use Rattle.draw_things.specs.Things.{place}
 use Rattle.draw_walk.specs.Walk.{Walk}
 use Rattle.draw_faults.specs.Amiss.{is_drawing}
@@ -85,8 +85,8 @@ module _ (text : List ℕ) where
   not_21 d = choice Other _ _ _ (λ e. omega (arith, e)) (go (walked_text text).end)
     where
       go : (s : Reached) → Other (unless_fault s (meant_by text things n))
-      go (Past q) = drawn_other text things n d
-      go (Fault q) = λ e. omega (arith, e)
+      go (Ok q) = drawn_other text things n d
+      go (Err q) = λ e. omega (arith, e)
 
   pub why_21 : (diagnosed text).number ≡ not_run → 0 < (diagnosed text).rule
   unfolding diagnosed

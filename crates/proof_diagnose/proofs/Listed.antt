@@ -5,19 +5,12 @@ use mathlib.Core.Bool.{Bool, true, false, ◌&&◌, ◌||◌, false≢true}
 use mathlib.Core.List.{List}
 use native.Mathlib.Omega.{arith}
 use lib.Dec.{eqb}
+use Rattle.std.proofs.lemmas.Bool.{or_left, or_right}
 use Rattle.base_words.specs.Pick.{if◌then◌or_else◌}
 use Rattle.base_words.proofs.AllLaws.{and_left}
 use Rattle.draw_things.specs.Things.{source, target}
 use Rattle.draw_faults.specs.Amiss.{is_strange, is_repeated, is_second_collaboration, is_lost, is_unowned, is_second_multiplicity, is_loose, is_of_no_kind, has_wrong_default, is_wrong_message, is_unheard, is_untold, is_wrong_branch, is_second_condition, is_wrong_condition, amiss_as_flow, amiss_as_node, amiss_as_pool, is_amiss}
 use Rattle.draw_diagnose.specs.Rules.{is_adrift, breaks_pools, breaks_nodes, breaks_flows, breaks, rules_of_things}
-
-or_l : (a b : Bool) → a ≡ true → a || b ≡ true
-or_l true b e = refl
-or_l false b e = absurd (false≢true e)
-
-or_r : (a b : Bool) → b ≡ true → a || b ≡ true
-or_r true b e = refl
-or_r false b e = e
 
 or_elim : {P : Type 0} (a b : Bool) → (a ≡ true → P) → (b ≡ true → P) → a || b ≡ true → P
 or_elim true b f g e = f refl
@@ -29,26 +22,26 @@ module _ (a b c d : Bool) where
   any_of = a || (b || (c || d))
 
   four_1 : a ≡ true → any_of ≡ true
-  four_1 h = or_l a (b || (c || d)) h
+  four_1 h = or_left a (b || (c || d)) h
 
   four_2 : b ≡ true → any_of ≡ true
-  four_2 h = or_r a (b || (c || d)) (or_l b (c || d) h)
+  four_2 h = or_right a (b || (c || d)) (or_left b (c || d) h)
 
   four_3 : c ≡ true → any_of ≡ true
-  four_3 h = or_r a (b || (c || d)) (or_r b (c || d) (or_l c d h))
+  four_3 h = or_right a (b || (c || d)) (or_right b (c || d) (or_left c d h))
 
   four_4 : d ≡ true → any_of ≡ true
-  four_4 h = or_r a (b || (c || d)) (or_r b (c || d) (or_r c d h))
+  four_4 h = or_right a (b || (c || d)) (or_right b (c || d) (or_right c d h))
 
   four : {P : Type 0} → (a ≡ true → P) → (b ≡ true → P) → (c ≡ true → P) → (d ≡ true → P) → any_of ≡ true → P
   four f g h i = or_elim a (b || (c || d)) f (or_elim b (c || d) g (or_elim c d h i))
 
 module _ (x a b c d : Bool) where
   five_1 : x ≡ true → x || any_of a b c d ≡ true
-  five_1 h = or_l x (any_of a b c d) h
+  five_1 h = or_left x (any_of a b c d) h
 
   five_on : any_of a b c d ≡ true → x || any_of a b c d ≡ true
-  five_on h = or_r x (any_of a b c d) h
+  five_on h = or_right x (any_of a b c d) h
 
   five : {P : Type 0} → (x ≡ true → P) → (a ≡ true → P) → (b ≡ true → P) → (c ≡ true → P) → (d ≡ true → P) → x || any_of a b c d ≡ true → P
   five f g h i j = or_elim x (any_of a b c d) f (four a b c d g h i j)

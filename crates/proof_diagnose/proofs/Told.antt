@@ -1,4 +1,7 @@
 -- WITH 4 THE THING TOLD BREAKS THE CHECK: for 2, 3 and 7 there is such a thing, and it is the leftmost. Assumes nothing.
+use Rattle.std.proofs.lemmas.Bool.{not-false}
+use Rattle.xml_skip.specs.Skipping.{Reached}
+use Rattle.std.specs.Prelude.{Ok, Err}
 use Prim.Native.Nat.{ℕ, zero, suc, ◌<◌}
 use mathlib.Core.Path.{◌≡◌, refl, sym, ◌∙◌, ap}
 use mathlib.Core.Bool.{Bool, true, false, not, ◌&&◌, false≢true}
@@ -18,8 +21,6 @@ use Rattle.check_model.specs.Checks.{Pool, check1, check2, check3, check4, check
 use Rattle.text_readers.specs.Reading.{excessive}
 use Rattle.text_read.specs.declared.Reading.{Reading}
 use Rattle.text_read.specs.Notation.{answer_for}
-use Rattle.xml_skip.specs.declared.Reached.{Reached}
-use Rattle.xml_skip.specs.declared.Reached.TheVariants.{Past, Fault}
 use Rattle.draw_things.specs.Things.{place, within}
 use Rattle.draw_walk.specs.Walk.{Walk}
 use Rattle.draw_numbers.specs.Who.{has_participants, is_pool}
@@ -46,10 +47,6 @@ all_some f (suc n) e = go (f n) refl (all_some f n)
     go : (b : Bool) → f n ≡ b → (all f n ≡ false → (k : ℕ) × (k < n) × (f k ≡ false)) → (k : ℕ) × (k < suc n) × (f k ≡ false)
     go false q s = (n, omega arith, q)
     go true q s = let r = s (before (all f n) (f n) q e) in (r.0, omega (arith, r.1), r.2)
-
-not_false : (b : Bool) → not b ≡ false → b ≡ true
-not_false true e = refl
-not_false false e = absurd (false≢true (sym e))
 
 -- the lowest check broken is broken
 past : (b : Bool) (c rest x : ℕ) → (c ≡ x → ⊥) → (if not b then c or_else rest) ≡ x → rest ≡ x
@@ -157,7 +154,7 @@ module _ (t w : List ℕ) (n : ℕ) where
   unfolding is_seat is_pool_seat if◌then◌or_else◌
   start_seat e =
       let r = some_pool check2 e in
-      seated one_start r.0 r.1 (broken r.0 r.2 (not_false _ (sym (start_told owned t w n r.0) ∙ r.3)))
+      seated one_start r.0 r.1 (broken r.0 r.2 (not-false _ (sym (start_told owned t w n r.0) ∙ r.3)))
     where
       broken : (k : ℕ) → is_pool owned w k ≡ true → is_misstarted w n (process_of owned w k) ≡ true → is_seat one_start owned t w n k ≡ true
       broken k p q = and_true _ _ p q
@@ -176,7 +173,7 @@ module _ (t w : List ℕ) (n : ℕ) where
   gateway_seat e =
       let r = some_pool check7 e in
       let j = all_some _ n (sym (gateway_told owned t w n r.0) ∙ r.3) in
-      seated one_default j.0 j.1 (broken j.0 (and_left (has_defaults t w n j.0) _ (not_false _ j.2)))
+      seated one_default j.0 j.1 (broken j.0 (and_left (has_defaults t w n j.0) _ (not-false _ j.2)))
     where
       broken : (k : ℕ) → has_defaults t w n k ≡ true → is_seat one_default owned t w n k ≡ true
       broken k q = q
@@ -214,8 +211,8 @@ module _ (text : List ℕ) where
   beside_4 = choice Beside _ _ _ (λ e. absurd (omega (arith, e))) (go (walked_text text).end)
     where
       go : (s : Reached) → Beside (unless_fault s (meant_by text things n))
-      go (Past q) = meant
-      go (Fault q) = λ e. absurd (omega (arith, e))
+      go (Ok q) = meant
+      go (Err q) = λ e. absurd (omega (arith, e))
 
   module _ (four : (diagnosed text).number ≡ check_broken) where
     answer_4 : (answered text).number ≡ check_broken

@@ -1,4 +1,6 @@
 -- WHAT THE ANSWERS OF DRAW SAY: which numbers can come, that a refusal leaves the table, and what 0 says of the drawing. Assumes nothing.
+use Rattle.xml_skip.specs.Skipping.{Reached}
+use Rattle.std.specs.Prelude.{Ok, Err}
 use Prim.Native.Nat.{ℕ, suc}
 use mathlib.Core.Path.{◌≡◌, refl, ap, ap₂}
 use mathlib.Core.Bool.{Bool, true, false, not}
@@ -13,8 +15,6 @@ use Rattle.text_readers.specs.Reading.{excessive}
 use Rattle.check_model.specs.Checks.{Pool, lowest}
 use Rattle.text_read.specs.declared.Reading.{Reading}
 use Rattle.text_read.specs.Notation.{table_of, rewritten, has_room, answer_for}
-use Rattle.xml_skip.specs.declared.Reached.{Reached}
-use Rattle.xml_skip.specs.declared.Reached.TheVariants.{Past, Fault}
 use Rattle.draw_faults.specs.Amiss.{is_drawing}
 use Rattle.draw_limits.specs.Excess.{first_beyond, beyond_at}
 use Rattle.draw_model.specs.Content.{content}
@@ -66,8 +66,8 @@ meant_told text w n =
 
 judged_told : (e : Reached) (a : Reading) → Told a → Told (unless_fault e a)
 unfolding unless_fault
-judged_told (Past q) a h = h
-judged_told (Fault q) a h = told not_xml q xml_told
+judged_told (Ok q) a h = h
+judged_told (Err q) a h = told not_xml q.place xml_told
 
 answered_told : (text : List ℕ) → Told (answered text)
 unfolding answered
@@ -137,8 +137,8 @@ answered_clear text = go (ltb drawing_most (length text)) (walked_text text).end
 
     go : (b : Bool) (e : Reached) → (if b then answer too_long 0 or_else unless_fault e (meant_by text w n)).number ≡ 0 → Clear text w n (if b then answer too_long 0 or_else unless_fault e (meant_by text w n))
     go true e h = absurd (none_more 0 (unfold if◌then◌or_else◌ in h))
-    go false (Past q) h = unfold if◌then◌or_else◌ unless_fault in meant_clear text w n h
-    go false (Fault q) h = absurd (none_more 19 (unfold if◌then◌or_else◌ unless_fault in h))
+    go false (Ok q) h = unfold if◌then◌or_else◌ unless_fault in meant_clear text w n h
+    go false (Err q) h = absurd (none_more 19 (unfold if◌then◌or_else◌ unless_fault in h))
 
 -- a table that was drawn is that of the content as it is rewritten
 pub drawn_is : (text t : List ℕ) → (draw_into text t).number ≡ 0 → draw_into text t ≡ record { number = 0; beside = 0; table = table_of (map rewritten (content text (things_of text) (walked_text text).count)) }

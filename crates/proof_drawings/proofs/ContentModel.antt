@@ -8,6 +8,7 @@ use native.Mathlib.Omega.{arith}
 use lib.Dec.{eqb, leb, ltb}
 use lib.ListN.{length, length-append}
 use borrow.Author.Tests.{eqb-true, leb-true, leb-false, ltb-true, ltb-false}
+use Rattle.std.proofs.lemmas.Bool.{not-false}
 use Rattle.base_words.specs.All.{all}
 use Rattle.base_words.specs.Counts.{pools, elements, pool_numbers, instances}
 use Rattle.base_words.specs.Each.{each, total, joined}
@@ -31,7 +32,7 @@ use Rattle.draw_model.specs.Drawn.{element_drawn}
 use Rattle.draw_model.specs.Content.{element_if, elements_of, limit_of, process_of, number_of, pool_drawn, pool_if, content}
 use Rattle.draw_read.proofs.RoomLaws.{content_fits}
 use Rattle.proof_roundtrip.proofs.EndModels.{Every, Right, Fit, Model}
-use Rattle.proof_drawings.proofs.TestLaws.{and_then, or_left, or_right, not-not, more_low, more_high}
+use Rattle.proof_drawings.proofs.TestLaws.{and_then, or_left, or_right, more_low, more_high}
 use Rattle.proof_drawings.proofs.SmallLaws.{element_right}
 use Rattle.proof_drawings.proofs.SettledLaws.{Settled}
 use Rattle.proof_drawings.proofs.Fitting.{drawing_few, never_unfit}
@@ -180,7 +181,7 @@ module _ (t w : List ℕ) (n : ℕ) (drawn : is_drawing t w n ≡ true) (beyond 
   maximum_right : (m : ℕ) → m < n → of_sort participant_multiplicity w m ≡ true → not (eqb (source w (within w m)) 0) ≡ true → is_limit (maximum_of t w m) ≡ true
   unfolding is_maximum_beyond
   maximum_right m l s h =
-      not-not (is_limit (maximum_of t w m)) (and_then (not (eqb (source w (within w m)) 0)) _ h (and_then (of_sort participant_multiplicity w m) _ s (not_maximum m l)))
+      not-false (is_limit (maximum_of t w m)) (and_then (not (eqb (source w (within w m)) 0)) _ h (and_then (of_sort participant_multiplicity w m) _ s (not_maximum m l)))
 
   has_process : (b : Bool) (k m : ℕ) → is_pool b w k ≡ true → sort w m ≡ participant_multiplicity → within w m ≡ k → not (eqb (source w k) 0) ≡ true
   unfolding is_pool if◌then◌or_else◌ of_sort

@@ -9,6 +9,8 @@ use lib.Dec.{eqb, leb, ltb}
 use lib.ListN.{length, set, replicate, length-set, length-replicate}
 use lib.Seq.{get_or-set_same, get_or-set_other}
 use borrow.Author.Tests.{eqb-true, eqb-false, eq-eqb, ne_eqb, leb-true, leb-false, ltb-true, ltb-false, le-leb, not-true}
+use Rattle.std.proofs.lemmas.Bool.{not-false}
+use Rattle.std.proofs.Math.Bool.{and-true}
 use Rattle.base_words.specs.All.{all}
 use Rattle.base_words.specs.Counts.{branches, edges, elements, names, tasks}
 use Rattle.base_words.specs.Iter.{iter}
@@ -38,7 +40,7 @@ use Rattle.draw_limits.specs.Excess.{is_fifth_pool, is_one_too_many, is_start_be
 use Rattle.draw_model.specs.Drawn.{with_edge, with_condition, received_by, sent_by, with_message, with_form, with_task, with_first, head_of, said_or_true, guarded_by, with_guard, exit_behind, with_branch, exit_by, entering_by, leaving_by, by_flow, element_drawn}
 use Rattle.proof_roundtrip.proofs.BlankLaws.{zero_word}
 use Rattle.proof_roundtrip.proofs.KindLaws.{of_kind_lem}
-use Rattle.proof_drawings.proofs.TestLaws.{and_then, or_left, or_right, not-not, more_low, more_high}
+use Rattle.proof_drawings.proofs.TestLaws.{and_then, or_left, or_right, more_low, more_high}
 use Rattle.proof_drawings.proofs.Shapes.{Edges, Guards, Named, Elsewhere, put_else, Shape, shape_entry, shape_exit, shape_name, shape_fits}
 use Rattle.proof_drawings.proofs.SettledLaws.{Settled, with_sort}
 use Rattle.proof_drawings.proofs.SaidLaws.{words_of, Says, says_at}
@@ -89,10 +91,6 @@ and_same : (x y : Bool) → x && (y && true) ≡ x && y
 and_same true true = refl
 and_same true false = refl
 and_same false y = refl
-
-and_last : (x : Bool) → x && true ≡ x
-and_last true = refl
-and_last false = refl
 
 used_alike : (h x y : ℕ) → eqb h many ≡ false → used h x ≡ used h y
 unfolding used if◌then◌or_else◌
@@ -220,7 +218,7 @@ module _ (t w : List ℕ) (n : ℕ) (drawn : is_drawing t w n ≡ true) (beyond 
   received_low : (k : ℕ) → k < n → is_receiver w k ≡ true → received_by w n k < names
   unfolding received_by is_untold is_used is_receiver
   received_low k l r =
-      let c = eqb-true (count_with message_flow target_in k w n) 1 (not-not _ (and_then (is_receiver w k) _ r (told k l))) in
+      let c = eqb-true (count_with message_flow target_in k w n) 1 (not-false _ (and_then (is_receiver w k) _ r (told k l))) in
       let f = counted_first message_flow target_in k w n c in
       let h = first_with_lem message_flow target_in k w n f in
       let e : target w (first_with message_flow target_in k w n) ≡ k = with_column message_flow target_in k w _ h in
@@ -230,7 +228,7 @@ module _ (t w : List ℕ) (n : ℕ) (drawn : is_drawing t w n ≡ true) (beyond 
   sent_low : (k : ℕ) → k < n → is_sender w k ≡ true → sent_by w n k < names
   unfolding sent_by is_unheard is_used is_sender
   sent_low k l r =
-      let c = eqb-true (count_with message_flow source_in k w n) 1 (not-not _ (and_then (is_sender w k) _ r (heard k l))) in
+      let c = eqb-true (count_with message_flow source_in k w n) 1 (not-false _ (and_then (is_sender w k) _ r (heard k l))) in
       let f = counted_first message_flow source_in k w n c in
       let h = first_with_lem message_flow source_in k w n f in
       let e : source w (first_with message_flow source_in k w n) ≡ k = with_column message_flow source_in k w _ h in
@@ -364,7 +362,7 @@ module _ (t w : List ℕ) (n : ℕ) (drawn : is_drawing t w n ≡ true) (beyond 
     unfolding is_start is_of_kind
     start_test =
         ap₂ (λ x y. (x && eqb c kinds.start) && y) node (eq-eqb (things.within w k) (things.within w k) refl)
-        ∙ and_last (eqb c kinds.start)
+        ∙ and-true (eqb c kinds.start)
 
     abbrev number : Bool → ℕ
     number b = if b then task_of w k or_else 0
@@ -476,7 +474,7 @@ module _ (t w : List ℕ) (n : ℕ) (drawn : is_drawing t w n ≡ true) (beyond 
 
         caught : is_of_kind branch w (target w j) ≡ true
         unfolding is_wrong_branch
-        caught = not-not (is_of_kind branch w (target w j)) (and_then (is_of_kind kinds.event_based w (source w j)) _ gateway (and_then (of_sort sequence_flow w j) _ flow (branch_right j h)))
+        caught = not-false (is_of_kind branch w (target w j)) (and_then (is_of_kind kinds.event_based w (source w j)) _ gateway (and_then (of_sort sequence_flow w j) _ flow (branch_right j h)))
 
         caught_node : is_node (sort w (target w j)) ≡ true
         unfolding is_of_kind
@@ -593,7 +591,7 @@ module _ (t w : List ℕ) (n : ℕ) (drawn : is_drawing t w n ≡ true) (beyond 
           kind_of_lem u = unfold is_of_kind in ap (kind w) (sym e) ∙ eqb-true (kind w (target w j)) branch (and_right (is_node (sort w (target w j))) (eqb (kind w (target w j)) branch) u)
 
           wrong : is_of_kind kinds.event_based w (source w j) ≡ true → is_of_kind branch w (target w j) ≡ true
-          wrong u = unfold is_wrong_branch in not-not (is_of_kind branch w (target w j)) (and_then (is_of_kind kinds.event_based w (source w j)) _ u (and_then (of_sort sequence_flow w j) _ flow (branch_right j h)))
+          wrong u = unfold is_wrong_branch in not-false (is_of_kind branch w (target w j)) (and_then (is_of_kind kinds.event_based w (source w j)) _ u (and_then (of_sort sequence_flow w j) _ flow (branch_right j h)))
 
           go : (b : Bool) → is_of_kind kinds.event_based w (source w j) ≡ b → b ≡ false
           go true u = absurd (not-branch (kind_of_lem (wrong u)))

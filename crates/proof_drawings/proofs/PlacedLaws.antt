@@ -1,4 +1,5 @@
 -- In the things of a drawing a multiplicity stands in a participant: the walk notes it in no other, and what follows changes no sort. Assumes nothing.
+use Rattle.std.specs.Prelude.{Ok, Err}
 use Prim.Native.Nat.{ℕ, zero, suc, ◌+◌, ◌≤◌, ◌<◌}
 use mathlib.Core.Path.{◌≡◌, ◌∙◌, refl, sym, ap, subst}
 use mathlib.Core.Bool.{Bool, true, false, not, ◌||◌, false≢true}
@@ -15,13 +16,11 @@ use Rattle.base_words.specs.Text.{bytes}
 use Rattle.base_words.specs.Words.{at}
 use Rattle.base_words.proofs.AllLaws.{and_left, and_right}
 use Rattle.base_words.proofs.IterLaws.{iter_keeps}
-use Rattle.xml_skip.specs.declared.Reached.{Reached}
-use Rattle.xml_skip.specs.declared.Reached.TheVariants.{Past, Fault}
 use Rattle.xml_skip.specs.declared.Part.{Part}
 use Rattle.xml_skip.specs.declared.Part.TheVariants.{Element, Close, On, Fault as PartFault}
 use Rattle.xml_skip.specs.declared.Tag.{Tag}
 use Rattle.xml_skip.specs.declared.Tag.TheVariants.{Open, Empty, Fault as TagFault}
-use Rattle.xml_skip.specs.Skipping.{part_at}
+use Rattle.xml_skip.specs.Skipping.{part_at, Reached}
 use Rattle.xml_document.specs.Around.{root_at, last_from}
 use Rattle.draw_things.specs.Things.{nothing, definitions, collaboration, participant, participant_multiplicity, process, stranger, room, block_words, sort_place, place_place, within_place, source_place, target_place, sort, within, greatest_note, narrow, one_more, added}
 use Rattle.draw_things.specs.Names.{Row, rows, unknown, row_of, is_event, family, named_in, named_at, draws_another, drawn_as}
@@ -270,8 +269,8 @@ module _ (t : List ℕ) (C : Content) (on : (o : Outer) (q : ℕ) (w : List ℕ)
   behind_kept o w n r k h = go r.end
     where
       go : (e : Reached) → Kept w n (by_end e (λ q. C o q r.words r.count) r)
-      go (Past q) = unfold by_end in further w n r.words r.count _ k.grown (on o q r.words r.count k.sound (λ e. stays o.thing w n r.words r.count k.grown (h e)))
-      go (Fault q) = unfold by_end in k
+      go (Ok q) = unfold by_end in further w n r.words r.count _ k.grown (on o q r.words r.count k.sound (λ e. stays o.thing w n r.words r.count k.grown (h e)))
+      go (Err q) = unfold by_end in k
 
   by_part_lem : (g : Part) (r : Walk) (o : Outer) (w : List ℕ) (n : ℕ) → Sound w n → Kept w n r → (o.sort ≡ participant → Stands o.thing w n) → Kept w n (by_part g r (C o) w n)
   unfolding by_part walk_told
@@ -303,12 +302,12 @@ unfolding walk walk_told
 walk_sound t w s = go (root_at (bytes "definitions") t)
   where
     last : (r : Walk) (e : Reached) → Sound r.words r.count → Sound (by_end e (λ q. record { end = last_from t q; count = r.count; words = r.words }) r).words (by_end e (λ q. record { end = last_from t q; count = r.count; words = r.words }) r).count
-    last r (Past q) k = unfold by_end in k
-    last r (Fault q) k = unfold by_end in k
+    last r (Ok q) k = unfold by_end in k
+    last r (Err q) k = unfold by_end in k
 
     go : (e : Reached) → Sound (by_end e (λ p. walk_on (thing_at definitions definitions t 0 p w 0) (λ q v n. walk_told (walked (last_from t q) n) v)) (walk_told (walked (root_at (bytes "definitions") t) 0) w)).words (by_end e (λ p. walk_on (thing_at definitions definitions t 0 p w 0) (λ q v n. walk_told (walked (last_from t q) n) v)) (walk_told (walked (root_at (bytes "definitions") t) 0) w)).count
-    go (Past p) = unfold by_end walk_on in last (thing_at definitions definitions t 0 p w 0) (thing_at definitions definitions t 0 p w 0).end (root_kept t p w s).sound
-    go (Fault q) = unfold by_end in s
+    go (Ok p) = unfold by_end walk_on in last (thing_at definitions definitions t 0 p w 0) (thing_at definitions definitions t 0 p w 0).end (root_kept t p w s).sound
+    go (Err q) = unfold by_end in s
 
 -- ENDS AND KINDS are stored elsewhere
 put_placed : (w : List ℕ) (i v : ℕ) → ((j : ℕ) → sort_place j ≡ i → ⊥) → ((j : ℕ) → within_place j ≡ i → ⊥) → Placed w → Placed (set w i v)

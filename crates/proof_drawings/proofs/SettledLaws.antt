@@ -1,4 +1,5 @@
 -- What is stored in the things of a drawing: a node's kind is the one that its definitions and flows make it, and a sequence flow comes to one of the things. Assumes nothing.
+use Rattle.std.specs.Prelude.{Option, Some, None}
 use Prim.Native.Nat.{ℕ, zero, suc, ◌+◌, ◌≤◌, ◌<◌}
 use mathlib.Core.Path.{◌≡◌, ◌∙◌, refl, sym, ap, ap₂, subst}
 use mathlib.Core.Bool.{Bool, true, false, cond, ◌&&◌, ◌||◌, false≢true}
@@ -20,8 +21,6 @@ use Rattle.base_words.proofs.AllLaws.{and_left}
 use Rattle.base_words.proofs.IterLaws.{iter_keeps}
 use Rattle.base_words.proofs.SeekLaws.{sought}
 use Rattle.base_words.proofs.SumLaws.{sum_ext}
-use Rattle.xml_markup.specs.declared.Attribute.{Attribute}
-use Rattle.xml_markup.specs.declared.Attribute.TheVariants.{Is, Absent}
 use Rattle.xml_markup.specs.Spans.{local_of, attribute}
 use Rattle.draw_things.specs.Things.{room, block_words, source_place, target_place, sort, place, within, source, target, kind, is_node, message_flow, participant, sequence_flow, message_event_definition, terminate_event_definition}
 use Rattle.draw_links.specs.Links.{if_is, or_none, meant, named, flow_joined, owned, linked, links}
@@ -173,9 +172,9 @@ named_low t w n k name h = go (attribute t (place w k) name)
     low j true e = unfold if◌then◌or_else◌ in ltb-true j n e
     low j false e = unfold if◌then◌or_else◌ in h
 
-    go : (a : Attribute) → if_is a (λ from to. meant t w n k (local_of (part t from to))) 0 < n
-    go (Is from to) = unfold if_is meant or_none in low _ _ refl
-    go Absent = unfold if_is in h
+    go : (a : Option (ℕ × ℕ)) → if_is a (λ from to. meant t w n k (local_of (part t from to))) 0 < n
+    go (Some (from, to)) = unfold if_is meant or_none in low _ _ refl
+    go None = unfold if_is in h
 
 record Linked (w : List ℕ) (n m : ℕ) : Type 0 where
   pub long : length w ≡ block_words

@@ -20,10 +20,6 @@ pub or_right : (a b : Bool) → a || b ≡ false → b ≡ false
 or_right true b e = absurd (false≢true (sym e))
 or_right false b e = e
 
-pub not-not : (b : Bool) → not b ≡ false → b ≡ true
-not-not true e = refl
-not-not false e = sym e
-
 pub more_low : (n : ℕ) → 1 ≤ one_more n
 unfolding one_more
 more_low n = go (ltb n greatest_note)

@@ -8,6 +8,8 @@ use mathlib.Core.Logic.{⊎_elim}
 use native.Mathlib.Omega.{arith}
 use lib.Dec.{eqb, ltb}
 use borrow.Author.Tests.{eq-eqb, ltb-true, not-true}
+use Rattle.std.specs.Prelude.{None, Some}
+use Rattle.std.proofs.lemmas.Bool.{or_cases}
 use Rattle.base_words.specs.All.{all}
 use Rattle.base_words.specs.Counts.{fields_named}
 use Rattle.base_words.specs.Pick.{if◌then◌or_else◌}
@@ -20,17 +22,15 @@ use Rattle.base_table.specs.Table.{condition_at}
 use Rattle.base_state.specs.Places.{defined_place, instance_words, instance_place}
 use Rattle.base_state.specs.Instances.{instances_of, queues_of}
 use Rattle.meaning.specs.declared.Name.{Name}
-use Rattle.meaning.specs.declared.Value.{Value}
-use Rattle.meaning.specs.declared.Value.TheVariants.{Undefined, Number}
 use Rattle.meaning.specs.declared.Truth.{Truth}
 use Rattle.meaning.specs.declared.Truth.TheVariants.{True, False, Neither}
-use Rattle.meaning.specs.Values.{equal_of, less_of, is_true}
+use Rattle.meaning.specs.Values.{Value, equal_of, less_of, is_true}
 use Rattle.meaning.specs.Expressions.{field_of, operand_of}
 use Rattle.meaning.specs.Conditions.{condition_of, default_at, holds, other_false}
 use Rattle.meaning.specs.Refusals.{first_refusal}
 use Rattle.meaning.specs.Requirements.{granted}
 use Rattle.meaning.specs.Step.{site_of, element_named, move_named, instance_of, refusals}
-use Rattle.proof_steps.proofs.Choices.{by_choice, chosen, passed, or_either}
+use Rattle.proof_steps.proofs.Choices.{by_choice, chosen, passed}
 use Rattle.proof_steps.proofs.EveryStep.{Fitting}
 use Rattle.proof_steps.proofs.Traffic.{site}
 use Rattle.engine.specs.Engine.{valid}
@@ -47,34 +47,34 @@ use Rattle.proof_fields.proofs.Kept.{Blank, Bare, seen, made_bare}
 use Rattle.proof_fields.proofs.Drawn.{drawn_quiet}
 
 -- NO VALUE: a field whose words are 0, an operand that names one, a condition that does
-blank_field : (h : List ℕ) (d : ℕ) → at h (defined_place d) ≡ 0 → field_of h d ≡ Undefined
+blank_field : (h : List ℕ) (d : ℕ) → at h (defined_place d) ≡ 0 → field_of h d ≡ None
 unfolding field_of
-blank_field h d e = chosen (eqb (at h (defined_place d)) 0) Undefined _ (eq-eqb (at h (defined_place d)) 0 e)
+blank_field h d e = chosen (eqb (at h (defined_place d)) 0) None _ (eq-eqb (at h (defined_place d)) 0 e)
 
-blank_operand : (w h : List ℕ) (place : ℕ) → Blank h → is_named w place ≡ true → operand_of w h place ≡ Undefined
+blank_operand : (w h : List ℕ) (place : ℕ) → Blank h → is_named w place ≡ true → operand_of w h place ≡ None
 unfolding operand_of is_named
 blank_operand w h place b e =
     let l = ltb-true (at w (place + operand_number)) fields_named (and_right (not (eqb (at w place) 0)) _ e) in
     passed (eqb (at w place) 0) _ (field_of h (at w (place + operand_number))) (not-true (eqb (at w place) 0) (and_left (not (eqb (at w place) 0)) _ e))
     ∙ blank_field h (at w (place + operand_number)) (b.word (defined_place (at w (place + operand_number))) (omega arith) (omega (arith, l)))
 
-never_equal : (x y : Value) → (x ≡ Undefined) → is_true (equal_of x y) ≡ false
+never_equal : (x y : Value) → (x ≡ None) → is_true (equal_of x y) ≡ false
 unfolding equal_of is_true
 never_equal x y e = ap (λ (u : Value). is_true (equal_of u y)) e
 
-never_equal_second : (x y : Value) → (y ≡ Undefined) → is_true (equal_of x y) ≡ false
+never_equal_second : (x y : Value) → (y ≡ None) → is_true (equal_of x y) ≡ false
 unfolding equal_of is_true
-never_equal_second (Number v) y e = ap (λ (u : Value). is_true (equal_of (Number v) u)) e
-never_equal_second Undefined y e = refl
+never_equal_second (Some v) y e = ap (λ (u : Value). is_true (equal_of (Some v) u)) e
+never_equal_second None y e = refl
 
-never_less : (x y : Value) → (x ≡ Undefined) → is_true (less_of x y) ≡ false
+never_less : (x y : Value) → (x ≡ None) → is_true (less_of x y) ≡ false
 unfolding less_of is_true
 never_less x y e = ap (λ (u : Value). is_true (less_of u y)) e
 
-never_less_second : (x y : Value) → (y ≡ Undefined) → is_true (less_of x y) ≡ false
+never_less_second : (x y : Value) → (y ≡ None) → is_true (less_of x y) ≡ false
 unfolding less_of is_true
-never_less_second (Number v) y e = ap (λ (u : Value). is_true (less_of (Number v) u)) e
-never_less_second Undefined y e = refl
+never_less_second (Some v) y e = ap (λ (u : Value). is_true (less_of (Some v) u)) e
+never_less_second None y e = refl
 
 neither : is_true Neither ≡ false
 unfolding is_true
@@ -86,8 +86,8 @@ never_true w h b e =
     let n = not-true (eqb (at w form_place) always) (and_left (not (eqb (at w form_place) always)) _ e) in
     let o = and_right (not (eqb (at w form_place) always)) (is_named w left_place || is_named w right_place) e in
     by_choice (λ (u : Truth). is_true u ≡ false) (eqb (at w form_place) always) True _ (λ y. absurd (false≢true (sym n ∙ y)))
-    (λ y. by_choice (λ (u : Truth). is_true u ≡ false) (eqb (at w form_place) equals) _ _ (λ z. ⊎_elim (λ l. never_equal _ _ (blank_operand w h left_place b l)) (λ r. never_equal_second _ _ (blank_operand w h right_place b r)) (or_either (is_named w left_place) (is_named w right_place) o))
-    (λ z. by_choice (λ (u : Truth). is_true u ≡ false) (eqb (at w form_place) below) _ Neither (λ x. ⊎_elim (λ l. never_less _ _ (blank_operand w h left_place b l)) (λ r. never_less_second _ _ (blank_operand w h right_place b r)) (or_either (is_named w left_place) (is_named w right_place) o)) (λ x. neither)))
+    (λ y. by_choice (λ (u : Truth). is_true u ≡ false) (eqb (at w form_place) equals) _ _ (λ z. ⊎_elim (λ l. never_equal _ _ (blank_operand w h left_place b l)) (λ r. never_equal_second _ _ (blank_operand w h right_place b r)) (or_cases (is_named w left_place) (is_named w right_place) o))
+    (λ z. by_choice (λ (u : Truth). is_true u ≡ false) (eqb (at w form_place) below) _ Neither (λ x. ⊎_elim (λ l. never_less _ _ (blank_operand w h left_place b l)) (λ r. never_less_second _ _ (blank_operand w h right_place b r)) (or_cases (is_named w left_place) (is_named w right_place) o)) (λ x. neither)))
 
 not_held : (el h : List ℕ) (b : ℕ) → Blank h → default_at el b ≡ false → names_field (condition_at el b) ≡ true → holds el h b ≡ false
 unfolding holds

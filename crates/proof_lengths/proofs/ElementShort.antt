@@ -8,6 +8,7 @@ use native.Mathlib.Omega.{arith}
 use lib.Dec.{eqb, ltb}
 use lib.ListN.{length, get_or, length-append}
 use borrow.Author.Tests.{eqb-true, ltb-true}
+use Rattle.std.proofs.lemmas.Bool.{and_from}
 use Rattle.base_words.specs.All.{all}
 use Rattle.base_words.specs.Each.{each}
 use Rattle.base_words.specs.Pick.{if◌then◌or_else◌}
@@ -28,7 +29,7 @@ use Rattle.proof_listing.proofs.Counting.{sum_at}
 use Rattle.proof_lengths.proofs.Pieces.{take_short, between_long}
 use Rattle.proof_lengths.proofs.Figures.{two_figures}
 use Rattle.proof_lengths.proofs.PartsShort.{pair_most, mode_most, assignment_most, item_short, condition_short, mode_short, assignment_short, listed_short, figured_short}
-use Rattle.proof_lengths.proofs.FewParts.{every_kind, both_true, entries_fit, exits_fit, entries_few, exits_few, assignments_few, item_fits_lem, condition_fits_lem, assignment_fits_lem}
+use Rattle.proof_lengths.proofs.FewParts.{every_kind, entries_fit, exits_fit, entries_few, exits_few, assignments_few, item_fits_lem, condition_fits_lem, assignment_fits_lem}
 
 -- the most bytes of a message, its name, `:` and items between signs; of what stands behind a task's number; of a branch beside its edge, with a condition and with a message
 abbrev message_most : ℕ
@@ -103,7 +104,7 @@ unfolding row_in_use
 all_in_use_lem k m n i j e x =
     chosen_true _ _ true
     (all_at (row_in_use (kind_of k) m) (suc branches) (all_at (λ m. all (row_in_use (kind_of k) m) (suc branches)) (suc branches) (rows-in-use k) m (omega (arith, i))) n (omega (arith, j)))
-    (both_true (count_fits (kind_of k).entries m) (count_fits (kind_of k).exits n) e x)
+    (and_from (count_fits (kind_of k).entries m) (count_fits (kind_of k).exits n) e x)
 
 -- and the figures stand in them once
 abbrev Beside : Kind → Type 0

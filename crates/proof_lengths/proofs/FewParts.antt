@@ -53,9 +53,6 @@ things_from x a w n k right h j l =
     subst (λ y. right y ≡ true) (drop-drop (w * j) a x)
     (all_at (λ i. right (drop (w * i) (drop a x))) k (and_left (all (λ i. right (drop (w * i) (drop a x))) k) (zeros (drop (w * k) (drop a x)) (w * (n - k))) h) j l)
 
-pub both_true : (b c : Bool) → b ≡ true → c ≡ true → b && c ≡ true
-both_true b c e f = rw (e, f)
-
 -- AN ELEMENT
 module _ (el : List ℕ) (fits : element_fits el ≡ true) where
   parts : FittingParts el

@@ -7,6 +7,7 @@ use native.Mathlib.Omega.{arith}
 use lib.Dec.{eqb, leb, ltb}
 use lib.ListN.{length, get_or-eq_default}
 use borrow.Author.Tests.{leb-true, ltb-true, ltb-false}
+use Rattle.std.proofs.lemmas.Bool.{and_from}
 use Rattle.base_words.specs.All.{all}
 use Rattle.base_words.specs.Pick.{if◌then◌or_else◌}
 use Rattle.base_words.specs.Sum.{sum, hit}
@@ -19,7 +20,7 @@ use Rattle.base_table.specs.Places.{entries_place, exits_place}
 use Rattle.base_table.specs.Table.{kind_in}
 use Rattle.check_limits.specs.Limits.{count_fits, element_fits}
 use Rattle.proof_steps.proofs.Choices.{by_test, chosen_true}
-use Rattle.proof_lengths.proofs.FewParts.{both_true, entries_fit, exits_fit, entries_few, exits_few}
+use Rattle.proof_lengths.proofs.FewParts.{entries_fit, exits_fit, entries_few, exits_few}
 use Rattle.proof_lengths.proofs.ElementShort.{part_most, parts_most, plain_most}
 
 -- of kind k: a start, a join, a split, a task
@@ -83,7 +84,7 @@ module _ (el : List ℕ) (fits : element_fits el ≡ true) where
       let here = all_at (λ j. all (λ m. all (weighed j m) (suc branches)) (suc branches)) 16 all_weighed k kind_known in
       let there = all_at (λ m. all (weighed k m) (suc branches)) (suc branches) here m (omega (arith, entries_few el fits)) in
       chosen_true _ _ true (all_at (weighed k m) (suc branches) there n (omega (arith, exits_few el fits)))
-      (both_true (count_fits (kind_of k).entries m) (count_fits (kind_of k).exits n) (entries_fit el fits) (exits_fit el fits))
+      (and_from (count_fits (kind_of k).entries m) (count_fits (kind_of k).exits n) (entries_fit el fits) (exits_fit el fits))
 
   pub few_splits_lem : weight k m n ≤ 107 + 139 * works k + 683 * splits k
   unfolding few_splits

@@ -4,6 +4,7 @@ use mathlib.Core.Path.{◌≡◌, refl, sym, ◌∙◌, ap, ap₂}
 use mathlib.Core.Bool.{Bool, true, ◌||◌}
 use mathlib.Core.List.{List, [], ◌∷◌}
 use lib.Dec.{leb}
+use Rattle.std.specs.Prelude.{Some}
 use Rattle.base_words.specs.Iter.{iter}
 use Rattle.base_words.specs.Pick.{if◌then◌or_else◌}
 use Rattle.base_words.specs.Words.{at}
@@ -11,7 +12,6 @@ use Rattle.base_words.specs.Counts.{values}
 use Rattle.base_table.specs.Places.{operand_number, left_place}
 use Rattle.base_table.specs.Table.{item_at, message_length}
 use Rattle.base_state.specs.Instances.{with_field}
-use Rattle.meaning.specs.declared.Value.TheVariants.{Number}
 use Rattle.meaning.specs.declared.Tuple.{Tuple}
 use Rattle.meaning.specs.declared.Name.{Name}
 use Rattle.meaning.specs.declared.Evaluated.{Evaluated}
@@ -34,7 +34,7 @@ module _ (g k : Tuple) (same : same_tuple g k ≡ true) where
   item_same : (el : List ℕ) (b : ℕ) (h : List ℕ) (j : ℕ) → item_value el b h g j ≡ item_value el b h k j
   unfolding item_value
   item_same el b h j =
-      ap (λ v. if leb (message_length el b) j then Number 0 or_else if binds el b j then Number v or_else expression_of (item_at el b j) h) (same_value g k same j)
+      ap (λ v. if leb (message_length el b) j then Some 0 or_else if binds el b j then Some v or_else expression_of (item_at el b j) h) (same_value g k same j)
 
   evaluated_same : (el : List ℕ) (b : ℕ) (h : List ℕ) → evaluated el b h g ≡ evaluated el b h k
   unfolding evaluated

@@ -1,46 +1,34 @@
 -- ONE MOVE OF A READER OF A LOG in a beginning of a text: the text's own, where it ends before the end of the beginning; else a fault at that end, or the text's own fault. Assumes nothing.
-use mathlib.Core.Path.{◌≡◌, ◌∙◌, refl, sym, ap, subst}
+use Rattle.std.specs.Prelude.{Option, Some, None, Ok, Err}
+use mathlib.Core.Path.{◌≡◌, refl}
 use mathlib.Core.Bool.{Bool, true, false}
 use mathlib.Core.List.{List}
-use Prim.Native.Nat.{ℕ, ◌+◌, ◌-◌, ◌<◌, ◌≤◌}
-use native.Mathlib.Omega.{arith}
+use Prim.Native.Nat.{ℕ, ◌-◌, ◌<◌, ◌≤◌}
 use lib.Dec.{eqb}
 use lib.ListN.{length, take}
 use Rattle.base_words.specs.Pick.{if◌then◌or_else◌}
 use Rattle.base_words.specs.Text.{bytes}
-use Rattle.base_words.specs.Words.{at, part}
-use Rattle.base_bytes.proofs.PieceLaws.{by_order}
-use Rattle.base_bytes.proofs.PastLaws.{past_from}
+use Rattle.base_words.specs.Words.{part}
 use Rattle.base_bytes.specs.Bytes.{same_bytes}
 use Rattle.log_lines.specs.Entries.{entry_of}
-use Rattle.xml_markup.specs.declared.Attribute.{Attribute}
-use Rattle.xml_markup.specs.declared.Attribute.TheVariants.{Is, Absent}
-use Rattle.xml_markup.specs.declared.Class.TheVariants.{Blanks}
 use Rattle.xml_markup.specs.declared.Opener.TheVariants.{Start}
 use Rattle.xml_markup.specs.Markup.{markup}
-use Rattle.xml_markup.specs.Spans.{run, after, is_called, attribute, opener}
-use Rattle.xml_skip.specs.declared.Reached.{Reached}
-use Rattle.xml_skip.specs.declared.Reached.TheVariants.{Past, Fault as SkipFault}
+use Rattle.xml_markup.specs.Spans.{is_called, attribute, opener}
 use Rattle.xml_skip.specs.declared.Tag.{Tag}
 use Rattle.xml_skip.specs.declared.Tag.TheVariants.{Open, Empty, Fault as TagFault}
-use Rattle.xml_skip.specs.Skipping.{tag_of, skipped}
-use Rattle.log_text.specs.declared.Inside.{Inside}
-use Rattle.log_text.specs.declared.Inside.TheVariants.{Element, Close, On as Onward, Fault as InsideFault}
+use Rattle.xml_skip.specs.Skipping.{tag_of, skipped, Reached}
 use Rattle.log_text.specs.declared.Level.{Level}
 use Rattle.log_text.specs.declared.Level.TheVariants.{Log, Trace, Event}
 use Rattle.log_text.specs.declared.Cursor.{Cursor}
 use Rattle.log_text.specs.declared.Move.{Move}
 use Rattle.log_text.specs.declared.Move.TheVariants.{On, Done, Fault}
-use Rattle.log_text.specs.Inside.{inside_at}
-use Rattle.log_text.specs.Cursors.{reached, tag_by, lacks_by}
-use Rattle.log_text.specs.Logs.{over, over_named, line_by, name_by, string_by, string_at, trace_by, event_by, is_of_log, other_at, entered_by, left_by, by_inside, advance}
-use Rattle.proof_local.proofs.Beginnings.{piece, next_is, next_in, ran}
+use Rattle.log_text.specs.Logs.{over, over_named, line_by, name_by, string_by, string_at, trace_by, event_by, is_of_log, other_at, entered_by}
+use Rattle.proof_local.proofs.Beginnings.{piece}
 use Rattle.proof_local.proofs.Names.{Whole, called_same}
 use Rattle.proof_local.proofs.BrokenNames.{start_opens}
-use Rattle.proof_local.proofs.Parts.{EarlyTag, LateTag, CutTag, same_tag, broken_tag, tag_cut, tag_late}
+use Rattle.proof_local.proofs.Parts.{LateTag, CutTag, same_tag, broken_tag, tag_cut}
 use Rattle.proof_local.proofs.Skips.{Late as LateSkip, Cut as CutSkip, same as skip-same, broken as skip-broken, skipped_cut, skipped_late}
-use Rattle.proof_local.proofs.Attributes.{Alike, Short, WholeTag, attribute_alike}
-use Rattle.proof_local.proofs.Insides.{EarlyInside, LateInside, CutInside, same as inside-same, element, no_element, broken as inside-broken, inside_cut, inside_end}
+use Rattle.proof_local.proofs.Attributes.{Alike, WholeTag, attribute_alike}
 
 abbrev pub Early : ℕ → Move → Type 0
 Early n (On d) = d.at ≤ n
@@ -70,24 +58,24 @@ late_if n false x y h k = k
 -- WHAT IS SKIPPED
 late_over : (n : ℕ) (r : Reached) (c : Cursor) → LateSkip n r → Late n (over r c)
 unfolding over
-late_over n (Past q) c l = l
-late_over n (SkipFault q) c l = tt
+late_over n (Ok q) c l = l
+late_over n (Err q) c l = tt
 
 late_named : (n : ℕ) (r : Reached) (c : Cursor) (from to : ℕ) → LateSkip n r → Late n (over_named r c from to)
 unfolding over_named
-late_named n (Past q) c from to l = l
-late_named n (SkipFault q) c from to l = tt
+late_named n (Ok q) c from to l = l
+late_named n (Err q) c from to l = tt
 
 over_cut : (n : ℕ) (x y : Reached) (c : Cursor) → CutSkip n x y → Cut n (over x c) (over y c)
 unfolding over
-over_cut n (Past q) y c (skip-same e l) = rw e (same refl l)
-over_cut n (SkipFault q) y c (skip-same e l) = rw e (same refl tt)
+over_cut n (Ok q) y c (skip-same e l) = rw e (same refl l)
+over_cut n (Err q) y c (skip-same e l) = rw e (same refl tt)
 over_cut n x y c (skip-broken e l) = rw e (broken refl (late_over n x c l))
 
 named_cut : (n : ℕ) (x y : Reached) (c : Cursor) (from to : ℕ) → CutSkip n x y → Cut n (over_named x c from to) (over_named y c from to)
 unfolding over_named
-named_cut n (Past q) y c from to (skip-same e l) = rw e (same refl l)
-named_cut n (SkipFault q) y c from to (skip-same e l) = rw e (same refl tt)
+named_cut n (Ok q) y c from to (skip-same e l) = rw e (same refl l)
+named_cut n (Err q) y c from to (skip-same e l) = rw e (same refl tt)
 named_cut n x y c from to (skip-broken e l) = rw e (broken refl (late_named n x c from to l))
 
 -- THE TAGS of the trace and of an event
@@ -119,18 +107,18 @@ event_cut n g k c p (broken_tag e l) = rw e (broken refl (late_event n g c p l))
 
 -- AN ELEMENT that ends late
 module _ (t : List ℕ) (n p : ℕ) (c : Cursor) (late : LateSkip n (skipped t p)) where
-  late_line : (a : Attribute) (end : ℕ) → Late n (line_by a t c p end)
+  late_line : (a : Option (ℕ × ℕ)) (end : ℕ) → Late n (line_by a t c p end)
   unfolding line_by
-  late_line (Is from to) end = late_if n (entry_of (part t from to)).right (over_named (skipped t p) c from to) (Fault (from - 1)) (late_named n (skipped t p) c from to late) tt
-  late_line Absent end = tt
+  late_line (Some (from, to)) end = late_if n (entry_of (part t from to)).right (over_named (skipped t p) c from to) (Fault (from - 1)) (late_named n (skipped t p) c from to late) tt
+  late_line None end = tt
 
-  late_name : (a : Attribute) (end : ℕ) → Late n (name_by a t c p end)
+  late_name : (a : Option (ℕ × ℕ)) (end : ℕ) → Late n (name_by a t c p end)
   unfolding name_by
-  late_name (Is from to) end =
+  late_name (Some (from, to)) end =
       late_if n (same_bytes (part t from to) (bytes "concept:name")) _ (over (skipped t p) c)
       (late_if n (eqb c.to 0) (line_by (attribute t p (bytes "value")) t c p end) (Fault (from - 1)) (late_line (attribute t p (bytes "value")) end) tt)
       (late_over n (skipped t p) c late)
-  late_name Absent end = late_over n (skipped t p) c late
+  late_name None end = late_over n (skipped t p) c late
 
   late_string : (g : Tag) → Late n (string_by g t c p)
   unfolding string_by
@@ -156,20 +144,20 @@ module _ (t : List ℕ) (n : ℕ) (inside : n ≤ length t) (p : ℕ) (h : p < n
   tags : CutTag n (tag_of (markup t p) p) (tag_of (markup (take n t) p) p)
   tags = tag_cut t n inside p h (start_opens t p start)
 
-  line_cut : (x y : Attribute) (end : ℕ) → Alike n x y → Cut n (line_by x t c p end) (line_by y (take n t) c p end)
+  line_cut : (x y : Option (ℕ × ℕ)) (end : ℕ) → Alike n x y → Cut n (line_by x t c p end) (line_by y (take n t) c p end)
   unfolding line_by
-  line_cut (Is from to) y end a = rw (a.same, piece t n inside from to a.short) (cut_if n (entry_of (part t from to)).right _ _ _ _ (named_cut n (skipped t p) (skipped (take n t) p) c from to skip_cut) (same refl tt))
-  line_cut Absent y end a = rw a.same (same refl tt)
+  line_cut (Some (from, to)) y end a = rw (a.same, piece t n inside from to a.short) (cut_if n (entry_of (part t from to)).right _ _ _ _ (named_cut n (skipped t p) (skipped (take n t) p) c from to skip_cut) (same refl tt))
+  line_cut None y end a = rw a.same (same refl tt)
 
   module _ (alike : (name : List ℕ) → Alike n (attribute t p name) (attribute (take n t) p name)) where
-    name_cut : (x y : Attribute) (end : ℕ) → Alike n x y → Cut n (name_by x t c p end) (name_by y (take n t) c p end)
+    name_cut : (x y : Option (ℕ × ℕ)) (end : ℕ) → Alike n x y → Cut n (name_by x t c p end) (name_by y (take n t) c p end)
     unfolding name_by
-    name_cut (Is from to) y end a =
+    name_cut (Some (from, to)) y end a =
         rw (a.same, piece t n inside from to a.short)
         (cut_if n (same_bytes (part t from to) (bytes "concept:name")) _ _ _ _
         (cut_if n (eqb c.to 0) _ _ _ _ (line_cut (attribute t p (bytes "value")) (attribute (take n t) p (bytes "value")) end (alike (bytes "value"))) (same refl tt))
         (over_cut n (skipped t p) (skipped (take n t) p) c skip_cut))
-    name_cut Absent y end a = rw a.same (over_cut n (skipped t p) (skipped (take n t) p) c skip_cut)
+    name_cut None y end a = rw a.same (over_cut n (skipped t p) (skipped (take n t) p) c skip_cut)
 
   string_cut : (g k : Tag) → (WholeTag n g → (name : List ℕ) → Alike n (attribute t p name) (attribute (take n t) p name)) → (LateTag n g → LateSkip n (skipped t p)) → CutTag n g k → Cut n (string_by g t c p) (string_by k (take n t) c p)
   unfolding string_by

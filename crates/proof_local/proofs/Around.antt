@@ -1,17 +1,15 @@
 -- OUTSIDE THE ROOT, from a place on: a reader of a beginning of a text comes to the element or to the fault that it comes to in the text, or it is at fault at the end of the beginning, or it ends there. Assumes nothing.
+use Rattle.std.specs.Prelude.{Ok, Err}
 use mathlib.Core.Logic.{◌⊎◌, inl, inr}
 use mathlib.Core.Path.{◌≡◌, ◌∙◌, refl, sym, ap, subst}
 use mathlib.Core.Bool.{Bool, true, false, false≢true}
-use mathlib.Core.List.{List, [], ◌∷◌}
+use mathlib.Core.List.{List}
 use Prim.Native.Nat.{ℕ, zero, suc, ◌+◌, ◌<◌, ◌≤◌}
 use native.Mathlib.Omega.{arith}
-use lib.Dec.{leb}
 use lib.ListN.{length, take}
 use borrow.Author.Tests.{le-leb}
 use Rattle.base_words.specs.Pick.{if◌then◌or_else◌}
 use Rattle.base_bytes.proofs.PieceLaws.{by_order}
-use denote.Enum.Declared.{tag_of as kind_of}
-use Rattle.xml_document.specs.contracts.Outside.{the_type}
 use Rattle.xml_markup.specs.declared.Class.TheVariants.{Blanks}
 use Rattle.xml_markup.specs.declared.Opener.TheVariants.{Start}
 use Rattle.xml_markup.specs.Spans.{run, opener}
@@ -21,9 +19,7 @@ use Rattle.xml_document.specs.Document.{outside_at, outside}
 use Rattle.xml_document.specs.Around.{last_by, last_from}
 use Rattle.xml_document.proofs.Laws.{Beyond, at_beyond, ran, outside_end, outside_on, outside_stops, outside_past}
 use Rattle.proof_local.proofs.Beginnings.{long, ran as run-cut}
-use Rattle.xml_skip.specs.declared.Reached.{Reached}
-use Rattle.xml_skip.specs.declared.Reached.TheVariants.{Past, Fault as SkipFault}
-use Rattle.xml_skip.specs.Skipping.{tag_of}
+use Rattle.xml_skip.specs.Skipping.{tag_of, Reached, fault_at}
 use Rattle.xml_markup.specs.Markup.{markup}
 use Rattle.proof_local.proofs.Parts.{LateTag, tag_late}
 use Rattle.proof_local.proofs.Names.{Whole}
@@ -49,8 +45,8 @@ is_nothing Nothing = true
 is_nothing (Fault q) = false
 
 abbrev pub is_past : Reached → Bool
-is_past (Past q) = true
-is_past (SkipFault q) = false
+is_past (Ok q) = true
+is_past (Err q) = false
 
 abbrev place_of : Outside → ℕ
 place_of (Element p) = p
@@ -146,21 +142,21 @@ module _ (t : List ℕ) (n : ℕ) (inside : n ≤ length t) where
   around_cut p l = cut_from n p (omega arith) l
 
   -- behind the root, where nothing is at fault in the text
-  last_none : (x : Outside) (q : ℕ) → last_by x t ≡ Past q → x ≡ Nothing
+  last_none : (x : Outside) (q : ℕ) → last_by x t ≡ Ok q → x ≡ Nothing
   unfolding last_by
   last_none (Element r) z e = absurd (false≢true (ap is_past e))
   last_none (On q) z e = absurd (false≢true (ap is_past e))
   last_none Nothing z e = refl
   last_none (Fault q) z e = absurd (false≢true (ap is_past e))
 
-  last_by_lem : (x y : Outside) → x ≡ Nothing → CutAround t n x y → (last_by y (take n t) ≡ Past n) ⊎ (last_by y (take n t) ≡ SkipFault n)
+  last_by_lem : (x y : Outside) → x ≡ Nothing → CutAround t n x y → (last_by y (take n t) ≡ Ok n) ⊎ (last_by y (take n t) ≡ fault_at n)
   unfolding last_by
   last_by_lem x y e (at_fault q a b) = absurd (false≢true (ap is_nothing (sym a ∙ e)))
   last_by_lem x y e (whole_element r l a b o v) = absurd (false≢true (ap is_nothing (sym a ∙ e)))
   last_by_lem x y e (cut_element r l a b o v) = absurd (false≢true (ap is_nothing (sym a ∙ e)))
   last_by_lem x y e (cut_off b f) = inr (rw b refl)
-  last_by_lem x y e (ended b f) = inl (rw b (ap Past (long t n inside)))
+  last_by_lem x y e (ended b f) = inl (rw b (ap Ok (long t n inside)))
 
-  pub last_cut : (p : ℕ) → p ≤ n → (q : ℕ) → last_from t p ≡ Past q → (last_from (take n t) p ≡ Past n) ⊎ (last_from (take n t) p ≡ SkipFault n)
+  pub last_cut : (p : ℕ) → p ≤ n → (q : ℕ) → last_from t p ≡ Ok q → (last_from (take n t) p ≡ Ok n) ⊎ (last_from (take n t) p ≡ fault_at n)
   unfolding last_from
   last_cut p l q e = last_by_lem (outside t p) (outside (take n t) p) (last_none (outside t p) q e) (around_cut p l)

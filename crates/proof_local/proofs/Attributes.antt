@@ -1,11 +1,11 @@
 -- AN ATTRIBUTE OF A TAG THAT IS WHOLE in a beginning of a text is the text's own. Assumes nothing.
+use Rattle.std.specs.Prelude.{Some, None, Option}
 use mathlib.Core.Path.{◌≡◌, ◌∙◌, refl, sym, ap, subst}
 use mathlib.Core.Bool.{Bool, true, false, not, false≢true}
 use mathlib.Core.List.{List, [], ◌∷◌}
 use Prim.Native.Nat.{ℕ, zero, suc, ◌+◌, ◌-◌, ◌<◌, ◌≤◌}
-use native.Mathlib.Numerals.{add-one}
 use native.Mathlib.Omega.{arith}
-use lib.ListN.{length, take, drop, length-drop, get_or}
+use lib.ListN.{length, take, drop, length-drop}
 use lib.Seq.{drop-drop}
 use Rattle.base_words.specs.Pick.{if◌then◌or_else◌}
 use Rattle.base_words.specs.Words.{at, part}
@@ -22,24 +22,20 @@ use Rattle.xml_scanner.specs.declared.State.TheVariants.{Begin, Opening, Comment
 use Rattle.xml_skip.specs.declared.Tag.{Tag as TagAnswer}
 use Rattle.xml_skip.specs.declared.Tag.TheVariants.{Open, Empty, Fault as TagFault}
 use Rattle.xml_skip.specs.Skipping.{tag_by, tag_of}
-use Rattle.xml_markup.specs.declared.Attribute.{Attribute}
-use Rattle.xml_markup.specs.declared.Attribute.TheVariants.{Is, Absent}
 use Rattle.xml_markup.specs.declared.Class.TheVariants.{Blanks, Value as NotByte}
 use Rattle.xml_markup.specs.declared.Cursor.{Cursor}
 use Rattle.xml_markup.specs.declared.Scan.{Scan}
 use Rattle.xml_markup.specs.declared.Scan.TheVariants.{On, Past, Fault}
 use Rattle.xml_markup.specs.declared.Whole.{Whole}
-use Rattle.xml_markup.specs.declared.Whole.TheVariants.{Nothing, Attribute as AnAttribute, Target, Reference}
-use Rattle.xml_markup.specs.declared.Found.{Found}
-use Rattle.xml_markup.specs.declared.Found.TheVariants.{Behind, Nowhere}
+use Rattle.xml_markup.specs.declared.Whole.TheVariants.{Attribute as AnAttribute, Target, Reference}
 use Rattle.xml_markup.specs.Tokens.{end_of, whole_in_tag, whole_in_instruction, whole, moved, if_on, if_attribute, is_named, found_from, found, begun}
 use Rattle.xml_markup.specs.Markup.{scan_from, scan, opens_markup, placed, markup}
-use Rattle.xml_markup.specs.Spans.{run, after, quote_at, value_at, value_of, attribute}
+use Rattle.xml_markup.specs.Spans.{run, quote_at, value_at, value_of, attribute}
 use Rattle.proof_local.proofs.Beginnings.{byte, piece, rest, ran, next_is, next_in}
 use Rattle.proof_local.proofs.Scans.{late_from}
 use Rattle.proof_local.proofs.Markups.{opened_is}
 use Rattle.proof_local.proofs.Courses.{here, Ends, ends_before, ends_moved, Goes}
-use Rattle.proof_local.proofs.Values.{Quoted, Valued, attribute_valued}
+use Rattle.proof_local.proofs.Values.{Valued, attribute_valued}
 
 -- ONLY IN AN ATTRIBUTE'S NAME does a byte show one to be whole, and that byte is none of a name
 pub record Shows (s : State) (b : ℕ) : Type 0 where
@@ -89,12 +85,12 @@ module _ (x : Bool) where
   in_state AtReference b e = not_ended Reference _ refl e
 
 -- a value that ends before n
-abbrev pub Short : ℕ → Attribute → Type 0
-Short n (Is from to) = to ≤ n
-Short n Absent = Unit {0}
+abbrev pub Short : ℕ → Option (ℕ × ℕ) → Type 0
+Short n (Some (from, to)) = to ≤ n
+Short n None = Unit {0}
 
 -- x is the text's, y the beginning's
-pub record Alike (n : ℕ) (x y : Attribute) : Type 0 where
+pub record Alike (n : ℕ) (x y : Option (ℕ × ℕ)) : Type 0 where
   pub same : y ≡ x
   pub short : Short n x
 
@@ -112,7 +108,7 @@ module _ (t : List ℕ) (n : ℕ) (inside : n ≤ length t) (start : ℕ) (name 
       rw (named_same c i (omega arith), byte t n inside i (omega arith))
       (go (is_named t name c i) (moved c (at t i) i (i + 1)) (ends_moved t n start c b s i g) (λ next f. found_from_lem s next (i + 1) k (omega arith) (omega arith) f))
     where
-      go : (x : Bool) (r : Scan) → Ends n (if_on r (λ next. scan_from t start next s (i + 1)) r) → ((next : Cursor) → Ends n (scan_from t start next s (i + 1)) → found_from (take n t) name next (take k s) (i + 1) ≡ found_from t name next s (i + 1)) → (if x then Behind i or_else if_on r (λ next. found_from (take n t) name next (take k s) (i + 1)) Nowhere) ≡ (if x then Behind i or_else if_on r (λ next. found_from t name next s (i + 1)) Nowhere)
+      go : (x : Bool) (r : Scan) → Ends n (if_on r (λ next. scan_from t start next s (i + 1)) r) → ((next : Cursor) → Ends n (scan_from t start next s (i + 1)) → found_from (take n t) name next (take k s) (i + 1) ≡ found_from t name next s (i + 1)) → (if x then Some i or_else if_on r (λ next. found_from (take n t) name next (take k s) (i + 1)) None) ≡ (if x then Some i or_else if_on r (λ next. found_from t name next s (i + 1)) None)
       go true r f q = unfold if◌then◌or_else◌ in refl
       go false (On next) f q = unfold if◌then◌or_else◌ if_on in q next (unfold if_on in f)
       go false (Past sort j) f q = unfold if◌then◌or_else◌ if_on in refl
@@ -123,7 +119,7 @@ module _ (t : List ℕ) (n : ℕ) (inside : n ≤ length t) (start : ℕ) (name 
   unfolding value_at
   at_quote j h k =
       rw (next_in t n inside j h, next_is t n inside j (omega arith), byte t n inside j h)
-      (record { same = ap (Is (j + 1)) ((ran t n inside (NotByte (at t j)) (j + 1) (omega arith)).same (omega (arith, k))); short = omega (arith, k) })
+      (record { same = ap (λ (e : ℕ). Some (j + 1, e)) ((ran t n inside (NotByte (at t j)) (j + 1) (omega arith)).same (omega (arith, k))); short = omega (arith, k) })
 
   module _ (i : ℕ) (h : i < n) (v : Valued t n start inside i) where
     equals_same : run Blanks (take n t) i ≡ run Blanks t i
@@ -154,7 +150,7 @@ module _ (t : List ℕ) (n : ℕ) (inside : n ≤ length t) (start : ℕ) (name 
   value_from [] c i e g = record { same = refl; short = tt }
   value_from (b ∷ s) c i e g = go (is_named t name c i) refl (moved c (at t i) i (i + 1)) (ends_moved t n start c b s i g) (λ next f. value_from s next (i + 1) (ap (drop 1) e ∙ drop-drop 1 i t) f)
     where
-      go : (x : Bool) → is_named t name c i ≡ x → (r : Scan) → Ends n (if_on r (λ next. scan_from t start next s (i + 1)) r) → ((next : Cursor) → Ends n (scan_from t start next s (i + 1)) → Alike n (value_of t (found_from t name next s (i + 1))) (value_of (take n t) (found_from t name next s (i + 1)))) → Alike n (value_of t (if x then Behind i or_else if_on r (λ next. found_from t name next s (i + 1)) Nowhere)) (value_of (take n t) (if x then Behind i or_else if_on r (λ next. found_from t name next s (i + 1)) Nowhere))
+      go : (x : Bool) → is_named t name c i ≡ x → (r : Scan) → Ends n (if_on r (λ next. scan_from t start next s (i + 1)) r) → ((next : Cursor) → Ends n (scan_from t start next s (i + 1)) → Alike n (value_of t (found_from t name next s (i + 1))) (value_of (take n t) (found_from t name next s (i + 1)))) → Alike n (value_of t (if x then Some i or_else if_on r (λ next. found_from t name next s (i + 1)) None)) (value_of (take n t) (if x then Some i or_else if_on r (λ next. found_from t name next s (i + 1)) None))
       go true ex r f q = unfold if◌then◌or_else◌ value_of in shown_value c i (subst (λ (l : List ℕ). Ends n (scan_from t start c l i)) e g) ex
       go false ex (On next) f q = unfold if◌then◌or_else◌ if_on in q next (unfold if_on in f)
       go false ex (Past sort j) f q = unfold if◌then◌or_else◌ if_on value_of in record { same = refl; short = tt }

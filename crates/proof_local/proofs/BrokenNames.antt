@@ -1,5 +1,4 @@
 -- A TAG WHOSE NAME IS CUT OFF by the end of the text: the markup there is a fault at the end. Assumes nothing.
-use Prim.Native.Char.{code}
 use mathlib.Core.Path.{◌≡◌, ◌∙◌, refl, sym, ap}
 use mathlib.Core.Bool.{Bool, true, false, not, false≢true}
 use mathlib.Core.List.{List, [], ◌∷◌}
@@ -8,10 +7,11 @@ use native.Mathlib.Omega.{arith}
 use lib.Dec.{leb, eqb}
 use lib.ListN.{length, take, drop, length-drop}
 use borrow.Author.Tests.{lt-leb, eqb-true, leb-false}
+use Rattle.std.proofs.lemmas.Bool.{false_from_ne_true}
 use Rattle.base_words.specs.Pick.{if◌then◌or_else◌}
 use Rattle.base_words.specs.Words.{at}
 use Rattle.base_bytes.specs.Bytes.{past, is_letter, between}
-use Rattle.base_bytes.proofs.PastLaws.{past_more, past_from, past_within}
+use Rattle.base_bytes.proofs.PastLaws.{past_more, past_within}
 use Rattle.base_bytes.proofs.PieceLaws.{by_order}
 use Rattle.xml_characters.specs.Names.{is_control, begins_name, is_name}
 use Rattle.xml_scanner.specs.declared.InOpening.TheVariants.{Less}
@@ -24,22 +24,20 @@ use Rattle.xml_scanner.specs.Moves.{step, at_begin}
 use Rattle.xml_scanner.specs.Openings.{in_opening, behind_less}
 use Rattle.xml_scanner.specs.Tags.{in_end}
 use Rattle.xml_markup.specs.declared.Cursor.{Cursor}
-use Rattle.xml_markup.specs.declared.Scan.{Scan}
-use Rattle.xml_markup.specs.declared.Scan.TheVariants.{On, Past, Fault}
+use Rattle.xml_markup.specs.declared.Scan.TheVariants.{On, Fault}
 use Rattle.xml_markup.specs.declared.Whole.TheVariants.{Nothing}
-use Rattle.xml_markup.specs.Tokens.{whole, move_to, moved, is_faulty, begun}
+use Rattle.xml_markup.specs.Tokens.{whole, move_to, moved, is_faulty}
 use Rattle.xml_markup.specs.Staying.{stays, stays_in_tag, stays_in_end}
 use Rattle.xml_markup.specs.declared.Class.TheVariants.{Name as NameBytes}
 use Rattle.xml_markup.specs.declared.Opener.{Opener}
 use Rattle.xml_markup.specs.declared.Opener.TheVariants.{Start, End, Other}
 use Rattle.xml_scanner.specs.declared.Sort.TheVariants.{Fault as AFault}
-use Rattle.xml_markup.specs.Spans.{is_of, run, after, has_second, name_from, name_at, opens_name, second, opener}
+use Rattle.xml_markup.specs.Spans.{is_of, run, has_second, name_from, name_at, opens_name, second, opener}
 use Rattle.xml_markup.specs.Markup.{advance, scan_from, scan, opens_markup, marked, placed, markup}
 use Rattle.xml_markup.proofs.ScanLaws.{scan_on, scan_end}
 use Rattle.xml_markup.proofs.StayLaws.{scan_stay, in_state}
 use Rattle.proof_local.proofs.Beginnings.{long, byte, next_is, next_in}
 use Rattle.proof_local.proofs.Names.{from_same, cut_name}
-use Rattle.proof_local.proofs.Texts.{never}
 
 abbrev pub here : State → ℕ → Cursor
 here s m = record { state = s; mark = m }
@@ -54,7 +52,7 @@ goes u start mark i s v h w c m = scan_on u start (here s mark) i h (On (here v 
 
 -- a byte that begins a name is none of the signs, no control byte, and of a name
 other_byte : (b k : ℕ) → begins_name b ≡ true → begins_name k ≡ false → eqb b k ≡ false
-other_byte b k e f = never (eqb b k) (λ q. false≢true (sym f ∙ ap begins_name (sym (eqb-true b k q)) ∙ e))
+other_byte b k e f = false_from_ne_true (eqb b k) (λ q. false≢true (sym f ∙ ap begins_name (sym (eqb-true b k q)) ∙ e))
 
 pub of_name : (b : ℕ) → begins_name b ≡ true → is_name b ≡ true
 unfolding is_name

@@ -1,27 +1,22 @@
 -- A TEXT CUT OFF AT ITS MARK AND CLOSED is a log, and tells what the text told. The mark is the end of the last whole event, or else of the trace's start tag. Assumes nothing.
+use Rattle.std.specs.Prelude.{Ok}
 use mathlib.Core.Path.{◌≡◌, ◌∙◌, refl, sym, ap, subst}
-use mathlib.Core.Bool.{Bool, true, false}
 use mathlib.Core.List.{List, [], ◌∷◌, ◌++◌, append-nil}
-use Prim.Native.Nat.{ℕ, zero, suc, ◌+◌, ◌<◌, ◌≤◌}
+use Prim.Native.Nat.{ℕ, ◌≤◌}
 use native.Mathlib.Omega.{arith}
-use lib.Dec.{eqb}
 use lib.ListN.{length, take, drop, length-append}
 use lib.Seq.{take-take}
 use Rattle.xml_markup.specs.declared.Opener.TheVariants.{Start}
 use Rattle.xml_markup.specs.Markup.{markup}
 use Rattle.xml_markup.specs.Spans.{name_at, bytes_of, opener}
-use Rattle.xml_skip.specs.declared.Reached.TheVariants.{Past, Fault as SkipFault}
 use Rattle.xml_skip.specs.declared.Tag.{Tag}
 use Rattle.xml_skip.specs.declared.Tag.TheVariants.{Open, Empty, Fault as TagFault}
 use Rattle.xml_skip.specs.Skipping.{tag_of}
 use Rattle.log_text.specs.declared.Level.{Level}
-use Rattle.log_text.specs.declared.Level.TheVariants.{Log, Trace}
 use Rattle.log_text.specs.declared.Cursor.{Cursor}
-use Rattle.log_text.specs.declared.Move.{Move}
 use Rattle.log_text.specs.declared.Move.TheVariants.{On}
 use Rattle.log_text.specs.declared.Scanned.{Scanned}
-use Rattle.log_text.specs.Cursors.{nowhere}
-use Rattle.log_text.specs.Logs.{log_most, by_move, scanned, scan_from, start, scan, lines_from, lines_of}
+use Rattle.log_text.specs.Logs.{log_most, by_move, scan_from, start, scan, lines_from, lines_of}
 use Rattle.log_text.proofs.Laws.{advance_end, scan_end, lines_is}
 use Rattle.log_text.proofs.LineLaws.{events_are_lines}
 use Rattle.proof_local.proofs.Beginnings.{long}
@@ -29,7 +24,7 @@ use Rattle.proof_local.proofs.Names.{opener_same, bytes_same, Whole}
 use Rattle.proof_local.proofs.SameMoves.{name_whole}
 use Rattle.proof_local.proofs.Keeping.{OpenTag, OpenTags, Kept, kept_stands}
 use Rattle.proof_local.proofs.Reached.{Reaches, not_back, reaches_alike, kept_reached, scan_reached}
-use Rattle.proof_local.proofs.Starting.{Started, started, kept_start, start_alike}
+use Rattle.proof_local.proofs.Starting.{started, kept_start, start_alike}
 use Rattle.proof_local.proofs.Marks.{Closable, in_trace, in_log, Marked}
 use Rattle.proof_local.proofs.Passed.{start_within, reached_within, Ended}
 use Rattle.proof_local.proofs.ToldAlike.{Told, told_alike}
@@ -170,7 +165,7 @@ module _ (t : List ℕ) (e : Ended t) where
       closes : Closes u d
       closes = closes_by w.closable
 
-      pub is_log : (scan u).end ≡ Past (length u)
+      pub is_log : (scan u).end ≡ Ok (length u)
       is_log = ap (λ (s : Scanned). s.end) (scan_there u within alike short) ∙ closes.end_is
 
       pub same_events : (scan u).last.events ≡ (scan t).last.events

@@ -1,21 +1,20 @@
 -- THE END TAGS OF WHAT IS OPEN, one straight behind the other up to the end of the text: a reader that stands before them comes to the end. Assumes nothing.
-use mathlib.Core.Path.{◌≡◌, ◌∙◌, refl, sym, ap, subst}
-use mathlib.Core.Bool.{Bool, true, false}
+use Rattle.std.specs.Prelude.{Ok}
+use mathlib.Core.Path.{◌≡◌, ◌∙◌, refl, sym, ap}
+use mathlib.Core.Bool.{false}
 use mathlib.Core.List.{List, [], ◌∷◌, ◌++◌}
-use Prim.Native.Nat.{ℕ, ◌+◌, ◌<◌, ◌≤◌}
+use Prim.Native.Nat.{ℕ, ◌+◌}
 use native.Mathlib.Omega.{arith}
 use lib.Dec.{eqb}
 use lib.ListN.{length, drop, length-drop}
 use Rattle.base_words.specs.Pick.{if◌then◌or_else◌}
 use Rattle.xml_markup.specs.declared.Opener.TheVariants.{Start}
 use Rattle.xml_markup.specs.Spans.{name_at, bytes_of, opener}
-use Rattle.xml_skip.specs.declared.Reached.TheVariants.{Past}
 use Rattle.xml_document.specs.Around.{last_by, last_from}
 use Rattle.xml_document.proofs.Laws.{outside_end}
 use Rattle.log_text.specs.declared.Level.{Level}
 use Rattle.log_text.specs.declared.Level.TheVariants.{Log, Trace}
 use Rattle.log_text.specs.declared.Cursor.{Cursor}
-use Rattle.log_text.specs.declared.Move.{Move}
 use Rattle.log_text.specs.declared.Move.TheVariants.{On, Done}
 use Rattle.log_text.specs.declared.Scanned.{Scanned}
 use Rattle.log_text.specs.Cursors.{reached, behind_trace, lacks_by, tag_by}
@@ -54,12 +53,12 @@ module _ (u : List ℕ) (c : Cursor) (x : List ℕ) (lacking : lacks_by c.level 
 
 -- from c on: the end of the text, and no event more
 pub record Closes (u : List ℕ) (c : Cursor) : Type 0 where
-  pub end_is : (scan_from u c).end ≡ Past (length u)
+  pub end_is : (scan_from u c).end ≡ Ok (length u)
   pub events_are : (scan_from u c).last.events ≡ c.events
   pub no_lines : lines_from u c ≡ []
 
 -- THE LOG'S
-last_there : (u : List ℕ) (q : ℕ) → drop q u ≡ [] → last_from u q ≡ Past (length u)
+last_there : (u : List ℕ) (q : ℕ) → drop q u ≡ [] → last_from u q ≡ Ok (length u)
 unfolding last_from last_by
 last_there u q e = rw (outside_end u q (omega (arith, length-drop q u, ap length e))) refl
 
@@ -83,8 +82,8 @@ module _ (u : List ℕ) (c : Cursor) (level : c.level ≡ Log) (traced : eqb c.o
   unfolding left_by
   done = k.left ∙ ap (λ (l : Level). left_by l u c k.to) level
 
-  scanned_there : scan_from u c ≡ record { end = Past (length u); last = reached c k.to }
-  scanned_there = scan_done u c (advance u c) refl (reached c k.to) done (Past (length u)) (sym (last_there u k.to k.behind))
+  scanned_there : scan_from u c ≡ record { end = Ok (length u); last = reached c k.to }
+  scanned_there = scan_done u c (advance u c) refl (reached c k.to) done (Ok (length u)) (sym (last_there u k.to k.behind))
 
   pub log_closes : Closes u c
   unfolding by_move

@@ -1,8 +1,9 @@
 -- What a reader of a log does at a start tag and at an end tag. Assumes nothing.
+use Rattle.std.specs.Prelude.{Ok}
 use mathlib.Core.Path.{◌≡◌, ◌∙◌, refl, sym, ap}
 use mathlib.Core.Bool.{Bool, true, false}
 use mathlib.Core.List.{List, [], ◌∷◌, ◌++◌}
-use Prim.Native.Nat.{ℕ, zero, suc, ◌+◌, ◌-◌}
+use Prim.Native.Nat.{ℕ, zero, suc, ◌+◌}
 use native.Mathlib.Omega.{arith}
 use lib.Dec.{eqb}
 use lib.ListN.{length, drop, length-drop}
@@ -20,7 +21,6 @@ use Rattle.xml_markup.specs.declared.Class.TheVariants.{Blanks, Name}
 use Rattle.xml_markup.specs.declared.Opener.TheVariants.{Start, End}
 use Rattle.xml_markup.specs.Markup.{marked, markup}
 use Rattle.xml_markup.specs.Spans.{is_of, run, name_at, bytes_of, opener, local_of, is_called, same_name}
-use Rattle.xml_skip.specs.declared.Reached.TheVariants.{Past}
 use Rattle.xml_skip.specs.declared.Part.TheVariants.{Close as PartClose}
 use Rattle.xml_skip.specs.Skipping.{part_by, part_of, part_for, part_at, tag_by, tag_of, by_tag, element_by, element_at, skipped}
 use Rattle.xml_document.specs.declared.Outside.TheVariants.{Nothing}
@@ -92,20 +92,20 @@ pub at_element : (t s name : List ℕ) (c : Cursor) (p : ℕ) → run Blanks t c
 unfolding advance by_inside
 at_element t s name c p b e k = rw (b, element_in t s name p (openTag c.level c) (lacks_by c.level c) e k) refl
 
-pub skipped_empty : (t : List ℕ) (p q : ℕ) → markup t p ≡ marked EmptyTag q → skipped t p ≡ Past q
+pub skipped_empty : (t : List ℕ) (p q : ℕ) → markup t p ≡ marked EmptyTag q → skipped t p ≡ Ok q
 unfolding skipped element_at element_by by_tag tag_of tag_by if◌then◌or_else◌
 skipped_empty t p q e = rw e refl
 
 -- an element that is skipped in the log, in the trace, and in an event
-pub passed_in_log : (t name : List ℕ) (c : Cursor) (p q : ℕ) → StartAt t name p → same_bytes (local_of name) (bytes "log") ≡ false → same_bytes (local_of name) (bytes "trace") ≡ false → same_bytes (local_of name) (bytes "event") ≡ false → skipped t p ≡ Past q → entered_by Log t c p ≡ On (reached c q)
+pub passed_in_log : (t name : List ℕ) (c : Cursor) (p q : ℕ) → StartAt t name p → same_bytes (local_of name) (bytes "log") ≡ false → same_bytes (local_of name) (bytes "trace") ≡ false → same_bytes (local_of name) (bytes "event") ≡ false → skipped t p ≡ Ok q → entered_by Log t c p ≡ On (reached c q)
 unfolding entered_by other_at is_of_log over if◌then◌or_else◌
 passed_in_log t name c p q k a b d e = rw (k.called (bytes "trace"), k.called (bytes "log"), k.called (bytes "event"), a, b, d, e) refl
 
-pub passed_in_trace : (t name : List ℕ) (c : Cursor) (p q : ℕ) → StartAt t name p → same_bytes (local_of name) (bytes "log") ≡ false → same_bytes (local_of name) (bytes "trace") ≡ false → same_bytes (local_of name) (bytes "event") ≡ false → skipped t p ≡ Past q → entered_by Trace t c p ≡ On (reached c q)
+pub passed_in_trace : (t name : List ℕ) (c : Cursor) (p q : ℕ) → StartAt t name p → same_bytes (local_of name) (bytes "log") ≡ false → same_bytes (local_of name) (bytes "trace") ≡ false → same_bytes (local_of name) (bytes "event") ≡ false → skipped t p ≡ Ok q → entered_by Trace t c p ≡ On (reached c q)
 unfolding entered_by other_at is_of_log over if◌then◌or_else◌
 passed_in_trace t name c p q k a b d e = rw (k.called (bytes "trace"), k.called (bytes "log"), k.called (bytes "event"), a, b, d, e) refl
 
-pub passed_in_event : (t name : List ℕ) (c : Cursor) (p q : ℕ) → StartAt t name p → same_bytes (local_of name) (bytes "string") ≡ false → same_bytes (local_of name) (bytes "log") ≡ false → same_bytes (local_of name) (bytes "trace") ≡ false → same_bytes (local_of name) (bytes "event") ≡ false → skipped t p ≡ Past q → entered_by Event t c p ≡ On (reached c q)
+pub passed_in_event : (t name : List ℕ) (c : Cursor) (p q : ℕ) → StartAt t name p → same_bytes (local_of name) (bytes "string") ≡ false → same_bytes (local_of name) (bytes "log") ≡ false → same_bytes (local_of name) (bytes "trace") ≡ false → same_bytes (local_of name) (bytes "event") ≡ false → skipped t p ≡ Ok q → entered_by Event t c p ≡ On (reached c q)
 unfolding entered_by other_at is_of_log over if◌then◌or_else◌
 passed_in_event t name c p q k s a b d e = rw (k.called (bytes "string"), k.called (bytes "trace"), k.called (bytes "log"), k.called (bytes "event"), s, a, b, d, e) refl
 
@@ -139,7 +139,7 @@ module _ (t : List ℕ) (q : ℕ) (stands : drop q t ≡ 10 ∷ []) where
   at_last : (n : ℕ) → n ≡ q + 1 → outside_in n t q ≡ outside_in (suc q) t q
   at_last n e = ap (λ (m : ℕ). outside_in m t q) (e ∙ (let z : q + 1 ≡ suc q = omega arith in z))
 
-  pub ends_there : last_from t q ≡ Past (length t)
+  pub ends_there : last_from t q ≡ Ok (length t)
   unfolding last_from outside outside_in outside_at further last_by if◌then◌or_else◌
   ends_there = ap (λ (o : _). last_by o t) (at_last (length t) long) ∙ rw (blank, le-leb (length t) (q + 1) (omega (arith, long))) refl
 
@@ -149,6 +149,6 @@ unfolding outside_in outside_at further run past if◌then◌or_else◌
 nothing_left t zero = refl
 nothing_left t (suc n) = rw (drop-length t, le-leb (length t) (length t) (omega arith)) refl
 
-pub ends_here : (t : List ℕ) → last_from t (length t) ≡ Past (length t)
+pub ends_here : (t : List ℕ) → last_from t (length t) ≡ Ok (length t)
 unfolding last_from outside last_by
 ends_here t = rw (nothing_left t (length t)) refl

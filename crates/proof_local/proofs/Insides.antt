@@ -1,23 +1,21 @@
 -- WHAT STANDS IN THE LOG, THE TRACE OR AN EVENT, at a place of a beginning of a text: the text's own, or a fault at the end of the beginning. Assumes nothing.
-use mathlib.Core.Path.{◌≡◌, ◌∙◌, refl, sym, ap, subst}
+use mathlib.Core.Path.{◌≡◌, refl, ap, subst}
 use mathlib.Core.Bool.{Bool, true, false}
 use mathlib.Core.List.{List}
-use Prim.Native.Nat.{ℕ, ◌+◌, ◌<◌, ◌≤◌}
+use Prim.Native.Nat.{ℕ, ◌<◌, ◌≤◌}
 use native.Mathlib.Omega.{arith}
 use lib.ListN.{length, take, get_or-eq_default}
 use borrow.Author.Tests.{le-leb}
 use Rattle.base_words.specs.Pick.{if◌then◌or_else◌}
-use Rattle.base_words.specs.Words.{at}
 use Rattle.base_bytes.proofs.PieceLaws.{by_order}
 use Rattle.xml_scanner.specs.declared.Sort.{Sort}
 use Rattle.xml_scanner.specs.declared.Sort.TheVariants.{StartTag, EmptyTag, EndTag, Text, Reference, Comment, Data, Instruction, End, Fault as AFault}
 use Rattle.xml_markup.specs.declared.Markup.{Markup}
 use Rattle.xml_markup.specs.declared.Opener.{Opener}
 use Rattle.xml_markup.specs.declared.Opener.TheVariants.{Start, End as EndOpener, Other}
-use Rattle.xml_markup.specs.Markup.{marked, markup, opens_markup}
+use Rattle.xml_markup.specs.Markup.{marked, markup}
 use Rattle.xml_markup.specs.Spans.{name_at, opens_name, opener, same_name}
-use Rattle.xml_skip.specs.declared.Part.{Part}
-use Rattle.xml_skip.specs.declared.Part.TheVariants.{Element as PartElement, Close as PartClose, On as PartOn, Fault as PartFault}
+use Rattle.xml_skip.specs.declared.Part.TheVariants.{Fault as PartFault}
 use Rattle.xml_skip.specs.Skipping.{part_by, part_of, part_for, part_at}
 use Rattle.xml_document.specs.declared.Outside.{Outside}
 use Rattle.xml_document.specs.declared.Outside.TheVariants.{Element as OutsideElement, On as Onward, Nothing, Fault as OutsideFault}
@@ -28,9 +26,9 @@ use Rattle.log_text.specs.Inside.{ends_at, closing, between, inside_at}
 use Rattle.proof_local.proofs.Beginnings.{long}
 use Rattle.proof_local.proofs.Names.{Whole, opener_same, opener_cut, same_names}
 use Rattle.proof_local.proofs.Markups.{Late, CutOpened, whole, broken_off, opened_cut, late_of, markup_cut}
-use Rattle.proof_local.proofs.BrokenNames.{broken_name, end_opens, is_other}
+use Rattle.proof_local.proofs.BrokenNames.{broken_name, end_opens}
 use Rattle.proof_local.proofs.Parts.{next_within}
-use Rattle.proof_local.proofs.Outsides.{EarlyOutside, LateOutside, CutOutside, same as outside-same, element as outside-element, no_element as outside-none, broken as outside-broken, outside_cut, other_fault}
+use Rattle.proof_local.proofs.Outsides.{CutOutside, same as outside-same, element as outside-element, no_element as outside-none, broken as outside-broken, outside_cut, other_fault}
 
 abbrev pub EarlyInside : ℕ → Inside → Type 0
 EarlyInside n (Element p) = ⊥

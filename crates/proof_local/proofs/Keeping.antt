@@ -1,5 +1,6 @@
 -- A READER OF A LOG KEEPS STANDING: what the law of one move asks of its cursor holds again behind a move, at any n that the move's place is not behind. Assumes nothing.
-use mathlib.Core.Path.{◌≡◌, ◌∙◌, refl, sym, ap, subst}
+use Rattle.std.specs.Prelude.{Option, Some, None, Ok, Err}
+use mathlib.Core.Path.{◌≡◌, ◌∙◌, refl, sym, subst}
 use mathlib.Core.Bool.{Bool, true, false}
 use mathlib.Core.List.{List}
 use Prim.Native.Nat.{ℕ, ◌+◌, ◌-◌, ◌<◌, ◌≤◌}
@@ -13,21 +14,15 @@ use Rattle.base_words.specs.Words.{at, part}
 use Rattle.base_bytes.proofs.PieceLaws.{by_order}
 use Rattle.base_bytes.specs.Bytes.{same_bytes}
 use Rattle.log_lines.specs.Entries.{entry_of}
-use Rattle.xml_markup.specs.declared.Attribute.{Attribute}
-use Rattle.xml_markup.specs.declared.Attribute.TheVariants.{Is, Absent}
 use Rattle.xml_markup.specs.declared.Class.TheVariants.{Blanks}
-use Rattle.xml_markup.specs.declared.Markup.{Markup}
 use Rattle.xml_markup.specs.declared.Opener.{Opener}
 use Rattle.xml_markup.specs.declared.Opener.TheVariants.{Start, End as EndOpener, Other}
 use Rattle.xml_markup.specs.Markup.{markup}
 use Rattle.xml_markup.specs.Spans.{run, after, is_called, attribute, opener, name_at}
-use Rattle.xml_markup.proofs.MarkupLaws.{markup_within}
-use Rattle.xml_skip.specs.declared.Reached.{Reached}
-use Rattle.xml_skip.specs.declared.Reached.TheVariants.{Past, Fault as SkipFault}
 use Rattle.xml_skip.specs.declared.Tag.{Tag}
 use Rattle.xml_skip.specs.declared.Tag.TheVariants.{Open, Empty, Fault as TagFault}
-use Rattle.xml_skip.specs.Skipping.{tag_of, skipped}
-use Rattle.xml_skip.proofs.Laws.{Behind, tag_behind, Further, skipped_further, Within, tag_within}
+use Rattle.xml_skip.specs.Skipping.{tag_of, skipped, Reached}
+use Rattle.xml_skip.proofs.Laws.{Behind, tag_behind, Within, tag_within}
 use Rattle.log_text.specs.declared.Inside.{Inside}
 use Rattle.log_text.specs.declared.Inside.TheVariants.{Element, Close, On as Onward, Fault as InsideFault}
 use Rattle.log_text.specs.declared.Level.{Level}
@@ -48,7 +43,6 @@ use Rattle.xml_document.specs.declared.Outside.{Outside}
 use Rattle.xml_document.specs.declared.Outside.TheVariants.{Element as OutsideElement, On as OutsideOn, Nothing, Fault as OutsideFault}
 use Rattle.xml_document.specs.Document.{other_by, other_of, opens_data, tag_for, tag_at, outside_at}
 use Rattle.proof_local.proofs.SameMoves.{Stands}
-use Rattle.proof_local.proofs.Names.{Whole}
 use Rattle.proof_local.proofs.Markups.{late_of, markup_cut}
 use Rattle.proof_local.proofs.BrokenNames.{broken_name, start_opens}
 use Rattle.proof_local.proofs.Parts.{EarlyTag, LateTag, tag_late, tag_inside}
@@ -102,12 +96,12 @@ opened_tag t p q g eg o e = record { stands = ahead; name = name_in t p q o ahea
 
 -- WHAT A VALUE IS IN ends no earlier than the value
 abbrev EndsBy : ℕ → Reached → Type 0
-EndsBy n (Past q) = n ≤ q
-EndsBy n (SkipFault q) = Unit {0}
+EndsBy n (Ok q) = n ≤ q
+EndsBy n (Err q) = Unit {0}
 
-abbrev ValueBy : Attribute → Reached → Type 0
-ValueBy (Is from to) r = EndsBy to r
-ValueBy Absent r = Unit {0}
+abbrev ValueBy : Option (ℕ × ℕ) → Reached → Type 0
+ValueBy (Some (from, to)) r = EndsBy to r
+ValueBy None r = Unit {0}
 
 abbrev end_of : Tag → ℕ
 end_of (Open q) = q
@@ -130,13 +124,13 @@ inside_of n q (Empty r) w e b = omega (arith, e, b)
 inside_of n q (TagFault r) w e b = absurd w
 
 ends_by : (q : ℕ) (r : Reached) → LateSkip (q - 1) r → EndsBy q r
-ends_by q (Past x) l = omega (arith, l)
-ends_by q (SkipFault x) l = tt
+ends_by q (Ok x) l = omega (arith, l)
+ends_by q (Err x) l = tt
 
-value_by : (q : ℕ) (a : Attribute) (r : Reached) → Short q a → EndsBy q r → ValueBy a r
-value_by q (Is from to) (Past x) s e = omega (arith, s, e)
-value_by q (Is from to) (SkipFault x) s e = tt
-value_by q Absent r s e = tt
+value_by : (q : ℕ) (a : Option (ℕ × ℕ)) (r : Reached) → Short q a → EndsBy q r → ValueBy a r
+value_by q (Some (from, to)) (Ok x) s e = omega (arith, s, e)
+value_by q (Some (from, to)) (Err x) s e = tt
+value_by q None r s e = tt
 
 value_ends : (t : List ℕ) (p : ℕ) → opener t p ≡ Start → (q : ℕ) (g : Tag) → g ≡ tag_of (markup t p) p → WholeTag q g → end_of g ≡ q → ValueBy (attribute t p (bytes "value")) (skipped t p)
 value_ends t p o q g eg w e =
@@ -260,13 +254,13 @@ after_most t i = by_order (length t) i (λ h. rw (le-ltb i (length t) h) (omega 
 module _ (t : List ℕ) (c : Cursor) (k : Kept t c) where
   over_keeps : (r : Reached) → Keeps t c (over r c)
   unfolding over
-  over_keeps (Past q) = λ h. record { few = omega (arith, h, k.few); line = omega (arith, h, k.line); tags = same_tags t c q c.level q (tags_on t c c.level c.at q (omega arith) k.tags) }
-  over_keeps (SkipFault q) = tt
+  over_keeps (Ok q) = λ h. record { few = omega (arith, h, k.few); line = omega (arith, h, k.line); tags = same_tags t c q c.level q (tags_on t c c.level c.at q (omega arith) k.tags) }
+  over_keeps (Err q) = tt
 
   named_keeps : (r : Reached) (from to : ℕ) → EndsBy to r → Keeps t c (over_named r c from to)
   unfolding over_named
-  named_keeps (Past q) from to b = λ h. record { few = omega (arith, h, k.few); line = b; tags = line_tags t c from to q c.level q (tags_on t c c.level c.at q (omega arith) k.tags) }
-  named_keeps (SkipFault q) from to b = tt
+  named_keeps (Ok q) from to b = λ h. record { few = omega (arith, h, k.few); line = b; tags = line_tags t c from to q c.level q (tags_on t c c.level c.at q (omega arith) k.tags) }
+  named_keeps (Err q) from to b = tt
 
   trace_keeps : (p : ℕ) (g : Tag) → g ≡ tag_of (markup t p) p → opener t p ≡ Start → Keeps t c (trace_by g c p)
   unfolding trace_by
@@ -280,18 +274,18 @@ module _ (t : List ℕ) (c : Cursor) (k : Kept t c) where
   event_keeps p (Empty q) e o s = tt
   event_keeps p (TagFault q) e o s = tt
 
-  line_keeps : (p : ℕ) (a : Attribute) (end : ℕ) → ValueBy a (skipped t p) → Keeps t c (line_by a t c p end)
+  line_keeps : (p : ℕ) (a : Option (ℕ × ℕ)) (end : ℕ) → ValueBy a (skipped t p) → Keeps t c (line_by a t c p end)
   unfolding line_by
-  line_keeps p (Is from to) end b = keeps_if t c (entry_of (part t from to)).right (over_named (skipped t p) c from to) (Fault (from - 1)) (named_keeps (skipped t p) from to b) tt
-  line_keeps p Absent end b = tt
+  line_keeps p (Some (from, to)) end b = keeps_if t c (entry_of (part t from to)).right (over_named (skipped t p) c from to) (Fault (from - 1)) (named_keeps (skipped t p) from to b) tt
+  line_keeps p None end b = tt
 
-  name_keeps : (p : ℕ) (a : Attribute) (end : ℕ) → ValueBy (attribute t p (bytes "value")) (skipped t p) → Keeps t c (name_by a t c p end)
+  name_keeps : (p : ℕ) (a : Option (ℕ × ℕ)) (end : ℕ) → ValueBy (attribute t p (bytes "value")) (skipped t p) → Keeps t c (name_by a t c p end)
   unfolding name_by
-  name_keeps p (Is from to) end b =
+  name_keeps p (Some (from, to)) end b =
       keeps_if t c (same_bytes (part t from to) (bytes "concept:name")) _ (over (skipped t p) c)
       (keeps_if t c (eqb c.to 0) (line_by (attribute t p (bytes "value")) t c p end) (Fault (from - 1)) (line_keeps p (attribute t p (bytes "value")) end b) tt)
       (over_keeps (skipped t p))
-  name_keeps p Absent end b = over_keeps (skipped t p)
+  name_keeps p None end b = over_keeps (skipped t p)
 
   string_keeps : (p : ℕ) → opener t p ≡ Start → (g : Tag) → g ≡ tag_of (markup t p) p → Keeps t c (string_by g t c p)
   unfolding string_by

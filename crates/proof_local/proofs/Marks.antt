@@ -1,9 +1,10 @@
 -- WHAT A READER OF A LOG HAS PASSED: where the trace's start tag ended, and the end of the last whole event, or else of that tag. Each is the place of a cursor that the reader was at. Assumes nothing.
+use Rattle.std.specs.Prelude.{Option, Some, None, Ok, Err}
 use mathlib.Core.Logic.{◌⊎◌, inl, inr}
 use mathlib.Core.Path.{◌≡◌, ◌∙◌, refl, sym, ap, subst}
 use mathlib.Core.Bool.{Bool, true, false, false≢true}
 use mathlib.Core.List.{List}
-use Prim.Native.Nat.{ℕ, zero, suc, ◌+◌, ◌-◌, ◌<◌, ◌≤◌}
+use Prim.Native.Nat.{ℕ, zero, suc, ◌-◌, ◌<◌}
 use native.Mathlib.Omega.{arith}
 use lib.Dec.{eqb}
 use lib.ListN.{length}
@@ -12,16 +13,12 @@ use Rattle.base_words.specs.Pick.{if◌then◌or_else◌}
 use Rattle.base_words.specs.Text.{bytes}
 use Rattle.base_words.specs.Words.{part}
 use Rattle.base_bytes.specs.Bytes.{same_bytes}
-use Rattle.xml_markup.specs.declared.Attribute.{Attribute}
-use Rattle.xml_markup.specs.declared.Attribute.TheVariants.{Is, Absent}
 use Rattle.xml_markup.specs.declared.Class.TheVariants.{Blanks}
 use Rattle.xml_markup.specs.Markup.{markup}
 use Rattle.xml_markup.specs.Spans.{run, is_called, attribute, opener}
-use Rattle.xml_skip.specs.declared.Reached.{Reached}
-use Rattle.xml_skip.specs.declared.Reached.TheVariants.{Past, Fault as SkipFault}
 use Rattle.xml_skip.specs.declared.Tag.{Tag}
 use Rattle.xml_skip.specs.declared.Tag.TheVariants.{Open, Empty, Fault as TagFault}
-use Rattle.xml_skip.specs.Skipping.{tag_of, skipped}
+use Rattle.xml_skip.specs.Skipping.{tag_of, skipped, Reached}
 use Rattle.xml_document.specs.declared.Outside.{Outside}
 use Rattle.xml_document.specs.declared.Outside.TheVariants.{Element as OutsideElement, On as OutsideOn, Nothing, Fault as OutsideFault}
 use Rattle.xml_document.specs.Document.{outside_at}
@@ -34,9 +31,9 @@ use Rattle.log_text.specs.declared.Cursor.{Cursor}
 use Rattle.log_text.specs.declared.Move.{Move}
 use Rattle.log_text.specs.declared.Move.TheVariants.{On, Done, Fault}
 use Rattle.log_text.specs.Inside.{ends_at, between, inside_at}
-use Rattle.log_text.specs.Cursors.{reached, traced, in_event, named, behind_event, behind_trace, tag_by, lacks_by}
-use Rattle.log_text.specs.Logs.{over, over_named, line_by, name_by, string_by, string_at, trace_by, event_by, is_of_log, other_at, entered_by, left_by, by_inside, advance, scanned, scan_from}
-use Rattle.log_text.proofs.Laws.{Beyond, advance_beyond, scan_on, scan_done, scan_fault, scan_end}
+use Rattle.log_text.specs.Cursors.{reached, traced, named, behind_event, tag_by, lacks_by}
+use Rattle.log_text.specs.Logs.{over, over_named, line_by, name_by, string_by, string_at, trace_by, event_by, is_of_log, other_at, entered_by, left_by, by_inside, advance}
+use Rattle.log_text.proofs.Laws.{Beyond, advance_beyond}
 use Rattle.proof_local.proofs.Reached.{Reaches}
 
 -- what stays from move to move
@@ -106,26 +103,26 @@ module _ (t : List ℕ) (c : Cursor) where
 
   over_goes : (s : Reached) → GoesBy t c (over s c)
   unfolding over
-  over_goes (Past q) = reached_goes q
-  over_goes (SkipFault q) = tt
+  over_goes (Ok q) = reached_goes q
+  over_goes (Err q) = tt
 
   named_goes : (s : Reached) (from to : ℕ) → GoesBy t c (over_named s c from to)
   unfolding over_named
-  named_goes (Past q) from to = stays (record { log = refl; trace = refl; opened = refl; events = refl; kept = refl }) (as_in (named c from to q) c.level refl)
-  named_goes (SkipFault q) from to = tt
+  named_goes (Ok q) from to = stays (record { log = refl; trace = refl; opened = refl; events = refl; kept = refl }) (as_in (named c from to q) c.level refl)
+  named_goes (Err q) from to = tt
 
-  line_goes : (a : Attribute) (p end : ℕ) → GoesBy t c (line_by a t c p end)
+  line_goes : (a : Option (ℕ × ℕ)) (p end : ℕ) → GoesBy t c (line_by a t c p end)
   unfolding line_by
-  line_goes (Is from to) p end = goes_if (entry_of (part t from to)).right _ (Fault (from - 1)) (λ h. named_goes (skipped t p) from to) tt
-  line_goes Absent p end = tt
+  line_goes (Some (from, to)) p end = goes_if (entry_of (part t from to)).right _ (Fault (from - 1)) (λ h. named_goes (skipped t p) from to) tt
+  line_goes None p end = tt
 
-  name_goes : (a : Attribute) (p end : ℕ) → GoesBy t c (name_by a t c p end)
+  name_goes : (a : Option (ℕ × ℕ)) (p end : ℕ) → GoesBy t c (name_by a t c p end)
   unfolding name_by
-  name_goes (Is from to) p end =
+  name_goes (Some (from, to)) p end =
       goes_if (same_bytes (part t from to) (bytes "concept:name")) _ (over (skipped t p) c)
       (λ h. goes_if (eqb c.to 0) _ (Fault (from - 1)) (λ k. line_goes (attribute t p (bytes "value")) p end) tt)
       (over_goes (skipped t p))
-  name_goes Absent p end = over_goes (skipped t p)
+  name_goes None p end = over_goes (skipped t p)
 
   string_goes : (g : Tag) (p : ℕ) → GoesBy t c (string_by g t c p)
   unfolding string_by

@@ -1,5 +1,5 @@
 -- THE NAME OF A TAG in a beginning of a text: where it ends before the end of the beginning, it is the same, and so are what it opens and what it is called. Assumes nothing.
-use mathlib.Core.Path.{◌≡◌, ◌∙◌, refl, sym, ap}
+use mathlib.Core.Path.{◌≡◌, refl, ap}
 use mathlib.Core.Bool.{Bool, true, false}
 use mathlib.Core.List.{List}
 use Prim.Native.Nat.{ℕ, ◌+◌, ◌<◌, ◌≤◌}
@@ -13,7 +13,6 @@ use Rattle.base_bytes.proofs.PieceLaws.{by_order}
 use Rattle.base_bytes.proofs.PastLaws.{past_from}
 use Rattle.xml_markup.specs.declared.Class.TheVariants.{Name}
 use Rattle.xml_markup.specs.declared.Opener.TheVariants.{Other}
-use Rattle.xml_markup.specs.declared.Span.{Span}
 use Rattle.xml_markup.specs.Spans.{is_of, run, after, has_second, name_from, name_at, bytes_of, opens_name, second, opener, is_called, same_name}
 use Rattle.proof_local.proofs.Beginnings.{long, byte, piece, next_is, next_in, ran}
 

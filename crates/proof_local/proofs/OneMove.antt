@@ -1,9 +1,10 @@
 -- ONE MOVE. A reader of a log at a place of a beginning of a text, the names of its open tags whole there, moves as in the text where it then is no further than the end of the beginning; else it is refused at
 -- that end, or where the text is refused. And so in any text that begins alike. Assumes nothing.
+use Rattle.std.specs.Prelude.{Ok, Err}
 use mathlib.Core.Path.{◌≡◌, refl}
 use mathlib.Core.Bool.{Bool, true, false}
 use mathlib.Core.List.{List}
-use Prim.Native.Nat.{ℕ, ◌+◌, ◌<◌, ◌≤◌}
+use Prim.Native.Nat.{ℕ, ◌<◌, ◌≤◌}
 use native.Mathlib.Omega.{arith}
 use lib.ListN.{length, take}
 use Rattle.base_words.specs.Pick.{if◌then◌or_else◌}
@@ -11,13 +12,11 @@ use Rattle.base_bytes.proofs.PieceLaws.{by_order}
 use Rattle.xml_markup.specs.declared.Class.TheVariants.{Blanks}
 use Rattle.xml_markup.specs.Markup.{markup}
 use Rattle.xml_markup.specs.Spans.{run, opener}
-use Rattle.xml_skip.specs.declared.Reached.{Reached}
-use Rattle.xml_skip.specs.declared.Reached.TheVariants.{Past, Fault as SkipFault}
 use Rattle.xml_skip.specs.declared.Part.{Part}
 use Rattle.xml_skip.specs.declared.Part.TheVariants.{Element as PartElement, Close as PartClose, On as PartOn, Fault as PartFault}
 use Rattle.xml_skip.specs.declared.Tag.{Tag}
 use Rattle.xml_skip.specs.declared.Tag.TheVariants.{Open, Empty, Fault as TagFault}
-use Rattle.xml_skip.specs.Skipping.{part_at, tag_of, skipped}
+use Rattle.xml_skip.specs.Skipping.{part_at, tag_of, skipped, Reached}
 use Rattle.xml_skip.proofs.Laws.{Further, Onward as PartOnward, Behind, part_onward, tag_behind, skipped_further}
 use Rattle.xml_document.specs.declared.Outside.{Outside}
 use Rattle.xml_document.specs.declared.Outside.TheVariants.{Element as OutsideElement, On as OutsideOn, Nothing, Fault as OutsideFault}
@@ -73,8 +72,8 @@ inside_from t n p b outer h =
     (between_from n p (length t) (outside_at t p) h (at_beyond t p))
 
 late_skip : (n p : ℕ) (r : Reached) → n ≤ p → Further p r → LateSkip n r
-late_skip n p (Past q) h k = omega (arith, h, k)
-late_skip n p (SkipFault q) h k = tt
+late_skip n p (Ok q) h k = omega (arith, h, k)
+late_skip n p (Err q) h k = tt
 
 late_tag : (n p : ℕ) (g : Tag) → n ≤ p → Behind p g → LateTag n g
 late_tag n p (Open q) h k = omega (arith, h, k)

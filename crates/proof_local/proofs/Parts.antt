@@ -1,8 +1,8 @@
 -- THE PARTS OF CONTENT AND THE TAGS OF ELEMENTS in a beginning of a text: the text's own, or a fault at the end of the beginning. Assumes nothing.
-use mathlib.Core.Path.{◌≡◌, ◌∙◌, refl, sym, ap, subst}
-use mathlib.Core.Bool.{Bool, true, false, false≢true}
+use mathlib.Core.Path.{◌≡◌, refl, ap, subst}
+use mathlib.Core.Bool.{Bool, true, false}
 use mathlib.Core.List.{List}
-use Prim.Native.Nat.{ℕ, ◌+◌, ◌<◌, ◌≤◌}
+use Prim.Native.Nat.{ℕ, ◌<◌, ◌≤◌}
 use native.Mathlib.Omega.{arith}
 use lib.ListN.{length, take}
 use Rattle.base_words.specs.Pick.{if◌then◌or_else◌}
@@ -26,7 +26,7 @@ use Rattle.proof_local.proofs.Beginnings.{long}
 use Rattle.proof_local.proofs.Names.{Whole, opener_same, opener_cut, same_names}
 use Rattle.proof_local.proofs.Scans.{Cut as CutScan, same as scan-same, broken as scan-broken, scan_cut}
 use Rattle.proof_local.proofs.Markups.{Late, Onto, Cut as CutMarkup, same as markup-same, broken as markup-broken, text as markup-text, markup_cut, opened_is, opened_in, late_placed, late_of}
-use Rattle.proof_local.proofs.BrokenNames.{is_other, broken_name}
+use Rattle.proof_local.proofs.BrokenNames.{broken_name}
 
 -- A PART: no element, ends before n; behind it; goes up to it
 abbrev pub EarlyPart : ℕ → Part → Type 0

@@ -1,31 +1,31 @@
 -- WHERE A READER OF A LOG ENDS: it came there by its marks, within the text. Assumes nothing.
+use Rattle.xml_skip.specs.Skipping.{fault_at}
+use Rattle.std.specs.Prelude.{Ok}
 use mathlib.Core.Logic.{◌⊎◌, inl, inr}
 use mathlib.Core.Path.{◌≡◌, ◌∙◌, refl, sym, ap, subst}
-use mathlib.Core.Bool.{Bool, true, false, false≢true}
+use mathlib.Core.Bool.{false, false≢true}
 use mathlib.Core.List.{List}
 use Prim.Native.Nat.{ℕ, zero, suc, ◌+◌, ◌<◌, ◌≤◌}
 use native.Mathlib.Omega.{arith}
 use lib.Dec.{eqb}
 use lib.ListN.{length, take}
 use lib.Seq.{take_all, take-take}
-use Rattle.xml_skip.specs.declared.Reached.{Reached}
-use Rattle.xml_skip.specs.declared.Reached.TheVariants.{Past, Fault as SkipFault}
 use Rattle.xml_document.specs.Around.{last_from}
 use Rattle.log_text.specs.declared.Cursor.{Cursor}
 use Rattle.log_text.specs.declared.Move.{Move}
 use Rattle.log_text.specs.declared.Move.TheVariants.{On, Done, Fault}
 use Rattle.log_text.specs.declared.Scanned.{Scanned}
-use Rattle.log_text.specs.Cursors.{in_log, nowhere}
+use Rattle.log_text.specs.Cursors.{nowhere}
 use Rattle.log_text.specs.Logs.{advance, scanned, by_move, scan_from, start, scan}
 use Rattle.log_text.proofs.Laws.{scan_on, scan_done, scan_fault, scan_end, step_past}
-use Rattle.proof_local.proofs.Advances.{Early, Late, Cut, same, broken}
+use Rattle.proof_local.proofs.Advances.{Early, Cut, same, broken}
 use Rattle.proof_local.proofs.SameMoves.{law, is_fault}
 use Rattle.proof_local.proofs.Keeping.{Kept, kept_on, kept_stands}
 use Rattle.proof_local.proofs.Reached.{Reaches, not_back, reaches_alike, scan_reached}
 use Rattle.proof_local.proofs.Around.{is_past}
 use Rattle.proof_local.proofs.Beginnings.{long}
-use Rattle.proof_local.proofs.Starting.{Started, started, kept_start, start_cut, start_alike, never_done}
-use Rattle.proof_local.proofs.Marks.{Same, InTrace, GoesBy, goes, Marked, Passing, marks_stay, passing_on, opened_stays}
+use Rattle.proof_local.proofs.Starting.{started, kept_start, start_cut, start_alike, never_done}
+use Rattle.proof_local.proofs.Marks.{InTrace, GoesBy, goes, Marked, Passing, marks_stay, passing_on, opened_stays}
 
 -- WITHIN THE TEXT: the text is a beginning of itself
 early : (n : ℕ) (x y : Move) (d : Cursor) → x ≡ On d → y ≡ x → Cut n x y → d.at ≤ n
@@ -73,14 +73,14 @@ module _ (t : List ℕ) (b : Cursor) where
   open_from (suc k) c z h = by_open c z (λ d w l. open_from k d w (omega (arith, h, l))) (advance t c) refl
 
   -- a log has its trace
-  by_log : (q : ℕ) (c : Cursor) → (scan_from t c).end ≡ Past q → ((d : Cursor) → c.at < d.at → (scan_from t d).end ≡ Past q → eqb (scan_from t d).last.opened 0 ≡ false) → (m : Move) → m ≡ advance t c → eqb (scan_from t c).last.opened 0 ≡ false
+  by_log : (q : ℕ) (c : Cursor) → (scan_from t c).end ≡ Ok q → ((d : Cursor) → c.at < d.at → (scan_from t d).end ≡ Ok q → eqb (scan_from t d).last.opened 0 ≡ false) → (m : Move) → m ≡ advance t c → eqb (scan_from t c).last.opened 0 ≡ false
   by_log q c z IH (On d) e = rw (scan_on t c (On d) e d refl) (IH d (step_past t c (On d) e d refl) (ap (λ (s : Scanned). s.end) (sym (scan_on t c (On d) e d refl)) ∙ z))
   by_log q c z IH (Done d) e =
       let k = subst (GoesBy t c) (sym e) (goes t c) in
       rw (scan_done t c (Done d) e d refl (last_from t d.at) refl) (ap (λ (n : ℕ). eqb n 0) k.0.opened ∙ k.1)
   by_log q c z IH (Fault r) e = absurd (false≢true (ap is_past (ap (λ (s : Scanned). s.end) (sym (scan_fault t c (Fault r) e r refl)) ∙ z)))
 
-  log_from : (q k : ℕ) (c : Cursor) → (scan_from t c).end ≡ Past q → length t ≤ c.at + k → eqb (scan_from t c).last.opened 0 ≡ false
+  log_from : (q k : ℕ) (c : Cursor) → (scan_from t c).end ≡ Ok q → length t ≤ c.at + k → eqb (scan_from t c).last.opened 0 ≡ false
   log_from q zero c z h = absurd (false≢true (ap is_past (ap (λ (s : Scanned). s.end) (sym (scan_end t c (omega (arith, h)))) ∙ z)))
   log_from q (suc k) c z h = by_log q c z (λ d l f. log_from q k d f (omega (arith, h, l))) (advance t c) refl
 
@@ -111,8 +111,8 @@ module _ (t : List ℕ) where
             marks = inl (ap (λ (x : Cursor). x.opened) s.cursor);
           }
 
-      scan_is : (m : Move) → start t ≡ m → scan t ≡ by_move m (scan_from t) (λ d. scanned (Past d.at) d) (λ q. scanned (SkipFault q) nowhere)
-      scan_is m e = ap (λ (x : Move). by_move x (scan_from t) (λ d. scanned (Past d.at) d) (λ q. scanned (SkipFault q) nowhere)) e
+      scan_is : (m : Move) → start t ≡ m → scan t ≡ by_move m (scan_from t) (λ d. scanned (Ok d.at) d) (λ q. scanned (fault_at q) nowhere)
+      scan_is m e = ap (λ (x : Move). by_move x (scan_from t) (λ d. scanned (Ok d.at) d) (λ q. scanned (fault_at q) nowhere)) e
 
       marked : (c : Cursor) → scan t ≡ scan_from t c → Ends t c (scan_from t c).last → Marked t c (scan t).last
       marked c e (inl k) = absurd (false≢true (sym z ∙ ap (λ (s : Scanned). eqb s.last.opened 0) e ∙ ap (λ (n : ℕ). eqb n 0) k))
@@ -125,12 +125,12 @@ module _ (t : List ℕ) where
       go (Done c) e = absurd (never_done t c e)
       go (Fault q) e = absurd (false≢true (sym z ∙ ap (λ (s : Scanned). eqb s.last.opened 0) (scan_is (Fault q) e)))
 
-  pub has_trace : (q : ℕ) → (scan t).end ≡ Past q → eqb (scan t).last.opened 0 ≡ false
+  pub has_trace : (q : ℕ) → (scan t).end ≡ Ok q → eqb (scan t).last.opened 0 ≡ false
   unfolding scan by_move
   has_trace q z = go (start t) refl z
     where
-      go : (m : Move) → start t ≡ m → (by_move m (scan_from t) (λ d. scanned (Past d.at) d) (λ r. scanned (SkipFault r) nowhere)).end ≡ Past q
-          → eqb (by_move m (scan_from t) (λ d. scanned (Past d.at) d) (λ r. scanned (SkipFault r) nowhere)).last.opened 0 ≡ false
+      go : (m : Move) → start t ≡ m → (by_move m (scan_from t) (λ d. scanned (Ok d.at) d) (λ r. scanned (fault_at r) nowhere)).end ≡ Ok q
+          → eqb (by_move m (scan_from t) (λ d. scanned (Ok d.at) d) (λ r. scanned (fault_at r) nowhere)).last.opened 0 ≡ false
       go (On c) e f = log_from t c q (length t) c f (omega arith)
       go (Done c) e f = absurd (never_done t c e)
       go (Fault r) e f = absurd (false≢true (ap is_past f))

@@ -1,6 +1,6 @@
 -- WHAT LAW A SAYS, CASE BY CASE; and in two texts that begin alike a reader moves alike, as long as it is no further than where they begin to differ. Assumes nothing.
 use mathlib.Core.Logic.{◌⊎◌, inl, inr}
-use mathlib.Core.Path.{◌≡◌, ◌∙◌, refl, sym, ap, subst}
+use mathlib.Core.Path.{◌≡◌, ◌∙◌, refl, sym, ap}
 use mathlib.Core.Bool.{Bool, true, false, false≢true}
 use mathlib.Core.List.{List}
 use Prim.Native.Nat.{ℕ, ◌<◌, ◌≤◌}
@@ -15,7 +15,7 @@ use Rattle.log_text.specs.declared.Move.TheVariants.{On, Done, Fault}
 use Rattle.log_text.specs.Cursors.{tag_by}
 use Rattle.log_text.specs.Logs.{advance}
 use Rattle.proof_local.proofs.Names.{Whole, named, cut_name}
-use Rattle.proof_local.proofs.Advances.{Early, Late, Cut, same, broken}
+use Rattle.proof_local.proofs.Advances.{Early, Cut, same, broken}
 use Rattle.proof_local.proofs.OneMove.{advance_cut}
 
 -- the reader is within the first n bytes, there are fewer events than these, and the name of the tag that it is in is whole there

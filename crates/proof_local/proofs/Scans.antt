@@ -1,5 +1,5 @@
 -- A MARKUP READ BYTE BY BYTE in a beginning of a text: as in the text, or up to the end of the beginning, and then what the text has there ends behind it. Assumes nothing.
-use mathlib.Core.Path.{◌≡◌, ◌∙◌, refl, sym, ap}
+use mathlib.Core.Path.{◌≡◌, refl}
 use mathlib.Core.Bool.{Bool, true, false}
 use mathlib.Core.List.{List, [], ◌∷◌}
 use Prim.Native.Nat.{ℕ, zero, suc, ◌+◌, ◌-◌, ◌<◌, ◌≤◌}
@@ -7,15 +7,14 @@ use native.Mathlib.Omega.{arith}
 use lib.ListN.{length, take, drop, length-drop}
 use borrow.Author.Tests.{lt-leb}
 use Rattle.base_words.specs.Pick.{if◌then◌or_else◌}
-use Rattle.base_words.specs.Words.{at, part}
-use Rattle.xml_characters.specs.Names.{is_control}
+use Rattle.base_words.specs.Words.{at}
 use Rattle.xml_scanner.specs.declared.Move.{Move}
 use Rattle.xml_scanner.specs.declared.Move.TheVariants.{On as Onward, Next, Close, Here, Back}
 use Rattle.xml_scanner.specs.Moves.{step}
 use Rattle.xml_markup.specs.declared.Cursor.{Cursor}
 use Rattle.xml_markup.specs.declared.Scan.{Scan}
 use Rattle.xml_markup.specs.declared.Scan.TheVariants.{On, Past, Fault}
-use Rattle.xml_markup.specs.Tokens.{whole, move_to, moved, if_on, is_faulty, begun}
+use Rattle.xml_markup.specs.Tokens.{move_to, moved, if_on, begun}
 use Rattle.xml_markup.specs.Markup.{advance, scan_from, scan}
 use Rattle.proof_local.proofs.Beginnings.{long, byte, piece, rest}
 

@@ -1,18 +1,16 @@
 -- THE OPENING OF A CDATA SECTION that is cut off by the end of the text: the markup there is a fault at the end; and no name stands there. Assumes nothing.
 use mathlib.Core.Path.{◌≡◌, ◌∙◌, refl, sym, ap}
-use mathlib.Core.Bool.{Bool, true, false}
-use mathlib.Core.List.{List, [], ◌∷◌}
+use mathlib.Core.Bool.{true, false}
+use mathlib.Core.List.{List}
 use Prim.Native.Nat.{ℕ, zero, suc, ◌+◌, ◌-◌, ◌<◌, ◌≤◌}
 use native.Mathlib.Omega.{arith}
 use lib.ListN.{length, take, drop}
 use lib.Seq.{get_or-take, get_or-drop}
-use borrow.Author.Tests.{lt-leb, lt-ltb}
 use Rattle.base_words.specs.Pick.{if◌then◌or_else◌}
 use Rattle.base_words.specs.Text.{bytes}
 use Rattle.base_words.specs.Words.{at, part}
 use Rattle.base_bytes.specs.Bytes.{is_letter, is_digit, between}
 use Rattle.base_bytes.proofs.PastLaws.{past_stop}
-use Rattle.base_bytes.proofs.PieceLaws.{by_order}
 use Rattle.xml_characters.specs.Names.{is_control, is_name, begins_name}
 use Rattle.xml_scanner.specs.declared.InOpening.TheVariants.{Less, Bang, Bracket}
 use Rattle.xml_scanner.specs.declared.State.{State}
@@ -26,7 +24,7 @@ use Rattle.xml_markup.specs.declared.Scan.TheVariants.{Fault}
 use Rattle.xml_markup.specs.declared.Whole.TheVariants.{Nothing}
 use Rattle.xml_markup.specs.Tokens.{whole}
 use Rattle.xml_markup.specs.Markup.{begins_at, scan_from, scan, opens_markup, marked, placed, markup}
-use Rattle.xml_markup.specs.Spans.{is_of, run, after, has_second, name_from, name_at}
+use Rattle.xml_markup.specs.Spans.{is_of, run, has_second, name_from, name_at}
 use Rattle.xml_document.specs.Document.{opens_data}
 use Rattle.proof_local.proofs.Beginnings.{long, byte, next_is}
 use Rattle.proof_local.proofs.Texts.{same_true}

@@ -1,4 +1,5 @@
 -- A markup depends on the bytes from its own place on alone, but for instructions, which are not read here: it is read at any place of a text as at the start of its bytes. Assumes nothing.
+use Rattle.std.specs.Prelude.{Option, Some, None}
 use mathlib.Core.Path.{◌≡◌, ◌∙◌, refl, sym, ap, subst}
 use mathlib.Core.Bool.{Bool, true, false, not, false≢true}
 use mathlib.Core.List.{List, [], ◌∷◌, ◌++◌, append-nil}
@@ -23,8 +24,6 @@ use Rattle.xml_markup.specs.declared.Whole.TheVariants.{Nothing, Attribute, Targ
 use Rattle.xml_markup.specs.declared.Cursor.{Cursor}
 use Rattle.xml_markup.specs.declared.Scan.{Scan}
 use Rattle.xml_markup.specs.declared.Scan.TheVariants.{On, Past, Fault}
-use Rattle.xml_markup.specs.declared.Found.{Found}
-use Rattle.xml_markup.specs.declared.Found.TheVariants.{Behind, Nowhere}
 use Rattle.xml_markup.specs.Tokens.{whole, move_to, moved, if_on, is_named, found_from, begun, found, is_found, twice, is_faulty}
 use Rattle.xml_markup.specs.Markup.{advance, scan_from, scan, opens_markup, marked, placed, markup}
 use Rattle.proof_local.proofs.Stands.{inside, byte, piece, within, first}
@@ -38,9 +37,9 @@ shifted_scan p (On c) = On (shifted p c)
 shifted_scan p (Past sort q) = Past sort (p + q)
 shifted_scan p (Fault q) = Fault (p + q)
 
-abbrev pub shifted_found : ℕ → Found → Found
-shifted_found p (Behind i) = Behind (p + i)
-shifted_found p Nowhere = Nowhere
+abbrev pub shifted_found : ℕ → Option ℕ → Option ℕ
+shifted_found p (Some i) = Some (p + i)
+shifted_found p None = None
 
 move_shifted : (p mark i : ℕ) (m : Move) → move_to m (p + mark) (p + i) (p + i + 1) ≡ shifted_scan p (move_to m mark i (i + 1))
 unfolding move_to
@@ -65,26 +64,26 @@ module _ (t w x : List ℕ) (p : ℕ) (stands : drop p t ≡ w ++ x) (name : Lis
   found_shifted [] c i h = refl
   found_shifted (b ∷ s) c i h =
       rw (named_shifted c i (omega arith), byte t w x p stands i (omega arith))
-      (ap (λ (m : Scan). if is_named w name c i then Behind (p + i) or_else if_on m (λ next. found_from t name next s (p + i + 1)) Nowhere) (moved_shifted p (at w i) i c)
+      (ap (λ (m : Scan). if is_named w name c i then Some (p + i) or_else if_on m (λ next. found_from t name next s (p + i + 1)) None) (moved_shifted p (at w i) i c)
       ∙ go (is_named w name c i) (moved c (at w i) i (i + 1)) (λ next. ap (found_from t name (shifted p next) s) (omega arith) ∙ found_shifted s next (i + 1) (omega arith)))
     where
-      go : (n : Bool) (m : Scan) → ((next : Cursor) → found_from t name (shifted p next) s (p + i + 1) ≡ shifted_found p (found_from w name next s (i + 1))) → (if n then Behind (p + i) or_else if_on (shifted_scan p m) (λ next. found_from t name next s (p + i + 1)) Nowhere) ≡ shifted_found p (if n then Behind i or_else if_on m (λ next. found_from w name next s (i + 1)) Nowhere)
+      go : (n : Bool) (m : Scan) → ((next : Cursor) → found_from t name (shifted p next) s (p + i + 1) ≡ shifted_found p (found_from w name next s (i + 1))) → (if n then Some (p + i) or_else if_on (shifted_scan p m) (λ next. found_from t name next s (p + i + 1)) None) ≡ shifted_found p (if n then Some i or_else if_on m (λ next. found_from w name next s (i + 1)) None)
       go true m k = unfold if◌then◌or_else◌ in refl
       go false (On next) k = unfold if◌then◌or_else◌ if_on in k next
       go false (Past sort q) k = unfold if◌then◌or_else◌ if_on in refl
       go false (Fault q) k = unfold if◌then◌or_else◌ if_on in refl
 
-nowhere : (j : ℕ) → Nowhere ≡ Behind j → ⊥
+nowhere : (j : ℕ) → None ≡ Some j → ⊥
 unfolding is_found
 nowhere j e = false≢true (ap is_found e)
 
 -- more bytes do not undo what was found
-pub found_further : (t name x : List ℕ) (j : ℕ) (s : List ℕ) (c : Cursor) (i : ℕ) → found_from t name c s i ≡ Behind j → found_from t name c (s ++ x) i ≡ Behind j
+pub found_further : (t name x : List ℕ) (j : ℕ) (s : List ℕ) (c : Cursor) (i : ℕ) → found_from t name c s i ≡ Some j → found_from t name c (s ++ x) i ≡ Some j
 unfolding found_from
 found_further t name x j [] c i e = absurd (nowhere j e)
 found_further t name x j (b ∷ s) c i e = go (is_named t name c i) (moved c (at t i) i (i + 1)) e (λ next. found_further t name x j s next (i + 1))
   where
-    go : (n : Bool) (m : Scan) → (if n then Behind i or_else if_on m (λ next. found_from t name next s (i + 1)) Nowhere) ≡ Behind j → ((next : Cursor) → found_from t name next s (i + 1) ≡ Behind j → found_from t name next (s ++ x) (i + 1) ≡ Behind j) → (if n then Behind i or_else if_on m (λ next. found_from t name next (s ++ x) (i + 1)) Nowhere) ≡ Behind j
+    go : (n : Bool) (m : Scan) → (if n then Some i or_else if_on m (λ next. found_from t name next s (i + 1)) None) ≡ Some j → ((next : Cursor) → found_from t name next s (i + 1) ≡ Some j → found_from t name next (s ++ x) (i + 1) ≡ Some j) → (if n then Some i or_else if_on m (λ next. found_from t name next (s ++ x) (i + 1)) None) ≡ Some j
     go true m q k = unfold if◌then◌or_else◌ in q
     go false (On next) q k = unfold if◌then◌or_else◌ if_on in k next q
     go false (Past sort r) q k = unfold if◌then◌or_else◌ if_on in q
@@ -94,7 +93,7 @@ begun_at : (p : ℕ) → begun p ≡ shifted p (begun 0)
 begun_at p = ap (λ (n : ℕ). record { state = Begin; mark = n }) (sym (add-zero p))
 
 module _ (t w x : List ℕ) (p : ℕ) (stands : drop p t ≡ w ++ x) (name : List ℕ) where
-  pub found_at : (j : ℕ) → found w name 0 ≡ Behind j → found t name p ≡ Behind (p + j)
+  pub found_at : (j : ℕ) → found w name 0 ≡ Some j → found t name p ≡ Some (p + j)
   unfolding found
   found_at j e =
       ap (λ (s : List ℕ). found_from t name (begun p) s p) stands
@@ -126,10 +125,10 @@ module _ (u v : List ℕ) (p : ℕ) (long : p ≤ length u) (ends : drop p u ≡
       ap (λ (n : ℕ). take n (drop (p + m) u)) (let e : length u - (p + m) ≡ length v - m = omega (arith, length-drop p u, ap length ends) in e)
       ∙ ap (take (length v - m)) (sym (drop-drop m p u) ∙ ap (drop m) ends)
 
-  found_is : (f : Found) → is_found (shifted_found p f) ≡ is_found f
+  found_is : (f : Option ℕ) → is_found (shifted_found p f) ≡ is_found f
   unfolding is_found
-  found_is (Behind i) = refl
-  found_is Nowhere = refl
+  found_is (Some i) = refl
+  found_is None = refl
 
   twice_shifted : twice u p (p + m) ≡ twice v 0 m
   unfolding twice

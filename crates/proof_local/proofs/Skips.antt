@@ -1,5 +1,6 @@
 -- AN ELEMENT SKIPPED in a beginning of a text: as in the text, where it ends before the end of the beginning; else a fault at that end, or the text's own fault. Assumes nothing.
-use mathlib.Core.Path.{◌≡◌, ◌∙◌, refl, sym, ap, subst}
+use Rattle.std.specs.Prelude.{Ok, Err}
+use mathlib.Core.Path.{◌≡◌, ◌∙◌, refl, ap}
 use mathlib.Core.Bool.{Bool, true, false}
 use mathlib.Core.List.{List}
 use Prim.Native.Nat.{ℕ, zero, suc, ◌+◌, ◌-◌, ◌<◌, ◌≤◌}
@@ -12,42 +13,39 @@ use Rattle.base_words.specs.Words.{at}
 use Rattle.base_bytes.proofs.PieceLaws.{by_order}
 use Rattle.xml_markup.specs.declared.Opener.TheVariants.{Start}
 use Rattle.xml_markup.specs.Markup.{markup, opens_markup}
-use Rattle.xml_markup.specs.Spans.{name_at, opener}
-use Rattle.xml_skip.specs.declared.Reached.{Reached}
-use Rattle.xml_skip.specs.declared.Reached.TheVariants.{Past, Fault}
+use Rattle.xml_markup.specs.Spans.{opener}
 use Rattle.xml_skip.specs.declared.Part.{Part}
 use Rattle.xml_skip.specs.declared.Part.TheVariants.{Element, Close, On, Fault as PartFault}
 use Rattle.xml_skip.specs.declared.Tag.{Tag}
 use Rattle.xml_skip.specs.declared.Tag.TheVariants.{Open, Empty, Fault as TagFault}
-use Rattle.xml_skip.specs.Skipping.{part_at, tag_of, go_on, by_tag, element_by, by_part, content_by, content_at, element_at, depth, skipped}
+use Rattle.xml_skip.specs.Skipping.{part_at, tag_of, go_on, by_tag, element_by, by_part, content_by, content_at, element_at, depth, skipped, Reached, fault_at}
 use Rattle.xml_skip.proofs.Laws.{Further, Onward, Behind, part_onward, tag_behind, content_is, content_end, element_past}
 use Rattle.proof_local.proofs.Beginnings.{long}
 use Rattle.proof_local.proofs.Names.{Whole}
-use Rattle.proof_local.proofs.Markups.{Late as LateMarkup}
 use Rattle.proof_local.proofs.BrokenNames.{start_opens}
-use Rattle.proof_local.proofs.Parts.{EarlyPart, LatePart, OntoPart, CutPart, same as same-part, element, no_element, broken as broken-part, text, part_cut, EarlyTag, LateTag, CutTag, same_tag, broken_tag, tag_cut, tag_late}
+use Rattle.proof_local.proofs.Parts.{LatePart, OntoPart, CutPart, same as same-part, element, no_element, broken as broken-part, text, part_cut, LateTag, CutTag, same_tag, broken_tag, tag_cut, tag_late}
 
 -- ends before n; behind it
 abbrev pub Early : ℕ → Reached → Type 0
-Early n (Past q) = q ≤ n
-Early n (Fault q) = Unit {0}
+Early n (Ok q) = q ≤ n
+Early n (Err q) = Unit {0}
 
 abbrev pub Late : ℕ → Reached → Type 0
-Late n (Past q) = n < q
-Late n (Fault q) = Unit {0}
+Late n (Ok q) = n < q
+Late n (Err q) = Unit {0}
 
 -- x is the text's, y the beginning's, n long
 pub data Cut (n : ℕ) (x y : Reached) : Type 0 where
   same : y ≡ x → Early n x → Cut n x y
-  broken : y ≡ Fault n → Late n x → Cut n x y
+  broken : y ≡ fault_at n → Late n x → Cut n x y
 
 late_further : (n q : ℕ) (r : Reached) → n ≤ q → Further q r → Late n r
-late_further n q (Past x) h k = omega (arith, h, k)
-late_further n q (Fault x) h k = tt
+late_further n q (Ok x) h k = omega (arith, h, k)
+late_further n q (Err x) h k = tt
 
 further_on : (p q : ℕ) (r : Reached) → p < q → Further q r → Further p r
-further_on p q (Past x) h k = omega (arith, h, k)
-further_on p q (Fault x) h k = tt
+further_on p q (Ok x) h k = omega (arith, h, k)
+further_on p q (Err x) h k = tt
 
 -- CONTENT, as a step and then content
 pub content_step : (t : List ℕ) (outer p d : ℕ) → p < length t → content_at t outer p d ≡ by_part (part_at t outer p) (element_at t p d) (λ q. content_at t outer q d)
@@ -56,8 +54,8 @@ content_step t outer p d h = content_is t outer p d ∙ rw (lt-leb (length t) p 
 
 further_step : (t : List ℕ) (outer p d : ℕ) → ((q : ℕ) → p < q → Further q (content_at t outer q d)) → (g : Part) → Onward p g → (r : Reached) → r ≡ element_at t p d → Further p (by_part g r (λ q. content_at t outer q d))
 unfolding by_part go_on
-further_step t outer p d f Element o (Past q) e = further_on p q (content_at t outer q d) (element_past t p d (Past q) e q refl) (f q (element_past t p d (Past q) e q refl))
-further_step t outer p d f Element o (Fault q) e = tt
+further_step t outer p d f Element o (Ok q) e = further_on p q (content_at t outer q d) (element_past t p d (Ok q) e q refl) (f q (element_past t p d (Ok q) e q refl))
+further_step t outer p d f Element o (Err q) e = tt
 further_step t outer p d f (Close q) o r e = o
 further_step t outer p d f (On q) o r e = further_on p q (content_at t outer q d) o (f q o)
 further_step t outer p d f (PartFault q) o r e = tt
@@ -75,8 +73,8 @@ module _ (t : List ℕ) (n : ℕ) (inside : n ≤ length t) where
 
   late_behind : (outer d : ℕ) (r : Reached) → Late n r → Late n (go_on r (λ q. content_at t outer q d))
   unfolding go_on
-  late_behind outer d (Past q) l = late_content outer q d (omega (arith, l))
-  late_behind outer d (Fault q) l = tt
+  late_behind outer d (Ok q) l = late_content outer q d (omega (arith, l))
+  late_behind outer d (Err q) l = tt
 
   late_tagged : (p d : ℕ) (g : Tag) → LateTag n g → Late n (by_tag g (λ q. content_at t p q (d - 1)))
   unfolding by_tag
@@ -99,7 +97,7 @@ module _ (t : List ℕ) (n : ℕ) (inside : n ≤ length t) where
   onto_part outer d r (PartFault q) l = tt
 
   -- a choice by the depth
-  late_deep : (p : ℕ) (b : Bool) (r : Reached) → Late n r → Late n (if b then Fault p or_else r)
+  late_deep : (p : ℕ) (b : Bool) (r : Reached) → Late n r → Late n (if b then fault_at p or_else r)
   unfolding if◌then◌or_else◌
   late_deep p true r l = tt
   late_deep p false r l = l
@@ -110,7 +108,7 @@ module _ (t : List ℕ) (n : ℕ) (inside : n ≤ length t) where
 
   -- where content behind p is read alike
   module _ (p : ℕ) (h : p < n) (IH : (outer q d : ℕ) → p < q → q ≤ n → outer < n → Whole t n outer → Cut n (content_at t outer q d) (content_at (take n t) outer q d)) where
-    deep : (b : Bool) (x y : Reached) → Cut n x y → Cut n (if b then Fault p or_else x) (if b then Fault p or_else y)
+    deep : (b : Bool) (x y : Reached) → Cut n x y → Cut n (if b then fault_at p or_else x) (if b then fault_at p or_else y)
     unfolding if◌then◌or_else◌
     deep true x y c = same refl tt
     deep false x y c = c
@@ -130,13 +128,13 @@ module _ (t : List ℕ) (n : ℕ) (inside : n ≤ length t) where
     module _ (outer d : ℕ) (k : outer < n) (w : Whole t n outer) where
       by_behind : (x y : Reached) → Further p x → Cut n x y → Cut n (go_on x (λ q. content_at t outer q d)) (go_on y (λ q. content_at (take n t) outer q d))
       unfolding go_on
-      by_behind (Past q) y f (same e l) = rw e (IH outer q d f l k w)
-      by_behind (Fault q) y f (same e l) = rw e (same refl tt)
+      by_behind (Ok q) y f (same e l) = rw e (IH outer q d f l k w)
+      by_behind (Err q) y f (same e l) = rw e (same refl tt)
       by_behind x y f (broken e l) = rw e (broken refl (late_behind outer d x l))
 
       element_further : (r : Reached) → r ≡ element_at t p d → Further p r
-      element_further (Past q) e = element_past t p d (Past q) e q refl
-      element_further (Fault q) e = tt
+      element_further (Ok q) e = element_past t p d (Ok q) e q refl
+      element_further (Err q) e = tt
 
       by_part_lem : (x y : Part) → Onward p x → CutPart t n p x y → Cut n (by_part x (element_at t p d) (λ q. content_at t outer q d)) (by_part y (element_at (take n t) p d) (λ q. content_at (take n t) outer q d))
       unfolding by_part
@@ -147,7 +145,7 @@ module _ (t : List ℕ) (n : ℕ) (inside : n ≤ length t) where
       by_part_lem x y o (element ex ey s v) = rw (ex, ey) (by_behind (element_at t p d) (element_at (take n t) p d) (element_further (element_at t p d) refl) (element_cut d v (start_opens t p s)))
       by_part_lem x y o (no_element ex ey s l) = rw (ex, ey) (broken refl (late_behind outer d (element_at t p d) (late_element p d (tag_late t n p l))))
       by_part_lem x y o (broken-part e l) = rw e (broken refl (late_part outer d (element_at t p d) x l))
-      by_part_lem x y o (text e l) = rw e (broken (content_end (take n t) outer n d (omega (arith, long t n inside)) ∙ ap Fault (long t n inside)) (onto_part outer d (element_at t p d) x l))
+      by_part_lem x y o (text e l) = rw e (broken (content_end (take n t) outer n d (omega (arith, long t n inside)) ∙ ap fault_at (long t n inside)) (onto_part outer d (element_at t p d) x l))
 
       content_on : Cut n (content_at t outer p d) (content_at (take n t) outer p d)
       content_on =
@@ -155,7 +153,7 @@ module _ (t : List ℕ) (n : ℕ) (inside : n ≤ length t) where
           (by_part_lem (part_at t outer p) (part_at (take n t) outer p) (part_onward t outer p) (part_cut t n inside p h outer k w))
 
   at_end : (outer p d : ℕ) → n ≤ p → Cut n (content_at t outer p d) (content_at (take n t) outer p d)
-  at_end outer p d h = broken (content_end (take n t) outer p d (omega (arith, h, long t n inside)) ∙ ap Fault (long t n inside)) (late_content outer p d h)
+  at_end outer p d h = broken (content_end (take n t) outer p d (omega (arith, h, long t n inside)) ∙ ap fault_at (long t n inside)) (late_content outer p d h)
 
   -- each step passes a byte
   content_in : (k outer p d : ℕ) → n ≤ p + k → outer < n → Whole t n outer → Cut n (content_at t outer p d) (content_at (take n t) outer p d)

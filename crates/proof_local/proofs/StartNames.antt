@@ -1,8 +1,8 @@
 -- THE NAME OF A START TAG, as it stands: it begins as names do, and every byte of it is of a name. Assumes nothing.
-use mathlib.Core.Path.{◌≡◌, ◌∙◌, refl, sym, ap, subst}
+use mathlib.Core.Path.{◌≡◌, ◌∙◌, refl, ap, subst}
 use mathlib.Core.Bool.{Bool, true, false}
 use mathlib.Core.List.{List, [], ◌∷◌}
-use Prim.Native.Nat.{ℕ, zero, suc, ◌+◌, ◌-◌, ◌<◌, ◌≤◌}
+use Prim.Native.Nat.{ℕ, zero, suc, ◌+◌, ◌-◌, ◌<◌}
 use native.Mathlib.Omega.{arith}
 use lib.ListN.{length, take, drop}
 use lib.Seq.{drop-cons}
@@ -15,7 +15,7 @@ use Rattle.base_bytes.proofs.PastLaws.{past_from}
 use Rattle.xml_markup.specs.declared.Class.TheVariants.{Name}
 use Rattle.xml_markup.specs.declared.Opener.TheVariants.{Start}
 use Rattle.xml_markup.specs.Spans.{is_of, run, name_from, name_at, bytes_of, opener}
-use Rattle.proof_local.proofs.Names.{name_after, name_behind}
+use Rattle.proof_local.proofs.Names.{name_behind}
 use Rattle.proof_local.proofs.BrokenNames.{Opens, tagged, of_name, run_more}
 use Rattle.proof_local.proofs.Elements.{Names}
 

@@ -1,13 +1,14 @@
 -- WHERE A READER OF A LOG STARTS: in a beginning of a text as in the text, behind the same tag, or it is at fault at the end of the beginning; and behind the root's tag it stands as the law of one move asks. Assumes nothing.
+use Rattle.std.specs.Prelude.{Ok, Err}
 use mathlib.Core.Path.{◌≡◌, ◌∙◌, refl, sym, ap, subst}
 use mathlib.Core.Bool.{Bool, true, false, false≢true}
 use mathlib.Core.List.{List, [], ◌∷◌}
-use Prim.Native.Nat.{ℕ, ◌+◌, ◌-◌, ◌<◌, ◌≤◌}
+use Prim.Native.Nat.{ℕ, ◌-◌, ◌<◌, ◌≤◌}
 use native.Mathlib.Omega.{arith}
 use lib.Dec.{eqb, ltb}
 use lib.ListN.{length, take, length-take}
 use lib.Seq.{take_all, take-take}
-use borrow.Author.Tests.{le-ltb, eqb-true, ltb-true, ltb-false}
+use borrow.Author.Tests.{le-ltb, eqb-true, ltb-false}
 use Rattle.base_words.specs.Pick.{if◌then◌or_else◌}
 use Rattle.base_words.specs.Text.{bytes}
 use Rattle.base_words.specs.Words.{part}
@@ -16,13 +17,11 @@ use Rattle.base_bytes.proofs.PieceLaws.{by_order}
 use Rattle.base_bytes.specs.Bytes.{same_bytes}
 use Rattle.xml_markup.specs.declared.Opener.TheVariants.{Start}
 use Rattle.xml_markup.specs.Markup.{markup}
-use Rattle.xml_markup.specs.Spans.{is_called, name_from, name_at, opener}
+use Rattle.xml_markup.specs.Spans.{is_called, opener}
 use Rattle.xml_markup.specs.Tokens.{byte_order_mark, first}
-use Rattle.xml_skip.specs.declared.Reached.{Reached}
-use Rattle.xml_skip.specs.declared.Reached.TheVariants.{Past, Fault as SkipFault}
 use Rattle.xml_skip.specs.declared.Tag.{Tag}
 use Rattle.xml_skip.specs.declared.Tag.TheVariants.{Open, Empty, Fault as TagFault}
-use Rattle.xml_skip.specs.Skipping.{tag_of}
+use Rattle.xml_skip.specs.Skipping.{tag_of, Reached, fault_at}
 use Rattle.xml_skip.proofs.Laws.{Behind, tag_behind}
 use Rattle.xml_document.specs.declared.Outside.{Outside}
 use Rattle.xml_document.specs.declared.Outside.TheVariants.{Element, On as OutsideOn, Nothing, Fault as OutsideFault}
@@ -38,7 +37,7 @@ use Rattle.proof_local.proofs.Beginnings.{long, piece}
 use Rattle.proof_local.proofs.Names.{called_same, name_after}
 use Rattle.proof_local.proofs.BrokenNames.{start_opens}
 use Rattle.proof_local.proofs.Parts.{EarlyTag, LateTag, CutTag, same_tag, broken_tag, tag_cut, tag_inside}
-use Rattle.proof_local.proofs.Advances.{Early, Late, Cut, same, broken}
+use Rattle.proof_local.proofs.Advances.{Late, Cut, same, broken}
 use Rattle.proof_local.proofs.SameMoves.{early_same, well_same}
 use Rattle.proof_local.proofs.Keeping.{OpenTag, Kept, opened_tag}
 use Rattle.proof_local.proofs.Around.{From, CutAround, at_fault, whole_element, cut_element, cut_off, ended, around_cut, starts_there}
@@ -65,7 +64,7 @@ late_behind n p (Empty q) h b = omega (arith, h, b)
 late_behind n p (TagFault q) h b = tt
 
 module _ (t : List ℕ) (n : ℕ) (inside : n ≤ length t) where
-  late_root : (r : ℕ) → LateTag n (tag_of (markup t r) r) → (b : Bool) → Late n (begin (if b then Past r or_else SkipFault r) t)
+  late_root : (r : ℕ) → LateTag n (tag_of (markup t r) r) → (b : Bool) → Late n (begin (if b then Ok r or_else fault_at r) t)
   unfolding begin if◌then◌or_else◌
   late_root r l true = late_begin n (tag_of (markup t r) r) r l
   late_root r l false = tt
@@ -82,7 +81,7 @@ module _ (t : List ℕ) (n : ℕ) (inside : n ≤ length t) where
   root_by_lem x y (at_fault q ex ey) = rw (ex, ey) (unfold begin in same refl tt)
   root_by_lem x y (whole_element r h ex ey o v) = rw (ex, ey, called_same t n inside r h v (bytes "log")) (go (is_called t r (bytes "log")))
     where
-      go : (b : Bool) → Cut n (begin (if b then Past r or_else SkipFault r) t) (begin (if b then Past r or_else SkipFault r) (take n t))
+      go : (b : Bool) → Cut n (begin (if b then Ok r or_else fault_at r) t) (begin (if b then Ok r or_else fault_at r) (take n t))
       go true = unfold if◌then◌or_else◌ begin in begin_cut n (tag_of (markup t r) r) (tag_of (markup (take n t) r) r) r (tag_cut t n inside r h (start_opens t r o))
       go false = unfold if◌then◌or_else◌ begin in same refl tt
   root_by_lem x y (cut_element r h ex ey o l) = rw (ex, ey) (broken (unfold begin in refl) (late_root r l (is_called t r (bytes "log"))))
@@ -126,8 +125,8 @@ done_tag c (TagFault q) p e = false≢true (ap is_done e)
 
 done_begin : (t : List ℕ) (c : Cursor) (s : Reached) → begin s t ≡ Done c → ⊥
 unfolding begin
-done_begin t c (Past p) e = done_tag c (tag_of (markup t p) p) p e
-done_begin t c (SkipFault q) e = false≢true (ap is_done e)
+done_begin t c (Ok p) e = done_tag c (tag_of (markup t p) p) p e
+done_begin t c (Err q) e = false≢true (ap is_done e)
 
 pub never_done : (t : List ℕ) (c : Cursor) → start t ≡ Done c → ⊥
 unfolding start if◌then◌or_else◌
@@ -144,7 +143,7 @@ module _ (t : List ℕ) (c : Cursor) where
   by_tag_lem h r o (Empty q) e m = absurd (false≢true (ap is_on m))
   by_tag_lem h r o (TagFault q) e m = absurd (false≢true (ap is_on m))
 
-  by_name : length t ≤ log_most → (r : ℕ) → opener t r ≡ Start → (b : Bool) → begin (if b then Past r or_else SkipFault r) t ≡ On c → Started t c
+  by_name : length t ≤ log_most → (r : ℕ) → opener t r ≡ Start → (b : Bool) → begin (if b then Ok r or_else fault_at r) t ≡ On c → Started t c
   unfolding begin if◌then◌or_else◌
   by_name h r o true m = by_tag_lem h r o (tag_of (markup t r) r) refl m
   by_name h r o false m = absurd (false≢true (ap is_on m))

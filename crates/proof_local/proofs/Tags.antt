@@ -1,9 +1,10 @@
 -- A tag's name, and a value in it, where their bytes are known. Assumes nothing.
+use Rattle.std.specs.Prelude.{Some}
 use Prim.Native.Char.{code}
 use mathlib.Core.Path.{◌≡◌, ◌∙◌, refl, sym, ap}
 use mathlib.Core.Bool.{Bool, true, false, false≢true}
 use mathlib.Core.List.{List, ◌∷◌, ◌++◌}
-use Prim.Native.Nat.{ℕ, ◌+◌, ◌-◌, ◌<◌}
+use Prim.Native.Nat.{ℕ, ◌+◌, ◌<◌}
 use native.Mathlib.Omega.{arith}
 use lib.Dec.{eqb}
 use lib.ListN.{length, drop}
@@ -11,7 +12,6 @@ use borrow.Author.Tests.{lt-leb, eqb-true}
 use Rattle.base_words.specs.Pick.{if◌then◌or_else◌}
 use Rattle.base_words.specs.Words.{at, part}
 use Rattle.base_words.specs.Each.{each}
-use Rattle.base_words.specs.Text.{bytes}
 use Rattle.base_words.proofs.AllLaws.{and_left, and_right}
 use Rattle.base_bytes.specs.Bytes.{between, is_letter, is_digit, past}
 use Rattle.base_bytes.proofs.PastLaws.{past_run}
@@ -28,8 +28,6 @@ use Rattle.xml_scanner.specs.Moves.{at_begin, step}
 use Rattle.xml_markup.specs.declared.Class.TheVariants.{Name, Value}
 use Rattle.xml_markup.specs.declared.Span.{Span}
 use Rattle.xml_markup.specs.declared.Opener.TheVariants.{Start, End, Other}
-use Rattle.xml_markup.specs.declared.Attribute.TheVariants.{Is}
-use Rattle.xml_markup.specs.declared.Found.TheVariants.{Behind}
 use Rattle.xml_markup.specs.declared.Cursor.{Cursor}
 use Rattle.xml_markup.specs.declared.Scan.{Scan}
 use Rattle.xml_markup.specs.declared.Scan.TheVariants.{On, Past}
@@ -142,11 +140,11 @@ module _ (t v x : List ℕ) (i : ℕ) (stands : drop i t ≡ 61 ∷ (34 ∷ (v +
   unfolding is_of
   closes = refl
 
-  pub value_is : value_of t (Behind i) ≡ Is (i + 2) (i + 2 + length v)
+  pub value_is : value_of t (Some i) ≡ Some (i + 2, i + 2 + length v)
   unfolding value_of value_at run
   value_is =
       rw (quote_is, value_from, first t (v ++ (34 ∷ x)) 34 (i + 1) quoted, valued)
-      (ap (Is (i + 2)) (past_run (is_of (Value 34)) v (34 ∷ x) (i + 2) plain closes))
+      (ap (λ (e : ℕ). Some (i + 2, e)) (past_run (is_of (Value 34)) v (34 ∷ x) (i + 2) plain closes))
 
 -- ONE BYTE that shows no token to be whole
 module _ (t : List ℕ) (start : ℕ) (c : Cursor) (s : List ℕ) (b i : ℕ) (stands : drop i t ≡ b ∷ s) (nothing : whole c.state b ≡ Nothing) (free : is_control b ≡ false) where

@@ -8,14 +8,14 @@ use lib.Dec.{eqb}
 use lib.ListN.{length, take, drop, length-drop, length-take}
 use lib.Seq.{get_or-take, get_or-drop, take-take}
 use borrow.Author.Tests.{eqb-true}
+use Rattle.std.proofs.lemmas.Bool.{false_from_ne_true}
 use Rattle.base_words.specs.Pick.{if◌then◌or_else◌}
 use Rattle.base_words.specs.Text.{bytes}
 use Rattle.base_words.specs.Words.{at, part}
 use Rattle.base_words.proofs.AllLaws.{and_left, and_right}
 use Rattle.base_bytes.proofs.PieceLaws.{by_order}
 use Rattle.base_bytes.specs.Bytes.{same_bytes}
-use Rattle.xml_characters.specs.Names.{is_control, is_blank}
-use Rattle.xml_scanner.specs.declared.Sort.{Sort}
+use Rattle.xml_characters.specs.Names.{is_control}
 use Rattle.xml_scanner.specs.declared.Sort.TheVariants.{Text}
 use Rattle.xml_markup.specs.declared.Scan.{Scan}
 use Rattle.xml_markup.specs.declared.Scan.TheVariants.{On, Past, Fault}
@@ -28,10 +28,6 @@ same_true [] [] e = refl
 same_true [] (y ∷ b) e = absurd (false≢true e)
 same_true (x ∷ a) [] e = absurd (false≢true e)
 same_true (x ∷ a) (y ∷ b) e = rw (eqb-true x y (and_left (eqb x y) (same_bytes a b) e), same_true a b (and_right (eqb x y) (same_bytes a b) e)) refl
-
-pub never : (b : Bool) → (b ≡ true → ⊥) → b ≡ false
-never true h = absurd (h refl)
-never false h = refl
 
 -- what begins at i, of a given length
 begins : (t : List ℕ) (i m : ℕ) → i + m ≤ length t → part (part t i (length t)) 0 m ≡ part t i (i + m)
@@ -49,7 +45,7 @@ module _ (t : List ℕ) (n : ℕ) (inside : n ≤ length t) (w : List ℕ) (i : 
   pub begins_not : i ≤ n → n < i + length w → begins_at (take n t) i w ≡ false
   unfolding begins_at
   begins_not l h =
-      never _
+      false_from_ne_true _
       (λ e. let q = ap length (same_true (part (part (take n t) i (length (take n t))) 0 (length w)) w e) in
       omega (arith, l, h, q, short))
     where

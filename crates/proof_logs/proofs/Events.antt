@@ -1,4 +1,5 @@
 -- An event of a printed log: its tags, the line that is read, and the date that is passed. Assumes nothing.
+use Rattle.std.specs.Prelude.{Some}
 use mathlib.Core.Path.{◌≡◌, ◌∙◌, refl, sym, ap}
 use mathlib.Core.Bool.{Bool, true, false, not, false≢true}
 use mathlib.Core.List.{List, [], ◌∷◌, ◌++◌}
@@ -16,7 +17,6 @@ use Rattle.base_words.proofs.PickLaws.{and_true}
 use Rattle.base_bytes.specs.Bytes.{same_bytes}
 use Rattle.xml_scanner.specs.declared.Sort.TheVariants.{EmptyTag}
 use Rattle.xml_markup.specs.declared.Class.TheVariants.{Blanks, Value}
-use Rattle.xml_markup.specs.declared.Attribute.TheVariants.{Is}
 use Rattle.xml_markup.specs.Markup.{opens_markup, marked, placed, markup}
 use Rattle.xml_markup.specs.Staying.{is_plain}
 use Rattle.xml_markup.specs.Spans.{is_of, run, name_at, bytes_of, local_from, local_of, behind_colon, value_of, attribute}
@@ -105,7 +105,7 @@ module _ (t line x : List ℕ) (p : ℕ) (stands : drop p t ≡ string_opening +
   key_stands : drop (p + 11) t ≡ 61 ∷ (34 ∷ (bytes "concept:name" ++ (34 ∷ (bytes " value=\"" ++ (line ++ (bytes "\"/>" ++ x))))))
   key_stands = further 11 _ refl
 
-  key_is : attribute t p (bytes "key") ≡ Is (p + 11 + 2) (p + 11 + 2 + 12)
+  key_is : attribute t p (bytes "key") ≡ Some (p + 11 + 2, p + 11 + 2 + 12)
   unfolding attribute
   key_is =
       ap (value_of t) (found_at t string_opening (line ++ (bytes "\"/>" ++ x)) p stands (bytes "key") 11 key_found)
@@ -114,7 +114,7 @@ module _ (t line x : List ℕ) (p : ℕ) (stands : drop p t ≡ string_opening +
   key_says : part t (p + 11 + 2) (p + 11 + 2 + 12) ≡ bytes "concept:name"
   key_says = whole_part t (bytes "concept:name") (34 ∷ (bytes " value=\"" ++ (line ++ (bytes "\"/>" ++ x)))) (p + 11 + 2) (ap (λ (n : ℕ). drop n t) (let z : p + 11 + 2 ≡ p + 13 = omega arith in z) ∙ further 13 _ refl)
 
-  line_is : attribute t p (bytes "value") ≡ Is (p + 32 + 2) (p + 32 + 2 + length line)
+  line_is : attribute t p (bytes "value") ≡ Some (p + 32 + 2, p + 32 + 2 + length line)
   unfolding attribute
   line_is =
       ap (value_of t) (found_at t string_opening (line ++ (bytes "\"/>" ++ x)) p stands (bytes "value") 32 value_found)

@@ -1,4 +1,5 @@
 -- What stands before the events of a printed log: the declaration, the log's tag, what is skipped, and the trace's tag. Assumes nothing.
+use Rattle.std.specs.Prelude.{Ok}
 use mathlib.Core.Logic.{⊎_elim}
 use mathlib.Core.Path.{◌≡◌, ◌∙◌, refl, sym, ap}
 use mathlib.Core.Bool.{false}
@@ -29,10 +30,8 @@ use Rattle.xml_markup.specs.Tokens.{end_of, whole_in_tag, whole_in_instruction, 
 use Rattle.xml_markup.specs.Markup.{advance, scan_from, scan, begins_at, opens_markup, marked, placed, markup}
 use Rattle.xml_markup.specs.Spans.{is_of, run, has_second, name_at, bytes_of, opener, local_from, local_of, behind_colon}
 use Rattle.xml_markup.proofs.CutLaws.{cut_off}
-use Rattle.xml_skip.specs.declared.Reached.{Reached}
-use Rattle.xml_skip.specs.declared.Reached.TheVariants.{Past}
 use Rattle.xml_skip.specs.declared.Part.TheVariants.{Element as PartElement, Close as PartClose}
-use Rattle.xml_skip.specs.Skipping.{part_for, part_at, tag_by, tag_of, go_on as onward, by_tag, element_by, by_part, content_by, content_in, content_at, element_at, skipped}
+use Rattle.xml_skip.specs.Skipping.{part_for, part_at, tag_by, tag_of, go_on as onward, by_tag, element_by, by_part, content_by, content_in, content_at, element_at, skipped, Reached}
 use Rattle.xml_document.specs.declared.Outside.TheVariants.{Element, On as Onward}
 use Rattle.xml_document.specs.Document.{other_by, other_of, opens_data, tag_for, tag_at, outside_at, further, outside_in, outside}
 use Rattle.xml_document.specs.Around.{root_by, root_at}
@@ -124,7 +123,7 @@ module _ (y : List ℕ) where
       passed (same_bytes (part t 0 3) (part byte_order_mark 0 (length t))) (length (part t 0 3)) 0
       (other_mark (63 ∷ 120 ∷ []) (length t - 0) (omega (arith, length-append declaration (log_tag ++ y))))
 
-  root_is : root_at (bytes "log") t ≡ Past 39
+  root_is : root_at (bytes "log") t ≡ Ok 39
   unfolding root_at root_by outside same_bytes local_of local_from behind_colon if◌then◌or_else◌
   root_is = rw (no_mark, root_in (length (drop 2 t)), is_log.called (bytes "log")) refl
 
@@ -171,13 +170,13 @@ module _ (t x : List ℕ) (p : ℕ) (stands : drop p t ≡ global_text ++ x) whe
   last_in_lem : last < length t
   last_in_lem = within t (bytes "/global>" ++ x) 60 last last_stands
 
-  content_passed : (n : ℕ) → 2 ≤ n → content_in n t p inner 15 ≡ Past (last + 3 + 6)
+  content_passed : (n : ℕ) → 2 ≤ n → content_in n t p inner 15 ≡ Ok (last + 3 + 6)
   unfolding content_in content_by by_part onward element_by by_tag tag_of tag_by if◌then◌or_else◌
   content_passed zero h = absurd (omega arith)
   content_passed (suc zero) h = absurd (omega arith)
   content_passed (suc (suc n)) h = rw (lt-leb (length t) inner inner_in, inner_part, inner_tag, lt-leb (length t) last last_in_lem, last_part) refl
 
-  pub global_skipped : skipped t p ≡ Past (last + 3 + 6)
+  pub global_skipped : skipped t p ≡ Ok (last + 3 + 6)
   unfolding skipped element_at element_by by_tag tag_of tag_by content_at if◌then◌or_else◌
   global_skipped = rw (global_markup t (bytes "<string key=\"concept:name\" value=\"UNKNOWN\"/></global>" ++ x) p stands) (content_passed (length t) (omega (arith, inner_in)))
 

@@ -1,4 +1,5 @@
 -- The tags of a printed log. Each is computed from its own bytes, and holds wherever they stand. Assumes nothing.
+use Rattle.std.specs.Prelude.{Some}
 use Prim.Native.Char.{code}
 use mathlib.Core.Path.{◌≡◌, refl}
 use mathlib.Core.Bool.{true, false}
@@ -19,7 +20,6 @@ use Rattle.xml_scanner.specs.Openings.{behind_less, behind_bracket, in_opening}
 use Rattle.xml_scanner.specs.Passages.{in_comment, in_data, in_target, in_instruction}
 use Rattle.xml_scanner.specs.Tags.{closing, behind, named, behind_blank, is_quote, equals, is_reference, in_value, in_value_reference, in_tag, behind_end, in_end, in_reference}
 use Rattle.xml_scanner.specs.Moves.{at_begin, step}
-use Rattle.xml_markup.specs.declared.Found.TheVariants.{Behind}
 use Rattle.xml_markup.specs.declared.Scan.TheVariants.{On, Past}
 use Rattle.xml_markup.specs.Tokens.{end_of, whole_in_tag, whole_in_instruction, whole, move_to, moved, if_on, if_attribute, is_named, found_from, begun, found, is_found, twice, is_faulty}
 use Rattle.xml_markup.specs.Markup.{advance, opens_markup, marked, markup}
@@ -60,8 +60,8 @@ record Computed : Type 0 where
   event_tag : (let w : List ℕ = bytes "<event>" in read_to w (begun 0) w 0) ≡ Past StartTag 7
   string_tag : read_to string_opening (begun 0) string_opening 0 ≡ On (record { state = Tag (Value 34); mark = 27 })
   date_tag_lem : read_to date_tag (begun 0) date_tag 0 ≡ On (record { state = Tag (Value 34); mark = 27 })
-  key_name : found string_opening (bytes "key") 0 ≡ Behind 11
-  value_name : found string_opening (bytes "value") 0 ≡ Behind 32
+  key_name : found string_opening (bytes "key") 0 ≡ Some 11
+  value_name : found string_opening (bytes "value") 0 ≡ Some 32
 
 computed : Computed
 unfolding if◌then◌or_else◌ each between is_letter is_digit past same_bytes is_blank is_control begins_name is_name digit base more number_from numbered character_of is_character behind_less behind_bracket in_opening in_comment in_data in_target in_instruction closing behind named behind_blank is_quote equals is_reference in_value in_value_reference in_tag behind_end in_end in_reference at_begin step end_of whole_in_tag whole_in_instruction whole move_to moved if_on if_attribute is_named found_from found is_found twice is_faulty advance opens_markup is_of read_to
@@ -99,10 +99,10 @@ string_opened = computed.string_tag
 pub date_opened : read_to date_tag (begun 0) date_tag 0 ≡ On (record { state = Tag (Value 34); mark = 27 })
 date_opened = computed.date_tag_lem
 
-pub key_found : found string_opening (bytes "key") 0 ≡ Behind 11
+pub key_found : found string_opening (bytes "key") 0 ≡ Some 11
 key_found = computed.key_name
 
-pub value_found : found string_opening (bytes "value") 0 ≡ Behind 32
+pub value_found : found string_opening (bytes "value") 0 ≡ Some 32
 value_found = computed.value_name
 
 -- WHERE THEY STAND

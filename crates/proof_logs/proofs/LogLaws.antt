@@ -1,4 +1,6 @@
 -- WHAT THE JUDGE SAYS OF A LOG: a lawful one stays lawful when its last events are left out, and the event that 24 names is the first at fault. a and b are texts. Assumes nothing.
+use Rattle.xml_skip.specs.Skipping.{Reached}
+use Rattle.std.specs.Prelude.{Ok, Err}
 use Prim.Native.Nat.{ℕ, ◌-◌, ◌<◌}
 use mathlib.Core.Path.{◌≡◌, ◌∙◌, refl, sym, ap}
 use mathlib.Core.Bool.{Bool, true, false}
@@ -9,8 +11,6 @@ use borrow.Author.Tests.{eqb-true, eqb-false}
 use lib.ListN.{length, take, drop, take-append-drop}
 use Rattle.base_words.specs.Pick.{if◌then◌or_else◌}
 use Rattle.state_fits.specs.Fresh.{fresh}
-use Rattle.xml_skip.specs.declared.Reached.{Reached}
-use Rattle.xml_skip.specs.declared.Reached.TheVariants.{Past, Fault}
 use Rattle.log_text.specs.Logs.{scan, lines_of}
 use Rattle.log_judge.specs.declared.Judged.{Judged}
 use Rattle.log_judge.specs.Judge.{line_taken, judgment, lawful, judged_by, judged_end, judged_from}
@@ -27,8 +27,8 @@ module _ (t : List ℕ) (v : ℕ) (a : List ℕ) where
   -- what is not refused before its events are looked at is judged by its lines
   end_lines : (s : Reached) (j : Judged) (number beside own : ℕ) → (number ≡ 23 → ⊥) → judged_end s j ≡ judgment number beside own → j ≡ judgment number beside own
   unfolding judged_end
-  end_lines (Past q) j number beside own other e = e
-  end_lines (Fault q) j number beside own other e = absurd (other (sym (ap (λ (d : Judged). d.number) e)))
+  end_lines (Ok q) j number beside own other e = e
+  end_lines (Err q) j number beside own other e = absurd (other (sym (ap (λ (d : Judged). d.number) e)))
 
   pub by_lines : (number beside own : ℕ) → (number ≡ 10 → ⊥) → (number ≡ 25 → ⊥) → (number ≡ 23 → ⊥) → judged_to t v a ≡ judgment number beside own
       → (asked_number t v ≡ 0) × (judged (lines_of a) ≡ judgment number beside own)
@@ -46,7 +46,7 @@ module _ (t : List ℕ) (v : ℕ) (a : List ℕ) where
 
   -- A BEGINNING of its events: k of them, in a log b of their own
   abbrev Begins : ℕ → List ℕ → Type 0
-  Begins k b = (q : ℕ) × ((scan b).end ≡ Past q) × (lines_of b ≡ take k (lines_of a))
+  Begins k b = (q : ℕ) × ((scan b).end ≡ Ok q) × (lines_of b ≡ take k (lines_of a))
 
   begun : (k : ℕ) → asked_number t v ≡ 0 → judged (take k (lines_of a)) ≡ lawful → (b : List ℕ) → Begins k b → judged_to t v b ≡ lawful
   begun k asked j b s = log_judged t v asked b s.0 s.1 ∙ ap judged s.2 ∙ j

@@ -1,4 +1,5 @@
 -- THE LOG OF A RUN'S OWN LINES IS LAWFUL: of calls that were accepted from the fresh state, and of the run behind them. t is a valid table, v version 10 or 20, b a log that has those lines. Assumes nothing.
+use Rattle.std.specs.Prelude.{Ok}
 use Prim.Native.Nat.{ℕ, zero, suc, ◌≤◌}
 use mathlib.Core.Path.{◌≡◌, ◌∙◌, refl, ap}
 use mathlib.Core.Bool.{true}
@@ -9,7 +10,6 @@ use Rattle.base_words.specs.Pick.{if◌then◌or_else◌}
 use Rattle.base_words.proofs.AllLaws.{and_left, and_right}
 use Rattle.base_words.proofs.PickLaws.{and_true}
 use Rattle.state_fits.specs.Fresh.{fresh}
-use Rattle.xml_skip.specs.declared.Reached.TheVariants.{Past}
 use Rattle.proof_steps.proofs.Choices.{by_choice}
 use Rattle.log_text.specs.Logs.{scan, lines_of}
 use Rattle.log_judge.specs.Judge.{line_taken, lawful, judged_by, judged_end, judged_from}
@@ -48,7 +48,7 @@ module _ (t : List ℕ) where
       (λ e. tt)
 
   -- a text that is a log is judged by its lines
-  pub log_judged : (v : ℕ) → asked_number t v ≡ 0 → (b : List ℕ) (q : ℕ) → (scan b).end ≡ Past q → judged_to t v b ≡ judged_by (line_taken (stepped t) (posted_to t)) (lines_of b) 0 (fresh t v)
+  pub log_judged : (v : ℕ) → asked_number t v ≡ 0 → (b : List ℕ) (q : ℕ) → (scan b).end ≡ Ok q → judged_to t v b ≡ judged_by (line_taken (stepped t) (posted_to t)) (lines_of b) 0 (fresh t v)
   unfolding judged_to judged_from judged_end if◌then◌or_else◌
   log_judged v asked b q e = rw (asked, e) refl
 
@@ -62,7 +62,7 @@ module _ (t : List ℕ) where
 
     -- calls that were accepted from the fresh state
     pub told_log : (acts : List Act) → all_accepted t acts (fresh t v) ≡ true → AllPosted acts
-        → (b : List ℕ) (q : ℕ) → (scan b).end ≡ Past q → lines_of b ≡ told t acts (fresh t v) → judged_to t v b ≡ lawful
+        → (b : List ℕ) (q : ℕ) → (scan b).end ≡ Ok q → lines_of b ≡ told t acts (fresh t v) → judged_to t v b ≡ lawful
     told_log acts h posted b q e lines =
         log_judged v asked b q e
         ∙ ap (λ (ws : List (List ℕ)). judged_by (line_taken (stepped t) (posted_to t)) ws 0 (fresh t v)) lines
@@ -82,5 +82,5 @@ module _ (t : List ℕ) where
       pub whole_posted : AllPosted whole
       whole_posted = both_posted acts (run_steps t limit (after t acts (fresh t v))) posted (run_posted limit (after t acts (fresh t v)))
 
-      pub own_log_lawful : (b : List ℕ) (q : ℕ) → (scan b).end ≡ Past q → lines_of b ≡ told t whole (fresh t v) → judged_to t v b ≡ lawful
+      pub own_log_lawful : (b : List ℕ) (q : ℕ) → (scan b).end ≡ Ok q → lines_of b ≡ told t whole (fresh t v) → judged_to t v b ≡ lawful
       own_log_lawful b q e lines = told_log whole whole_accepted whole_posted b q e lines

@@ -7,6 +7,7 @@ use mathlib.Core.List.{List}
 use native.Mathlib.Omega.{arith}
 use lib.Dec.{eqb, leb, ltb}
 use borrow.Author.Tests.{eqb-true, leb-true}
+use Rattle.std.proofs.lemmas.Bool.{or_left}
 use Rattle.base_words.specs.All.{all}
 use Rattle.base_words.specs.Counts.{pools, pool_numbers, branches, instances, values}
 use Rattle.base_words.specs.Pick.{if◌then◌or_else◌}
@@ -43,9 +44,6 @@ use Rattle.proof_listing.proofs.MoveRows.{phase_few}
 use Rattle.proof_lengths.proofs.FewParts.{entries_few, entries_all, exits_few, exits_all}
 use Rattle.log_lines.specs.Entries.{number_most}
 use Rattle.proof_logs.proofs.StepEntries.{Small, given_by}
-
-or_left : (a b : Bool) → a ≡ true → a || b ≡ true
-or_left a b e = rw e
 
 module _ (t s q : List ℕ) (n : Name) (fits : table_fits t ≡ true) (allowed : first_refusal (refusals t s q n) ≡ 0) where
   abbrev p : ℕ

@@ -1,5 +1,7 @@
 -- The events of a printed log and its end: from the place before the first event on, the reader comes to the end of the text, with exactly those lines; and so it does where the end tags are not there yet. Assumes
 -- nothing.
+use Rattle.xml_skip.specs.Skipping.{Reached, fault_at}
+use Rattle.std.specs.Prelude.{Ok}
 use mathlib.Core.Path.{◌≡◌, ◌∙◌, refl, sym, ap, subst}
 use mathlib.Core.Bool.{true, false}
 use mathlib.Core.List.{List, [], ◌∷◌, ◌++◌, append_assoc}
@@ -15,8 +17,6 @@ use Rattle.xml_characters.specs.Names.{is_blank}
 use Rattle.xml_markup.specs.declared.Class.TheVariants.{Blanks}
 use Rattle.xml_markup.specs.declared.Opener.TheVariants.{Other}
 use Rattle.xml_markup.specs.Spans.{is_of, run, name_at, bytes_of, opens_name, opener}
-use Rattle.xml_skip.specs.declared.Reached.{Reached}
-use Rattle.xml_skip.specs.declared.Reached.TheVariants.{Past, Fault as SkipFault}
 use Rattle.xml_document.specs.Document.{outside_at}
 use Rattle.xml_document.specs.Around.{last_from}
 use Rattle.log_lines.specs.Entries.{entry_of}
@@ -71,8 +71,8 @@ module _ (t : List ℕ) (e : Reached) (o m : ℕ) (c d : Cursor) (lines : List (
 pub reads_more : {t : List ℕ} {e : Reached} {o m : ℕ} {c : Cursor} {lines : List (List ℕ)} → Reads t e o m c lines → Reads t e o (suc m) c lines
 reads_more r = record { ends = λ n h. r.ends n (omega arith); opens = λ n h. r.opens n (omega arith); says = λ n h. r.says n (omega arith) }
 
-module _ (t : List ℕ) (c d : Cursor) (goes : advance t c ≡ Done d) (last : last_from t d.at ≡ Past (length t)) where
-  done_ends : (n : ℕ) → 1 ≤ n → (scan_in n t c).end ≡ Past (length t)
+module _ (t : List ℕ) (c d : Cursor) (goes : advance t c ≡ Done d) (last : last_from t d.at ≡ Ok (length t)) where
+  done_ends : (n : ℕ) → 1 ≤ n → (scan_in n t c).end ≡ Ok (length t)
   unfolding scan_in by_move
   done_ends zero h = absurd (omega arith)
   done_ends (suc n) h = rw goes last
@@ -87,12 +87,12 @@ module _ (t : List ℕ) (c d : Cursor) (goes : advance t c ≡ Done d) (last : l
   done_says zero h = absurd (omega arith)
   done_says (suc n) h = rw goes refl
 
-  pub reads_end : Reads t (Past (length t)) d.opened 1 c []
+  pub reads_end : Reads t (Ok (length t)) d.opened 1 c []
   reads_end = record { ends = done_ends; opens = done_opens; says = done_says }
 
 -- or the text ends there, before its end tags
 module _ (t : List ℕ) (c : Cursor) (q : ℕ) (goes : advance t c ≡ Fault q) where
-  stop_ends : (n : ℕ) → 1 ≤ n → (scan_in n t c).end ≡ SkipFault q
+  stop_ends : (n : ℕ) → 1 ≤ n → (scan_in n t c).end ≡ fault_at q
   unfolding scan_in by_move
   stop_ends zero h = absurd (omega arith)
   stop_ends (suc n) h = rw goes refl
@@ -107,7 +107,7 @@ module _ (t : List ℕ) (c : Cursor) (q : ℕ) (goes : advance t c ≡ Fault q) 
   stop_says zero h = absurd (omega arith)
   stop_says (suc n) h = rw goes refl
 
-  pub reads_stop : Reads t (SkipFault q) c.opened 1 c []
+  pub reads_stop : Reads t (fault_at q) c.opened 1 c []
   reads_stop = record { ends = stop_ends; opens = stop_opens; says = stop_says }
 
 -- in the trace of a log, whose tags have these names
@@ -118,7 +118,7 @@ pub record InTrace (t log trace : List ℕ) (c : Cursor) : Type 0 where
   pub opened_is : eqb c.opened 0 ≡ false
 
 -- THE END TAGS: the trace's at p, the log's at q, and the end behind it
-module _ (t log trace x y : List ℕ) (c : Cursor) (k : InTrace t log trace c) (p q : ℕ) (blanks : run Blanks t c.at ≡ p) (trace-ends : EndAt t trace x p) (more : run Blanks t (p + 3 + length trace) ≡ q) (log-ends : EndAt t log y q) (last : last_from t (q + 3 + length log) ≡ Past (length t)) where
+module _ (t log trace x y : List ℕ) (c : Cursor) (k : InTrace t log trace c) (p q : ℕ) (blanks : run Blanks t c.at ≡ p) (trace-ends : EndAt t trace x p) (more : run Blanks t (p + 3 + length trace) ≡ q) (log-ends : EndAt t log y q) (last : last_from t (q + 3 + length log) ≡ Ok (length t)) where
   abbrev out : Cursor
   out = behind_trace c (p + 3 + length trace)
 
@@ -134,8 +134,8 @@ module _ (t log trace x y : List ℕ) (c : Cursor) (k : InTrace t log trace c) (
   unfolding closes_event
   not_closed = rw k.level_is refl
 
-  pub closing_read : Reads t (Past (length t)) c.opened 2 c []
-  closing_read = reads_on t (Past (length t)) c.opened 1 c out [] trace_left (reads_end t out (reached out (q + 3 + length log)) log_left last) not_closed
+  pub closing_read : Reads t (Ok (length t)) c.opened 2 c []
+  closing_read = reads_on t (Ok (length t)) c.opened 1 c out [] trace_left (reads_end t out (reached out (q + 3 + length log)) log_left last) not_closed
 
 module _ (t : List ℕ) (c : Cursor) (k : InTrace t (bytes "log") (bytes "trace") c) (stands : drop c.at t ≡ 10 ∷ footer) where
   trace_ended : EndAt t (bytes "trace") (10 ∷ (bytes "</log>" ++ (10 ∷ []))) (c.at + 1)
@@ -145,7 +145,7 @@ module _ (t : List ℕ) (c : Cursor) (k : InTrace t (bytes "log") (bytes "trace"
   log_ended : EndAt t (bytes "log") (10 ∷ []) (c.at + 1 + 3 + 5 + 1)
   log_ended = log_end t (10 ∷ []) (c.at + 1 + 3 + 5 + 1) (rest t (bytes "</log>" ++ (10 ∷ [])) 10 (c.at + 1 + 3 + 5) trace_ended.behind)
 
-  pub footer_read : Reads t (Past (length t)) c.opened 2 c []
+  pub footer_read : Reads t (Ok (length t)) c.opened 2 c []
   unfolding footer
   footer_read =
       closing_read t (bytes "log") (bytes "trace") (10 ∷ (bytes "</log>" ++ (10 ∷ []))) (10 ∷ []) c k (c.at + 1) (c.at + 1 + 3 + 5 + 1) (newline t (bytes "/trace>\n</log>\n") c.at stands) trace_ended (newline t (bytes "/log>\n") (c.at + 1 + 3 + 5) trace_ended.behind) log_ended
@@ -168,7 +168,7 @@ module _ (t : List ℕ) (c : Cursor) (stands : drop c.at t ≡ 10 ∷ []) where
   unfolding advance by_inside inside_at between ends_at outside_at if◌then◌or_else◌
   stopped = rw (blank, no_opener, le-leb (length t) (length t) (omega arith)) refl
 
-  pub stop_read : Reads t (SkipFault (length t)) c.opened 1 c []
+  pub stop_read : Reads t (fault_at (length t)) c.opened 1 c []
   stop_read = reads_stop t c (length t) stopped
 
 -- ITS DATE, or none: x stands behind it

@@ -8,6 +8,7 @@ use lib.Dec.{eqb, leb, ltb}
 use lib.ListN.{set, take, drop, replicate}
 use lib.Seq.{get_or-drop}
 use borrow.Author.Tests.{leb-true, ltb-true}
+use Rattle.std.specs.Prelude.{Some, None}
 use Rattle.base_words.specs.Counts.{values, assignments, count_most}
 use Rattle.base_words.specs.Each.{tab}
 use Rattle.base_words.specs.Words.{at, greatest}
@@ -20,10 +21,8 @@ use Rattle.base_table.specs.Table.{item_at, assignment_at, message_length, assig
 use Rattle.base_state.specs.Places.{token_place, active_place, ready_place, defined_place, value_place}
 use Rattle.base_state.specs.Instances.{with_field, tokens, active_count, ready_count}
 use Rattle.meaning.specs.declared.Tuple.{Tuple}
-use Rattle.meaning.specs.declared.Value.{Value}
-use Rattle.meaning.specs.declared.Value.TheVariants.{Number, Undefined}
 use Rattle.meaning.specs.Tuples.{value_of}
-use Rattle.meaning.specs.Values.{sum_of, difference_of, number_in}
+use Rattle.meaning.specs.Values.{Value, sum_of, difference_of, number_in}
 use Rattle.meaning.specs.Expressions.{field_of, operand_of, expression_of}
 use Rattle.meaning.specs.Templates.{binds, item_value, gathered, evaluated, bind_one, bound}
 use Rattle.meaning.specs.Assignments.{Assigned, assigned_value, assign_one, assigned}
@@ -98,28 +97,28 @@ Fine v = number_in v ≤ greatest
 
 sum_fine : (x y : Value) → Fine (sum_of x y)
 unfolding sum_of number_in
-sum_fine (Number x) (Number y) = by_choice Fine (leb (x + y) greatest) (Number (x + y)) Undefined (λ e. leb-true (x + y) greatest e) (λ e. nothing)
-sum_fine (Number x) Undefined = nothing
-sum_fine Undefined y = nothing
+sum_fine (Some x) (Some y) = by_choice Fine (leb (x + y) greatest) (Some (x + y)) None (λ e. leb-true (x + y) greatest e) (λ e. nothing)
+sum_fine (Some x) None = nothing
+sum_fine None y = nothing
 
 less_fine : (x y : ℕ) → x ≤ greatest → x - y ≤ greatest
 less_fine x y h = omega (arith, h)
 
 difference_fine : (x y : Value) → Fine x → Fine (difference_of x y)
 unfolding difference_of number_in
-difference_fine (Number x) (Number y) h = by_choice Fine (leb y x) (Number (x - y)) Undefined (λ e. less_fine x y h) (λ e. nothing)
-difference_fine (Number x) Undefined h = nothing
-difference_fine Undefined y h = nothing
+difference_fine (Some x) (Some y) h = by_choice Fine (leb y x) (Some (x - y)) None (λ e. less_fine x y h) (λ e. nothing)
+difference_fine (Some x) None h = nothing
+difference_fine None y h = nothing
 
 module _ (w h : List ℕ) (a : Worded w) (b : Worded h) where
   field_fine : (d : ℕ) → Fine (field_of h d)
   unfolding field_of number_in
-  field_fine d = by_choice Fine (eqb (at h (defined_place d)) 0) Undefined (Number (at h (value_place d))) (λ e. nothing) (λ e. b (value_place d))
+  field_fine d = by_choice Fine (eqb (at h (defined_place d)) 0) None (Some (at h (value_place d))) (λ e. nothing) (λ e. b (value_place d))
 
   operand_fine : (place : ℕ) → Fine (operand_of w h place)
   unfolding operand_of number_in
   operand_fine place =
-      by_choice Fine (eqb (at w place) 0) (Number (at w (place + operand_number))) (field_of h (at w (place + operand_number))) (λ e. a (place + operand_number)) (λ e. field_fine (at w (place + operand_number)))
+      by_choice Fine (eqb (at w place) 0) (Some (at w (place + operand_number))) (field_of h (at w (place + operand_number))) (λ e. a (place + operand_number)) (λ e. field_fine (at w (place + operand_number)))
 
   expression_fine : Fine (expression_of w h)
   unfolding expression_of
@@ -134,8 +133,8 @@ module _ (el h : List ℕ) (b : ℕ) (g : Tuple) (words : Worded el) (fine : Wor
   item_fine : (j : ℕ) → Fine (item_value el b h g j)
   unfolding item_value number_in
   item_fine j =
-      by_choice Fine (leb (message_length el b) j) (Number 0) _ (λ e. nothing)
-      (λ e. by_choice Fine (binds el b j) (Number (value_of g j)) (expression_of (item_at el b j) h) (λ d. given j) (λ d. expression_fine (item_at el b j) h (drop_worded (item_place b j) el words) fine))
+      by_choice Fine (leb (message_length el b) j) (Some 0) _ (λ e. nothing)
+      (λ e. by_choice Fine (binds el b j) (Some (value_of g j)) (expression_of (item_at el b j) h) (λ d. given j) (λ d. expression_fine (item_at el b j) h (drop_worded (item_place b j) el words) fine))
 
   pub evaluated_worded : Worded (evaluated el b h g).tuple.values
   unfolding evaluated gathered
@@ -156,8 +155,8 @@ module _ (el h : List ℕ) (b : ℕ) (g : Tuple) (words : Worded el) (fine : Wor
 -- ASSIGNMENTS
 value_assigned : (x : List ℕ) (d : ℕ) (v : Value) → Fine v → Worded x → Worded (assigned_value x d v).instance
 unfolding assigned_value number_in
-value_assigned x d (Number v) h w = set_worded (set x (defined_place d) 1) (value_place d) v (set_worded x (defined_place d) 1 w one) h
-value_assigned x d Undefined h w = w
+value_assigned x d (Some v) h w = set_worded (set x (defined_place d) 1) (value_place d) v (set_worded x (defined_place d) 1 w one) h
+value_assigned x d None h w = w
 
 module _ (el : List ℕ) (words : Worded el) where
   abbrev After : Assigned → Type 0

@@ -8,6 +8,7 @@ use native.Mathlib.Omega.{arith}
 use lib.Dec.{eqb, leb, ltb}
 use lib.ListN.{length, length-append, set, replicate}
 use borrow.Author.Tests.{eqb-true, ltb-true, leb-true}
+use Rattle.std.proofs.lemmas.Bool.{or_cases}
 use Rattle.base_words.specs.Counts.{names, values, messages}
 use Rattle.base_words.specs.Each.{tab}
 use Rattle.base_words.specs.Pick.{if◌then◌or_else◌}
@@ -41,7 +42,7 @@ use Rattle.meaning.specs.Post.{post_refusals}
 use Rattle.meaning.specs.Step.{Site, site_of, pool_named, element_named, move_named, instance_of, shared_of, before, receives, sends, message_named, template, work, sent, after_taking, instance_after, made_after, instances_after, queues_after, traffic, refusals}
 use Rattle.step_values.proofs.TupleLaws.{same_value}
 use Rattle.proof_steps.proofs.AcceptedParts.{first_holds}
-use Rattle.proof_steps.proofs.Choices.{by_test, by_choice, passed_true, or_either}
+use Rattle.proof_steps.proofs.Choices.{by_test, by_choice, passed_true}
 use Rattle.proof_steps.proofs.Traffic.{received_there, sent-space, sent_short}
 use Rattle.engine.specs.Engine.{stepped}
 use Rattle.engine.specs.Calls.{Act, a_step, a_post, did, all_accepted, Valid}
@@ -240,7 +241,7 @@ pub version_small : (v : ℕ) → is_version v ≡ true → v ≤ greatest
 unfolding is_version
 version_small v e =
     ⊎_elim (λ h. let is : v ≡ former = eqb-true v former h in omega arith) (λ h. let is : v ≡ present = eqb-true v present h in omega arith)
-    (or_either (eqb v former) (eqb v present) e)
+    (or_cases (eqb v former) (eqb v present) e)
 
 pub fresh_worded : (t : List ℕ) (v : ℕ) → v ≤ greatest → Worded (fresh t v)
 unfolding fresh pool_begun

@@ -1,14 +1,14 @@
 -- A PRINTED LOG IS READ AS IT WAS WRITTEN: the log of any lines that name steps or posts, in bytes that XML writes as they are, is a log, and its lines are exactly those, whatever moments are written with them; so
 -- they are before the end tags are written.
 -- Assumes nothing.
+use Rattle.xml_skip.specs.Skipping.{Reached, fault_at}
+use Rattle.std.specs.Prelude.{Ok}
 use mathlib.Core.Path.{◌≡◌, ◌∙◌, refl, sym, ap, subst}
 use mathlib.Core.List.{List, [], ◌∷◌, ◌++◌, append-nil}
 use Prim.Native.Nat.{ℕ, suc, ◌+◌, ◌≤◌}
 use native.Mathlib.Omega.{arith}
 use lib.ListN.{length, length-append}
 use Rattle.base_words.specs.Text.{bytes}
-use Rattle.xml_skip.specs.declared.Reached.{Reached}
-use Rattle.xml_skip.specs.declared.Reached.TheVariants.{Past, Fault}
 use Rattle.log_text.specs.Cursors.{in_log}
 use Rattle.log_text.specs.Logs.{log_most, by_move, scan_from, scan, lines_from, lines_of}
 use Rattle.log_write.specs.Xes.{opening, extension, time_extension, global, classifier, trace_opening, header, events_text, written, footer, log_text}
@@ -68,25 +68,25 @@ module _ (moments : ℕ → ℕ) (lines : List (List ℕ)) (entries : Each Entry
   unfolding written header opening extension time_extension global classifier trace_opening
   is_begun = ap (λ (l : List ℕ). header ++ l) (sym (append-nil (events_text moments lines)))
 
-  pub printed_log_reads : length (log_text moments lines) ≤ log_most → ReadBack (log_text moments lines) (Past (length (log_text moments lines))) lines
+  pub printed_log_reads : length (log_text moments lines) ≤ log_most → ReadBack (log_text moments lines) (Ok (length (log_text moments lines))) lines
   printed_log_reads short =
       let s : length (t moments lines footer) ≤ log_most = subst (λ (l : List ℕ). length l ≤ log_most) is_text short in
-      let onward : Onward footer (t moments lines footer) (Past (length (t moments lines footer))) 2 = λ d k h. footer_read (t moments lines footer) d k h in
+      let onward : Onward footer (t moments lines footer) (Ok (length (t moments lines footer))) 2 = λ d k h. footer_read (t moments lines footer) d k h in
       rw is_text
       (record {
-        whole = scanned moments lines footer (Past (length (t moments lines footer))) 2 onward (omega arith) entries s;
-        trace_at_lem = opened moments lines footer (Past (length (t moments lines footer))) 2 onward (omega arith) entries s;
-        lines_are = lined moments lines footer (Past (length (t moments lines footer))) 2 onward (omega arith) entries s;
+        whole = scanned moments lines footer (Ok (length (t moments lines footer))) 2 onward (omega arith) entries s;
+        trace_at_lem = opened moments lines footer (Ok (length (t moments lines footer))) 2 onward (omega arith) entries s;
+        lines_are = lined moments lines footer (Ok (length (t moments lines footer))) 2 onward (omega arith) entries s;
       })
 
   -- what was written so far
-  pub begun_log_reads : length (written moments lines) ≤ log_most → ReadBack (written moments lines) (Fault (length (written moments lines))) lines
+  pub begun_log_reads : length (written moments lines) ≤ log_most → ReadBack (written moments lines) (fault_at (length (written moments lines))) lines
   begun_log_reads short =
       let s : length (t moments lines []) ≤ log_most = subst (λ (l : List ℕ). length l ≤ log_most) is_begun short in
-      let onward : Onward [] (t moments lines []) (Fault (length (t moments lines []))) 1 = λ d k h. stop_read (t moments lines []) d h in
+      let onward : Onward [] (t moments lines []) (fault_at (length (t moments lines []))) 1 = λ d k h. stop_read (t moments lines []) d h in
       rw is_begun
       (record {
-        whole = scanned moments lines [] (Fault (length (t moments lines []))) 1 onward (omega arith) entries s;
-        trace_at_lem = opened moments lines [] (Fault (length (t moments lines []))) 1 onward (omega arith) entries s;
-        lines_are = lined moments lines [] (Fault (length (t moments lines []))) 1 onward (omega arith) entries s;
+        whole = scanned moments lines [] (fault_at (length (t moments lines []))) 1 onward (omega arith) entries s;
+        trace_at_lem = opened moments lines [] (fault_at (length (t moments lines []))) 1 onward (omega arith) entries s;
+        lines_are = lined moments lines [] (fault_at (length (t moments lines []))) 1 onward (omega arith) entries s;
       })

@@ -1,17 +1,17 @@
 -- A FLOW BY CHOICE: at every andJoin an entry is chosen, and a nesting has a flow that takes no other entry of an andJoin. Assumes nothing.
-use Prim.Native.Nat.{ℕ, ◌+◌, ◌≤◌, ◌<◌}
+use Prim.Native.Nat.{ℕ, ◌≤◌, ◌<◌}
 use mathlib.Core.Path.{◌≡◌, refl, sym, ◌∙◌, ap, subst}
-use mathlib.Core.Bool.{Bool, true, false, ◌||◌, false≢true}
+use mathlib.Core.Bool.{true, false, ◌||◌, false≢true}
 use mathlib.Core.List.{List, [], ◌∷◌, ◌++◌}
-use mathlib.Core.Logic.{◌⊎◌, inl, inr, ⊎_elim}
+use mathlib.Core.Logic.{◌⊎◌, ⊎_elim}
 use native.Mathlib.Omega.{arith}
 use lib.Dec.{eqb}
-use borrow.Author.Tests.{eqb-true, eqb-false}
-use Rattle.base_words.specs.Each.{total, tab}
-use Rattle.base_words.specs.Sum.{sum, hit, one_if}
+use borrow.Author.Tests.{eqb-true}
+use Rattle.base_words.specs.Each.{total}
+use Rattle.base_words.specs.Sum.{hit, one_if}
 use Rattle.base_words.proofs.EachLaws.{total-tab, total_one}
 use Rattle.base_words.proofs.SumLaws.{sum-zero}
-use Rattle.base_kinds.specs.Kinds.{inter_rcv, inter_snd, task, task_rcv, task_snd, and_split, and_join, xor_join, xor_split, event_based}
+use Rattle.base_kinds.specs.Kinds.{inter_rcv, inter_snd, task, task_rcv, task_snd, and_join, xor_join, xor_split, event_based}
 use Rattle.base_table.specs.Table.{kind_in, entry_count, exit_count, entry_at, exit_at}
 use Rattle.check_nesting.specs.Nesting.{passes, starts, exits_of, entries_of, occ, Rearranged, Runs, none, stays, passing, block}
 use Rattle.proof_steps.proofs.Choices.{by_test}

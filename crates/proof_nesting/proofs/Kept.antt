@@ -9,6 +9,7 @@ use lib.Dec.{eqb, leb}
 use lib.ListN.{length, drop, set, replicate, length-replicate, get_or-replicate}
 use lib.Seq.{get_or-set_other}
 use borrow.Author.Tests.{eqb-true, eqb-false, ne_eqb}
+use Rattle.std.specs.Prelude.{None, Some}
 use Rattle.base_words.specs.Sum.{sum}
 use Rattle.base_words.specs.Words.{at}
 use Rattle.base_words.specs.Counts.{values, assignments}
@@ -25,8 +26,7 @@ use Rattle.base_state.specs.Instances.{with_field}
 use Rattle.check_limits.specs.Limits.{element_fits, table_fits}
 use Rattle.meaning.specs.declared.Tuple.{Tuple}
 use Rattle.meaning.specs.declared.Name.{Name}
-use Rattle.meaning.specs.declared.Value.{Value}
-use Rattle.meaning.specs.declared.Value.TheVariants.{Undefined, Number}
+use Rattle.meaning.specs.Values.{Value}
 use Rattle.meaning.specs.Tuples.{value_of}
 use Rattle.meaning.specs.Expressions.{expression_of}
 use Rattle.meaning.specs.Templates.{binds, bind_one, bound}
@@ -68,8 +68,8 @@ module _ (k : ℕ) (below : k < defined_place 0) where
 
   value_apart : (h : List ℕ) (d : ℕ) (v : Value) → at (assigned_value h d v).instance k ≡ at h k
   unfolding assigned_value
-  value_apart h d (Number v) = field_apart h d v
-  value_apart h d Undefined = refl
+  value_apart h d (Some v) = field_apart h d v
+  value_apart h d None = refl
 
   assigned_apart : (el h : List ℕ) → at (assigned el h).instance k ≡ at h k
   unfolding assigned assign_one

@@ -19,7 +19,7 @@ use Rattle.proof_nesting.proofs.Flows.{Sound, Flow, onward, beside, still, event
 use Rattle.proof_nesting.proofs.Events.{one_exit, one_entry, no_start, through_one, split_all, join_all, hit_same, sum_at, sum_some}
 
 -- ONE OF SEVERAL KINDS
-or_elim : {C : Type 0} (a b : Bool) → a || b ≡ true → (a ≡ true → C) → (b ≡ true → C) → C
+pub or_elim : {C : Type 0} (a b : Bool) → a || b ≡ true → (a ≡ true → C) → (b ≡ true → C) → C
 or_elim true b h f g = f refl
 or_elim false b h f g = g h
 

@@ -2,7 +2,7 @@
 -- something. Assumes nothing.
 use Prim.Native.Nat.{ℕ, ◌+◌, ◌≤◌, ◌<◌}
 use mathlib.Core.Path.{◌≡◌, refl, sym, ◌∙◌, ap, ap₂, subst}
-use mathlib.Core.Bool.{Bool, true, false, ◌||◌, false≢true}
+use mathlib.Core.Bool.{true, false, ◌||◌, false≢true}
 use mathlib.Core.List.{List, [], ◌∷◌}
 use mathlib.Core.Logic.{◌⊎◌, inl, inr, ⊎_elim}
 use native.Mathlib.Omega.{arith}
@@ -26,7 +26,7 @@ use Rattle.proof_nesting.proofs.Weights.{putting, taking, counts, some, putting_
 use Rattle.proof_nesting.proofs.Flows.{move_in, Tried, Goes, Sound, Flow}
 use Rattle.proof_nesting.proofs.Wholes.{putting_least, putting_mono, taking_most, taking_same, row_whole, row_puts, row_branch}
 use Rattle.proof_nesting.proofs.Events.{hit_same, hit_other, hit_most, sum_at, sum_some, one_exit, one_entry}
-use Rattle.proof_nesting.proofs.Lines.{plain, Closed, closed, whole, choice, join_parts, Target, edge, work, reading, Hits, Reaches, ones, through}
+use Rattle.proof_nesting.proofs.Lines.{or_elim, plain, Closed, closed, whole, choice, join_parts, Target, edge, work, reading, Hits, Reaches, ones, through}
 
 pub record Weighing (P : ℕ → List ℕ) (c : ℕ) (w d : ℕ → ℕ) : Type 0 where
   pub balanced : (k : ℕ) → k < c → (phase b : ℕ) → Tried (P k) (move_in (P k) phase) b
@@ -41,10 +41,6 @@ pub record Exact (P : ℕ → List ℕ) (c : ℕ) (w d : ℕ → ℕ) : Type 0 w
   pub begun : (k : ℕ) → k < c → kind_in (P k) ≡ start → w (entry_at (P k) 0) ≡ 1
   pub born : (k : ℕ) → k < c → kind_in (P k) ≡ start_rcv → w (exit_at (P k) 0) ≡ 1
   pub ended : (k : ℕ) → k < c → kind_in (P k) ≡ end → w (entry_at (P k) 0) ≡ 1
-
-or_two : {C : Type 0} (a b : Bool) → a || b ≡ true → (a ≡ true → C) → (b ≡ true → C) → C
-or_two true b h f g = f refl
-or_two false b h f g = g h
 
 met : (x y : ℕ) → 0 < hit x y → x ≡ y
 met x y l = by_test (eqb x y) (eqb-true x y) (λ e. absurd (let z : hit x y ≡ 0 = ap one_if e in omega arith))
@@ -77,7 +73,7 @@ module _ (P : ℕ → List ℕ) (c : ℕ) (sound : Sound P c) (nest : Nested P c
 
   is_start_lem : (kind_in (P p₀) ≡ start) ⊎ (kind_in (P p₀) ≡ start_rcv)
   unfolding starts
-  is_start_lem = or_two (eqb (kind_in (P p₀)) start) (eqb (kind_in (P p₀)) start_rcv) nest.first-starts (λ e. inl (eqb-true _ _ e)) (λ e. inr (eqb-true _ _ e))
+  is_start_lem = or_elim (eqb (kind_in (P p₀)) start) (eqb (kind_in (P p₀)) start_rcv) nest.first-starts (λ e. inl (eqb-true _ _ e)) (λ e. inr (eqb-true _ _ e))
 
   exit_one : exit_count (P p₀) ≡ 1
   unfolding kind_of

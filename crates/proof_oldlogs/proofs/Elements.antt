@@ -8,6 +8,7 @@ use native.Mathlib.Omega.{arith}
 use lib.Dec.{eqb, leb, ltb}
 use lib.ListN.{drop, set}
 use lib.Seq.{get_or-drop}
+use Rattle.std.specs.Prelude.{None, Some}
 use Rattle.base_words.specs.All.{all}
 use Rattle.base_words.specs.Counts.{branches, edges, values, assignments}
 use Rattle.base_words.specs.Iter.{iter}
@@ -23,12 +24,10 @@ use Rattle.base_state.specs.Places.{token_place, active_place, ready_place, defi
 use Rattle.base_state.specs.Instances.{tokens, active_count, ready_count, version_seen, with_field}
 use Rattle.base_state.specs.Versions.{former}
 use Rattle.check_limits.proofs.SameLaws.{Same}
-use Rattle.meaning.specs.declared.Value.{Value}
-use Rattle.meaning.specs.declared.Value.TheVariants.{Undefined, Number}
 use Rattle.meaning.specs.declared.Truth.TheVariants.{True, Neither}
 use Rattle.meaning.specs.declared.Tuple.{Tuple}
 use Rattle.meaning.specs.Tuples.{value_of}
-use Rattle.meaning.specs.Values.{sum_of, difference_of, equal_of, less_of, is_true, is_false}
+use Rattle.meaning.specs.Values.{Value, sum_of, difference_of, equal_of, less_of, is_true, is_false}
 use Rattle.meaning.specs.Expressions.{field_of, operand_of, expression_of}
 use Rattle.meaning.specs.Conditions.{condition_of, default_at, left_out, other_false, holds}
 use Rattle.meaning.specs.Templates.{binds, item_value, gathered, evaluated, bind_one, bound}
@@ -120,11 +119,11 @@ module _ (K U : ℕ → Type 0) (c : ℕ → ℕ) (x y : List ℕ) (m m' : Move)
     field_same d =
         let a : at h' (defined_place d) ≡ at h (defined_place d) = r.same (defined_place d) (P.high (defined_place d) (omega arith)) in
         let v : at h' (value_place d) ≡ at h (value_place d) = r.same (value_place d) (P.high (value_place d) (omega arith)) in
-        λ i. if eqb (a i) 0 then Undefined or_else Number (v i)
+        λ i. if eqb (a i) 0 then None or_else Some (v i)
 
     operand_same : (w w' : List ℕ) (k : ℕ) → at w' k ≡ at w k → at w' (k + operand_number) ≡ at w (k + operand_number) → operand_of w' h' k ≡ operand_of w h k
     unfolding operand_of
-    operand_same w w' k a v = λ i. if eqb (a i) 0 then Number (v i) or_else (field_same (at w' (k + operand_number)) ∙ ap (field_of h) v) i
+    operand_same w w' k a v = λ i. if eqb (a i) 0 then Some (v i) or_else (field_same (at w' (k + operand_number)) ∙ ap (field_of h) v) i
 
     module _ (w w' : List ℕ) (s : Same 5 w w') where
       left_same : operand_of w' h' left_place ≡ operand_of w h left_place
@@ -151,7 +150,7 @@ module _ (K U : ℕ → Type 0) (c : ℕ → ℕ) (x y : List ℕ) (m m' : Move)
     -- the message of the branch
     item_same : (g : Tuple) (j : ℕ) → j < values → item_value y b h' g j ≡ item_value x b h g j
     unfolding item_value
-    item_same g j l = λ i. if leb (length_same i) j then Number 0 or_else if binds_same j l i then Number (value_of g j) or_else expression_same (item_at x b j) (item_at y b j) (item j l) i
+    item_same g j l = λ i. if leb (length_same i) j then Some 0 or_else if binds_same j l i then Some (value_of g j) or_else expression_same (item_at x b j) (item_at y b j) (item j l) i
 
     pub evaluated_same : (g : Tuple) → evaluated y b h' g ≡ evaluated x b h g
     unfolding evaluated
@@ -238,8 +237,8 @@ module _ (K U : ℕ → Type 0) (c : ℕ → ℕ) (x y : List ℕ) (m m' : Move)
 
   value_alike : (h h' : List ℕ) (d d' : ℕ) → d' ≡ d → A h h' → (w : Value) → B (assigned_value h d w) (assigned_value h' d' w)
   unfolding assigned_value
-  value_alike h h' d d' e r (Number v) = (refl, field_alike d d' v e h h' r)
-  value_alike h h' d d' e r Undefined = (refl, r)
+  value_alike h h' d d' e r (Some v) = (refl, field_alike d d' v e h h' r)
+  value_alike h h' d d' e r None = (refl, r)
 
   assign_alike : (j : ℕ) → j < assignments → (a a' : Assigned) → B a a' → B (assign_one x j a) (assign_one y j a')
   unfolding assign_one

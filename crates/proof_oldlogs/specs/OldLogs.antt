@@ -1,6 +1,6 @@
 -- AN OLD LOG, from the days when a table held endSnd: "An old log stays lawful while no instance does more than 255 such sends at one element, since the new ends aren't in it." ps is a model as its text says it, its
 -- endSnds and all; t its table, which no public call takes any more; z a state, w a line. P-EndSnd still is a row of the table of moves, so that `step` over t is what a step meant then.
-use Rattle.std.specs.Prelude.{ℕ, ◌≤◌, ◌≡◌, Bool, true, false, ◌&&◌, List, [], ◌∷◌, ◌++◌, eqb, get_or}
+use Rattle.std.specs.Prelude.{ℕ, ◌≤◌, ◌≡◌, Bool, true, false, ◌&&◌, List, [], ◌∷◌, ◌++◌, eqb, get_or, Ok}
 use Rattle.base_words.specs.Counts.{count_most}
 use Rattle.base_words.specs.Each.{total}
 use Rattle.base_words.specs.Sum.{one_if}
@@ -14,7 +14,6 @@ use Rattle.text_ends.specs.Rewriting.{is_end_snd}
 use Rattle.text_passes.specs.Model.{no_pool}
 use Rattle.text_read.specs.Notation.{table_of}
 use Rattle.write_lines.specs.Lines.{step_line}
-use Rattle.xml_skip.specs.declared.Reached.TheVariants.{Past}
 use Rattle.log_text.specs.Logs.{scan, lines_of}
 use Rattle.log_lines.specs.Entries.{entry_of}
 use Rattle.engine.specs.Engine.{Left, Stepped, leaving}
@@ -73,6 +72,6 @@ pub record OldHistory (ps : List Pool) (v : ℕ) (acts : List Act) : Type 0 wher
 
 -- AN OLD LOG of accepted steps and posts, under version v
 pub record OldLog (ps : List Pool) (v : ℕ) (log : List ℕ) : Type 0 where
-  pub is_log : (q : ℕ) × ((scan log).end ≡ Past q)
+  pub is_log : (q : ℕ) × ((scan log).end ≡ Ok q)
   pub told : AllOldTell (table_of ps) (lines_of log) (fresh (table_of ps) v)
   pub few : FewSends ps (acts_of (lines_of log))

@@ -9,6 +9,7 @@ use native.Mathlib.Omega.{arith}
 use lib.Dec.{eqb}
 use lib.ListN.{drop, get_or, take}
 use borrow.Author.Tests.{eqb-true, eq-eqb}
+use Rattle.std.proofs.lemmas.Bool.{not-true}
 use Rattle.base_words.specs.Each.{each}
 use Rattle.base_words.specs.Pick.{if◌then◌or_else◌}
 use Rattle.base_words.specs.Words.{at}
@@ -212,13 +213,9 @@ module _ (el : List ℕ) where
   unfolding kind_of
   row_says = at_both Says (of_each_kind el) kinds (end 0) no_kind rows_say (λ q. absurd (false≢true (sym q)))
 
-unnot : (b : Bool) → not b ≡ true → b ≡ false
-unnot true e = absurd (false≢true e)
-unnot false e = refl
-
 -- EVERY ELEMENT within the limits
 pub element_text_lem : (el : List ℕ) → element_fits el ≡ true → shown_element el ≡ element_text (element_of el)
 unfolding shown_element element_of row_text element_fits
 element_text_lem el fits =
     ap (λ w. keyword_of (kind_in el) ++ (w ++ (code ")" ∷ []))) (parts_text_lem el fits (code "(") (kind_of (kind_in el)).parts (rows_suit (kind_in el)))
-    ∙ sym (row_says el (kind_in el) (unnot (eqb (kind_of (kind_in el)).letters 0) (and_left (not (eqb (kind_of (kind_in el)).letters 0)) (parts_fit (kind_of (kind_in el)) el) fits)))
+    ∙ sym (row_says el (kind_in el) (not-true (eqb (kind_of (kind_in el)).letters 0) (and_left (not (eqb (kind_of (kind_in el)).letters 0)) (parts_fit (kind_of (kind_in el)) el) fits)))

@@ -10,6 +10,7 @@ use lib.Dec.{eqb, leb, ltb}
 use lib.ListN.{length, drop}
 use lib.Seq.{get_or-drop, ext_get_or}
 use borrow.Author.Tests.{eqb-true, ltb-true, lt-ltb, le-leb}
+use Rattle.std.specs.Prelude.{None, Some}
 use Rattle.base_words.specs.All.{all}
 use Rattle.base_words.specs.Pick.{if◌then◌or_else◌}
 use Rattle.base_words.specs.Words.{at}
@@ -22,10 +23,8 @@ use Rattle.base_table.specs.Table.{pool_count, pool_of}
 use Rattle.base_state.specs.Places.{token_place, active_place, ready_place, defined_place, value_place, instance_words, made_place, instance_place, shared_place, version_at, instances_words}
 use Rattle.base_state.specs.Instances.{instances_of, queues_of, version_of, made_count, instance_at}
 use Rattle.check_limits.specs.Limits.{within}
-use Rattle.meaning.specs.declared.Value.{Value}
-use Rattle.meaning.specs.declared.Value.TheVariants.{Undefined, Number}
 use Rattle.meaning.specs.declared.Tuple.{Tuple}
-use Rattle.meaning.specs.Values.{is_defined, number_in}
+use Rattle.meaning.specs.Values.{Value, is_defined, number_in}
 use Rattle.meaning.specs.Expressions.{field_of}
 use Rattle.meaning.specs.Messages.{times}
 use Rattle.meaning.specs.Queues.{messages_of}
@@ -63,7 +62,7 @@ abbrev pair_fits : ℕ → ℕ → Bool
 pair_fits D W = if eqb D 0 then eqb W 0 or_else eqb D 1
 
 abbrev value_in : ℕ → ℕ → Value
-value_in D W = if eqb D 0 then Undefined or_else Number W
+value_in D W = if eqb D 0 then None or_else Some W
 
 pair_same : (D W D' W' : ℕ) → pair_fits D W ≡ true → pair_fits D' W' ≡ true → value_in D W ≡ value_in D' W' → (D ≡ D') × (W ≡ W')
 unfolding is_defined number_in
@@ -71,12 +70,12 @@ pair_same D W D' W' f f' e =
     by_test (eqb D 0)
     (λ y. by_test (eqb D' 0)
     (λ z. (eqb-true D 0 y ∙ sym (eqb-true D' 0 z), eqb-true W 0 (chosen_true (eqb D 0) (eqb W 0) (eqb D 1) f y) ∙ sym (eqb-true W' 0 (chosen_true (eqb D' 0) (eqb W' 0) (eqb D' 1) f' z))))
-    (λ z. absurd (false≢true (ap is_defined (sym (chosen (eqb D 0) Undefined (Number W) y) ∙ e ∙ passed (eqb D' 0) Undefined (Number W') z)))))
+    (λ z. absurd (false≢true (ap is_defined (sym (chosen (eqb D 0) None (Some W) y) ∙ e ∙ passed (eqb D' 0) None (Some W') z)))))
     (λ y. by_test (eqb D' 0)
-    (λ z. absurd (false≢true (ap is_defined (sym (chosen (eqb D' 0) Undefined (Number W') z) ∙ sym e ∙ passed (eqb D 0) Undefined (Number W) y))))
+    (λ z. absurd (false≢true (ap is_defined (sym (chosen (eqb D' 0) None (Some W') z) ∙ sym e ∙ passed (eqb D 0) None (Some W) y))))
     (λ z. (
       eqb-true D 1 (passed_true (eqb D 0) (eqb W 0) (eqb D 1) f y) ∙ sym (eqb-true D' 1 (passed_true (eqb D' 0) (eqb W' 0) (eqb D' 1) f' z)),
-      ap number_in (sym (passed (eqb D 0) Undefined (Number W) y) ∙ e ∙ passed (eqb D' 0) Undefined (Number W') z),
+      ap number_in (sym (passed (eqb D 0) None (Some W) y) ∙ e ∙ passed (eqb D' 0) None (Some W') z),
     )))
 
 -- n of them from a place on
@@ -96,9 +95,9 @@ module _ (g h : List ℕ) (f : Filled g) (f' : Filled h) (e : own_of (local_of g
   field_same : (d : ℕ) → d < fields → (at g (defined_place d) ≡ at h (defined_place d)) × (at g (value_place d) ≡ at h (value_place d))
   unfolding field_of
   field_same d l =
-      let own : (local_of g).σd d ≡ (local_of h).σd d = told_apart (ltb d fields) Undefined ((local_of g).σd d) ((local_of h).σd d) (lt-ltb d fields l) (ap (λ (σ : Local). σ.σd d) e) in
+      let own : (local_of g).σd d ≡ (local_of h).σd d = told_apart (ltb d fields) None ((local_of g).σd d) ((local_of h).σd d) (lt-ltb d fields l) (ap (λ (σ : Local). σ.σd d) e) in
       pair_same (at g (defined_place d)) (at g (value_place d)) (at h (defined_place d)) (at h (value_place d)) (f d l) (f' d l)
-      (told_apart (ltb d fields_named) Undefined (field_of g d) (field_of h d) (lt-ltb d fields_named (omega arith)) own)
+      (told_apart (ltb d fields_named) None (field_of g d) (field_of h d) (lt-ltb d fields_named (omega arith)) own)
 
   pair_at : (d : ℕ) → d < fields → (at g (defined_place 0 + 2 * d) ≡ at h (defined_place 0 + 2 * d)) × (at g (defined_place 0 + (2 * d + 1)) ≡ at h (defined_place 0 + (2 * d + 1)))
   pair_at d l = let q : value_place d ≡ defined_place 0 + (2 * d + 1) = omega arith in ((field_same d l).0, subst (λ i. at g i ≡ at h i) q (field_same d l).1)
@@ -225,7 +224,7 @@ module _ (t y z : List ℕ) (vy : Valid t y) (vz : Valid t z) where
     unfolding store_of
     store_same d l =
         pair_same (at s (shared_place + 2 * d)) (at s (shared_place + (2 * d + 1))) (at r (shared_place + 2 * d)) (at r (shared_place + (2 * d + 1))) (stored t y vy d l) (stored t z vz d l)
-        (told_apart (ltb d fields) Undefined (store_of s d) (store_of r d) (lt-ltb d fields l) (ap (λ (κ : Configuration). κ.σds d) e))
+        (told_apart (ltb d fields) None (store_of s d) (store_of r d) (lt-ltb d fields l) (ap (λ (κ : Configuration). κ.σds d) e))
 
     -- the counts, the instances and the stores have the same words, which are all before the version's
     pub words_same : (j : ℕ) → j < version_at → at (instances_of y) j ≡ at (instances_of z) j
@@ -288,5 +287,5 @@ module _ (t y z : List ℕ) (vy : Valid t y) (vz : Valid t z) where
           let l = ltb-true m names w in
           let n : length (messages_of (queues_of y) m) ≡ length (messages_of (queues_of z) m) = times-length (messages_of (queues_of y) m) (messages_of (queues_of z) m) (c m l) in
           λ k. record { times = λ vs. c m l (tuple_of vs) k; size = n k }) i;
-      σds = λ d. same_if (ltb d fields) Undefined _ _ (λ w. store_back d (ltb-true d fields w)) i;
+      σds = λ d. same_if (ltb d fields) None _ _ (λ w. store_back d (ltb-true d fields w)) i;
     }

@@ -8,6 +8,7 @@ use lib.Dec.{eqb, ltb}
 use lib.ListN.{length, get_or, set, replicate, length-replicate}
 use lib.Seq.{get_or-take, get_or-set_same, get_or-set_other}
 use borrow.Author.Tests.{eqb-true, eqb-false, eq-eqb, ne_eqb, ltb-true, ltb-false, lt-ltb, le-ltb}
+use Rattle.std.specs.Prelude.{None}
 use Rattle.base_words.specs.Pick.{if◌then◌or_else◌}
 use Rattle.base_words.specs.Seek.{seek}
 use Rattle.base_words.specs.Each.{tab}
@@ -22,7 +23,6 @@ use Rattle.base_state.specs.Places.{instance_words, made_place, instance_place, 
 use Rattle.base_state.specs.Instances.{instances_of, queues_of, version_of, made_count, with_tokens}
 use Rattle.check_limits.specs.Limits.{table_fits}
 use Rattle.meaning.specs.declared.Tuple.{Tuple}
-use Rattle.meaning.specs.declared.Value.TheVariants.{Undefined}
 use Rattle.meaning.specs.Messages.{times}
 use Rattle.meaning.specs.Queues.{message_at, messages_of}
 use Rattle.meaning.specs.Step.{instance_of}
@@ -226,15 +226,15 @@ module _ (t : List ℕ) (v : ℕ) (fits : table_fits t ≡ true) where
       (λ y. chosen (ltb m names) _ nothing y ∙ ap (λ (ms : List Tuple). record { times = λ vs. times (record { length = length vs; values = vs }) ms; size = length ms }) (queue_empty m))
       (λ y. passed (ltb m names) _ nothing y)
 
-  store_initial : (d : ℕ) → inside_or Undefined (ltb d fields) (store_of s d) ≡ Undefined
+  store_initial : (d : ℕ) → inside_or None (ltb d fields) (store_of s d) ≡ None
   unfolding store_of
   store_initial d =
       by_test (ltb d fields)
       (λ y.
       let l = ltb-true d fields y in
       let e : at s (shared_place + 2 * d) ≡ 0 = fresh_at (shared_place + 2 * d) (omega arith) ∙ pools_behind t ask (pool_count t) (shared_place + 2 * d) (omega arith) (omega arith) in
-      chosen (ltb d fields) _ Undefined y ∙ chosen (eqb (at s (shared_place + 2 * d)) 0) Undefined _ (eq-eqb (at s (shared_place + 2 * d)) 0 e))
-      (λ y. passed (ltb d fields) _ Undefined y)
+      chosen (ltb d fields) _ None y ∙ chosen (eqb (at s (shared_place + 2 * d)) 0) None _ (eq-eqb (at s (shared_place + 2 * d)) 0 e))
+      (λ y. passed (ltb d fields) _ None y)
 
   fresh_within : state_of t (fresh t v) ≡ initial (collaboration_of t)
   unfolding initial

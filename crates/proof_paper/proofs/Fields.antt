@@ -10,6 +10,7 @@ use native.Mathlib.Omega.{arith}
 use lib.Dec.{eqb, ltb, leb}
 use lib.ListN.{length, set, drop, length-set}
 use borrow.Author.Tests.{eqb-true, eq-eqb, ltb-true, ltb-false, lt-ltb, le-ltb, le-leb, lt-leb}
+use Rattle.std.specs.Prelude.{None, Some}
 use Rattle.base_words.specs.All.{all}
 use Rattle.base_words.specs.Iter.{iter}
 use Rattle.base_words.specs.Pick.{if◌then◌or_else◌}
@@ -22,11 +23,9 @@ use Rattle.base_table.specs.Table.{message_length, item_at, assignment_count, as
 use Rattle.base_state.specs.Places.{defined_place, value_place, copy_words}
 use Rattle.base_state.specs.Instances.{with_field}
 use Rattle.check_limits.specs.Limits.{expression_fits}
-use Rattle.meaning.specs.declared.Value.{Value}
-use Rattle.meaning.specs.declared.Value.TheVariants.{Undefined, Number}
 use Rattle.meaning.specs.declared.Tuple.{Tuple}
 use Rattle.meaning.specs.declared.Evaluated.{Evaluated as Gathered}
-use Rattle.meaning.specs.Values.{is_defined, number_in}
+use Rattle.meaning.specs.Values.{Value, is_defined, number_in}
 use Rattle.meaning.specs.Tuples.{empty, value_of, same_tuple}
 use Rattle.meaning.specs.Expressions.{expression_of}
 use Rattle.meaning.specs.Templates.{binds, item_value, gathered, evaluated, bind_one, bound}
@@ -67,7 +66,7 @@ idle_turns go s c still (suc d) = let z : c + suc d ≡ suc (c + d) = omega arit
 all_turns : {A : Type 0} (go : ℕ → A → A) (s : A) (c most : ℕ) → c ≤ most → ((j : ℕ) → c ≤ j → (x : A) → go j x ≡ x) → iter go s most ≡ iter go s c
 all_turns go s c most l still = let z : most ≡ c + (most - c) = omega arith in ap (iter go s) z ∙ idle_turns go s c still (most - c)
 
-one_only : {σ : ℕ → Value} (d : ℕ) {τ : ℕ → Value} (x : Exp) (v : ℕ) → worth σ x ≡ Number v → Updates σ (d := x) τ → τ ≡ put σ d (Number v)
+one_only : {σ : ℕ → Value} (d : ℕ) {τ : ℕ → Value} (x : Exp) (v : ℕ) → worth σ x ≡ Some v → Updates σ (d := x) τ → τ ≡ put σ d (Some v)
 one_only {σ} d x v e (one f) = ap (put σ d) (sym f ∙ e)
 
 pub none_only : {σ τ : ℕ → Value} → Updates σ ε τ → τ ≡ σ
@@ -103,7 +102,7 @@ field_stored h g d v l p =
     let e = field_put g p.long d v l in
     record {
       long = length-set (set g (defined_place d) 1) (value_place d) v ∙ length-set g (defined_place d) 1 ∙ p.long;
-      rest = e ∙ ap (λ (L : Local). L fields: put (local_of g).σd d (Number v)) p.rest ∙ ap (λ τ. local_of h fields: τ) (sym (ap (λ (L : Local). L.σd) e));
+      rest = e ∙ ap (λ (L : Local). L fields: put (local_of g).σd d (Some v)) p.rest ∙ ap (λ τ. local_of h fields: τ) (sym (ap (λ (L : Local). L.σd) e));
     }
 
 -- THE BINDS of the template of branch b, g the given values
@@ -154,12 +153,12 @@ module _ (el : List ℕ) (b : ℕ) (g : Tuple) where
       abbrev S : ℕ → ℕ → Value
       S j = (local_of (st j)).σd
 
-      bind_stored : (j : ℕ) → j < len → is_bind j ≡ true → S (suc j) ≡ put (S j) (bound_field j) (Number (at g.values j))
+      bind_stored : (j : ℕ) → j < len → is_bind j ≡ true → S (suc j) ≡ put (S j) (bound_field j) (Some (at g.values j))
       unfolding iter bind_one
       bind_stored j l e =
           ap (λ y. (local_of y).σd) (chosen (binds el b j) (with_field (st j) (bound_field j) (value_of g j)) (st j) (binds_is j l ∙ e))
           ∙ ap (λ (L : Local). L.σd) (field_put (st j) (st_fields j (omega arith)).long (bound_field j) (value_of g j) (right j l e))
-          ∙ ap (λ v. put (S j) (bound_field j) (Number v)) (given_at j l)
+          ∙ ap (λ v. put (S j) (bound_field j) (Some v)) (given_at j l)
 
       bind_idle : (j : ℕ) → j < len → is_bind j ≡ false → S (suc j) ≡ S j
       unfolding iter bind_one
@@ -195,7 +194,7 @@ module _ (el : List ℕ) (b : ℕ) (g : Tuple) where
   -- THE MATCH: each item binds, or its expression is the value given there
   module _ (h : List ℕ) (fits : (j : ℕ) → j < len → is_bind j ≡ false → expression_fits (item_at el b j) ≡ true) where
     abbrev Good : ℕ → Type 0
-    Good j = is_bind j ≡ false → expression_of (item_at el b j) h ≡ Number (at g.values j)
+    Good j = is_bind j ≡ false → expression_of (item_at el b j) h ≡ Some (at g.values j)
 
     worth-at : (j : ℕ) → j < len → is_bind j ≡ false → worth (local_of h).σd (exp_at (item_at el b j)) ≡ expression_of (item_at el b j) h
     worth-at j l e = worth_is h (item_at el b j) (fits j l e)
@@ -235,7 +234,7 @@ module _ (el : List ℕ) (b : ℕ) (g : Tuple) where
     formal_first (stays {us = ws} t) (Matches.binds {A = A'} m) = (ws, A', t, m, refl)
 
     exp_first : {σ : ℕ → Value} {x : Exp} {ts : List Item} {us : List Evaluated} {v : ℕ} {vs : List ℕ} {A : Assignments} → Templates σ (exp x ∷ ts) us → Matches us (v ∷ vs) A
-        → (ws : List Evaluated) × (A' : Assignments) × Templates σ ts ws × Matches ws vs A' × (A ≡ (ε & A')) × (worth σ x ≡ Number v)
+        → (ws : List Evaluated) × (A' : Assignments) × Templates σ ts ws × Matches ws vs A' × (A ≡ (ε & A')) × (worth σ x ≡ Some v)
     exp_first (worked {us = ws} e t) (Matches.same {A = A'} m) = (ws, A', t, m, refl, e)
 
     abbrev Matched : ℕ → ℕ → Assignments → Type 0
@@ -260,14 +259,14 @@ module _ (el : List ℕ) (b : ℕ) (g : Tuple) where
         on_first_lem e r j p w =
             ⊎_elim (λ z d. absurd (false≢true (sym (subst (λ i. is_bind i ≡ false) (sym z) d) ∙ e))) (λ s. r.0 j s (omega arith)) (eq-or-lt_of_le p)
 
-        on_value : is_bind k ≡ false → expression_of (item_at el b k) h ≡ Number (at g.values k) → {B : Assignments} → Matched (suc k) n B → (j : ℕ) → k ≤ j → j < k + suc n → Good j
-        on_value e y r j p w = ⊎_elim (λ z d. subst (λ i. expression_of (item_at el b i) h ≡ Number (at g.values i)) z y) (λ s. r.0 j s (omega arith)) (eq-or-lt_of_le p)
+        on_value : is_bind k ≡ false → expression_of (item_at el b k) h ≡ Some (at g.values k) → {B : Assignments} → Matched (suc k) n B → (j : ℕ) → k ≤ j → j < k + suc n → Good j
+        on_value e y r j p w = ⊎_elim (λ z d. subst (λ i. expression_of (item_at el b i) h ≡ Some (at g.values i)) z y) (λ s. r.0 j s (omega arith)) (eq-or-lt_of_le p)
 
     -- what the engine works out
     abbrev out : Gathered
     out = evaluated el b h g
 
-    bind_value : (j : ℕ) → j < len → is_bind j ≡ true → item_value el b h g j ≡ Number (value_of g j)
+    bind_value : (j : ℕ) → j < len → is_bind j ≡ true → item_value el b h g j ≡ Some (value_of g j)
     unfolding item_value binds
     bind_value j l e = passed (leb len j) _ _ (lt-leb len j l) ∙ chosen (ltb j len && is_bind j) _ _ (and_true (ltb j len) (is_bind j) (lt-ltb j len l) e)
 
@@ -275,7 +274,7 @@ module _ (el : List ℕ) (b : ℕ) (g : Tuple) where
     unfolding item_value binds
     exp-value j l e = passed (leb len j) _ _ (lt-leb len j l) ∙ passed (ltb j len && is_bind j) _ _ (and_false_right (ltb j len) (is_bind j) e)
 
-    spare_value : (j : ℕ) → len ≤ j → item_value el b h g j ≡ Number 0
+    spare_value : (j : ℕ) → len ≤ j → item_value el b h g j ≡ Some 0
     unfolding item_value
     spare_value j l = chosen (leb len j) _ _ (le-leb len j l)
 
@@ -321,10 +320,10 @@ module _ (el : List ℕ) (b : ℕ) (g : Tuple) where
           length_out : out.tuple.length ≡ len
           length_out = refl
 
-          number_at : (j : ℕ) → j < len → item_value el b h g j ≡ Number (at g.values j)
+          number_at : (j : ℕ) → j < len → item_value el b h g j ≡ Some (at g.values j)
           number_at j l =
               by_test (is_bind j)
-              (λ e. bind_value j l e ∙ ap Number (chosen (ltb j g.length) _ 0 (lt-ltb j g.length (omega arith))))
+              (λ e. bind_value j l e ∙ ap Some (chosen (ltb j g.length) _ 0 (lt-ltb j g.length (omega arith))))
               (λ e. exp-value j l e ∙ good j l e)
 
           defined_at : (j : ℕ) → j < values → is_defined (item_value el b h g j) ≡ true
@@ -437,13 +436,13 @@ module _ (el : List ℕ) (few : assignment_count el ≤ assignments) (right : (j
   assigned_turns = all_turns (assign_one el) (record { defined = true; instance = h }) count assignments few (λ j l a. chosen (leb count j) a _ (le-leb count j l))
 
   abbrev Next : Assigned → Assigned → ℕ → Value → Type 0
-  Next a c d w = (v : ℕ) × (a.defined ≡ true) × (w ≡ Number v) × (c.instance ≡ with_field a.instance d v)
+  Next a c d w = (v : ℕ) × (a.defined ≡ true) × (w ≡ Some v) × (c.instance ≡ with_field a.instance d v)
 
   one_back : (t : Bool) (i : List ℕ) (d : ℕ) (w : Value) → (if t then assigned_value i d w or_else record { defined = t; instance = i }).defined ≡ true
       → Next (record { defined = t; instance = i }) (if t then assigned_value i d w or_else record { defined = t; instance = i }) d w
   unfolding if◌then◌or_else◌ assigned_value
-  one_back true i d (Number v) e = (v, refl, refl, refl)
-  one_back true i d Undefined e = absurd (false≢true e)
+  one_back true i d (Some v) e = (v, refl, refl, refl)
+  one_back true i d None e = absurd (false≢true e)
   one_back false i d w e = absurd (false≢true e)
 
   turn_is : (j : ℕ) → j < count → to (suc j) ≡ (if (to j).defined then assigned_value (to j).instance (target j) (expression_of (source j) (to j).instance) or_else to j)
@@ -455,7 +454,7 @@ module _ (el : List ℕ) (few : assignment_count el ≤ assignments) (right : (j
       subst (λ c. Next (to j) c (target j) (expression_of (source j) (to j).instance)) (sym (turn_is j l))
       (one_back (to j).defined (to j).instance (target j) (expression_of (source j) (to j).instance) (ap (λ (a : Assigned). a.defined) (sym (turn_is j l)) ∙ e))
 
-  turn_on : (j : ℕ) → j < count → (to j).defined ≡ true → (v : ℕ) → expression_of (source j) (to j).instance ≡ Number v → to (suc j) ≡ record { defined = true; instance = with_field (to j).instance (target j) v }
+  turn_on : (j : ℕ) → j < count → (to j).defined ≡ true → (v : ℕ) → expression_of (source j) (to j).instance ≡ Some v → to (suc j) ≡ record { defined = true; instance = with_field (to j).instance (target j) v }
   unfolding assigned_value
   turn_on j l e v w = turn_is j l ∙ chosen (to j).defined _ (to j) e ∙ ap (assigned_value (to j).instance (target j)) w
 
@@ -472,14 +471,14 @@ module _ (el : List ℕ) (few : assignment_count el ≤ assignments) (right : (j
       (λ e. subst (λ (c : Assigned). FieldsOnly h c.instance) (sym (turn_is j l ∙ passed (to j).defined _ (to j) e)) (to_fields j (omega arith)))
     where
       go : FieldsOnly h (to j).instance → (to j).defined ≡ true → (w : Value) → expression_of (source j) (to j).instance ≡ w → FieldsOnly h (to (suc j)).instance
-      go p e (Number v) q = subst (λ (c : Assigned). FieldsOnly h c.instance) (sym (turn_on j l e v q)) (field_stored h (to j).instance (target j) v (right j l) p)
-      go p e Undefined q =
+      go p e (Some v) q = subst (λ (c : Assigned). FieldsOnly h c.instance) (sym (turn_on j l e v q)) (field_stored h (to j).instance (target j) v (right j l) p)
+      go p e None q =
           subst (λ (c : Assigned). FieldsOnly h c.instance) (sym (turn_is j l ∙ chosen (to j).defined _ (to j) e ∙ ap (assigned_value (to j).instance (target j)) q)) p
 
   pub assigned-fields : FieldsOnly h (assigned el h).instance
   assigned-fields = subst (λ (c : Assigned). FieldsOnly h c.instance) (sym assigned_turns) (to_fields count (omega arith))
 
-  stored_is : (j : ℕ) → j < count → (v : ℕ) → (to (suc j)).instance ≡ with_field (to j).instance (target j) v → T (suc j) ≡ put (T j) (target j) (Number v)
+  stored_is : (j : ℕ) → j < count → (v : ℕ) → (to (suc j)).instance ≡ with_field (to j).instance (target j) v → T (suc j) ≡ put (T j) (target j) (Some v)
   stored_is j l v e = ap (λ y. (local_of y).σd) e ∙ ap (λ (L : Local). L.σd) (field_put (to j).instance (to_fields j (omega arith)).long (target j) v (right j l))
 
   source_is : (j : ℕ) → j < count → worth (T j) (exp_at (source j)) ≡ expression_of (source j) (to j).instance
@@ -508,7 +507,7 @@ module _ (el : List ℕ) (few : assignment_count el ≤ assignments) (right : (j
       let r = on_from (suc k) n (omega arith) (ap (λ (a : Assigned). a.defined) q) (subst (λ ρ. Updates ρ (chain (assignment_of el) (suc k) n) τ) p v) in
       (subst (λ i. (to i).defined ≡ true) (sym (from_next k n)) r.0, r.1 ∙ ap T (sym (from_next k n)))
     where
-      one-worth : {σ : ℕ → Value} {d : ℕ} {ρ : ℕ → Value} {z : Exp} → Updates σ (d := z) ρ → (v : ℕ) × (worth σ z ≡ Number v) × (ρ ≡ put σ d (Number v))
+      one-worth : {σ : ℕ → Value} {d : ℕ} {ρ : ℕ → Value} {z : Exp} → Updates σ (d := z) ρ → (v : ℕ) × (worth σ z ≡ Some v) × (ρ ≡ put σ d (Some v))
       one-worth (one {v = v} f) = (v, f, refl)
 
   pub assigned_complete : {τ : ℕ → Value} → Updates (local_of h).σd (assignments_of el) τ → ((assigned el h).defined ≡ true) × (τ ≡ (local_of (assigned el h).instance).σd)

@@ -9,6 +9,7 @@ use native.Mathlib.Omega.{arith}
 use lib.Dec.{eqb, ltb}
 use lib.ListN.{length, replicate}
 use borrow.Author.Tests.{eqb-true, ltb-true, ltb-false, lt-ltb, le-ltb}
+use Rattle.std.specs.Prelude.{None}
 use Rattle.base_words.specs.Words.{at}
 use Rattle.base_words.specs.Counts.{pools, edges, tasks, fields, instances, fields_named}
 use Rattle.base_words.proofs.AllLaws.{and_right}
@@ -20,8 +21,7 @@ use Rattle.base_table.specs.Table.{pool_count, has_number, pool_of}
 use Rattle.base_state.specs.Places.{token_place, active_place, ready_place, defined_place, value_place, instance_words, made_place, instance_place, store_words, shared_place, instances_words}
 use Rattle.base_state.specs.Instances.{made_count}
 use Rattle.check_limits.specs.Limits.{within, table_fits}
-use Rattle.meaning.specs.declared.Value.{Value}
-use Rattle.meaning.specs.declared.Value.TheVariants.{Undefined}
+use Rattle.meaning.specs.Values.{Value}
 use Rattle.meaning.specs.declared.Name.{Name}
 use Rattle.meaning.specs.Expressions.{field_of}
 use Rattle.meaning.specs.Step.{site_of, pool_named, instance_of, shared_of, instance_after, made_after, instances_after}
@@ -40,7 +40,7 @@ pub own_alike : (g h : List ℕ) → ((k : ℕ) → k < instance_words → at g 
 unfolding field_of
 own_alike g h e = λ i. record {
   σe = λ j. same_if (within 1 edges j) 0 (at g (token_place j)) (at h (token_place j)) (λ w. let b = inside 1 edges j w in e (token_place j) (omega (arith, b.0, b.1))) i;
-  σd = λ d. same_if (ltb d fields) Undefined ((local_of g).σd d) ((local_of h).σd d) (λ w.
+  σd = λ d. same_if (ltb d fields) None ((local_of g).σd d) ((local_of h).σd d) (λ w.
       let l = ltb-true d fields w in
       let a : at g (defined_place d) ≡ at h (defined_place d) = e (defined_place d) (omega (arith, l)) in
       let b : at g (value_place d) ≡ at h (value_place d) = e (value_place d) (omega (arith, l)) in
@@ -62,7 +62,7 @@ instance_alike s r p i e = own_alike (instance_of r p i) (instance_of s p i) (λ
 
 -- WHAT A STEP SEES: its instance, and the stores beside it
 abbrev pub board : List ℕ → ℕ → Value
-board s d = inside_or Undefined (ltb d fields) (store_of s d)
+board s d = inside_or None (ltb d fields) (store_of s d)
 
 module _ (s own : List ℕ) (long : length own ≡ instance_words) where
   abbrev seen_words : List ℕ
@@ -83,13 +83,13 @@ module _ (s own : List ℕ) (long : length own ≡ instance_words) where
       by_test (ltb (d - fields) fields)
       (λ w.
       let r = ltb-true (d - fields) fields w in
-      chosen (ltb (d - fields) fields) _ Undefined w
+      chosen (ltb (d - fields) fields) _ None w
       ∙ sym (store_seen (d - fields) r)
       ∙ ap (field_of seen_words) e
-      ∙ sym (chosen (ltb d fields_named) _ Undefined (lt-ltb d fields_named (omega arith))))
+      ∙ sym (chosen (ltb d fields_named) _ None (lt-ltb d fields_named (omega arith))))
       (λ w.
       let r = ltb-false (d - fields) fields w in
-      passed (ltb (d - fields) fields) _ Undefined w ∙ sym (passed (ltb d fields_named) _ Undefined (le-ltb d fields_named (omega arith))))
+      passed (ltb (d - fields) fields) _ None w ∙ sym (passed (ltb d fields_named) _ None (le-ltb d fields_named (omega arith))))
 
   own_same : own_of (local_of own) ≡ own_of (local_of seen_words)
   own_same = own_alike own seen_words (λ k l. sym (seen_own s own long k l))
@@ -97,7 +97,7 @@ module _ (s own : List ℕ) (long : length own ≡ instance_words) where
   field_seen : (d : ℕ) → (own_of (local_of own) beside board s).σd d ≡ (local_of seen_words).σd d
   field_seen d =
       by_test (ltb d fields)
-      (λ w. chosen (ltb d fields) ((own_of (local_of own)).σd d) _ w ∙ ap (λ (K : Local). K.σd d) own_same ∙ chosen (ltb d fields) ((local_of seen_words).σd d) Undefined w)
+      (λ w. chosen (ltb d fields) ((own_of (local_of own)).σd d) _ w ∙ ap (λ (K : Local). K.σd d) own_same ∙ chosen (ltb d fields) ((local_of seen_words).σd d) None w)
       (λ w. passed (ltb d fields) _ (board s (d - fields)) w ∙ behind d (ltb-false d fields w))
 
   pub seen_local : (own_of (local_of own) beside board s) ≡ local_of (own ++ shared_of s)
@@ -117,8 +117,8 @@ unfolding field_of
 blank_is n = λ i. record {
   σe = λ j. either 0 (within 1 edges j) (at (replicate n 0) (token_place j)) (zero_at n (token_place j)) i;
   σd = λ d.
-      either Undefined (ltb d fields) ((local_of (replicate n 0)).σd d)
-      (either Undefined (ltb d fields_named) (field_of (replicate n 0) d) (chosen (eqb (at (replicate n 0) (defined_place d)) 0) Undefined _ (ap (λ y. eqb y 0) (zero_at n (defined_place d))))) i;
+      either None (ltb d fields) ((local_of (replicate n 0)).σd d)
+      (either None (ltb d fields_named) (field_of (replicate n 0) d) (chosen (eqb (at (replicate n 0) (defined_place d)) 0) None _ (ap (λ y. eqb y 0) (zero_at n (defined_place d))))) i;
   active = λ j. either 0 (within 1 tasks j) (at (replicate n 0) (active_place j)) (zero_at n (active_place j)) i;
   ready = λ j. either 0 (within 1 tasks j) (at (replicate n 0) (ready_place j)) (zero_at n (ready_place j)) i;
 }
@@ -242,8 +242,8 @@ module _ (t s : List ℕ) (n : Name) (fits : table_fits t ≡ true) (long : leng
       by_test (ltb d fields)
       (λ w.
       let l = ltb-true d fields w in
-      chosen (ltb d fields) _ Undefined w ∙ store_after d l ∙ sym (chosen (ltb (fields + d) fields_named) _ Undefined (lt-ltb (fields + d) fields_named (omega arith))))
-      (λ w. let l = ltb-false d fields w in passed (ltb d fields) _ Undefined w ∙ sym (passed (ltb (fields + d) fields_named) _ Undefined (le-ltb (fields + d) fields_named (omega arith))))
+      chosen (ltb d fields) _ None w ∙ store_after d l ∙ sym (chosen (ltb (fields + d) fields_named) _ None (lt-ltb (fields + d) fields_named (omega arith))))
+      (λ w. let l = ltb-false d fields w in passed (ltb d fields) _ None w ∙ sym (passed (ltb (fields + d) fields_named) _ None (le-ltb (fields + d) fields_named (omega arith))))
 
   pub stores_after : board r ≡ stores_of (local_of (instance_after (site_of t s n)))
   stores_after = λ i d. board_after d i

@@ -9,6 +9,7 @@ use native.Mathlib.Omega.{arith}
 use lib.Dec.{eqb}
 use lib.ListN.{length}
 use borrow.Author.Tests.{eqb-true, eqb-false, eq-eqb, ne_eqb, ltb-true, lt-ltb}
+use Rattle.std.proofs.lemmas.Bool.{or_left, or_right, or_cases}
 use Rattle.base_words.specs.All.{all}
 use Rattle.base_words.specs.Pick.{if◌then◌or_else◌}
 use Rattle.base_words.specs.Words.{at}
@@ -26,13 +27,12 @@ use Rattle.base_state.specs.Places.{token_place, copy_words}
 use Rattle.base_state.specs.Instances.{tokens, active_count, ready_count, version_seen}
 use Rattle.base_state.specs.Versions.{former}
 use Rattle.check_limits.specs.Limits.{condition_fits, element_fits}
-use Rattle.meaning.specs.declared.Value.{Value}
-use Rattle.meaning.specs.Values.{is_true, is_false}
+use Rattle.meaning.specs.Values.{Value, is_true, is_false}
 use Rattle.meaning.specs.Conditions.{condition_of, default_at, left_out, other_false, holds}
 use Rattle.meaning.specs.Requirements as Needs
 use Rattle.meaning.specs.Requirements.{touched, first_touched, has_token, has_tokens, can_lower, is_alone, counts_permit, granted, edge_has_room, has_rooms, can_raise, roomy}
 use Rattle.meaning.specs.Changes.{taken, active_changed, ready_changed, puts, cleared, moved}
-use Rattle.proof_steps.proofs.Choices.{by_test, chosen, passed, chosen_true, passed_true, or_left, or_right, or_either}
+use Rattle.proof_steps.proofs.Choices.{by_test, chosen, passed, chosen_true, passed_true}
 use Rattle.proof_steps.proofs.Elements.{task_few, entry_within, exit_within}
 use Rattle.proof_steps.proofs.ChangesFit.{touched_within}
 use Rattle.proof_steps.proofs.NoSaturation.{ExitsApart}
@@ -127,7 +127,7 @@ module _ (el : List ℕ) (m : Move) (b : ℕ) (site : Site el m b) (h : List ℕ
   unfolding Needs.waits
   waits_back q =
       ⊎_elim (λ e. inl (mode_is_na_nc el (eqb-true (mode_in el) Row.na_nc e))) (λ e. inr (eqb-true (version_seen h) former e))
-      (or_either (eqb (mode_in el) Row.na_nc) (eqb (version_seen h) former) q)
+      (or_cases (eqb (mode_in el) Row.na_nc) (eqb (version_seen h) former) q)
 
   module _ (p : counts_permit el h m b ≡ true) where
     first_three : tokened && lowered && readied ≡ true

@@ -9,7 +9,7 @@ use lib.Dec.{eqb}
 use Rattle.base_words.specs.Pick.{if◌then◌or_else◌}
 use Rattle.base_kinds.specs.declared.moves.Move.{Move}
 use Rattle.base_kinds.specs.Moves.{on, up, down, making, clearing}
-use Rattle.meaning.specs.declared.Value.{Value}
+use Rattle.meaning.specs.Values.{Value}
 use Rattle.paper.specs.Syntax.{Exp, Item, Evaluated, Assignments, ε, Mode, Each}
 use Rattle.paper.specs.States.{Local, unmarked, incs, decs}
 use Rattle.paper.specs.Evaluation.{Evals, Templates, Updates}

@@ -23,7 +23,7 @@ use Rattle.base_table.specs.Table.{kind_in, task_in, mode_in, exit_count, messag
 use Rattle.base_state.specs.Places.{instance_words, copy_words, version_in}
 use Rattle.base_state.specs.Instances.{version_of, version_seen}
 use Rattle.check_limits.specs.Limits.{element_fits}
-use Rattle.meaning.specs.declared.Value.{Value}
+use Rattle.meaning.specs.Values.{Value}
 use Rattle.meaning.specs.declared.Tuple.{Tuple}
 use Rattle.meaning.specs.declared.Name.{Name}
 use Rattle.meaning.specs.Tuples.{empty, same_tuple}

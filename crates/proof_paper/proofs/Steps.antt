@@ -8,6 +8,7 @@ use native.Mathlib.Omega.{arith}
 use lib.Dec.{eqb, ltb}
 use lib.ListN.{length, replicate, length-replicate}
 use borrow.Author.Tests.{eqb-true, eq-eqb, ne_eqb, not-true, ltb-true, lt-ltb}
+use Rattle.std.proofs.lemmas.Bool.{or_right}
 use Rattle.base_words.specs.Each.{each}
 use Rattle.base_words.specs.Pick.{if◌then◌or_else◌}
 use Rattle.base_words.specs.Words.{at}
@@ -22,7 +23,7 @@ use Rattle.base_table.specs.Table.{pool_count, element_count, element_at, pool_o
 use Rattle.base_state.specs.Places.{instance_words, copy_words}
 use Rattle.base_state.specs.Instances.{made_count, version_of}
 use Rattle.check_limits.specs.Limits.{table_fits, element_fits}
-use Rattle.meaning.specs.declared.Value.{Value}
+use Rattle.meaning.specs.Values.{Value}
 use Rattle.meaning.specs.declared.Tuple.{Tuple}
 use Rattle.meaning.specs.declared.Name.{Name}
 use Rattle.meaning.specs.declared.Traffic.TheVariants.{Consumed, Sent}
@@ -37,7 +38,7 @@ use Rattle.meaning.specs.Requirements.{branch_count, instance_named, below_limit
 use Rattle.meaning.specs.Changes.{expected, received, worked, message_sent, more}
 use Rattle.meaning.specs.Step.{Site, site_of, before, instance_of, shared_of, pool_named, element_named, move_named, exists, receives, sends, template, work, sent, defined, matches, after_taking, instance_after, made_after, instances_after, queued, space, queues_after, refusals, traffic}
 use Rattle.engine.specs.Engine.{valid}
-use Rattle.proof_steps.proofs.Choices.{by_test, by_choice, chosen, passed, chosen_true, or_right}
+use Rattle.proof_steps.proofs.Choices.{by_test, by_choice, chosen, passed, chosen_true}
 use Rattle.proof_steps.proofs.Elements.{pools_few, limit_few, element_fits_lem}
 use Rattle.proof_steps.proofs.Found.{Found, found, name_few}
 use Rattle.proof_steps.proofs.AcceptedParts.{Accepted, accepted_parts, parts_accepted}

@@ -8,6 +8,7 @@ use lib.Dec.{eqb, leb, ltb}
 use lib.ListN.{length, set, length-set}
 use lib.Seq.{get_or-set_same, get_or-set_other}
 use borrow.Author.Tests.{eqb-true, eqb-false, ltb-true, lt-ltb, le-leb, leb-true}
+use Rattle.std.specs.Prelude.{None, Some}
 use Rattle.base_words.specs.Words.{at}
 use Rattle.base_words.specs.Counts.{edges, tasks, fields, fields_named}
 use Rattle.base_words.proofs.AllLaws.{and_left, and_right}
@@ -16,8 +17,7 @@ use Rattle.base_words.proofs.WritesLaws.{writes_in, writes_above}
 use Rattle.check_limits.specs.Limits.{within}
 use Rattle.base_state.specs.Places.{token_place, active_place, ready_place, defined_place, value_place, copy_words}
 use Rattle.base_state.specs.Instances.{with_tokens, with_active, with_ready, with_field}
-use Rattle.meaning.specs.declared.Value.{Value}
-use Rattle.meaning.specs.declared.Value.TheVariants.{Undefined, Number}
+use Rattle.meaning.specs.Values.{Value}
 use Rattle.meaning.specs.Expressions.{field_of}
 use Rattle.meaning.specs.Changes.{cleared}
 use Rattle.proof_steps.proofs.Choices.{by_test, chosen, passed}
@@ -57,11 +57,11 @@ module _ (place : ℕ → ℕ) (top : ℕ) (h : List ℕ) where
 -- FIELDS
 module _ (h : List ℕ) where
   abbrev known : List ℕ → ℕ → Value
-  known g d = inside_or Undefined (ltb d fields_named) (field_of g d)
+  known g d = inside_or None (ltb d fields_named) (field_of g d)
 
   known_same : (g : List ℕ) → ((k : ℕ) → defined_place 0 ≤ k → at g k ≡ at h k) → known g ≡ known h
   unfolding field_of
-  known_same g e = λ i d. same_if (ltb d fields_named) Undefined (field_of g d) (field_of h d) (λ w.
+  known_same g e = λ i d. same_if (ltb d fields_named) None (field_of g d) (field_of h d) (λ w.
       let a : at g (defined_place d) ≡ at h (defined_place d) = e (defined_place d) (omega arith) in
       let b : at g (value_place d) ≡ at h (value_place d) = e (value_place d) (omega arith) in
       rw (a, b)) i
@@ -97,12 +97,12 @@ module _ (h : List ℕ) (long : length h ≡ copy_words) where
     abbrev marked : List ℕ
     marked = set h (defined_place d) 1
 
-    field_there : field_of (with_field h d v) d ≡ Number v
+    field_there : field_of (with_field h d v) d ≡ Some v
     unfolding field_of
     field_there =
         let a : at (with_field h d v) (defined_place d) ≡ 1 = get_or-set_other marked (value_place d) (defined_place d) v 0 (λ q. omega arith) ∙ get_or-set_same h (defined_place d) 1 0 (omega arith) in
         let b : at (with_field h d v) (value_place d) ≡ v = get_or-set_same marked (value_place d) v 0 (omega (arith, length-set h (defined_place d) 1)) in
-        passed (eqb (at (with_field h d v) (defined_place d)) 0) Undefined _ (ap (λ y. eqb y 0) a) ∙ ap Number b
+        passed (eqb (at (with_field h d v) (defined_place d)) 0) None _ (ap (λ y. eqb y 0) a) ∙ ap Some b
 
     field_other : (j : ℕ) → j < fields_named → (j ≡ d → ⊥) → field_of (with_field h d v) j ≡ field_of h j
     unfolding field_of
@@ -111,13 +111,13 @@ module _ (h : List ℕ) (long : length h ≡ copy_words) where
         let b : at (with_field h d v) (value_place j) ≡ at h (value_place j) = get_or-set_other marked (value_place d) (value_place j) v 0 (λ q. ne (omega arith)) ∙ get_or-set_other h (defined_place d) (value_place j) 1 0 (λ q. omega arith) in
         rw (a, b)
 
-    pub field_put : local_of (with_field h d v) ≡ (local_of h fields: put (local_of h).σd d (Number v))
+    pub field_put : local_of (with_field h d v) ≡ (local_of h fields: put (local_of h).σd d (Some v))
     field_put = λ i. record {
       σe = (seen_same token_place edges marked (value_place d) v (λ j a b q. omega arith) ∙ seen_same token_place edges h (defined_place d) 1 (λ j a b q. omega arith)) i;
       σd =
-          put_is (local_of h).σd (local_of (with_field h d v)).σd d (Number v)
-          (chosen (ltb d fields_named) _ Undefined (lt-ltb d fields_named few) ∙ field_there)
-          (λ j ne. same_if (ltb j fields_named) Undefined _ _ (λ w. field_other j (ltb-true j fields_named w) ne)) i;
+          put_is (local_of h).σd (local_of (with_field h d v)).σd d (Some v)
+          (chosen (ltb d fields_named) _ None (lt-ltb d fields_named few) ∙ field_there)
+          (λ j ne. same_if (ltb j fields_named) None _ _ (λ w. field_other j (ltb-true j fields_named w) ne)) i;
       active = (seen_same active_place tasks marked (value_place d) v (λ j a b q. omega arith) ∙ seen_same active_place tasks h (defined_place d) 1 (λ j a b q. omega arith)) i;
       ready = (seen_same ready_place tasks marked (value_place d) v (λ j a b q. omega arith) ∙ seen_same ready_place tasks h (defined_place d) 1 (λ j a b q. omega arith)) i;
     }

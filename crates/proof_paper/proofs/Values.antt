@@ -8,17 +8,16 @@ use lib.Dec.{eqb, ltb}
 use lib.ListN.{drop}
 use lib.Seq.{get_or-drop}
 use borrow.Author.Tests.{eqb-true, eqb-false, ne_eqb, ltb-true, lt-ltb}
+use Rattle.std.specs.Prelude.{None, Some}
 use Rattle.base_words.specs.Words.{at}
 use Rattle.base_words.specs.Counts.{fields_named}
 use Rattle.base_words.proofs.AllLaws.{and_left, and_right}
 use Rattle.base_table.specs.Places.{operand_words, a_field, operand_number, form_place, left_place, right_place, single, plus, minus, always, equals, below}
 use Rattle.base_table.specs.Places as Places
 use Rattle.check_limits.specs.Limits.{within, zeros, operand_fits, expression_fits, condition_fits}
-use Rattle.meaning.specs.declared.Value.{Value}
-use Rattle.meaning.specs.declared.Value.TheVariants.{Undefined, Number}
 use Rattle.meaning.specs.declared.Truth.{Truth}
 use Rattle.meaning.specs.declared.Truth.TheVariants.{True, False, Neither}
-use Rattle.meaning.specs.Values.{sum_of, difference_of, equal_of, less_of, is_true, is_false, is_defined, number_in}
+use Rattle.meaning.specs.Values.{Value, sum_of, difference_of, equal_of, less_of, is_true, is_false, is_defined, number_in}
 use Rattle.meaning.specs.Expressions.{operand_of, expression_of}
 use Rattle.meaning.specs.Conditions.{condition_of}
 use Rattle.proof_steps.proofs.Choices.{by_test, chosen, passed, chosen_true, passed_true}
@@ -28,10 +27,10 @@ use Rattle.proof_paper.specs.Decoders.{operand_at, exp_at, cond_at, local_of}
 use Rattle.proof_paper.proofs.Stores.{inside}
 
 -- a value that is a number, a truth that is the one or the other
-pub number_is : (w : Value) (v : ℕ) → is_defined w ≡ true → number_in w ≡ v → w ≡ Number v
+pub number_is : (w : Value) (v : ℕ) → is_defined w ≡ true → number_in w ≡ v → w ≡ Some v
 unfolding is_defined number_in
-number_is (Number x) v e f = ap Number f
-number_is Undefined v e f = absurd (false≢true e)
+number_is (Some x) v e f = ap Some f
+number_is None v e f = absurd (false≢true e)
 
 pub true_is : (w : Truth) → is_true w ≡ true → w ≡ True
 unfolding is_true
@@ -61,7 +60,7 @@ module _ (h : List ℕ) where
       let l : at (drop p x) operand_number < fields_named = ltb-true (at (drop p x) operand_number) fields_named (and_right (eqb (at (drop p x) 0) a_field) (ltb (at (drop p x) operand_number) fields_named) r) in
       let d : at (drop p x) operand_number ≡ at x (p + operand_number) = get_or-drop p x operand_number 0 in
       ap (operand σ) (passed (eqb (at x p) 0) (number (at x (p + operand_number))) _ e)
-      ∙ chosen (ltb (at x (p + operand_number)) fields_named) _ Undefined (lt-ltb (at x (p + operand_number)) fields_named (omega (arith, l, d)))
+      ∙ chosen (ltb (at x (p + operand_number)) fields_named) _ None (lt-ltb (at x (p + operand_number)) fields_named (omega (arith, l, d)))
       ∙ sym (passed (eqb (at x p) 0) _ _ e))
 
   -- AN EXPRESSION

@@ -1,6 +1,6 @@
 -- THE DECODERS: the paper's syntax that the words of a table stand for, and the paper's state that the words of a state stand for. They are total; a
 -- number outside its range (edge 0, field 32, a pool that is not there) finds nothing, and never the place of another.
-use Rattle.std.specs.Prelude.{ℕ, zero, suc, ◌+◌, ◌*◌, Bool, ◌&&◌, List, [], ◌∷◌, eqb, ltb, length, get_or, drop}
+use Rattle.std.specs.Prelude.{ℕ, zero, suc, ◌+◌, ◌*◌, Bool, ◌&&◌, List, [], ◌∷◌, eqb, ltb, length, get_or, drop, None, Some}
 use Rattle.base_words.specs.Pick.{if◌then◌or_else◌}
 use Rattle.base_words.specs.Words.{at}
 use Rattle.base_words.specs.Counts.{edges, tasks, fields, names, fields_named}
@@ -9,8 +9,7 @@ use Rattle.base_table.specs.Table.{pool_count, element_count, element_at, pool_o
 use Rattle.base_state.specs.Places.{shared_place}
 use Rattle.base_state.specs.Instances.{made_count, tokens, active_count, ready_count}
 use Rattle.check_limits.specs.Limits.{within}
-use Rattle.meaning.specs.declared.Value.{Value}
-use Rattle.meaning.specs.declared.Value.TheVariants.{Undefined, Number}
+use Rattle.meaning.specs.Values.{Value}
 use Rattle.meaning.specs.declared.Tuple.{Tuple}
 use Rattle.meaning.specs.declared.Name.{Name}
 use Rattle.meaning.specs.declared.Answer.{Answer}
@@ -124,7 +123,7 @@ inside_or none inside x = if inside then x or_else none
 abbrev pub local_of : List ℕ → Local
 local_of h = record {
   σe = λ e. inside_or 0 (within 1 edges e) (tokens h e);
-  σd = λ d. inside_or Undefined (ltb d fields_named) (field_of h d);
+  σd = λ d. inside_or None (ltb d fields_named) (field_of h d);
   active = λ n. inside_or 0 (within 1 tasks n) (active_count h n);
   ready = λ n. inside_or 0 (within 1 tasks n) (ready_count h n);
 }
@@ -147,14 +146,14 @@ queue_of q m = record { times = λ vs. times (tuple_of vs) (messages_of q m); si
 
 -- store d: whether it is defined, and its value
 unfoldable pub store_of : List ℕ → ℕ → Value
-store_of s d = if eqb (at s (shared_place + 2 * d)) 0 then Undefined or_else Number (at s (shared_place + (2 * d + 1)))
+store_of s d = if eqb (at s (shared_place + 2 * d)) 0 then None or_else Some (at s (shared_place + (2 * d + 1)))
 
 abbrev pub configuration_of : List ℕ → List ℕ → List ℕ → Configuration
 configuration_of t s q = record {
   σi = λ p i. inside_or blank (is_pool t p && ltb i (made_count s (pool_of t p))) (own_of (local_of (instance_of s (pool_of t p) i)));
   made = λ p. inside_or 0 (is_pool t p) (made_count s (pool_of t p));
   σm = λ m. inside_or nothing (ltb m names) (queue_of q m);
-  σds = λ d. inside_or Undefined (ltb d fields) (store_of s d);
+  σds = λ d. inside_or None (ltb d fields) (store_of s d);
 }
 
 -- THE NAME of a step

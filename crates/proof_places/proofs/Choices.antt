@@ -12,9 +12,8 @@ use Rattle.base_words.specs.Pick.{if◌then◌or_else◌}
 use Rattle.text_lexer.specs.declared.Form.{Form}
 use Rattle.text_lexer.specs.declared.Form.TheVariants.{Sign}
 use Rattle.text_lexer.specs.Lexer.{token_at}
-use Rattle.text_readers.specs.declared.Read.{Read}
-use Rattle.text_readers.specs.declared.Read.TheVariants.{At, Refused}
-use Rattle.text_readers.specs.Reading.{Parsed, Reader, misplaced, excessive, passed_to, refused_at, if_at, onward, ◌then◌, place_of, behind, sign_at, sign}
+use Rattle.std.specs.declared.result.Result.TheVariants.{Ok}
+use Rattle.text_readers.specs.Reading.{Read, Refused, Parsed, Reader, misplaced, excessive, passed_to, refused_at, if_at, onward, ◌then◌, place_of, behind, sign_at, sign}
 use Rattle.text_parts.specs.Parts.{too_many, counted, items_from}
 use Rattle.proof_places.proofs.Tests.{choose, by_test}
 use Rattle.proof_places.proofs.Pieces.{Lexeme, lexeme, Piece, met}
@@ -102,7 +101,7 @@ look_reads {P} s b e a c =
     }
 
 -- without it nothing is
-pub look_still : {P : Form → Bool} {f : Reader} (s : ℕ) (g : Reader) → ((t : List ℕ) (from : ℕ) (x : List ℕ) → (g t from x).end ≡ At from) → ((m : Form) → P m ≡ true → showing s m ≡ false) → Tries P f → Calm P (look s f g)
+pub look_still : {P : Form → Bool} {f : Reader} (s : ℕ) (g : Reader) → ((t : List ℕ) (from : ℕ) (x : List ℕ) → (g t from x).end ≡ Ok from) → ((m : Form) → P m ≡ true → showing s m ≡ false) → Tries P f → Calm P (look s f g)
 look_still {P} s g still apart a =
     let G = a.grammar in
     record {

@@ -8,8 +8,8 @@ use Rattle.text_lexer.specs.Lexer.{is_blank, is_word, is_sign, token_of, token_h
 use Rattle.base_bytes.specs.Bytes.{among, between, is_letter, is_digit, past}
 use Rattle.text_numerals.specs.Numerals.{value_from, leading_zero, number_of}
 use Rattle.base_bytes.specs.Bytes.{same_bytes}
-use Rattle.text_readers.specs.declared.Read.TheVariants.{At, Refused}
-use Rattle.text_readers.specs.Reading.{if_at, onward, ◌then◌, sign_at, end_at, keep_number, number, is_spelled, starts_number}
+use Rattle.std.specs.declared.result.Result.TheVariants.{Ok}
+use Rattle.text_readers.specs.Reading.{Refused, if_at, onward, ◌then◌, sign_at, end_at, keep_number, number, is_spelled, starts_number}
 use Rattle.text_parts.specs.Parts.{item_of, starts, too_many, counted, items_from, items, inside, series, one_edge, part_of}
 use Rattle.text_elements.specs.Elements.{is_keyword, kind_named, blank, parts_from, parts_of, element_of, element}
 use Rattle.text_read.specs.Notation.{put_before, barred, element_alone, elements_at, pool_word, opening, closing, closed, inside_pool, pool_of_word, pool, pools_at, model}
@@ -17,7 +17,7 @@ use Rattle.proof_places.specs.Continued.{resumed}
 
 pub record Ends : Type 0 where
   pub short : (model (bytes "pool(1,end(1")).end ≡ Refused 2 12
-  pub whole : (model (resumed (bytes "pool(1,end(1") 12 (bytes "))"))).end ≡ At 15
+  pub whole : (model (resumed (bytes "pool(1,end(1") 12 (bytes "))"))).end ≡ Ok 15
   pub full : (model (bytes "pool(1,andJoin({1,2,3,4,5,6,7,8,},9))")).end ≡ Refused 2 32
   pub one_more_lem : (model (resumed (bytes "pool(1,andJoin({1,2,3,4,5,6,7,8,},9))") 32 (bytes "9"))).end ≡ Refused 3 33
 

@@ -17,9 +17,8 @@ use Rattle.text_numerals.specs.declared.Number.TheVariants.{Value, TooLarge, Not
 use Rattle.text_numerals.specs.declared.Operand.{Operand}
 use Rattle.text_numerals.specs.declared.Operand.TheVariants.{Number as OfNumber, Field, OutOfRange, NotAnOperand}
 use Rattle.text_numerals.specs.Numerals.{number_of, field_of, operand_of}
-use Rattle.text_readers.specs.declared.Read.{Read}
-use Rattle.text_readers.specs.declared.Read.TheVariants.{At, Refused}
-use Rattle.text_readers.specs.Reading.{Parsed, Reader, misplaced, excessive, passed_to, refused_at, if_at, onward, ◌then◌, place_of, behind, letters, sign_at, assign_at, end_at, sign, assign, keep_number, number, field, keep_operand, operand, mode_named, keep_mode, mode}
+use Rattle.std.specs.declared.result.Result.TheVariants.{Ok, Err}
+use Rattle.text_readers.specs.Reading.{Read, Refused, Parsed, Reader, misplaced, excessive, passed_to, refused_at, if_at, onward, ◌then◌, place_of, behind, letters, sign_at, assign_at, end_at, sign, assign, keep_number, number, field, keep_operand, operand, mode_named, keep_mode, mode}
 use Rattle.text_read.specs.Notation.{Got}
 
 -- reading ends here; the token here is refused, with 3 or else with 2; it is passed; its form and its letters say how to go on
@@ -30,7 +29,7 @@ pub data Course (A : Type 0) : Type 0 where
   look : (Form → List ℕ → Course A) → Course A
 
 unfoldable pub follow : {A : Type 0} → Course A → List ℕ → ℕ → Got A
-follow (stop v) t at = record { end = At at; value = v }
+follow (stop v) t at = record { end = Ok at; value = v }
 follow (refuse above v) t at = record { end = Refused (if above then excessive or_else misplaced) (place_of t at); value = v }
 follow (pass c) t at = follow c t (behind t at)
 follow (look k) t at = follow (k (token_at t at).form (letters t at)) t at
@@ -50,7 +49,7 @@ pub by : {A : Type 0} {f g : List ℕ → ℕ → Got A} → ((t : List ℕ) (at
 by e c = record { course = c.course; is = λ t at. e t at ∙ c.is t at }
 
 -- nothing read; the token refused
-pub stopped : {A : Type 0} (v : A) → Follows (λ t at. record { end = At at; value = v })
+pub stopped : {A : Type 0} (v : A) → Follows (λ t at. record { end = Ok at; value = v })
 unfolding follow
 stopped v = record { course = stop v; is = λ t at. refl }
 
@@ -85,23 +84,23 @@ after {A} {B} {f} {g} kept pf pg =
 -- an end that is tested beside a value, and words beside an end
 pub if_end_lem : {A : Type 0} (e d : Read) (f : ℕ → Read) (v : A) → ◌≡◌ {A = Got A} (record { end = if_at e f d; value = v }) (if_at e (λ q. record { end = f q; value = v }) (record { end = d; value = v }))
 unfolding if_at
-if_end_lem (At q) d f v = refl
-if_end_lem (Refused n p) d f v = refl
+if_end_lem (Ok q) d f v = refl
+if_end_lem (Err e) d f v = refl
 
-at_itself : (e : Read) → e ≡ if_at e (λ q. At q) e
+at_itself : (e : Read) → e ≡ if_at e (λ q. Ok q) e
 unfolding if_at
-at_itself (At q) = refl
-at_itself (Refused n p) = refl
+at_itself (Ok q) = refl
+at_itself (Err e) = refl
 
 if_got : (e : Read) (f : ℕ → Parsed) (r : Parsed) → got (if_at e f r) ≡ if_at e (λ q. got (f q)) (got r)
 unfolding if_at
-if_got (At q) f r = refl
-if_got (Refused n p) f r = refl
+if_got (Ok q) f r = refl
+if_got (Err e) f r = refl
 
 -- what was got, turned into something else
 pub turned : {A B : Type 0} {f : List ℕ → ℕ → Got A} (h : A → B) → Follows f → Follows (λ t at. record { end = (f t at).end; value = h (f t at).value })
 turned {A} {B} {f} h pf =
-    by (λ t at. (λ i. record { end = at_itself (f t at).end i; value = h (f t at).value }) ∙ if_end_lem (f t at).end (f t at).end (λ q. At q) (h (f t at).value))
+    by (λ t at. (λ i. record { end = at_itself (f t at).end i; value = h (f t at).value }) ∙ if_end_lem (f t at).end (f t at).end (λ q. Ok q) (h (f t at).value))
     (after h pf (λ v. stopped (h v)))
 
 infixr 40 ◌next◌
@@ -123,11 +122,11 @@ sign_or {A} s {g} {h} pg ph =
       is = λ t at. by_form (token_at t at).form t at;
     }
   where
-    by_test : (c : Bool) (t : List ℕ) (at : ℕ) → if_at (if c then At (behind t at) or_else Refused misplaced (place_of t at)) (g t) (h t at) ≡ follow (if c then pass pg.course or_else ph.course) t at
+    by_test : (c : Bool) (t : List ℕ) (at : ℕ) → if_at (if c then Ok (behind t at) or_else Refused misplaced (place_of t at)) (g t) (h t at) ≡ follow (if c then pass pg.course or_else ph.course) t at
     by_test true t at = pg.is t (behind t at)
     by_test false t at = ph.is t at
 
-    by_form : (m : Form) (t : List ℕ) (at : ℕ) → if_at (if_sign m (λ b. if eqb b s then At (behind t at) or_else Refused misplaced (place_of t at)) (Refused misplaced (place_of t at))) (g t) (h t at) ≡ follow (if_sign m (λ b. if eqb b s then pass pg.course or_else ph.course) ph.course) t at
+    by_form : (m : Form) (t : List ℕ) (at : ℕ) → if_at (if_sign m (λ b. if eqb b s then Ok (behind t at) or_else Refused misplaced (place_of t at)) (Refused misplaced (place_of t at))) (g t) (h t at) ≡ follow (if_sign m (λ b. if eqb b s then pass pg.course or_else ph.course) ph.course) t at
     by_form Word t at = ph.is t at
     by_form (Sign b) t at = by_test (eqb b s) t at
     by_form Assign t at = ph.is t at
@@ -216,19 +215,19 @@ word_one Assign f g = g
 word_one End f g = g
 word_one Other f g = g
 
-sign_one : (s : ℕ) (m : Form) (x : List ℕ) → One (λ p q. record { end = if_sign m (λ b. if eqb b s then At q or_else Refused misplaced p) (Refused misplaced p); words = x })
+sign_one : (s : ℕ) (m : Form) (x : List ℕ) → One (λ p q. record { end = if_sign m (λ b. if eqb b s then Ok q or_else Refused misplaced p) (Refused misplaced p); words = x })
 unfolding if_sign if◌then◌or_else◌
 sign_one s Word x = off x (λ p q. refl)
 sign_one s (Sign b) x = go (eqb b s)
   where
-    go : (c : Bool) → One (λ p q. record { end = if c then At q or_else Refused misplaced p; words = x })
+    go : (c : Bool) → One (λ p q. record { end = if c then Ok q or_else Refused misplaced p; words = x })
     go true = on x (λ p q. refl)
     go false = off x (λ p q. refl)
 sign_one s Assign x = off x (λ p q. refl)
 sign_one s End x = off x (λ p q. refl)
 sign_one s Other x = off x (λ p q. refl)
 
-assign_one : (m : Form) (x : List ℕ) → One (λ p q. record { end = if_assign m (At q) (Refused misplaced p); words = x })
+assign_one : (m : Form) (x : List ℕ) → One (λ p q. record { end = if_assign m (Ok q) (Refused misplaced p); words = x })
 unfolding if_assign
 assign_one Word x = off x (λ p q. refl)
 assign_one (Sign b) x = off x (λ p q. refl)
@@ -260,12 +259,12 @@ no_word x = off x (λ p q. refl)
 pub sign_reads : (s : ℕ) → Reads (sign s)
 unfolding sign_at
 sign_reads s =
-    one_token (sign s) (λ m w x p q. record { end = if_sign m (λ b. if eqb b s then At q or_else Refused misplaced p) (Refused misplaced p); words = x }) (λ t at x. refl)
+    one_token (sign s) (λ m w x p q. record { end = if_sign m (λ b. if eqb b s then Ok q or_else Refused misplaced p) (Refused misplaced p); words = x }) (λ t at x. refl)
     (λ m w x. sign_one s m x)
 
 pub assign_reads : Reads assign
 unfolding assign_at
-assign_reads = one_token assign (λ m w x p q. record { end = if_assign m (At q) (Refused misplaced p); words = x }) (λ t at x. refl) (λ m w x. assign_one m x)
+assign_reads = one_token assign (λ m w x p q. record { end = if_assign m (Ok q) (Refused misplaced p); words = x }) (λ t at x. refl) (λ m w x. assign_one m x)
 
 pub number_reads : (least most place : ℕ) → Reads (number least most place)
 unfolding number
@@ -310,7 +309,7 @@ pub end_follows : {A : Type 0} (v : A) → Follows (λ t at. record { end = end_
 unfolding follow end_at if_end if◌then◌or_else◌
 end_follows {A} v = record { course = look (λ m w. if_end m (pass (stop v)) (refuse false v)); is = λ t at. by_form (token_at t at).form t at }
   where
-    by_form : (m : Form) (t : List ℕ) (at : ℕ) → ◌≡◌ {A = Got A} (record { end = if_end m (At (behind t at)) (Refused misplaced (place_of t at)); value = v }) (follow (if_end m (pass (stop v)) (refuse false v)) t at)
+    by_form : (m : Form) (t : List ℕ) (at : ℕ) → ◌≡◌ {A = Got A} (record { end = if_end m (Ok (behind t at)) (Refused misplaced (place_of t at)); value = v }) (follow (if_end m (pass (stop v)) (refuse false v)) t at)
     by_form Word t at = refl
     by_form (Sign b) t at = refl
     by_form Assign t at = refl

@@ -16,9 +16,8 @@ use Rattle.text_lexer.specs.declared.Form.TheVariants.{Word, Sign, Assign, End, 
 use Rattle.text_lexer.specs.declared.Token.{Token}
 use Rattle.text_lexer.specs.Lexer.{token_at, if_end}
 use Rattle.text_lexer.proofs.LocalLaws.{token_again}
-use Rattle.text_readers.specs.declared.Read.{Read}
-use Rattle.text_readers.specs.declared.Read.TheVariants.{At, Refused}
-use Rattle.text_readers.specs.Reading.{misplaced, excessive, if_at, place_of, behind, letters, end_at, starts_number, starts_field, starts_sign}
+use Rattle.std.specs.declared.result.Result.TheVariants.{Ok, Err}
+use Rattle.text_readers.specs.Reading.{Read, Refused, misplaced, excessive, if_at, place_of, behind, letters, end_at, starts_number, starts_field, starts_sign}
 use Rattle.text_elements.specs.Elements.{starts_element}
 use Rattle.text_read.specs.Notation.{ReadInto, starts_pool, pools_at, model, table_of, rewritten, has_room, checked, judged, read_into}
 use Rattle.proof_places.proofs.PlaceRight.{place_right}
@@ -40,7 +39,7 @@ end_refused t q n p e = go (token_at t q).form e
     two : Refused misplaced (place_of t q) ≡ Refused n p → (n ≡ misplaced) × (place_of t q ≡ p)
     two z = (sym (refused_alike (refuses misplaced) misplaced n refl (ap stop_turn z)), ap (stop_place t) z)
 
-    go : (m : Form) → if_end m (At (behind t q)) (Refused misplaced (place_of t q)) ≡ Refused n p → (n ≡ misplaced) × (place_of t q ≡ p)
+    go : (m : Form) → if_end m (Ok (behind t q)) (Refused misplaced (place_of t q)) ≡ Refused n p → (n ≡ misplaced) × (place_of t q ≡ p)
     go Word z = two z
     go (Sign b) z = two z
     go Assign z = two z
@@ -60,10 +59,10 @@ refusal t n p e = go (pools_at t 0).end refl (stopped is_end t (pools_at t 0).en
     moved k j x y a b s = subst (Stop is_end t text 0 j) b (subst (λ (i : ℕ). Stop is_end t text 0 i x) a s)
 
     go : (r : Read) → (pools_at t 0).end ≡ r → Stop is_end t text 0 (stop_place t (pools_at t 0).end) (stop_turn (pools_at t 0).end) → if_at (pools_at t 0).end (end_at t) (pools_at t 0).end ≡ Refused n p → Refusal t n p
-    go (At q) z s h =
+    go (Ok q) z s h =
         let k = end_refused t q n p (sym (ap (λ (r : Read). if_at r (end_at t) (pools_at t 0).end) z) ∙ h) in
         past k.0 (moved (stop_place t (pools_at t 0).end) p (stop_turn (pools_at t 0).end) passes (ap (stop_place t) z ∙ k.1) (ap stop_turn z) s)
-    go (Refused m q) z s h =
+    go (Err e) z s h =
         let k = sym (ap (λ (r : Read). if_at r (end_at t) (pools_at t 0).end) z) ∙ h in
         within (moved (stop_place t (pools_at t 0).end) p (stop_turn (pools_at t 0).end) (refuses n) (ap (stop_place t) k) (ap stop_turn k) s)
 
@@ -86,12 +85,12 @@ module _ (t : List ℕ) (p : ℕ) {x : Turn} (s : Stop is_end t text 0 p x) wher
       let e = pools_end w (Refused n q) l in
       ap (λ (r : Read). if_at r (end_at (resumed t p w)) (pools_at (resumed t p w) 0).end) e ∙ e
 
-  ends_whole : (bs : List Piece) → Whole is_end s.state bs → (model (resumed t p (written bs))).end ≡ At (length (resumed t p (written bs)))
+  ends_whole : (bs : List Piece) → Whole is_end s.state bs → (model (resumed t p (written bs))).end ≡ Ok (length (resumed t p (written bs)))
   unfolding model if_at
   ends_whole bs w =
       let u : List ℕ = resumed t p (written bs) in
       let r = read_whole u s.state bs s.here p (same_token (written bs)) (cut (written bs)).left w in
-      ap (λ (y : Read). if_at y (end_at u) (pools_at u 0).end) (pools_end (written bs) (At r.to) r.leads) ∙ r.last
+      ap (λ (y : Read). if_at y (end_at u) (pools_at u 0).end) (pools_end (written bs) (Ok r.to) r.leads) ∙ r.last
 
   nowhere : ((k : Lexeme) → (n : ℕ) × (turn s.state k ≡ refuses n)) → Nowhere t p
   nowhere none w =
@@ -175,7 +174,7 @@ module _ (t table : List ℕ) where
   refused_answer n l u e = by_length (ltb text_most (length t)) e
     where
       by_end : (r : Read) → (judged r (model t).value table).number ≡ n → r ≡ Refused n (judged r (model t).value table).beside
-      by_end (At q) h =
+      by_end (Ok q) h =
           absurd (neither n (eqb (lowest (model t).value) 0)
           (if each has_room (model t).value then record { number = 0; beside = 0; table = table_of (map rewritten (model t).value) } or_else record { number = 28; beside = 0; table = table })
           (record { number = 4; beside = lowest (model t).value; table = table })
@@ -184,7 +183,7 @@ module _ (t table : List ℕ) where
           (record { number = 28; beside = 0; table = table })
           (λ z. omega (arith, z, l)) (λ z. omega (arith, z, u)))
           (λ z. omega (arith, z, u)) h)
-      by_end (Refused m q) h = ap (λ (k : ℕ). Refused k q) h
+      by_end (Err e) h = ap (λ (k : ℕ). Refused k e.place) h
 
       by_length : (c : Bool) → (if◌then◌or_else◌ {A = ReadInto} c (record { number = 1; beside = 0; table = table }) (judged (model t).end (model t).value table)).number ≡ n → (model t).end ≡ Refused n (if◌then◌or_else◌ {A = ReadInto} c (record { number = 1; beside = 0; table = table }) (judged (model t).end (model t).value table)).beside
       by_length true h = absurd (omega (arith, h, l))
@@ -196,6 +195,6 @@ module _ (t table : List ℕ) where
   pub answer_three : (read_into t table).number ≡ excessive → Exceeds t (read_into t table).beside
   answer_three e = exceeds t (read_into t table).beside (refused_answer excessive (omega arith) (omega arith) e)
 
-  pub whole_answer : (q : ℕ) → ltb text_most (length t) ≡ false → (model t).end ≡ At q → read_into t table ≡ checked (lowest (model t).value) (model t).value table
+  pub whole_answer : (q : ℕ) → ltb text_most (length t) ≡ false → (model t).end ≡ Ok q → read_into t table ≡ checked (lowest (model t).value) (model t).value table
   unfolding read_into judged if◌then◌or_else◌
   whole_answer q short e = rw short (ap (λ (r : Read). judged r (model t).value table) e)

@@ -13,9 +13,8 @@ use Rattle.text_lexer.specs.declared.Form.{Form}
 use Rattle.text_lexer.specs.Lexer.{is_word, token_at, if_word, if_sign}
 use Rattle.base_bytes.specs.Bytes.{between, is_digit, is_letter}
 use Rattle.text_numerals.specs.Numerals.{number_of, field_behind, field_from, field_of, leading_zero, value_from}
-use Rattle.text_readers.specs.declared.Read.{Read}
-use Rattle.text_readers.specs.declared.Read.TheVariants.{At, Refused}
-use Rattle.text_readers.specs.Reading.{excessive, place_of, behind, is_spelled}
+use Rattle.std.specs.declared.result.Result.TheVariants.{Ok}
+use Rattle.text_readers.specs.Reading.{Read, Refused, excessive, place_of, behind, is_spelled}
 use Rattle.text_elements.specs.Elements.{kind_named}
 use Rattle.text_read.specs.Notation.{pool_word}
 use Rattle.proof_places.proofs.Pieces.{Lexeme, lexeme, is_end, Piece, met, worded}
@@ -71,7 +70,7 @@ next (node f g) k = g k
 
 -- WHERE READING ENDS by a grammar, from a place of a text
 pub data Leads (t : List ℕ) (r : Read) : Grammar → ℕ → Type 0 where
-  ends : {g : Grammar} {from : ℕ} → turn g (lexeme t from) ≡ passes → r ≡ At from → Leads t r g from
+  ends : {g : Grammar} {from : ℕ} → turn g (lexeme t from) ≡ passes → r ≡ Ok from → Leads t r g from
   fails : {g : Grammar} {from : ℕ} (n : ℕ) → turn g (lexeme t from) ≡ refuses n → r ≡ Refused n (place_of t from) → Leads t r g from
   steps : {g : Grammar} {from : ℕ} → turn g (lexeme t from) ≡ takes → is_end (token_at t from).form ≡ false → Leads t r (next g (lexeme t from)) (behind t from) → Leads t r g from
 

@@ -8,6 +8,7 @@ use native.Mathlib.Omega.{arith}
 use lib.Dec.{eqb, leb}
 use lib.ListN.{length, drop, set}
 use borrow.Author.Tests.{eq-eqb}
+use Rattle.std.proofs.lemmas.Bool.{or_left, or_right}
 use Rattle.base_words.specs.Counts.{fields_named}
 use Rattle.base_words.specs.Each.{each}
 use Rattle.base_words.specs.Pick.{if◌then◌or_else◌}
@@ -25,10 +26,9 @@ use Rattle.text_numerals.specs.declared.Operand.{Operand}
 use Rattle.text_numerals.specs.declared.Operand.TheVariants.{Number as OfNumber, Field, OutOfRange, NotAnOperand}
 use Rattle.text_numerals.specs.Numerals.{value_from, leading_zero, number_of, is_field_letter, field_behind, field_from, field_of, as_number, as_field, operand_of}
 use Rattle.base_bytes.specs.Bytes.{same_bytes}
-use Rattle.text_readers.specs.declared.Read.{Read}
-use Rattle.text_readers.specs.declared.Read.TheVariants.{At, Refused}
-use Rattle.text_readers.specs.Reading.{Parsed, Reader, misplaced, excessive, passed_to, refused_at, place_of, behind, letters, sign_at, assign_at, sign, assign, keep_number, number, field, keep_operand, operand, mode_named, keep_mode, mode, is_spelled}
-use Rattle.proof_places.proofs.Tests.{choose, or_left, or_right}
+use Rattle.std.specs.declared.result.Result.TheVariants.{Ok}
+use Rattle.text_readers.specs.Reading.{Read, Refused, Parsed, Reader, misplaced, excessive, passed_to, refused_at, place_of, behind, letters, sign_at, assign_at, sign, assign, keep_number, number, field, keep_operand, operand, mode_named, keep_mode, mode, is_spelled}
+use Rattle.proof_places.proofs.Tests.{choose}
 use Rattle.proof_places.proofs.Pieces.{Lexeme, lexeme, is_end, Piece, met, becomes, worded}
 use Rattle.proof_places.proofs.Grammar.{Turn, takes, passes, refuses, takes_passes, takes_refuses, passes_refuses, refused_alike, sample, one_long, one_word, two_long, field_word}
 use Rattle.proof_places.proofs.Runs.{Judged, on, off, Ranging, Once, Signal, token_once, token_signal}
@@ -61,16 +61,16 @@ else_calm false e = two_three e
 
 -- whether the sign s stands there
 pub data Sighted (s : ℕ) (k : Token) (r : Read) : Type 0 where
-  seen : showing s k.form ≡ true → is_end k.form ≡ false → r ≡ At k.next → Sighted s k r
+  seen : showing s k.form ≡ true → is_end k.form ≡ false → r ≡ Ok k.next → Sighted s k r
   unseen : showing s k.form ≡ false → r ≡ Refused misplaced k.at → Sighted s k r
 
 module _ (s : ℕ) (k : Token) where
-  sign_pick : (c : Bool) → showing s k.form ≡ c → is_end k.form ≡ false → Sighted s k (if c then At k.next or_else Refused misplaced k.at)
+  sign_pick : (c : Bool) → showing s k.form ≡ c → is_end k.form ≡ false → Sighted s k (if c then Ok k.next or_else Refused misplaced k.at)
   unfolding if◌then◌or_else◌
   sign_pick true e h = seen e h refl
   sign_pick false e h = unseen e refl
 
-  sign_form : (m : Form) → k.form ≡ m → Sighted s k (if_sign m (λ b. if eqb b s then At k.next or_else Refused misplaced k.at) (Refused misplaced k.at))
+  sign_form : (m : Form) → k.form ≡ m → Sighted s k (if_sign m (λ b. if eqb b s then Ok k.next or_else Refused misplaced k.at) (Refused misplaced k.at))
   unfolding if_sign
   sign_form Word e = unseen (ap (showing s) e) refl
   sign_form (Sign b) e = sign_pick (eqb b s) (ap (showing s) e) (ap is_end e)
@@ -100,7 +100,7 @@ assigns Assign = true
 assigns End = false
 assigns Other = false
 
-assign_form : (k : Token) (m : Form) → k.form ≡ m → Judged (or_misplaced (assigns m)) k (if_assign m (At k.next) (Refused misplaced k.at))
+assign_form : (k : Token) (m : Form) → k.form ≡ m → Judged (or_misplaced (assigns m)) k (if_assign m (Ok k.next) (Refused misplaced k.at))
 unfolding if_assign
 assign_form k Word e = off misplaced refl refl
 assign_form k (Sign b) e = off misplaced refl refl
@@ -116,7 +116,7 @@ assign_once =
 
 -- A WORD, judged by its letters
 pub data Verdict (v : Turn) (p q : ℕ) (r : Read) : Type 0 where
-  good : v ≡ takes → r ≡ At q → Verdict v p q r
+  good : v ≡ takes → r ≡ Ok q → Verdict v p q r
   bad : (n : ℕ) → v ≡ refuses n → r ≡ Refused n p → Verdict v p q r
 
 -- the letters of a number or field

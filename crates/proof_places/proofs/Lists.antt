@@ -7,6 +7,7 @@ use mathlib.Core.List.{List}
 use native.Mathlib.Omega.{arith}
 use lib.Dec.{eqb}
 use borrow.Author.Tests.{eq-eqb, eqb-true}
+use Rattle.std.proofs.lemmas.Bool.{or_left, or_right}
 use Rattle.base_words.specs.Pick.{if◌then◌or_else◌}
 use Rattle.base_words.specs.Text.{bytes}
 use Rattle.base_words.specs.Counts.{edges, tasks, names, fewest}
@@ -19,7 +20,7 @@ use Rattle.text_numerals.specs.Numerals.{value_from, leading_zero, number_of, fi
 use Rattle.text_readers.specs.Reading.{Reader, ◌then◌, sign, is_spelled, starts_number, starts_field, starts_sign}
 use Rattle.text_parts.specs.declared.Series.{Series}
 use Rattle.text_parts.specs.Parts.{an_edge, a_template_item, a_message_item, an_assignment, edge_list, guarded_list, assignment_list, tuple, item_of, starts, items, inside, series, message, receiving, receiving_branches, one_edge, task_part, part_of, items_from}
-use Rattle.proof_places.proofs.Tests.{or_left, or_right, either}
+use Rattle.proof_places.proofs.Tests.{either}
 use Rattle.proof_places.proofs.Pieces.{lexeme, met, signed, colon}
 use Rattle.proof_places.proofs.Grammar.{of_number, of_field, of_sign, numeral, sample}
 use Rattle.proof_places.proofs.Runs.{any, Reads, once_reads, led_reads, led_calm, signal_once, signal_led, once_then, then_calm, then_led, signal_then}

@@ -8,6 +8,7 @@ use native.Mathlib.Omega.{arith}
 use lib.Dec.{eqb}
 use lib.ListN.{length, replicate}
 use borrow.Author.Tests.{eqb-true}
+use Rattle.std.proofs.lemmas.Bool.{or_left, or_right}
 use Rattle.base_words.specs.Each.{each}
 use Rattle.base_words.specs.Pick.{if◌then◌or_else◌}
 use Rattle.base_words.specs.Seek.{seek}
@@ -24,14 +25,13 @@ use Rattle.text_lexer.specs.declared.Form.TheVariants.{Word, Sign, Assign, End, 
 use Rattle.text_lexer.specs.Lexer.{is_sign, is_word, token_at, if_word}
 use Rattle.base_bytes.specs.Bytes.{among, between, is_digit, is_letter}
 use Rattle.base_bytes.specs.Bytes.{same_bytes}
-use Rattle.text_readers.specs.declared.Read.{Read}
-use Rattle.text_readers.specs.declared.Read.TheVariants.{At, Refused}
-use Rattle.text_readers.specs.Reading.{Parsed, Reader, misplaced, excessive, passed_to, if_at, onward, ◌then◌, nothing, place_of, behind, letters, sign_at, sign, number}
+use Rattle.std.specs.declared.result.Result.TheVariants.{Ok, Err}
+use Rattle.text_readers.specs.Reading.{Read, Refused, Parsed, Reader, misplaced, excessive, passed_to, if_at, onward, ◌then◌, nothing, place_of, behind, letters, sign_at, sign, number}
 use Rattle.text_parts.specs.Parts.{part_of}
 use Rattle.text_elements.specs.Elements.{is_keyword, kind_named, blank, parts_from, parts_of, element_of, element, starts_element}
 use Rattle.text_elements.proofs.ElementLaws.{then_then}
 use Rattle.text_read.specs.Notation.{Got, one_too_many, put_before, barred, element_alone, elements_at, plain, pool_word, opening, closing, unread, closed, inside_pool, pool_of_word, pool, starts_pool, pools_at}
-use Rattle.proof_places.proofs.Tests.{or_left, or_right, either}
+use Rattle.proof_places.proofs.Tests.{either}
 use Rattle.proof_places.proofs.Pieces.{Lexeme, lexeme, is_end, Piece, met, worded}
 use Rattle.proof_places.proofs.Grammar.{takes, refuses, takes_refuses, Grammar, node, turn, next, Leads, fails, steps, Whole, more, of_sign, of_element, of_pool, numeral, Live}
 use Rattle.proof_places.proofs.Runs.{any, Reads, Calm, reads_live, reads_as, reads_tries, once_reads, led_reads, led_calm, signal_once, signal_led, once_then, then_calm, then_led, signal_then, still_calm}
@@ -111,7 +111,7 @@ fits_row : List ℕ → Bool
 fits_row [] = true
 fits_row (c ∷ cs) = (eqb c (code " ") || (among (bytes "EXFYNTSG") c || (eqb c (code "B") && final cs))) && fits_row cs
 
-final_calm : (s : ℕ) (cs : List ℕ) → final cs ≡ true → (t : List ℕ) (from : ℕ) (x : List ℕ) → (parts_from s cs t from x).end ≡ At from
+final_calm : (s : ℕ) (cs : List ℕ) → final cs ≡ true → (t : List ℕ) (from : ℕ) (x : List ℕ) → (parts_from s cs t from x).end ≡ Ok from
 unfolding parts_from
 final_calm s [] e t from x = refl
 final_calm s (c ∷ cs) e t from x = unfold if◌then◌or_else◌ in rw e
@@ -128,8 +128,8 @@ ends_there f cs e t from x = go (f t from x).end refl
     on r = (if_at r (λ q. parts_from (code ",") cs t q (f t from x).words) (f t from x)).end
 
     go : (r : Read) → (f t from x).end ≡ r → (f t from x).end ≡ (if_at (f t from x).end (λ q. parts_from (code ",") cs t q (f t from x).words) (f t from x)).end
-    go (At q) z = sym (ap on z ∙ final_calm (code ",") cs e t q (f t from x).words ∙ sym z)
-    go (Refused n p) z = sym (ap on z)
+    go (Ok q) z = sym (ap on z ∙ final_calm (code ",") cs e t q (f t from x).words ∙ sym z)
+    go (Err e) z = sym (ap on z)
 
 -- a part, and the parts behind it
 row_part : (c : ℕ) (cs : List ℕ) → Calm (showing (code ")")) (parts_from (code ",") cs) → among (bytes "EXFYNTSG") c || (eqb c (code "B") && final cs) ≡ true → Reads (showing (code ")")) (part_of c then parts_from (code ",") cs)
@@ -204,13 +204,13 @@ module _ {A : Type 0} (P : Form → Bool) (thing : List ℕ → ℕ → Got A) (
   unfolding barred put_before ◌then◌ onward if_at
   bar_end n t from x = go (thing t from).end
     where
-      within : (q : ℕ) (r : Read) → (if_at r (λ a. bare (barred thing starting n) t a x) (passed_to q x)).end ≡ (if_at r (λ a. put_before (thing t from).value (barred thing starting n t a)) (record { end = At q; value = (thing t from).value ∷ [] })).end
-      within q (At a) = refl
-      within q (Refused m p) = refl
+      within : (q : ℕ) (r : Read) → (if_at r (λ a. bare (barred thing starting n) t a x) (passed_to q x)).end ≡ (if_at r (λ a. put_before (thing t from).value (barred thing starting n t a)) (record { end = Ok q; value = (thing t from).value ∷ [] })).end
+      within q (Ok a) = refl
+      within q (Err e) = refl
 
-      go : (r : Read) → (if_at r (λ q. if_at (sign_at (code "|") t q) (λ a. bare (barred thing starting n) t a x) (passed_to q x)) (bare thing t from x)).end ≡ (if_at r (λ q. if_at (sign_at (code "|") t q) (λ a. put_before (thing t from).value (barred thing starting n t a)) (record { end = At q; value = (thing t from).value ∷ [] })) (record { end = (thing t from).end; value = [] })).end
-      go (At q) = within q (sign_at (code "|") t q)
-      go (Refused m p) = refl
+      go : (r : Read) → (if_at r (λ q. if_at (sign_at (code "|") t q) (λ a. bare (barred thing starting n) t a x) (passed_to q x)) (bare thing t from x)).end ≡ (if_at r (λ q. if_at (sign_at (code "|") t q) (λ a. put_before (thing t from).value (barred thing starting n t a)) (record { end = Ok q; value = (thing t from).value ∷ [] })) (record { end = (thing t from).end; value = [] })).end
+      go (Ok q) = within q (sign_at (code "|") t q)
+      go (Err e) = refl
 
   pub bars_reads : (n : ℕ) → Reads P (bare (barred thing starting (suc n)))
   unfolding barred one_too_many
@@ -275,12 +275,12 @@ unfolding inside_pool closed ◌then◌ onward if_at
 inside_end k t from x = go (opening t from x).end
   where
     within : (a : ℕ) (r : Read) → (if_at r (λ c. closed (closing k t c (opening t from x).words) (elements_at t a).value) (unread (elements_at t a).end)).end ≡ (if_at r (λ c. closing k t c (opening t from x).words) (bare elements_at t a (opening t from x).words)).end
-    within a (At c) = refl
-    within a (Refused n p) = refl
+    within a (Ok c) = refl
+    within a (Err e) = refl
 
     go : (r : Read) → (if_at r (λ a. if_at (elements_at t a).end (λ c. closed (closing k t c (opening t from x).words) (elements_at t a).value) (unread (elements_at t a).end)) (unread (opening t from x).end)).end ≡ (if_at r (λ a. if_at (elements_at t a).end (λ c. closing k t c (opening t from x).words) (bare elements_at t a (opening t from x).words)) (opening t from x)).end
-    go (At a) = within a (elements_at t a).end
-    go (Refused n p) = refl
+    go (Ok a) = within a (elements_at t a).end
+    go (Err e) = refl
 
 pool_word_lem : each is_word (bytes "pool") ≡ true
 unfolding each is_word is_letter is_digit between

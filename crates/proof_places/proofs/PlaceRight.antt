@@ -11,9 +11,8 @@ use Rattle.base_words.specs.Pick.{if◌then◌or_else◌}
 use Rattle.base_words.specs.Counts.{text_most}
 use Rattle.text_lexer.specs.declared.Token.{Token}
 use Rattle.text_lexer.specs.Lexer.{token_at}
-use Rattle.text_readers.specs.declared.Read.{Read}
-use Rattle.text_readers.specs.declared.Read.TheVariants.{At, Refused}
-use Rattle.text_readers.specs.Reading.{misplaced, excessive, behind, letters}
+use Rattle.std.specs.declared.result.Result.TheVariants.{Ok, Err}
+use Rattle.text_readers.specs.Reading.{Read, Refused, misplaced, excessive, behind, letters}
 use Rattle.check_model.specs.Checks.{Pool}
 use Rattle.text_read.specs.Notation.{Got, model, judged, read_into}
 use Rattle.proof_places.specs.Places.{Agree}
@@ -23,8 +22,8 @@ use Rattle.proof_places.proofs.Whole.{whole, whole_is}
 
 -- an end that is seen from p
 unfoldable Good : List ℕ → ℕ → Read → Type 0
-Good t p (At q) = Seen t p q
-Good t p (Refused n r) = r ≡ p
+Good t p (Ok q) = Seen t p q
+Good t p (Err e) = e.place ≡ p
 
 -- the result a in t is the result b in u, and the token where it began is seen
 record Kept {A : Type 0} (t : List ℕ) (p at : ℕ) (a b : A) : Type 0 where
@@ -67,8 +66,8 @@ module _ (t u : List ℕ) (n p : ℕ) where
   place_right refusal agree = same_refused (agree_same t u p agree) refusal
 
   -- such a text is not accepted, and what reading it into a table answers is that number and place, and the table as it was
-  pub not_accepted : (model t).end ≡ Refused n p → Agree t u p → (q : ℕ) → (model u).end ≡ At q → ⊥
-  not_accepted refusal agree q e = let z : Refused n p ≡ At q = sym (place_right refusal agree) ∙ e in let c : ◌≡◌ {A = ℕ} 0 1 = cc in absurd (omega arith)
+  pub not_accepted : (model t).end ≡ Refused n p → Agree t u p → (q : ℕ) → (model u).end ≡ Ok q → ⊥
+  not_accepted refusal agree q e = let z : Refused n p ≡ Ok q = sym (place_right refusal agree) ∙ e in let c : ◌≡◌ {A = ℕ} 0 1 = cc in absurd (omega arith)
 
   pub answer_right : (model t).end ≡ Refused n p → Agree t u p → ltb text_most (length u) ≡ false → (table : List ℕ) → read_into u table ≡ record { number = n; beside = p; table = table }
   unfolding read_into judged if◌then◌or_else◌

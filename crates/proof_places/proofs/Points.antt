@@ -6,8 +6,7 @@ use Rattle.text_lexer.specs.Lexer.{is_blank, is_word, is_sign, token_of, token_h
 use Rattle.base_bytes.specs.Bytes.{among, between, is_letter, is_digit, past}
 use Rattle.text_numerals.specs.Numerals.{value_from, leading_zero, number_of}
 use Rattle.base_bytes.specs.Bytes.{same_bytes}
-use Rattle.text_readers.specs.declared.Read.TheVariants.{Refused}
-use Rattle.text_readers.specs.Reading.{if_at, onward, ◌then◌, sign_at, keep_number, number}
+use Rattle.text_readers.specs.Reading.{Refused, if_at, onward, ◌then◌, sign_at, keep_number, number}
 use Rattle.text_read.specs.Notation.{barred, pool_word, opening, inside_pool, pool_of_word, pool, pools_at, model}
 use Rattle.proof_places.proofs.Agreeing.{longer}
 use Rattle.proof_places.proofs.PlaceRight.{place_right}

@@ -8,9 +8,8 @@ use Rattle.text_lexer.specs.declared.Form.{Form}
 use Rattle.text_lexer.specs.declared.Form.TheVariants.{Sign}
 use Rattle.text_lexer.specs.declared.Token.{Token}
 use Rattle.text_lexer.specs.Lexer.{token_at}
-use Rattle.text_readers.specs.declared.Read.{Read}
-use Rattle.text_readers.specs.declared.Read.TheVariants.{At, Refused}
-use Rattle.text_readers.specs.Reading.{Parsed, Reader, excessive, if_at, onward, ◌then◌, behind}
+use Rattle.std.specs.declared.result.Result.TheVariants.{Ok, Err}
+use Rattle.text_readers.specs.Reading.{Read, Refused, Parsed, Reader, excessive, if_at, onward, ◌then◌, behind}
 use Rattle.proof_places.proofs.Pieces.{Lexeme, lexeme, is_end, Piece, met}
 use Rattle.proof_places.proofs.Grammar.{Turn, takes, passes, refuses, takes_passes, takes_refuses, passes_refuses, refused_alike, by_turn, Grammar, done, node, turn, next, Leads, ends, fails, steps, Whole, over, more, numeral, sample, Ranged, Excess, range, count, Hope, goes, full, Live, live, seq, seq_takes, seq_passes, seq_refuses}
 
@@ -221,8 +220,8 @@ unfolding ◌then◌ onward if_at
 then_end f g t from x = if_end_lem (f t from x).end (λ q. g t q (f t from x).words) (f t from x)
   where
     if_end_lem : (r : Read) (h : ℕ → Parsed) (y : Parsed) → if_at r (λ q. (h q).end) y.end ≡ (if_at r h y).end
-    if_end_lem (At q) h y = refl
-    if_end_lem (Refused n p) h y = refl
+    if_end_lem (Ok q) h y = refl
+    if_end_lem (Err e) h y = refl
 
 module _ (P Q : Form → Bool) (f g : Reader) (a : Reads P f) (b : Reads Q g) (fits : Fits P Q b.pieces) (apart : Apart a.runs.grammar b.runs.grammar) where
   seq-ends : (t : List ℕ) (from : ℕ) (x : List ℕ) → Leads t ((f then g) t from x).end (seq a.runs.grammar b.runs.grammar) from
@@ -278,7 +277,7 @@ module _ {Q : Form → Bool} {f g : Reader} where
       }
 
 -- NOTHING READ
-module _ {P : Form → Bool} (f : Reader) (e : (t : List ℕ) (from : ℕ) (x : List ℕ) → (f t from x).end ≡ At from) where
+module _ {P : Form → Bool} (f : Reader) (e : (t : List ℕ) (from : ℕ) (x : List ℕ) → (f t from x).end ≡ Ok from) where
   abbrev pub still_runs : Runs P f
   still_runs = record {
     grammar = done;
@@ -290,12 +289,12 @@ module _ {P : Form → Bool} (f : Reader) (e : (t : List ℕ) (from : ℕ) (x : 
   pub still_calm : Calm P f
   still_calm = record { reads = record { runs = still_runs; pieces = []; whole = over (λ k q. refl) }; calm = λ k z. passes_refuses passes excessive refl z }
 
-pub still_once : (f : Reader) → ((t : List ℕ) (from : ℕ) (x : List ℕ) → (f t from x).end ≡ At from) → Once f
+pub still_once : (f : Reader) → ((t : List ℕ) (from : ℕ) (x : List ℕ) → (f t from x).end ≡ Ok from) → Once f
 still_once f e = record { runs = still_runs f e; alone = none refl; pieces = []; whole = over (λ k q. refl) }
 
 -- ONE TOKEN: taken, or refused at its place
 pub data Judged (x : Turn) (k : Token) (r : Read) : Type 0 where
-  on : x ≡ takes → is_end k.form ≡ false → r ≡ At k.next → Judged x k r
+  on : x ≡ takes → is_end k.form ≡ false → r ≡ Ok k.next → Judged x k r
   off : (n : ℕ) → x ≡ refuses n → r ≡ Refused n k.at → Judged x k r
 
 pub record Ranging (J : Lexeme → Turn) (k : Lexeme) : Type 0 where

@@ -7,13 +7,13 @@ use lib.ListN.{length}
 use borrow.Author.Tests.{le-ltb}
 use Rattle.base_words.specs.Pick.{if◌then◌or_else◌}
 use Rattle.base_words.specs.Counts.{text_most}
-use Rattle.text_readers.specs.declared.Read.{Read}
 use Rattle.check_model.specs.Checks.{Pool, lowest}
 use Rattle.text_read.specs.Notation.{model, ReadInto, checked, judged, read_into}
 use Rattle.proof_places.specs.Places.{EndAlike, both_read, both_refused, ReadAlike}
 use Rattle.proof_places.proofs.Steady.{model_steady}
 use Rattle.proof_places.specs.Sequence.{tokens, AnswerAlike, same, placed}
 use Rattle.proof_places.proofs.Tokens.{tokens_level}
+use Rattle.text_readers.specs.Reading.{Read}
 
 module _ (t u : List ℕ) (alike : tokens t ≡ tokens u) where
   pub read_alike : ReadAlike t u (model t) (model u)

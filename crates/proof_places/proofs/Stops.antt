@@ -12,20 +12,19 @@ use Rattle.text_lexer.specs.declared.Token.{Token}
 use Rattle.text_lexer.specs.Lexer.{is_blank, placed, token_at, if_end}
 use Rattle.base_bytes.specs.Bytes.{among}
 use Rattle.text_lexer.proofs.TokenLaws.{end_at_lem, token_from, token_order, token_within}
-use Rattle.text_readers.specs.declared.Read.{Read}
-use Rattle.text_readers.specs.declared.Read.TheVariants.{At, Refused}
-use Rattle.text_readers.specs.Reading.{misplaced, place_of, behind, letters, end_at}
+use Rattle.std.specs.declared.result.Result.TheVariants.{Ok, Err}
+use Rattle.text_readers.specs.Reading.{Read, Refused, misplaced, place_of, behind, letters, end_at}
 use Rattle.base_words.specs.Words.{part}
 use Rattle.proof_places.proofs.Pieces.{lexeme, is_end, Piece, met, written, Cut, cut_token, cut_lexeme, piece_token, piece_lexeme, piece_left}
 use Rattle.proof_places.proofs.Grammar.{Turn, passes, refuses, Grammar, turn, next, Leads, ends, fails, steps, Whole, over, more, Live, live}
 
 abbrev pub stop_place : List ℕ → Read → ℕ
-stop_place t (At q) = place_of t q
-stop_place t (Refused n p) = p
+stop_place t (Ok q) = place_of t q
+stop_place t (Err e) = e.place
 
 abbrev pub stop_turn : Read → Turn
-stop_turn (At q) = passes
-stop_turn (Refused n p) = refuses n
+stop_turn (Ok q) = passes
+stop_turn (Err e) = refuses e.number
 
 pub record Stop (P : Form → Bool) (t : List ℕ) (g : Grammar) (from : ℕ) (p : ℕ) (x : Turn) : Type 0 where
   pub state : Grammar
@@ -74,16 +73,16 @@ stopped P t r g from h (live hope excess onward) (steps e some l) =
 -- pieces behind a blank are read whole, to the text's end
 pub record Ended (u : List ℕ) (g : Grammar) (from : ℕ) : Type 0 where
   pub to : ℕ
-  pub leads : Leads u (At to) g from
-  pub last : end_at u to ≡ At (length u)
+  pub leads : Leads u (Ok to) g from
+  pub last : end_at u to ≡ Ok (length u)
 
 last_token : (u : List ℕ) (p : ℕ) → drop p u ≡ 32 ∷ [] → token_at u p ≡ placed End (length u) (length u)
 unfolding each is_blank among
 last_token u p e = end_at_lem u p (ap (each is_blank) e) (omega (arith, length-drop p u, ap length e))
 
-end_by : (u : List ℕ) (from : ℕ) → token_at u from ≡ placed End (length u) (length u) → end_at u from ≡ At (length u)
+end_by : (u : List ℕ) (from : ℕ) → token_at u from ≡ placed End (length u) (length u) → end_at u from ≡ Ok (length u)
 unfolding end_at if_end
-end_by u from e = ap (λ (k : Token). if_end k.form (At k.next) (Refused misplaced k.at)) e
+end_by u from e = ap (λ (k : Token). if_end k.form (Ok k.next) (Refused misplaced k.at)) e
 
 pub read_whole : (u : List ℕ) (g : Grammar) (bs : List Piece) (from p : ℕ) → token_at u from ≡ token_at u p → drop p u ≡ 32 ∷ written bs → Whole is_end g bs → Ended u g from
 unfolding written
@@ -97,7 +96,7 @@ read_whole u g bs from p e d (more {bs = cs} b z w) =
     let r = read_whole u (next g (met b)) cs (behind u from) (behind u from) refl on w in
     record {
       to = r.to;
-      leads = steps (ap (turn g) same ∙ z) some (subst (λ (x : Grammar). Leads u (At r.to) x (behind u from)) (sym (ap (next g) same)) r.leads);
+      leads = steps (ap (turn g) same ∙ z) some (subst (λ (x : Grammar). Leads u (Ok r.to) x (behind u from)) (sym (ap (next g) same)) r.leads);
       last = r.last;
     }
 

@@ -13,13 +13,6 @@ by_test {A} c f g = go c refl
     go true e = f e
     go false e = g e
 
-pub or_left : (c d : Bool) → c ≡ true → c || d ≡ true
-or_left c d e = rw e
-
-pub or_right : (c d : Bool) → d ≡ true → c || d ≡ true
-or_right true d e = refl
-or_right false d e = e
-
 pub either : {A : Type 0} (c d : Bool) → c || d ≡ true → (c ≡ true → A) → (d ≡ true → A) → A
 either true d e f g = f refl
 either false d e f g = g e

@@ -13,9 +13,8 @@ use Rattle.base_words.specs.Counts.{text_most}
 use Rattle.text_lexer.specs.declared.Token.{Token}
 use Rattle.text_lexer.proofs.TokenLaws.{token_order, token_end, token_within}
 use Rattle.text_lexer.proofs.LocalLaws.{token_again}
-use Rattle.text_readers.specs.declared.Read.{Read}
-use Rattle.text_readers.specs.declared.Read.TheVariants.{At, Refused}
-use Rattle.text_readers.specs.Reading.{misplaced, excessive}
+use Rattle.std.specs.declared.result.Result.TheVariants.{Ok, Err}
+use Rattle.text_readers.specs.Reading.{Read, Refused, misplaced, excessive}
 use Rattle.check_model.specs.Checks.{Pool, lowest}
 use Rattle.text_read.specs.Notation.{model, table_of, rewritten, has_room, ReadInto, checked, judged, read_into}
 use Rattle.proof_places.specs.Places.{behind_first, kth_token, TokenPlace, EndAlike, both_read, both_refused}
@@ -40,8 +39,8 @@ kth_place t k =
 
 -- a refusal has such a place
 unfoldable Placed : List ℕ → Read → Type 0
-Placed t (At q) = record {}
-Placed t (Refused n p) = TokenPlace t p
+Placed t (Ok q) = record {}
+Placed t (Err e) = TokenPlace t e.place
 
 model_placed : (t : List ℕ) → Placed t (model t).end
 unfolding Placed
@@ -65,12 +64,12 @@ neither n a b (inr e) = absurd (b e)
 
 judged_place : (t : List ℕ) (r : Read) (ps : List Pool) (table : List ℕ) → Placed t r → AtPlace (judged r ps table) → TokenPlace t (judged r ps table).beside
 unfolding judged Placed checked if◌then◌or_else◌
-judged_place t (Refused n p) ps table placed e = placed
-judged_place t (At q) ps table placed e = go (eqb (lowest ps) 0) (each has_room ps) e
+judged_place t (Err d) ps table placed e = placed
+judged_place t (Ok q) ps table placed e = go (eqb (lowest ps) 0) (each has_room ps) e
   where
     go : (b r : Bool)
         → AtPlace (if b then (if r then record { number = 0; beside = 0; table = table_of (map rewritten ps) } or_else record { number = 28; beside = 0; table = table }) or_else record { number = 4; beside = lowest ps; table = table })
-        → TokenPlace t (judged (At q) ps table).beside
+        → TokenPlace t (judged (Ok q) ps table).beside
     go true true e = neither 0 (λ n. omega arith) (λ n. omega arith) e
     go true false e = neither 28 (λ n. omega arith) (λ n. omega arith) e
     go false r e = neither 4 (λ n. omega arith) (λ n. omega arith) e

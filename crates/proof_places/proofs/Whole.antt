@@ -11,9 +11,8 @@ use Rattle.base_words.specs.Counts.{pools, elements}
 use Rattle.base_table.specs.Places.{element_words}
 use Rattle.check_model.specs.Checks.{Pool}
 use Rattle.text_lexer.specs.Lexer.{token_at, if_word}
-use Rattle.text_readers.specs.declared.Read.{Read}
-use Rattle.text_readers.specs.declared.Read.TheVariants.{At, Refused}
-use Rattle.text_readers.specs.Reading.{Reader, misplaced, excessive, passed_to, if_at, onward, ◌then◌, place_of, behind, letters, sign_at, end_at}
+use Rattle.std.specs.declared.result.Result.TheVariants.{Ok}
+use Rattle.text_readers.specs.Reading.{Read, Refused, Reader, misplaced, excessive, passed_to, if_at, onward, ◌then◌, place_of, behind, letters, sign_at, end_at}
 use Rattle.text_read.specs.Notation.{Got, one_too_many, put_before, barred, element_alone, elements_at, plain, pool_word, opening, closing, no_pool, unread, closed, inside_pool, pool_of_word, pool, starts_pool, pools_at, model}
 use Rattle.proof_places.proofs.Course.{Course, stop, refuse, pass, look, follow, Follows, Reads, got, by, stopped, refusing, after, if_end_lem, turned, ◌next◌, sign_or, by_token, if_follows, word_follows, if_reads, sign_reads, number_reads, skip, skip_reads, end_follows, Told, told, many_follows}
 use Rattle.proof_places.proofs.Readers.{element_reads, element-told}
@@ -23,7 +22,7 @@ barred_follows : {A : Type 0} {thing : List ℕ → ℕ → Got A} {starting : L
 unfolding barred put_before one_too_many
 barred_follows f o zero = many_follows [] o
 barred_follows {A} {thing} {starting} f o (suc n) =
-    after {f = thing} {g = λ v t q. if_at (sign_at (code "|") t q) (λ a. put_before v (barred thing starting n t a)) (record { end = At q; value = v ∷ [] })} (λ v. []) f
+    after {f = thing} {g = λ v t q. if_at (sign_at (code "|") t q) (λ a. put_before v (barred thing starting n t a)) (record { end = Ok q; value = v ∷ [] })} (λ v. []) f
     (λ v. sign_or (code "|") (turned (λ vs. v ∷ vs) (barred_follows f o n)) (stopped (v ∷ [])))
 
 elements-follow : Follows elements_at
@@ -88,7 +87,7 @@ unfolding model whole
 whole_is t = whole_follows.is t 0
 
 -- So a text is read to a place, or refused with 2 or with 3: what holds of all those ends holds of a text's.
-module _ (P : Read → Type 0) (read : (q : ℕ) → P (At q)) (two : (p : ℕ) → P (Refused misplaced p)) (three : (p : ℕ) → P (Refused excessive p)) where
+module _ (P : Read → Type 0) (read : (q : ℕ) → P (Ok q)) (two : (p : ℕ) → P (Refused misplaced p)) (three : (p : ℕ) → P (Refused excessive p)) where
   follow_ends : {A : Type 0} (c : Course A) (t : List ℕ) (at : ℕ) → P (follow c t at).end
   unfolding follow if◌then◌or_else◌
   follow_ends (stop v) t at = read at

@@ -1,8 +1,8 @@
 -- HOW A TEXT GOES ON: what may stand behind the bytes before a place, in the stead of what does stand there.
 use Prim.Native.Char.{code}
 use Rattle.std.specs.Prelude.{ℕ, ◌+◌, ◌≡◌, Bool, true, ◌||◌, List, ◌∷◌, ◌++◌, length, take}
-use Rattle.text_readers.specs.declared.Read.TheVariants.{At, Refused}
-use Rattle.text_readers.specs.Reading.{misplaced, excessive, place_of, starts_number, starts_field, starts_sign}
+use Rattle.std.specs.declared.result.Result.TheVariants.{Ok}
+use Rattle.text_readers.specs.Reading.{Refused, misplaced, excessive, place_of, starts_number, starts_field, starts_sign}
 use Rattle.text_elements.specs.Elements.{starts_element}
 use Rattle.text_read.specs.Notation.{model, starts_pool}
 use Rattle.proof_places.specs.Places.{Agree}
@@ -18,7 +18,7 @@ Nowhere t p = (w : List ℕ) → (n : ℕ) × ((model (resumed t p w)).end ≡ R
 -- "2: the token at this place (or the text's end) continues no text of the notation", but what stands before it does go on: to a text that is read
 -- whole; or, where a count is full, to nothing but the first item too many (RULES: places)
 pub data GoesOn (t : List ℕ) (p : ℕ) : Type 0 where
-  whole : (w : List ℕ) → (model (resumed t p w)).end ≡ At (length (resumed t p w)) → GoesOn t p
+  whole : (w : List ℕ) → (model (resumed t p w)).end ≡ Ok (length (resumed t p w)) → GoesOn t p
   too_many : (w : List ℕ) → (model (resumed t p w)).end ≡ Refused excessive (p + 1) → Nowhere t p → GoesOn t p
 
 -- and with the token at p it goes on to none
@@ -35,7 +35,7 @@ starts_item t p = is_numeral t p || (starts_sign (code "?") t p || (starts_sign 
 
 -- "3: a number is outside its range or a count above it": with another number or field the text goes on; or the token starts an item, and nothing goes on (RULES: places)
 pub data Exceeds (t : List ℕ) (p : ℕ) : Type 0 where
-  range : is_numeral t p ≡ true → (w : List ℕ) → is_numeral (resumed t p w) p ≡ true → (model (resumed t p w)).end ≡ At (length (resumed t p w)) → Exceeds t p
+  range : is_numeral t p ≡ true → (w : List ℕ) → is_numeral (resumed t p w) p ≡ true → (model (resumed t p w)).end ≡ Ok (length (resumed t p w)) → Exceeds t p
   count : starts_item t p ≡ true → Nowhere t p → Exceeds t p
 
 pub record Excessive (t : List ℕ) (p : ℕ) : Type 0 where

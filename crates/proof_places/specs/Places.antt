@@ -4,9 +4,9 @@ use Rattle.std.specs.Prelude.{ℕ, zero, suc, ◌≤◌, ◌≡◌, List, length
 use Rattle.text_lexer.specs.declared.Form.TheVariants.{End}
 use Rattle.text_lexer.specs.declared.Token.{Token}
 use Rattle.text_lexer.specs.Lexer.{token_at}
-use Rattle.text_readers.specs.declared.Read.{Read}
-use Rattle.text_readers.specs.declared.Read.TheVariants.{At, Refused}
+use Rattle.std.specs.declared.result.Result.TheVariants.{Ok}
 use Rattle.text_read.specs.Notation.{Got}
+use Rattle.text_readers.specs.Reading.{Read, Refused}
 
 -- u has at p the token that t has there, and the bytes of t up to that token's end; what is behind it is any
 pub record Agree (t u : List ℕ) (p : ℕ) : Type 0 where
@@ -31,7 +31,7 @@ pub record TokenPlace (t : List ℕ) (p : ℕ) : Type 0 where
 
 -- two texts are both read up to a token with the same ordinal, or both refused at one, with the same number; and the same was got of them
 pub data EndAlike (t u : List ℕ) (r s : Read) : Type 0 where
-  both_read : (k : ℕ) → r ≡ At (behind_first t k) → s ≡ At (behind_first u k) → EndAlike t u r s
+  both_read : (k : ℕ) → r ≡ Ok (behind_first t k) → s ≡ Ok (behind_first u k) → EndAlike t u r s
   both_refused : (n k : ℕ) → r ≡ Refused n (kth_token t k).at → s ≡ Refused n (kth_token u k).at → EndAlike t u r s
 
 pub record ReadAlike {A : Type 0} (t u : List ℕ) (a b : Got A) : Type 0 where

@@ -7,6 +7,7 @@ use native.Mathlib.Omega.{arith}
 use lib.Dec.{eqb, leb, ltb}
 use lib.ListN.{get_or-eq_default}
 use borrow.Author.Tests.{eqb-true, eqb-false, eq-eqb, ne_eqb, ltb-true, ltb-false, leb-true, not-true}
+use Rattle.std.proofs.lemmas.Bool.{or_cases}
 use Rattle.base_words.specs.All.{all}
 use Rattle.base_words.specs.Pick.{if◌then◌or_else◌}
 use Rattle.base_words.specs.Seek.{seek}
@@ -15,7 +16,7 @@ use Rattle.base_kinds.specs.declared.Kind.{Kind}
 use Rattle.base_kinds.specs.declared.moves.Move.{Move}
 use Rattle.base_kinds.specs.Kinds.{none, one, many, kinds, no_kind, kind_of, and_join, xor_join, task, task_rcv, task_snd}
 use Rattle.base_kinds.specs.Moves.{a, na_c, na_nc, modes, every, branch, down, making, move_of, rule_of, is_rule, mode_of}
-use Rattle.proof_steps.proofs.Choices.{by_test, chosen_true, passed_true, or_either}
+use Rattle.proof_steps.proofs.Choices.{by_test, chosen_true, passed_true}
 use Rattle.proof_nesting.proofs.Weights.{is_task}
 
 -- how many kinds there are, with that of no element
@@ -38,7 +39,7 @@ pub many_joins : (q : ℕ) → (kind_of q).entries ≡ many → (q ≡ and_join)
 many_joins q e =
     let l = row_few q (λ z. omega (arith, z, e)) in
     let h = chosen_true _ _ true (all_at (λ q. if eqb (kind_of q).entries many then (eqb q and_join || eqb q xor_join) or_else true) rows many_rows q l) (eq-eqb _ many e) in
-    ⊎_elim (λ z. inl (eqb-true q and_join z)) (λ z. inr (eqb-true q xor_join z)) (or_either _ _ h)
+    ⊎_elim (λ z. inl (eqb-true q and_join z)) (λ z. inr (eqb-true q xor_join z)) (or_cases _ _ h)
 
 few_rows : all (λ q. leb (kind_of q).entries many) rows ≡ true
 unfolding all kind_of
@@ -129,8 +130,8 @@ lowered r h =
 by_task : (F : ℕ → Type 0) (q : ℕ) → is_task q ≡ true → F task → F task_rcv → F task_snd → F q
 by_task F q h x y z =
     ⊎_elim (λ e. subst F (sym (eqb-true q task e)) x)
-    (λ o. ⊎_elim (λ e. subst F (sym (eqb-true q task_rcv e)) y) (λ e. subst F (sym (eqb-true q task_snd e)) z) (or_either (eqb q task_rcv) (eqb q task_snd) o))
-    (or_either (eqb q task) _ h)
+    (λ o. ⊎_elim (λ e. subst F (sym (eqb-true q task_rcv e)) y) (λ e. subst F (sym (eqb-true q task_snd e)) z) (or_cases (eqb q task_rcv) (eqb q task_snd) o))
+    (or_cases (eqb q task) _ h)
 
 by_mode : (F : ℕ → Type 0) (m : ℕ) → a < m → m < modes → F na_c → F na_nc → F m
 by_mode F m l r x y =

@@ -8,6 +8,7 @@ use native.Mathlib.Omega.{arith}
 use lib.Dec.{eqb, leb, ltb}
 use lib.ListN.{get_or-eq_default}
 use borrow.Author.Tests.{eqb-true, eqb-false, eq-eqb, ne_eqb, ltb-true, ltb-false, leb-true}
+use Rattle.std.proofs.lemmas.Bool.{or_cases}
 use Rattle.base_words.specs.All.{all}
 use Rattle.base_words.specs.Each.{total}
 use Rattle.base_words.specs.Pick.{if◌then◌or_else◌}
@@ -27,7 +28,7 @@ use Rattle.check_occurrences.specs.Occurrences.{of_kind, as_exit, as_entry, as_f
 use Rattle.check_limits.specs.Limits.{within, count_fits, task_fits, table_fits}
 use Rattle.check_model.specs.Checks.{edge_right, check4}
 use Rattle.check_lowest.specs.Model.{pool_at}
-use Rattle.proof_steps.proofs.Choices.{by_test, chosen, passed, chosen_true, passed_true, or_either}
+use Rattle.proof_steps.proofs.Choices.{by_test, chosen, passed, chosen_true, passed_true}
 use Rattle.proof_steps.proofs.Elements.{FittingParts, fitting_parts, element_fits_lem, elements_few, task_few}
 use Rattle.proof_listing.proofs.Counting.{sum_at, sum_two, sum_some, same_hit}
 use Rattle.engine.specs.Engine.{valid}
@@ -41,15 +42,15 @@ use Rattle.proof_nesting.proofs.Events.{hit_same, one_exit, one_entry}
 use Rattle.proof_nesting.proofs.Lines.{plain, Closed, closed, whole, choice}
 use Rattle.proof_nesting.proofs.Decided.{Entered}
 
-or_cases : {C : Type 0} (x y : Bool) → x || y ≡ true → (x ≡ true → C) → (y ≡ true → C) → C
-or_cases x y h f g = ⊎_elim f g (or_either x y h)
+by_either : {C : Type 0} (x y : Bool) → x || y ≡ true → (x ≡ true → C) → (y ≡ true → C) → C
+by_either x y h f g = ⊎_elim f g (or_cases x y h)
 
 -- the kinds that have a task number
 pub kind_task : (q : ℕ) → is_task q ≡ true → (kind_of q).task ≡ one
 unfolding kind_of
 kind_task q h =
-    or_cases (eqb q task) _ h (λ e. ap (λ y. (kind_of y).task) (eqb-true q task e)) λ h₂.
-    or_cases (eqb q task_rcv) _ h₂ (λ e. ap (λ y. (kind_of y).task) (eqb-true q task_rcv e)) (λ e. ap (λ y. (kind_of y).task) (eqb-true q task_snd e))
+    by_either (eqb q task) _ h (λ e. ap (λ y. (kind_of y).task) (eqb-true q task e)) λ h₂.
+    by_either (eqb q task_rcv) _ h₂ (λ e. ap (λ y. (kind_of y).task) (eqb-true q task_rcv e)) (λ e. ap (λ y. (kind_of y).task) (eqb-true q task_snd e))
 
 task-kinds : all (λ q. if eqb (kind_of q).task one then is_task q or_else true) 16 ≡ true
 unfolding all kind_of if◌then◌or_else◌
@@ -134,7 +135,7 @@ module _ (t : List ℕ) (v : valid t ≡ true) (p : ℕ) (there : p < pool_count
   start_kind : (k : ℕ) → starts (P k) ≡ true → 1 ≤ of_kind start (P k) + of_kind start_rcv (P k)
   unfolding starts of_kind
   start_kind k h =
-      or_cases (eqb (kind_in (P k)) start) (eqb (kind_in (P k)) start_rcv) h
+      by_either (eqb (kind_in (P k)) start) (eqb (kind_in (P k)) start_rcv) h
       (λ e. let z = hit_same (kind_in (P k)) start (eqb-true _ _ e) in omega (arith, z))
       (λ e. let z = hit_same (kind_in (P k)) start_rcv (eqb-true _ _ e) in omega (arith, z))
 
@@ -217,7 +218,7 @@ module _ (t : List ℕ) (v : valid t ≡ true) (p : ℕ) (there : p < pool_count
   single_exit : (k : ℕ) → k < c → (starts (P k) ≡ true) ⊎ ((passes (P k) ≡ true) ⊎ ((kind_in (P k) ≡ and_join) ⊎ (kind_in (P k) ≡ xor_join))) → 0 < exit_count (P k)
   unfolding starts kind_of
   single_exit k l (inl h) =
-      or_cases (eqb (kind_in (P k)) start) (eqb (kind_in (P k)) start_rcv) h
+      by_either (eqb (kind_in (P k)) start) (eqb (kind_in (P k)) start_rcv) h
       (λ e. omega (arith, one_exit (P k) start (eqb-true _ _ e) refl)) (λ e. omega (arith, one_exit (P k) start_rcv (eqb-true _ _ e) refl))
   single_exit k l (inr (inl h)) = omega (arith, (plain (P k) h).exits)
   single_exit k l (inr (inr (inl e))) = omega (arith, one_exit (P k) and_join e refl)

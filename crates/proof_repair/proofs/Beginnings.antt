@@ -1,4 +1,5 @@
 -- EVERY BEGINNING OF A LOG that reaches behind the trace's start tag is repaired, unless there is no room; and what is kept of it are the log's first events. a is the log. Assumes nothing.
+use Rattle.xml_skip.specs.Skipping.{Reached}
 use Prim.Native.Nat.{ℕ, ◌-◌, ◌<◌, ◌≤◌}
 use mathlib.Core.Logic.{◌⊎◌, inl, inr}
 use mathlib.Core.Path.{◌≡◌, ◌∙◌, refl, sym, ap, subst}
@@ -11,8 +12,6 @@ use lib.Seq.{take-take, take-append-le, length-take-le}
 use borrow.Author.Tests.{le-ltb}
 use Rattle.base_words.specs.Pick.{if◌then◌or_else◌}
 use Rattle.base_bytes.proofs.PieceLaws.{by_order}
-use Rattle.xml_skip.specs.declared.Reached.{Reached}
-use Rattle.xml_skip.specs.declared.Reached.TheVariants.{Past, Fault}
 use Rattle.log_text.specs.Logs.{log_most, scan, lines_from, lines_of}
 use Rattle.log_text.proofs.LineLaws.{events_are_lines, too_long_lem}
 use Rattle.log_repair.specs.Repair.{closed, is_lost, Repair, refused, repair_given, repaired_by, repaired_to}

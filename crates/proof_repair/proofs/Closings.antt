@@ -1,4 +1,5 @@
 -- THE REPAIRED TEXT begins as the text does, up to the mark, and then has the end tags of what is open. Assumes nothing.
+use Rattle.std.specs.Prelude.{Ok}
 use Prim.Native.Nat.{ℕ, ◌+◌, ◌<◌, ◌≤◌}
 use mathlib.Core.Path.{◌≡◌, ◌∙◌, refl, sym, ap, subst}
 use mathlib.Core.Bool.{Bool, true, false}
@@ -10,7 +11,6 @@ use lib.Seq.{take-append_seam, drop-append_seam, length-take-le}
 use Rattle.base_words.specs.Text.{bytes}
 use Rattle.xml_markup.specs.Markup.{markup}
 use Rattle.xml_markup.specs.Spans.{name_at, bytes_of}
-use Rattle.xml_skip.specs.declared.Reached.TheVariants.{Past}
 use Rattle.xml_skip.specs.declared.Tag.{Tag}
 use Rattle.xml_skip.specs.declared.Tag.TheVariants.{Open, Empty, Fault as TagFault}
 use Rattle.xml_skip.specs.Skipping.{tag_of}
@@ -65,7 +65,7 @@ module _ (t : List ℕ) (e : Ended t) where
       ∙ ap (end_tags (tag_of (markup t d.trace) d.trace) t d.trace) (sym e.marks.log_is)
 
   module _ (short : length u ≤ log_most) where
-    pub closed_log : (scan u).end ≡ Past (length u)
+    pub closed_log : (scan u).end ≡ Ok (length u)
     closed_log = is_log t e u mark_in mark_alike short ends
 
     pub closed_events : (scan u).last.events ≡ c.events

@@ -1,4 +1,6 @@
 -- WHAT THE JUDGE SAYS OF A REPAIRED LOG: never that it is no log; and where the whole log was lawful, what is kept of a beginning of it is. m is a table, v a version, a a log. Assumes nothing.
+use Rattle.xml_skip.specs.Skipping.{Reached, fault_at}
+use Rattle.std.specs.Prelude.{Ok, Err}
 use Prim.Native.Nat.{ℕ, ◌+◌, ◌≤◌}
 use mathlib.Core.Path.{◌≡◌, ◌∙◌, refl, sym, ap}
 use mathlib.Core.Bool.{Bool, true, false, false≢true}
@@ -9,8 +11,6 @@ use borrow.Author.Tests.{eqb-false}
 use lib.ListN.{length, take}
 use Rattle.base_words.specs.Pick.{if◌then◌or_else◌}
 use Rattle.state_fits.specs.Fresh.{fresh}
-use Rattle.xml_skip.specs.declared.Reached.{Reached}
-use Rattle.xml_skip.specs.declared.Reached.TheVariants.{Past, Fault}
 use Rattle.log_text.specs.Logs.{scan, lines_of}
 use Rattle.log_judge.specs.declared.Judged.{Judged}
 use Rattle.log_judge.specs.Judge.{Taking, line_taken, judgment, lawful, judged_by, judged_end, judged_from}
@@ -24,7 +24,7 @@ use Rattle.proof_repair.proofs.Given.{output}
 use Rattle.proof_repair.proofs.Repairs.{IsLog, Right, repaired_right}
 use Rattle.proof_repair.proofs.Beginnings.{first_lines}
 
-not_past : (q p : ℕ) → Fault q ≡ Past p → ⊥
+not_past : (q p : ℕ) → fault_at q ≡ Ok p → ⊥
 not_past q p e = false≢true (ap is_past e)
 
 -- 23 comes of the text alone
@@ -43,9 +43,9 @@ module _ (m : List ℕ) (v : ℕ) where
   unfolding judged_to judged_from judged_end if◌then◌or_else◌
   log_never u l e = go (eqb (asked_number m v) 0) (scan u).end l.1 e
     where
-      go : (b : Bool) (s : Reached) → s ≡ Past l.0 → (if b then judged_end s (judged_by (line_taken (stepped m) (posted_to m)) (lines_of u) 0 (fresh m v)) or_else judgment (asked_number m v) 0 0).number ≡ 23 → ⊥
-      go true (Past q) f k = lines_never (line_taken (stepped m) (posted_to m)) (lines_of u) 0 (fresh m v) k
-      go true (Fault q) f k = not_past q l.0 f
+      go : (b : Bool) (s : Reached) → s ≡ Ok l.0 → (if b then judged_end s (judged_by (line_taken (stepped m) (posted_to m)) (lines_of u) 0 (fresh m v)) or_else judgment (asked_number m v) 0 0).number ≡ 23 → ⊥
+      go true (Ok q) f k = lines_never (line_taken (stepped m) (posted_to m)) (lines_of u) 0 (fresh m v) k
+      go true (Err q) f k = not_past q.place l.0 f
       go false s f k = by_asked (λ n. n ≡ 23 → ⊥) m v (λ h. omega (arith, h)) (λ h. omega (arith, h)) (λ h. omega (arith, h)) k
 
   -- "`judge` never gives 23 to it", under either version
@@ -59,8 +59,8 @@ module _ (m : List ℕ) (v : ℕ) where
       where
         go : (b : Bool) → eqb (asked_number m v) 0 ≡ b → (s : Reached) → (scan a).end ≡ s
             → (if b then judged_end s (judged_by (line_taken (stepped m) (posted_to m)) (lines_of a) 0 (fresh m v)) or_else judgment (asked_number m v) 0 0).number ≡ 0 → IsLog a
-        go true r (Past q) f k = (q, f)
-        go true r (Fault q) f k = absurd (omega (arith, k))
+        go true r (Ok q) f k = (q, f)
+        go true r (Err q) f k = absurd (omega (arith, k))
         go false r s f k = absurd (eqb-false (asked_number m v) 0 r k)
 
     -- "if the whole log was lawful, so is what is kept", under the same version

@@ -1,4 +1,6 @@
 -- WHAT A REPAIR COMES TO. t is a text, out the lent buffer. Assumes nothing.
+use Rattle.xml_skip.specs.Skipping.{Reached}
+use Rattle.std.specs.Prelude.{Ok, Err}
 use Prim.Native.Nat.{ℕ, ◌-◌, ◌<◌, ◌≤◌}
 use mathlib.Core.Path.{◌≡◌, ◌∙◌, refl, sym, ap, subst}
 use mathlib.Core.Bool.{Bool, true, false, false≢true}
@@ -8,8 +10,6 @@ use lib.Dec.{eqb, ltb}
 use lib.ListN.{length, take, drop}
 use lib.Seq.{take_all}
 use Rattle.base_words.specs.Pick.{if◌then◌or_else◌}
-use Rattle.xml_skip.specs.declared.Reached.{Reached}
-use Rattle.xml_skip.specs.declared.Reached.TheVariants.{Past, Fault}
 use Rattle.log_text.specs.declared.Cursor.{Cursor}
 use Rattle.log_text.specs.declared.Scanned.{Scanned}
 use Rattle.log_text.specs.Logs.{log_most, scan, lines_from, lines_of}
@@ -21,7 +21,7 @@ use Rattle.proof_repair.proofs.Closings.{closed_log, closed_events, closed_lines
 
 -- a log of wish 4: 23 is not given to it
 abbrev pub IsLog : List ℕ → Type 0
-IsLog u = (q : ℕ) × ((scan u).end ≡ Past q)
+IsLog u = (q : ℕ) × ((scan u).end ≡ Ok q)
 
 -- THE OUTPUT is such a log, and its events are the first ones of the text, so many as are told; later bytes stayed
 pub record Right (t out : List ℕ) (r : Repair) : Type 0 where
@@ -71,23 +71,23 @@ module _ (t out : List ℕ) where
 
   by_end : (s : Reached) → (scan t).end ≡ s → (repaired_by s t (scan t).last out).number ≡ 0 → Right t out (repaired_by s t (scan t).last out)
   unfolding repaired_by refused if◌then◌or_else◌
-  by_end (Past q) e z = gave_right t (scan t).last.events 0 _ (accepted_gave t (scan t).last.events 0 out z) (q, e) refl (all_lines (scan t).last.events refl)
-  by_end (Fault q) e z = go (is_lost q t (scan t).last) refl z
+  by_end (Ok q) e z = gave_right t (scan t).last.events 0 _ (accepted_gave t (scan t).last.events 0 out z) (q, e) refl (all_lines (scan t).last.events refl)
+  by_end (Err q) e z = go (is_lost q.place t (scan t).last) refl z
     where
-      go : (b : Bool) → is_lost q t (scan t).last ≡ b → (if b then refused 27 out or_else repair_given (closed t (scan t).last) (scan t).last.events (length t - (scan t).last.kept) out).number ≡ 0
+      go : (b : Bool) → is_lost q.place t (scan t).last ≡ b → (if b then refused 27 out or_else repair_given (closed t (scan t).last) (scan t).last.events (length t - (scan t).last.kept) out).number ≡ 0
           → Right t out (if b then refused 27 out or_else repair_given (closed t (scan t).last) (scan t).last.events (length t - (scan t).last.kept) out)
       go true k z = absurd (omega (arith, z))
-      go false k z = closed_right (not_lost q k) z
+      go false k z = closed_right (not_lost q.place k) z
 
   -- the trace was opened
   ended_at : (s : Reached) → (scan t).end ≡ s → (repaired_by s t (scan t).last out).number ≡ 0 → Ended t
   unfolding repaired_by refused if◌then◌or_else◌
-  ended_at (Past q) e z = ended_by t (has_trace t q e)
-  ended_at (Fault q) e z = go (is_lost q t (scan t).last) refl z
+  ended_at (Ok q) e z = ended_by t (has_trace t q e)
+  ended_at (Err q) e z = go (is_lost q.place t (scan t).last) refl z
     where
-      go : (b : Bool) → is_lost q t (scan t).last ≡ b → (if b then refused 27 out or_else repair_given (closed t (scan t).last) (scan t).last.events (length t - (scan t).last.kept) out).number ≡ 0 → Ended t
+      go : (b : Bool) → is_lost q.place t (scan t).last ≡ b → (if b then refused 27 out or_else repair_given (closed t (scan t).last) (scan t).last.events (length t - (scan t).last.kept) out).number ≡ 0 → Ended t
       go true k z = absurd (omega (arith, z))
-      go false k z = not_lost q k
+      go false k z = not_lost q.place k
 
   pub repaired_ended : (repaired_to t out).number ≡ 0 → Ended t
   unfolding repaired_to

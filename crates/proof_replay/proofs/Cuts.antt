@@ -1,5 +1,7 @@
 -- AFTER THE POWER CUT: whatever byte the log of accepted calls is cut at, behind the trace's start tag, repair and replay give the state after the first k of the calls, k the events kept; and where it was written
 -- event by event, no call whose event was written whole is lost. t is a valid table, v version 10 or 20. Assumes nothing.
+use Rattle.xml_skip.specs.Skipping.{Reached}
+use Rattle.std.specs.Prelude.{Ok, Err}
 use Prim.Native.Nat.{ℕ, zero, suc, ◌-◌, ◌<◌, ◌≤◌}
 use mathlib.Core.Logic.{◌⊎◌, inl, inr}
 use mathlib.Core.Path.{◌≡◌, ◌∙◌, refl, sym, ap, subst}
@@ -14,8 +16,6 @@ use Rattle.base_words.specs.Words.{at, greatest}
 use Rattle.base_state.specs.Versions.{is_version}
 use Rattle.state_fits.specs.Fresh.{fresh}
 use Rattle.base_bytes.proofs.PieceLaws.{by_order}
-use Rattle.xml_skip.specs.declared.Reached.{Reached}
-use Rattle.xml_skip.specs.declared.Reached.TheVariants.{Past, Fault}
 use Rattle.log_text.specs.declared.Cursor.{Cursor}
 use Rattle.log_text.specs.Logs.{log_most, scan, lines_from, lines_of}
 use Rattle.log_text.proofs.LineLaws.{events_are_lines}
@@ -38,8 +38,8 @@ use Rattle.proof_replay.proofs.OwnState.{first_accepted, first_posted, first_tol
 -- as many are kept as whole events were read
 kept_by_lem : (s : Reached) (u : List ℕ) (c : Cursor) (out : List ℕ) → (repaired_by s u c out).number ≡ 0 → (repaired_by s u c out).kept ≡ c.events
 unfolding repaired_by refused if◌then◌or_else◌
-kept_by_lem (Past q) u c out z = ap (λ (r : Repair). r.kept) (accepted_gave u c.events 0 out z).is
-kept_by_lem (Fault q) u c out z = go (is_lost q u c) z
+kept_by_lem (Ok q) u c out z = ap (λ (r : Repair). r.kept) (accepted_gave u c.events 0 out z).is
+kept_by_lem (Err q) u c out z = go (is_lost q.place u c) z
   where
     go : (b : Bool) → (if b then refused 27 out or_else repair_given (closed u c) c.events (length u - c.kept) out).number ≡ 0
         → (if b then refused 27 out or_else repair_given (closed u c) c.events (length u - c.kept) out).kept ≡ c.events

@@ -10,7 +10,6 @@ use borrow.Author.Tests.{eqb-true, eqb-false, ne_eqb}
 use Rattle.base_words.specs.Pick.{if◌then◌or_else◌}
 use Rattle.state_fits.specs.Fresh.{fresh}
 use Rattle.proof_steps.proofs.Choices.{by_test, by_choice}
-use Rattle.xml_skip.specs.declared.Reached.TheVariants.{Past}
 use Rattle.log_text.specs.Logs.{scan, lines_of}
 use Rattle.log_judge.specs.declared.Judged.{Judged}
 use Rattle.log_judge.specs.Judge.{Taking, judgment, lawful, judged_by, judged_end, judged_from, left_by_lines}

@@ -15,8 +15,8 @@ use Rattle.base_words.proofs.PickLaws.{pick_no}
 use Rattle.text_lexer.specs.Lexer.{is_sign}
 use Rattle.base_bytes.specs.Bytes.{among}
 use Rattle.text_lexer.proofs.TokenLaws.{left_at}
-use Rattle.text_readers.specs.declared.Read.TheVariants.{At, Refused}
-use Rattle.text_readers.specs.Reading.{if_at, sign_at}
+use Rattle.std.specs.declared.result.Result.TheVariants.{Ok}
+use Rattle.text_readers.specs.Reading.{Refused, if_at, sign_at}
 use Rattle.text_read.specs.Notation.{Got, put_before, barred}
 use Rattle.write_shown.specs.Shown.{lead, separated}
 use Rattle.proof_roundtrip.proofs.SignReads.{sign_hit}
@@ -68,36 +68,36 @@ separated_front s f n =
 
 -- wherever w stands, the thing v is read from it
 pub record Comes {A : Type 0} (thing : List ℕ → ℕ → Got A) (w : List ℕ) (v : A) : Type 0 where
-  pub comes : (text rest : List ℕ) (from : ℕ) → drop from text ≡ w ++ rest → thing text from ≡ record { end = At (from + length w); value = v }
+  pub comes : (text rest : List ℕ) (from : ℕ) → drop from text ≡ w ++ rest → thing text from ≡ record { end = Ok (from + length w); value = v }
 
 module _ {A : Type 0} (thing : List ℕ → ℕ → Got A) (starting : List ℕ → ℕ → Bool) where
   abbrev gone : List ℕ → ℕ → Got A → Got (List A)
   gone text m g =
       if_at g.end
-      (λ q. if_at (sign_at (code "|") text q) (λ a. put_before g.value (barred thing starting m text a)) (record { end = At q; value = g.value ∷ [] }))
+      (λ q. if_at (sign_at (code "|") text q) (λ a. put_before g.value (barred thing starting m text a)) (record { end = Ok q; value = g.value ∷ [] }))
       (record { end = g.end; value = [] })
 
   -- the last thing, and one before others
-  barred_last : (m : ℕ) (text : List ℕ) (from q a b : ℕ) (v : A) → thing text from ≡ record { end = At q; value = v } → sign_at (code "|") text q ≡ Refused a b
-      → barred thing starting (suc m) text from ≡ record { end = At q; value = v ∷ [] }
+  barred_last : (m : ℕ) (text : List ℕ) (from q a b : ℕ) (v : A) → thing text from ≡ record { end = Ok q; value = v } → sign_at (code "|") text q ≡ Refused a b
+      → barred thing starting (suc m) text from ≡ record { end = Ok q; value = v ∷ [] }
   unfolding barred
   barred_last m text from q a b v e s = ap (gone text m) e ∙ rest
     where
-      rest : gone text m (record { end = At q; value = v }) ≡ record { end = At q; value = v ∷ [] }
+      rest : gone text m (record { end = Ok q; value = v }) ≡ record { end = Ok q; value = v ∷ [] }
       rest = unfold if_at in rw s
 
-  barred_more : (m : ℕ) (text : List ℕ) (from q a : ℕ) (v : A) → thing text from ≡ record { end = At q; value = v } → sign_at (code "|") text q ≡ At a
+  barred_more : (m : ℕ) (text : List ℕ) (from q a : ℕ) (v : A) → thing text from ≡ record { end = Ok q; value = v } → sign_at (code "|") text q ≡ Ok a
       → barred thing starting (suc m) text from ≡ put_before v (barred thing starting m text a)
   unfolding barred
   barred_more m text from q a v e s = ap (gone text m) e ∙ rest
     where
-      rest : gone text m (record { end = At q; value = v }) ≡ put_before v (barred thing starting m text a)
+      rest : gone text m (record { end = Ok q; value = v }) ≡ put_before v (barred thing starting m text a)
       rest = unfold if_at in rw s
 
   -- THE LAW
   pub barred_trip : (n m : ℕ) → n < m → (f : ℕ → List ℕ) (v : ℕ → A) → ((k : ℕ) → k ≤ n → Comes thing (f k) (v k))
       → (text rest : List ℕ) (from a b : ℕ) → drop from text ≡ fronted (code "|") f n ++ rest → sign_at (code "|") text (from + length (fronted (code "|") f n)) ≡ Refused a b
-      → barred thing starting m text from ≡ record { end = At (from + length (fronted (code "|") f n)); value = tab v (suc n) }
+      → barred thing starting m text from ≡ record { end = Ok (from + length (fronted (code "|") f n)); value = tab v (suc n) }
   barred_trip n zero h f v c text rest from a b d s = absurd (omega (arith, h))
   barred_trip zero (suc m) h f v c text rest from a b d s =
       unfold fronted tab in barred_last m text from (from + length (f 0)) a b (v 0) ((c 0 (omega arith)).comes text rest from d) s
@@ -126,22 +126,22 @@ module _ {A : Type 0} (thing : List ℕ → ℕ → Got A) (starting : List ℕ 
       far = unfold fronted in omega (arith, length-append (f 0) (code "|" ∷ others))
 
       later : ((text rest : List ℕ) (from a b : ℕ) → drop from text ≡ others ++ rest → sign_at (code "|") text (from + length others) ≡ Refused a b
-          → barred thing starting m text from ≡ record { end = At (from + length others); value = tab (λ k. v (suc k)) (suc n) })
-          → barred thing starting m text (from + length (f 0) + 1) ≡ record { end = At (from + length (fronted (code "|") f (suc n))); value = tab (λ k. v (suc k)) (suc n) }
+          → barred thing starting m text from ≡ record { end = Ok (from + length others); value = tab (λ k. v (suc k)) (suc n) })
+          → barred thing starting m text (from + length (f 0) + 1) ≡ record { end = Ok (from + length (fronted (code "|") f (suc n))); value = tab (λ k. v (suc k)) (suc n) }
       later r =
           r text rest (from + length (f 0) + 1) a b d₃ (ap (sign_at (code "|") text) far ∙ s)
-          ∙ ap (λ (q : ℕ). record { end = At q; value = tab (λ k. v (suc k)) (suc n) }) far
+          ∙ ap (λ (q : ℕ). record { end = Ok q; value = tab (λ k. v (suc k)) (suc n) }) far
 
-      put : put_before (v 0) (record { end = At (from + length (fronted (code "|") f (suc n))); value = tab (λ k. v (suc k)) (suc n) }) ≡ record { end = At (from + length (fronted (code "|") f (suc n))); value = tab v (suc (suc n)) }
-      put = unfold put_before in ap (λ (l : List A). record { end = At (from + length (fronted (code "|") f (suc n))); value = l }) (sym (tab_front v (suc n)))
+      put : put_before (v 0) (record { end = Ok (from + length (fronted (code "|") f (suc n))); value = tab (λ k. v (suc k)) (suc n) }) ≡ record { end = Ok (from + length (fronted (code "|") f (suc n))); value = tab v (suc (suc n)) }
+      put = unfold put_before in ap (λ (l : List A). record { end = Ok (from + length (fronted (code "|") f (suc n))); value = l }) (sym (tab_front v (suc n)))
 
   -- the same for k things that are written with bars between them
   pub separated_trip : (k m : ℕ) → 0 < k → k ≤ m → (f : ℕ → List ℕ) (v : ℕ → A) → ((j : ℕ) → j < k → Comes thing (f j) (v j))
       → (text rest : List ℕ) (from a b : ℕ) → drop from text ≡ separated (code "|") f k ++ rest → sign_at (code "|") text (from + length (separated (code "|") f k)) ≡ Refused a b
-      → barred thing starting m text from ≡ record { end = At (from + length (separated (code "|") f k)); value = tab v k }
+      → barred thing starting m text from ≡ record { end = Ok (from + length (separated (code "|") f k)); value = tab v k }
   separated_trip zero m l h f v c text rest from a b d s = absurd (omega (arith, l))
   separated_trip (suc n) m l h f v c text rest from a b d s =
       let e : separated (code "|") f (suc n) ≡ fronted (code "|") f n = separated_front 124 f n in
       barred_trip n m (omega (arith, h)) f v (λ j u. c j (omega (arith, u))) text rest from a b
       (d ∙ ap (λ (w : List ℕ). w ++ rest) e) (ap (λ (w : List ℕ). sign_at (code "|") text (from + length w)) (sym e) ∙ s)
-      ∙ ap (λ (w : List ℕ). record { end = At (from + length w); value = tab v (suc n) }) (sym e)
+      ∙ ap (λ (w : List ℕ). record { end = Ok (from + length w); value = tab v (suc n) }) (sym e)

@@ -10,6 +10,7 @@ use lib.Dec.{eqb, leb}
 use lib.ListN.{drop}
 use lib.Seq.{get_or-drop}
 use borrow.Author.Tests.{eqb-true, eq-eqb, leb-true}
+use Rattle.std.proofs.lemmas.Bool.{or_cases}
 use Rattle.base_words.specs.All.{all}
 use Rattle.base_words.specs.Counts.{branches, fields_named, values}
 use Rattle.base_words.specs.Sum.{sum, hit, one_if}
@@ -24,7 +25,6 @@ use Rattle.check_limits.proofs.SameLaws.{all_ext, used_most}
 use Rattle.text_elements.specs.Elements.{kind_count}
 use Rattle.check_occurrences.specs.Occurrences.{condition_count, received_count, sent_count, of_kind, as_exit, as_entry, as_first, as_task, as_received, as_sent, is_default, defaults, default_once, binds_field, times_bound, template_once, bound_once}
 use Rattle.proof_roundtrip.proofs.FitsLaws.{things_right, message_length_lem, entries_fit, exits_fit, messages_fit_lem}
-use Rattle.proof_roundtrip.proofs.TripLaws.{or_either}
 use Rattle.proof_roundtrip.proofs.KindLaws.{kind_bounds, of_kind_lem}
 use Rattle.proof_roundtrip.proofs.FitLaws.{fits_kind, fits_parts, edges_most, used_few}
 
@@ -68,7 +68,7 @@ unfolding used
 used_all holds n e = sym (pick_yes (eqb holds many) n n holds (eq-eqb holds many e) refl)
 
 all_messages : (v s x n j : ℕ) → j < used v (used x n) → eqb v 0 || eqb s 0 ≡ true → leb v 1 || eqb x many ≡ true → j < used (v + s) n
-all_messages v s x n j h a b = ⊎_elim (λ z. absurd (none (eqb-true v 0 z))) (λ z. alone (eqb-true s 0 z) (or_either _ _ b)) (or_either _ _ a)
+all_messages v s x n j h a b = ⊎_elim (λ z. absurd (none (eqb-true v 0 z))) (λ z. alone (eqb-true s 0 z) (or_cases _ _ b)) (or_cases _ _ a)
   where
     none : v ≡ 0 → ⊥
     none z = let f = used_few v (used x n) (omega (arith, z)) in omega (arith, f, h, z)

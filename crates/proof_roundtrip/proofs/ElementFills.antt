@@ -9,6 +9,7 @@ use native.Mathlib.Omega.{arith}
 use lib.Dec.{eqb}
 use lib.ListN.{drop}
 use borrow.Author.Tests.{eqb-true, not-true}
+use Rattle.std.proofs.lemmas.Bool.{or_cases, and_parts}
 use Rattle.base_words.specs.All.{all}
 use Rattle.base_words.specs.Counts.{branches, assignments}
 use Rattle.base_words.specs.Pick.{if◌then◌or_else◌}
@@ -23,7 +24,6 @@ use Rattle.text_elements.specs.Elements.{kind_count}
 use Rattle.proof_roundtrip.specs.Trip.{spans, region_of}
 use Rattle.proof_roundtrip.proofs.NumberReads.{Span}
 use Rattle.proof_roundtrip.proofs.FitsLaws.{used-one, used-many}
-use Rattle.proof_roundtrip.proofs.TripLaws.{or_either}
 use Rattle.proof_roundtrip.proofs.KindLaws.{of_kind_lem}
 use Rattle.proof_roundtrip.proofs.RowLaws.{listed, Has, Either, has, either, either_of}
 use Rattle.proof_roundtrip.proofs.FitLaws.{used_few}
@@ -101,9 +101,6 @@ one_thing y base w n right r z = things_of y base w n 1 right (λ j l. ap (λ (m
 no_thing : (y : List ℕ) (base w n : ℕ) (right : List ℕ → Bool) → ((i : ℕ) → Span (base + w * 0) (w * (n - 0)) i → at y i ≡ 0) → things (drop base y) w n 0 right ≡ true
 no_thing y base w n right z = things_of y base w n 0 right (λ j l. absurd (omega (arith, l))) z
 
-both_true : (a b : Bool) → a && b ≡ true → (a ≡ true) × (b ≡ true)
-both_true a b e = (and_left a b e, and_right a b e)
-
 both_eq : (a b c d : ℕ) → eqb a b && eqb c d ≡ true → (a ≡ b) × (c ≡ d)
 both_eq a b c d e = (eqb-true a b (and_left (eqb a b) (eqb c d) e), eqb-true c d (and_right (eqb a b) (eqb c d) e))
 
@@ -162,8 +159,8 @@ module _ (k : ℕ) (l : 0 < k) (u : k < kind_count + 1) (y : List ℕ) (g : Good
   task_words : Has k (code "N") → (task_fits one y ≡ true) × ((condition_fits one (drop (condition_place 0) y) ≡ true) × (things (drop (assignment_place 0) y) assignment_words assignments (at y assignments_place) assignment_fits ≡ true))
   unfolding good if◌then◌or_else◌
   task_words h =
-      let q = both_true (task_fits one y) (condition_fits one (drop (condition_place 0) y) && things (drop (assignment_place 0) y) assignment_words assignments (at y assignments_place) assignment_fits) (g (code "N") h) in
-      (q.0, both_true (condition_fits one (drop (condition_place 0) y)) (things (drop (assignment_place 0) y) assignment_words assignments (at y assignments_place) assignment_fits) q.1)
+      let q = and_parts (task_fits one y) (condition_fits one (drop (condition_place 0) y) && things (drop (assignment_place 0) y) assignment_words assignments (at y assignments_place) assignment_fits) (g (code "N") h) in
+      (q.0, and_parts (condition_fits one (drop (condition_place 0) y)) (things (drop (assignment_place 0) y) assignment_words assignments (at y assignments_place) assignment_fits) q.1)
 
   template_row : Has k (code "T") → ((kind_of k).receives ≡ one) × ((kind_of k).sends ≡ none)
   unfolding suits if◌then◌or_else◌
@@ -187,7 +184,7 @@ module _ (k : ℕ) (l : 0 < k) (u : k < kind_count + 1) (y : List ℕ) (g : Good
 
   guards_words : Has k (code "G") → (edges_fit many (drop exits_place y) ≡ true) × (things (drop (condition_place 0) y) expression_words branches (at y exits_place) (condition_fits many) ≡ true)
   unfolding good if◌then◌or_else◌
-  guards_words h = both_true (edges_fit many (drop exits_place y)) (things (drop (condition_place 0) y) expression_words branches (at y exits_place) (condition_fits many)) (g (code "G") h)
+  guards_words h = and_parts (edges_fit many (drop exits_place y)) (things (drop (condition_place 0) y) expression_words branches (at y exits_place) (condition_fits many)) (g (code "G") h)
 
   receivers_row : Has k (code "B") → ((kind_of k).exits ≡ many) × (((kind_of k).receives ≡ many) × ((kind_of k).sends ≡ none))
   unfolding suits if◌then◌or_else◌
@@ -199,7 +196,7 @@ module _ (k : ℕ) (l : 0 < k) (u : k < kind_count + 1) (y : List ℕ) (g : Good
 
   receivers_words : Has k (code "B") → (edges_fit many (drop exits_place y) ≡ true) × (things (drop (message_place 0) y) message_words branches (at y exits_place) (message_fits (kind_of k).receives) ≡ true)
   unfolding good if◌then◌or_else◌
-  receivers_words h = both_true (edges_fit many (drop exits_place y)) (things (drop (message_place 0) y) message_words branches (at y exits_place) (message_fits (kind_of k).receives)) (g (code "B") h)
+  receivers_words h = and_parts (edges_fit many (drop exits_place y)) (things (drop (message_place 0) y) message_words branches (at y exits_place) (message_fits (kind_of k).receives)) (g (code "B") h)
 
   -- the words of an empty list of edges
   no_edges : (list column : ℕ) → 0 < list → eqb column 0 && free k list 9 ≡ true → edges_fit column (drop list y) ≡ true
@@ -256,7 +253,7 @@ module _ (k : ℕ) (l : 0 < k) (u : k < kind_count + 1) (y : List ℕ) (g : Good
   unfolding conditions_fit
   conditions_right =
       ⊎_elim (λ h. as_cell 2 (guards_row h).1 (ap (Conditions 2) (used-many (at y exits_place)) ∙ (guards_words h).1))
-      (λ t. ⊎_elim guarded none_there (or_either _ _ t))
+      (λ t. ⊎_elim guarded none_there (or_cases _ _ t))
       (row_conditions k l u)
     where
       as_cell : (c : ℕ) → (kind_of k).conditions ≡ c → Conditions c (used c (at y exits_place)) ≡ true → Conditions (kind_of k).conditions (used (kind_of k).conditions (at y exits_place)) ≡ true
@@ -288,7 +285,7 @@ module _ (k : ℕ) (l : 0 < k) (u : k < kind_count + 1) (y : List ℕ) (g : Good
       ⊎_elim (λ h. let q = (receivers_row h).1 in as_cell 2 (omega (arith, q.0, q.1)) (ap Messages (used-many (at y exits_place)) ∙ (receivers_words h).1))
       (λ t. ⊎_elim (λ t. let h = and_left (has k (code "T")) (free k (message_place 1) 154) t in let q = template_row h in single (omega (arith, q.0, q.1)) (template_words h) (and_right (has k (code "T")) (free k (message_place 1) 154) t))
       (λ t. ⊎_elim (λ t. let h = and_left (has k (code "S")) (free k (message_place 1) 154) t in let q = output_row h in single (omega (arith, q.0, q.1)) (output_words h) (and_right (has k (code "S")) (free k (message_place 1) 154) t))
-      none_there (or_either _ _ t)) (or_either _ _ t))
+      none_there (or_cases _ _ t)) (or_cases _ _ t))
       (row_messages k l u)
     where
       as_cell : (c : ℕ) → (kind_of k).receives + (kind_of k).sends ≡ c → Messages (used c (at y exits_place)) ≡ true → Messages (used ((kind_of k).receives + (kind_of k).sends) (at y exits_place)) ≡ true

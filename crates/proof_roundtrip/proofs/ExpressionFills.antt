@@ -22,9 +22,8 @@ use Rattle.base_table.specs.Places.{element_words, assignment_place}
 use Rattle.check_limits.specs.Limits.{zeros, operand_fits, expression_fits, bind_fits, item_fits, condition_fits, assignment_fits}
 use Rattle.text_lexer.specs.Lexer.{token_at}
 use Rattle.base_bytes.specs.Bytes.{same_bytes}
-use Rattle.text_readers.specs.declared.Read.{Read}
-use Rattle.text_readers.specs.declared.Read.TheVariants.{At, Refused}
-use Rattle.text_readers.specs.Reading.{Parsed, Reader, misplaced, passed_to, if_at, ◌then◌, place_of, behind, letters, sign_at, operand}
+use Rattle.std.specs.declared.result.Result.TheVariants.{Ok, Err}
+use Rattle.text_readers.specs.Reading.{Read, Parsed, Reader, misplaced, passed_to, if_at, ◌then◌, place_of, behind, letters, sign_at, operand}
 use Rattle.text_parts.specs.Parts.{store, joint, expression, bind, template_item, comparison, condition, assignment}
 use Rattle.proof_roundtrip.proofs.ReadsLaws.{Both}
 use Rattle.proof_roundtrip.proofs.NumberReads.{Span}
@@ -45,8 +44,8 @@ zeros_of y from n h =
 -- A CHOICE BY A SIGN
 choose : (r : Read) (f : ℕ → Parsed) (g w : Parsed) → if_at r f g ≡ w → ((a : ℕ) × (f a ≡ w)) ⊎ (g ≡ w)
 unfolding if_at
-choose (At a) f g w e = inl (a, e)
-choose (Refused n p) f g w e = inr e
+choose (Ok a) f g w e = inl (a, e)
+choose (Err d) f g w e = inr e
 
 pub fills_choice : (s : ℕ) {f g : Reader} {R : ℕ → Type 0} {Q : List ℕ → Type 0} → Fills f R Q → Fills g R Q → Fills (λ text from x. if_at (sign_at s text from) (λ a. f text a x) (g text from x)) R Q
 fills_choice s {f} {g} a b =

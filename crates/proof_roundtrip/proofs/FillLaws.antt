@@ -10,9 +10,8 @@ use lib.ListN.{length, set, length-set}
 use lib.Seq.{get_or-set_same, get_or-set_other}
 use Rattle.base_words.specs.Words.{at, greatest}
 use Rattle.base_table.specs.Places.{element_words}
-use Rattle.text_readers.specs.declared.Read.{Read}
-use Rattle.text_readers.specs.declared.Read.TheVariants.{At, Refused}
-use Rattle.text_readers.specs.Reading.{Parsed, Reader, passed_to, refused_at, if_at, onward, ◌then◌, sign, assign}
+use Rattle.std.specs.declared.result.Result.TheVariants.{Ok, Err}
+use Rattle.text_readers.specs.Reading.{Read, Parsed, Reader, passed_to, refused_at, if_at, onward, ◌then◌, sign, assign}
 use Rattle.text_parts.specs.Parts.{store}
 use Rattle.proof_roundtrip.proofs.ReadsLaws.{Both}
 use Rattle.proof_roundtrip.proofs.NumberReads.{Span}
@@ -36,11 +35,11 @@ pub onward_passed : (r : Parsed) (go : ℕ → List ℕ → Parsed) (q : ℕ) (z
 onward_passed r go q z e = by r.end refl
   where
     by : (s : Read) → r.end ≡ s → Before r go (passed_to q z)
-    by (At a) h = record { place = a; words = r.words; first = ap (λ (k : Read). record { end = k; words = r.words }) h; further = sym (on a h) ∙ e }
+    by (Ok a) h = record { place = a; words = r.words; first = ap (λ (k : Read). record { end = k; words = r.words }) h; further = sym (on a h) ∙ e }
       where
-        on : (a : ℕ) → r.end ≡ At a → onward r go ≡ go a r.words
+        on : (a : ℕ) → r.end ≡ Ok a → onward r go ≡ go a r.words
         on a h = unfold onward if_at in rw h
-    by (Refused n p) h = absurd (refused_passed n p q r.words z (ap (λ (k : Read). record { end = k; words = r.words }) (sym h) ∙ sym stays ∙ e))
+    by (Err d) h = absurd (refused_passed d.number d.place q r.words z (ap (λ (k : Read). record { end = k; words = r.words }) (sym h) ∙ sym stays ∙ e))
       where
         stays : onward r go ≡ r
         stays = unfold onward if_at in rw h

@@ -25,9 +25,8 @@ use Rattle.text_lexer.specs.declared.Form.TheVariants.{End}
 use Rattle.text_lexer.specs.Lexer.{is_blank, placed, token_at, if_sign, if_end}
 use Rattle.base_bytes.specs.Bytes.{among}
 use Rattle.text_lexer.proofs.TokenLaws.{end_at_lem}
-use Rattle.text_readers.specs.declared.Read.{Read}
-use Rattle.text_readers.specs.declared.Read.TheVariants.{At, Refused}
-use Rattle.text_readers.specs.Reading.{Parsed, misplaced, passed_to, if_at, sign_at, end_at}
+use Rattle.std.specs.declared.result.Result.TheVariants.{Ok}
+use Rattle.text_readers.specs.Reading.{Read, Refused, Parsed, misplaced, passed_to, if_at, sign_at, end_at}
 use Rattle.text_elements.specs.Elements.{element}
 use Rattle.check_model.specs.Checks.{Pool}
 use Rattle.text_read.specs.Notation.{Got, element_alone, pool, starts_pool, pools_at, model}
@@ -63,11 +62,11 @@ used_first {A} f n (suc m) l = go (dec_lt n (suc m)) (used_first f n m)
 module _ (text : List ℕ) (from : ℕ) (e : token_at text from ≡ placed End (length text) (length text)) where
   no_bar : sign_at (code "|") text from ≡ Refused misplaced (length text)
   unfolding sign_at if_sign
-  no_bar = ap (λ (k : Token). if_sign k.form (λ c. if eqb c (code "|") then At k.next or_else Refused misplaced k.at) (Refused misplaced k.at)) e
+  no_bar = ap (λ (k : Token). if_sign k.form (λ c. if eqb c (code "|") then Ok k.next or_else Refused misplaced k.at) (Refused misplaced k.at)) e
 
-  the_end : end_at text from ≡ At (length text)
+  the_end : end_at text from ≡ Ok (length text)
   unfolding end_at if_end
-  the_end = ap (λ (k : Token). if_end k.form (At k.next) (Refused misplaced k.at)) e
+  the_end = ap (λ (k : Token). if_end k.form (Ok k.next) (Refused misplaced k.at)) e
 
 module _ (t : List ℕ) (small : (i : ℕ) → at t i ≤ greatest) (fit : table_fits t ≡ true) (long : length t ≡ table_words) where
   element_comes : (p e : ℕ) → p < pool_count t → e < element_count t p → Comes element_alone (shown_element (element_at t p e)) (words_at t p e)
@@ -81,7 +80,7 @@ module _ (t : List ℕ) (small : (i : ℕ) → at t i ≤ greatest) (fit : table
       small_here : (i : ℕ) → at (element_at t p e) i ≤ greatest
       small_here i = subst (λ (v : ℕ). v ≤ greatest) (sym (get_or-drop (element_place p e) t i 0)) (small (element_place p e + i))
 
-      alone : (text : List ℕ) (from n : ℕ) (w : List ℕ) → element text from (replicate element_words 0) ≡ passed_to (from + n) w → element_alone text from ≡ record { end = At (from + n); value = w }
+      alone : (text : List ℕ) (from n : ℕ) (w : List ℕ) → element text from (replicate element_words 0) ≡ passed_to (from + n) w → element_alone text from ≡ record { end = Ok (from + n); value = w }
       alone text from n w e = unfold element_alone in ap (λ (r : Parsed). record { end = r.end; value = r.words }) e
 
   pool_read : (p : ℕ) → p < pool_count t → Comes pool (shown_pool t p) (block_at t p)
@@ -102,12 +101,12 @@ module _ (t : List ℕ) (small : (i : ℕ) → at t i ≤ greatest) (fit : table
       within : length (shown_pools t) ≤ length (shown_table t)
       within = unfold shown_table in omega (arith, length-append (shown_pools t) (code "\n" ∷ []))
 
-  pools_read : pools_at (shown_table t) 0 ≡ record { end = At (length (shown_pools t)); value = blocks_of t }
+  pools_read : pools_at (shown_table t) 0 ≡ record { end = Ok (length (shown_pools t)); value = blocks_of t }
   unfolding pools_at blocks_of
   pools_read =
       separated_trip pool starts_pool (pool_count t) pools (pools_low t fit) (pools_high t fit) (shown_pool t) (block_at t) pool_read (shown_table t) (code "\n" ∷ []) 0 misplaced (length (shown_table t))
       whole (ap (sign_at (code "|") (shown_table t)) far ∙ no_bar (shown_table t) (length (shown_pools t)) ending)
-      ∙ ap (λ (q : ℕ). record { end = At q; value = tab (block_at t) (pool_count t) }) far
+      ∙ ap (λ (q : ℕ). record { end = Ok q; value = tab (block_at t) (pool_count t) }) far
     where
       whole : drop 0 (shown_table t) ≡ separated (code "|") (shown_pool t) (pool_count t) ++ (code "\n" ∷ [])
       whole = unfold shown_table in ap (λ (w : List ℕ). w ++ (code "\n" ∷ [])) text_pools
@@ -116,7 +115,7 @@ module _ (t : List ℕ) (small : (i : ℕ) → at t i ≤ greatest) (fit : table
       far = zero-add (length (separated (code "|") (shown_pool t) (pool_count t))) ∙ ap length (sym text_pools)
 
   -- THE LAW
-  pub model_read : model (shown_table t) ≡ record { end = At (length (shown_table t)); value = blocks_of t }
+  pub model_read : model (shown_table t) ≡ record { end = Ok (length (shown_table t)); value = blocks_of t }
   unfolding model if_at
   model_read =
       ap (λ (g : Got (List Pool)). record { end = if_at g.end (end_at (shown_table t)) g.end; value = g.value }) pools_read

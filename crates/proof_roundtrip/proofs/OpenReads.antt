@@ -20,8 +20,7 @@ use Rattle.text_numerals.specs.declared.Number.{Number}
 use Rattle.text_numerals.specs.declared.Number.TheVariants.{Value}
 use Rattle.text_numerals.specs.Numerals.{number_of}
 use Rattle.text_numerals.proofs.Spelled.{spelled_some, spelled_word, number_spelled}
-use Rattle.text_readers.specs.declared.Read.{Read}
-use Rattle.text_readers.specs.Reading.{misplaced, passed_to, refused_at, ◌then◌, sign, keep_number, number}
+use Rattle.text_readers.specs.Reading.{Read, misplaced, passed_to, refused_at, ◌then◌, sign, keep_number, number}
 use Rattle.text_readers.proofs.ReadingLaws.{then_at}
 use Rattle.write_decimals.specs.Decimals.{shown}
 use Rattle.text_read.specs.Notation.{plain, multiple, opening, closing}

@@ -9,6 +9,7 @@ use native.Mathlib.Omega.{arith}
 use lib.Dec.{eqb, leb, ltb}
 use lib.ListN.{drop}
 use borrow.Author.Tests.{eqb-true, leb-true, ltb-true}
+use Rattle.std.proofs.lemmas.Bool.{or_cases}
 use Rattle.base_words.specs.Pick.{if◌then◌or_else◌}
 use Rattle.base_words.specs.Counts.{branches}
 use Rattle.base_words.specs.Words.{at, greatest}
@@ -23,7 +24,6 @@ use Rattle.write_shown.specs.Shown.{shown_part, shown_entries, shown_exits}
 use Rattle.proof_roundtrip.specs.Trip.{may_close, behind_part, spans, region_of, Trip}
 use Rattle.proof_roundtrip.proofs.ReadsLaws.{Both, anything, reads_before, trip_of}
 use Rattle.proof_roundtrip.proofs.SignReads.{closes_stops, ends_shuts}
-use Rattle.proof_roundtrip.proofs.TripLaws.{or_either}
 use Rattle.proof_roundtrip.proofs.NumberReads.{Span}
 use Rattle.proof_roundtrip.proofs.FitsLaws.{things_right, edges_count, count_one, count_many, task_fits_lem, entries_fit, exits_fit, conditions_fit_lem, messages_fit_lem, assignments_fit_lem, task_ranges, used-one, used-many}
 use Rattle.proof_roundtrip.proofs.PartReads.{list_words, conditions_words, messages_words, assignments_words, reads_one, reads_edges, reads_template, reads_output, reads_guarded_list, reads_receiving_list, reads_task}
@@ -104,7 +104,7 @@ module _ (el : List ℕ) (small : (i : ℕ) → at el i ≤ greatest) (k : Kind)
       region : (i : ℕ) → eqb i task_place || (eqb i mode_place || (spans (condition_place 0) (condition_place 1) i || spans assignments_place element_words i)) ≡ true
           → Both (λ i. i ≡ task_place) (Both (λ i. i ≡ mode_place) (Both (Span (condition_place 0) expression_words) (Span assignments_place assignments_words))) i ⊎ (at el i ≡ 0)
       region i h =
-          inl (⊎_elim (λ a. inl (eqb-true i task_place a)) (λ a. inr (⊎_elim (λ b. inl (eqb-true i mode_place b)) (λ b. inr (⊎_elim (λ d. inl (spanned (condition_place 0) (condition_place 1) expression_words i refl d)) (λ d. inr (spanned assignments_place element_words assignments_words i refl d)) (or_either _ _ b))) (or_either _ _ a))) (or_either _ _ h))
+          inl (⊎_elim (λ a. inl (eqb-true i task_place a)) (λ a. inr (⊎_elim (λ b. inl (eqb-true i mode_place b)) (λ b. inr (⊎_elim (λ d. inl (spanned (condition_place 0) (condition_place 1) expression_words i refl d)) (λ d. inr (spanned assignments_place element_words assignments_words i refl d)) (or_cases _ _ b))) (or_cases _ _ a))) (or_cases _ _ h))
 
   template_trip : k.receives + k.sends ≡ 1 → PartTrip (code "T")
   unfolding part_of shown_part behind_part region_of if◌then◌or_else◌
@@ -132,7 +132,7 @@ module _ (el : List ℕ) (small : (i : ℕ) → at el i ≤ greatest) (k : Kind)
   receivers_trip e c =
       let f = exits_as 2 e in
       let n = count_many (at el exits_place) (edges_count el 2 exits_place f) in
-      trip_of (λ i h. inl (⊎_elim (λ a. inl (spanned exits_place (condition_place 0) list_words i refl a)) (λ a. inr (spanned (message_place 0) assignments_place messages_words i refl a)) (or_either _ _ h)))
+      trip_of (λ i h. inl (⊎_elim (λ a. inl (spanned exits_place (condition_place 0) list_words i refl a)) (λ a. inr (spanned (message_place 0) assignments_place messages_words i refl a)) (or_cases _ _ h)))
       (reads_before ends_shuts (reads_receiving_list el small f n.0 n.1 k.receives
       (ap (λ (m : ℕ). things (drop (message_place 0) el) message_words branches m (message_fits k.receives)) (sym (used-many (at el exits_place))) ∙ messages_as 2 c)))
 

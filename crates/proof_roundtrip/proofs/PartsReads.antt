@@ -9,6 +9,7 @@ use native.Mathlib.Omega.{arith}
 use lib.Dec.{eqb}
 use lib.ListN.{length}
 use borrow.Author.Tests.{eq-eqb, eqb-true, eqb-false}
+use Rattle.std.proofs.lemmas.Bool.{or_right, or_cases}
 use Rattle.base_words.specs.Pick.{if◌then◌or_else◌}
 use Rattle.base_words.specs.Words.{at}
 use Rattle.base_words.proofs.AllLaws.{and_left, and_right}
@@ -22,9 +23,7 @@ use Rattle.write_shown.specs.Shown.{shown_part, shown_parts}
 use Rattle.proof_roundtrip.specs.Trip.{Trip, may_close, ends, behind_part, region_of}
 use Rattle.proof_roundtrip.proofs.ReadsLaws.{Reads, reads_nothing, reads_before, reads_of, reads_as, reads_text, reads_wider, reads_then}
 use Rattle.proof_roundtrip.proofs.SignReads.{reads_sign}
-use Rattle.proof_roundtrip.proofs.TripLaws.{or_either}
 use Rattle.proof_roundtrip.proofs.RowLaws.{listed, bare, lastly}
-use Rattle.proof_roundtrip.proofs.RegionLaws.{or_right}
 
 -- some part of a row stores the word i
 pub record Stored (cs : List ℕ) (i : ℕ) : Type 0 where
@@ -47,7 +46,7 @@ module _ (c : ℕ) (cs : List ℕ) (n : eqb c (code " ") ≡ false) where
   listed_later d h = rw n (or_right (eqb d c) (listed cs d) h)
 
   pub listed_cases : (d : ℕ) → listed (c ∷ cs) d ≡ true → (d ≡ c) ⊎ (listed cs d ≡ true)
-  listed_cases d h = go (or_either (eqb d c) (listed cs d) (plain h))
+  listed_cases d h = go (or_cases (eqb d c) (listed cs d) (plain h))
     where
       plain : listed (c ∷ cs) d ≡ true → eqb d c || listed cs d ≡ true
       plain h = unfold listed in pick_no (eqb c (code " ")) _ _ _ n refl ∙ h

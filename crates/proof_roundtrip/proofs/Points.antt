@@ -19,7 +19,7 @@ use Rattle.text_lexer.specs.Lexer.{is_blank, is_word, is_sign, token_of, token_h
 use Rattle.base_bytes.specs.Bytes.{among, between, is_letter, is_digit, past}
 use Rattle.text_numerals.specs.Numerals.{value_from, leading_zero, number_of}
 use Rattle.base_bytes.specs.Bytes.{same_bytes}
-use Rattle.text_readers.specs.declared.Read.TheVariants.{At}
+use Rattle.std.specs.declared.result.Result.TheVariants.{Ok}
 use Rattle.text_readers.specs.Reading.{if_at, onward, sign_at, end_at, keep_number, number, ◌then◌}
 use Rattle.text_parts.specs.Parts.{item_of, items_from, items, inside, series, message, starts, too_many, counted, one_edge, part_of}
 use Rattle.text_elements.specs.Elements.{is_keyword, kind_named, blank, parts_from, parts_of, element_of, element}
@@ -38,7 +38,7 @@ sample = bytes "pool(1,start(1,2)|endSnd(2,3:<>))"
 abbrev again : List ℕ
 again = bytes "pool(1,start(1,2)|interSnd(2,3:<>,3)|end(3))\n"
 
-sample_read : (model sample).end ≡ At 33
+sample_read : (model sample).end ≡ Ok 33
 unfolding among between is_blank is_word is_letter is_digit is_sign past token_of token_here token_at if_word if_sign if_end value_from leading_zero number_of same_bytes if_at onward ◌then◌ sign_at end_at keep_number number one_edge part_of is_keyword kind_named blank parts_from parts_of element_of element put_before barred element_alone elements_at pool_word opening closing closed inside_pool pool_of_word pool pools_at model seek kind_of if◌then◌or_else◌ item_of items_from items inside series message counted one_too_many too_many starts
 sample_read = refl
 

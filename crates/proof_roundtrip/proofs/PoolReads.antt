@@ -22,8 +22,8 @@ use Rattle.text_lexer.specs.Lexer.{is_word, is_sign, if_word}
 use Rattle.base_bytes.specs.Bytes.{is_letter, is_digit, among, between}
 use Rattle.text_lexer.proofs.TokenLaws.{left_at, bytes_at}
 use Rattle.base_bytes.specs.Bytes.{same_bytes}
-use Rattle.text_readers.specs.declared.Read.TheVariants.{At, Refused}
-use Rattle.text_readers.specs.Reading.{Parsed, misplaced, passed_to, if_at}
+use Rattle.std.specs.declared.result.Result.TheVariants.{Ok}
+use Rattle.text_readers.specs.Reading.{Refused, Parsed, misplaced, passed_to, if_at}
 use Rattle.write_decimals.specs.Decimals.{shown}
 use Rattle.text_elements.specs.Elements.{starts_element}
 use Rattle.check_model.specs.Checks.{Pool}
@@ -41,7 +41,7 @@ block n m els = record { number = n; limit = m; elements = els }
 
 -- inside the parentheses: its number, its elements, its end
 inside_at : (k : ℕ) (text : List ℕ) (h : Parsed) (a c : ℕ) (w : List ℕ) (els : List (List ℕ)) (r : Parsed)
-    → h ≡ passed_to a w → elements_at text a ≡ record { end = At c; value = els } → closing k text c w ≡ r → inside_pool k text h ≡ closed r els
+    → h ≡ passed_to a w → elements_at text a ≡ record { end = Ok c; value = els } → closing k text c w ≡ r → inside_pool k text h ≡ closed r els
 unfolding inside_pool if_at
 inside_at k text h a c w els r e f g = rw (e, f, g)
 
@@ -65,12 +65,12 @@ pool-at text w rest from k d g s e n =
 module _ (text rest : List ℕ) (from n : ℕ) (els : List (List ℕ)) (es : List ℕ) (l : 1 ≤ n) (u : n ≤ pool_numbers) where
   -- what stands inside, and what is read of it
   abbrev Elements : ℕ → Type 0
-  Elements a = elements_at text a ≡ record { end = At (a + length es); value = els }
+  Elements a = elements_at text a ≡ record { end = Ok (a + length es); value = els }
 
   -- `pool(n,..)`
   pub plain_trip : drop from text ≡ bytes "pool" ++ (code "(" ∷ (shown n ++ (code "," ∷ (es ++ (code ")" ∷ rest)))))
       → ((a : ℕ) → drop a text ≡ es ++ (code ")" ∷ rest) → Elements a)
-      → pool text from ≡ record { end = At (from + (4 + (length (shown n) + 2 + (length es + 1)))); value = block n 0 els }
+      → pool text from ≡ record { end = Ok (from + (4 + (length (shown n) + 2 + (length es + 1)))); value = block n 0 els }
   plain_trip d h =
       pool-at text (bytes "pool") (code "(" ∷ (shown n ++ (code "," ∷ (es ++ (code ")" ∷ rest))))) from 1 d (record { some = omega arith; plain = unfold each is_word is_letter is_digit between in refl })
       (sign_stops (code "(") _ (unfold is_sign among in refl)) (unfold pool_word same_bytes if◌then◌or_else◌ in refl) (λ e. omega (arith, e))
@@ -87,13 +87,13 @@ module _ (text rest : List ℕ) (from n : ℕ) (els : List (List ℕ)) (es : Lis
       d₂ : drop a text ≡ es ++ (code ")" ∷ rest)
       d₂ = behind_number text (es ++ (code ")" ∷ rest)) (from + 4) (code "(") (code ",") n d₁
 
-      done : closed (passed_to (a + length es + 1) (n ∷ 0 ∷ [])) els ≡ record { end = At (from + (4 + (length (shown n) + 2 + (length es + 1)))); value = block n 0 els }
-      done = unfold closed in ap (λ (q : ℕ). record { end = At q; value = block n 0 els }) (omega arith)
+      done : closed (passed_to (a + length es + 1) (n ∷ 0 ∷ [])) els ≡ record { end = Ok (from + (4 + (length (shown n) + 2 + (length es + 1)))); value = block n 0 els }
+      done = unfold closed in ap (λ (q : ℕ). record { end = Ok q; value = block n 0 els }) (omega arith)
 
   -- `miPool(n,..,m)`
   pub multiple_trip : (m : ℕ) → 1 ≤ m → m ≤ instances → drop from text ≡ bytes "miPool" ++ (code "(" ∷ (shown n ++ (code "," ∷ (es ++ (code "," ∷ (shown m ++ (code ")" ∷ rest)))))))
       → ((a : ℕ) → drop a text ≡ es ++ (code "," ∷ (shown m ++ (code ")" ∷ rest))) → Elements a)
-      → pool text from ≡ record { end = At (from + (6 + (length (shown n) + 2 + (length es + (length (shown m) + 2))))); value = block n m els }
+      → pool text from ≡ record { end = Ok (from + (6 + (length (shown n) + 2 + (length es + (length (shown m) + 2))))); value = block n m els }
   multiple_trip m lm um d h =
       pool-at text (bytes "miPool") (code "(" ∷ (shown n ++ (code "," ∷ (es ++ (code "," ∷ (shown m ++ (code ")" ∷ rest))))))) from 2 d (record { some = omega arith; plain = unfold each is_word is_letter is_digit between in refl })
       (sign_stops (code "(") _ (unfold is_sign among in refl)) (unfold pool_word same_bytes if◌then◌or_else◌ in refl) (λ e. omega (arith, e))
@@ -111,8 +111,8 @@ module _ (text rest : List ℕ) (from n : ℕ) (els : List (List ℕ)) (es : Lis
       d₂ : drop a text ≡ es ++ (code "," ∷ (shown m ++ (code ")" ∷ rest)))
       d₂ = behind_number text (es ++ (code "," ∷ (shown m ++ (code ")" ∷ rest)))) (from + 6) (code "(") (code ",") n d₁
 
-      done : closed (passed_to (a + length es + (length (shown m) + 2)) (n ∷ m ∷ [])) els ≡ record { end = At (from + (6 + (length (shown n) + 2 + (length es + (length (shown m) + 2))))); value = block n m els }
-      done = unfold closed in ap (λ (q : ℕ). record { end = At q; value = block n m els }) (omega arith)
+      done : closed (passed_to (a + length es + (length (shown m) + 2)) (n ∷ m ∷ [])) els ≡ record { end = Ok (from + (6 + (length (shown n) + 2 + (length es + (length (shown m) + 2))))); value = block n m els }
+      done = unfold closed in ap (λ (q : ℕ). record { end = Ok q; value = block n m els }) (omega arith)
 
 around : (w num els lim rest : List ℕ) → (w ++ (code "(" ∷ ((num ++ (code "," ∷ (els ++ lim))) ++ (code ")" ∷ [])))) ++ rest ≡ w ++ (code "(" ∷ (num ++ (code "," ∷ (els ++ (lim ++ (code ")" ∷ rest))))))
 around w num els lim rest =
@@ -127,7 +127,7 @@ module _ (t : List ℕ) (p : ℕ) (l : 1 ≤ at t (pool_place p)) (u : at t (poo
     (lc : 0 < element_count t p) (uc : element_count t p ≤ elements) (each-comes : (e : ℕ) → e < element_count t p → Comes element_alone (shown_element (element_at t p e)) (words_at t p e)) where
   -- its elements, behind which stands no bar
   elements_trip : (text rest : List ℕ) (from : ℕ) → drop from text ≡ shown_elements t p ++ rest → opens (code "|") rest ≡ true
-      → elements_at text from ≡ record { end = At (from + length (shown_elements t p)); value = tab (words_at t p) (element_count t p) }
+      → elements_at text from ≡ record { end = Ok (from + length (shown_elements t p)); value = tab (words_at t p) (element_count t p) }
   unfolding elements_at shown_elements
   elements_trip text rest from d o =
       separated_trip element_alone starts_element (element_count t p) elements lc uc (λ e. shown_element (element_at t p e)) (words_at t p) each-comes text rest from misplaced (from + length (shown_elements t p)) d
@@ -159,18 +159,18 @@ module _ (t : List ℕ) (p : ℕ) (l : 1 ≤ at t (pool_place p)) (u : at t (poo
   pool_comes = record { comes = λ text rest from d. go text rest from d (ℕ_discrete (at t (limit_place p)) 0) }
     where
       go : (text rest : List ℕ) (from : ℕ) → drop from text ≡ shown_pool t p ++ rest → Dec (at t (limit_place p) ≡ 0)
-          → pool text from ≡ record { end = At (from + length (shown_pool t p)); value = block (at t (pool_place p)) (at t (limit_place p)) (tab (words_at t p) (element_count t p)) }
+          → pool text from ≡ record { end = Ok (from + length (shown_pool t p)); value = block (at t (pool_place p)) (at t (limit_place p)) (tab (words_at t p) (element_count t p)) }
       go text rest from d (yes e) =
           plain_trip text rest from (at t (pool_place p)) (tab (words_at t p) (element_count t p)) (shown_elements t p) l u (d ∙ text_plain rest e)
           (λ a h. elements_trip text (code ")" ∷ rest) a h (unfold opens is_word is_letter is_digit between is_sign among in refl))
-          ∙ ap (λ (q : ℕ). record { end = At (from + q); value = block (at t (pool_place p)) 0 (tab (words_at t p) (element_count t p)) })
+          ∙ ap (λ (q : ℕ). record { end = Ok (from + q); value = block (at t (pool_place p)) 0 (tab (words_at t p) (element_count t p)) })
           (let z : 4 + (length (shown (at t (pool_place p))) + 2 + (length (shown_elements t p) + 1)) ≡ length (shown_pool t p) =
           omega (arith, length-append (shown_pool t p) [], ap length (text_plain [] e), length-append (shown (at t (pool_place p))) (code "," ∷ (shown_elements t p ++ (code ")" ∷ []))), length-append (shown_elements t p) (code ")" ∷ [])) in z)
-          ∙ ap (λ (k : ℕ). record { end = At (from + length (shown_pool t p)); value = block (at t (pool_place p)) k (tab (words_at t p) (element_count t p)) }) (sym e)
+          ∙ ap (λ (k : ℕ). record { end = Ok (from + length (shown_pool t p)); value = block (at t (pool_place p)) k (tab (words_at t p) (element_count t p)) }) (sym e)
       go text rest from d (no e) =
           multiple_trip text rest from (at t (pool_place p)) (tab (words_at t p) (element_count t p)) (shown_elements t p) l u (at t (limit_place p)) (omega (arith, e)) um (d ∙ text_multiple rest e)
           (λ a h. elements_trip text (code "," ∷ (shown (at t (limit_place p)) ++ (code ")" ∷ rest))) a h (unfold opens is_word is_letter is_digit between is_sign among in refl))
-          ∙ ap (λ (q : ℕ). record { end = At (from + q); value = block (at t (pool_place p)) (at t (limit_place p)) (tab (words_at t p) (element_count t p)) })
+          ∙ ap (λ (q : ℕ). record { end = Ok (from + q); value = block (at t (pool_place p)) (at t (limit_place p)) (tab (words_at t p) (element_count t p)) })
           (let z : 6 + (length (shown (at t (pool_place p))) + 2 + (length (shown_elements t p) + (length (shown (at t (limit_place p))) + 2))) ≡ length (shown_pool t p) =
           omega (
             arith,

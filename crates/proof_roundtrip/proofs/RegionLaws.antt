@@ -5,6 +5,7 @@ use mathlib.Core.Path.{◌≡◌, refl}
 use mathlib.Core.Bool.{Bool, true, false, ◌||◌}
 use lib.Dec.{eqb, leb, ltb}
 use borrow.Author.Tests.{le-leb, lt-ltb, eq-eqb}
+use Rattle.std.proofs.lemmas.Bool.{or_left, or_right}
 use Rattle.base_words.proofs.PickLaws.{and_true}
 use Rattle.base_table.specs.Places.{task_place, mode_place, entries_place, exits_place, condition_place, message_place, assignments_place, element_words}
 use Rattle.proof_roundtrip.specs.Trip.{spans, region_of}
@@ -13,13 +14,6 @@ use Rattle.base_words.specs.Pick.{if◌then◌or_else◌}
 span_in : (from to i : ℕ) → from ≤ i → i < to → spans from to i ≡ true
 unfolding spans
 span_in from to i l u = and_true (leb from i) (ltb i to) (le-leb from i l) (lt-ltb i to u)
-
-or_left : (x y : Bool) → x ≡ true → x || y ≡ true
-or_left x y e = rw e
-
-pub or_right : (x y : Bool) → y ≡ true → x || y ≡ true
-or_right true y e = refl
-or_right false y e = e
 
 module _ (i : ℕ) where
   pub region_entry : entries_place ≤ i → i < exits_place → region_of (code "E") i ≡ true

@@ -12,7 +12,7 @@ use Rattle.base_words.specs.Words.{at, greatest}
 use Rattle.base_words.proofs.PickLaws.{pick_yes, pick_no}
 use Rattle.base_table.specs.Places.{table_words}
 use Rattle.check_limits.specs.Limits.{table_fits}
-use Rattle.text_readers.specs.declared.Read.TheVariants.{At}
+use Rattle.std.specs.declared.result.Result.TheVariants.{Ok}
 use Rattle.check_model.specs.Checks.{Pool, lowest}
 use Rattle.check_lowest.specs.Model.{model_of}
 use Rattle.text_read.specs.Notation.{Got, ReadInto, model, table_of, rewritten, has_room, checked, judged, read_into}
@@ -40,7 +40,7 @@ module _ (t t₀ : List ℕ) (small : (i : ℕ) → at t i ≤ greatest) (fit : 
       ∙ judge
       ∙ ap accepted (table_same t fit long)
     where
-      judge : judged (At (length (shown_table t))) (blocks_of t) t₀ ≡ accepted (table_of (blocks_of t))
+      judge : judged (Ok (length (shown_table t))) (blocks_of t) t₀ ≡ accepted (table_of (blocks_of t))
       judge =
           unfold judged checked in
           sym (pick_yes (eqb (lowest (blocks_of t)) 0) _ _ _ (eq-eqb (lowest (blocks_of t)) 0 (lowest_same t fit ∙ sound)) refl)
@@ -51,7 +51,7 @@ module _ (t t₀ : List ℕ) (small : (i : ℕ) → at t i ≤ greatest) (fit : 
   write_again = ap (λ (r : ReadInto). shown_table r.table) read_back
 
 -- A TABLE THAT WAS READ: it is a table of words, within its limits and with no check broken, so that its text is read back too
-module _ (text : List ℕ) (q : ℕ) (end : (model text).end ≡ At q) (room : each has_room (model text).value ≡ true) where
+module _ (text : List ℕ) (q : ℕ) (end : (model text).end ≡ Ok q) (room : each has_room (model text).value ≡ true) where
   abbrev rs : List Pool
   rs = map rewritten (model text).value
 

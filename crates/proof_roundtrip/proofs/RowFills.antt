@@ -9,6 +9,7 @@ use native.Mathlib.Omega.{arith}
 use lib.Dec.{eqb, leb, ltb}
 use lib.ListN.{length}
 use borrow.Author.Tests.{eqb-true, ltb-true, not-true}
+use Rattle.std.proofs.lemmas.Bool.{or_right, or_cases}
 use Rattle.base_words.specs.All.{all}
 use Rattle.base_words.specs.Pick.{if◌then◌or_else◌}
 use Rattle.base_words.specs.Words.{at}
@@ -23,10 +24,8 @@ use Rattle.text_elements.specs.Elements.{kind_count, parts_from}
 use Rattle.proof_roundtrip.specs.Trip.{spans, region_of}
 use Rattle.proof_roundtrip.proofs.ReadsLaws.{Both}
 use Rattle.proof_roundtrip.proofs.NumberReads.{else_of}
-use Rattle.proof_roundtrip.proofs.TripLaws.{or_either}
 use Rattle.proof_roundtrip.proofs.KindLaws.{of_kind_lem}
 use Rattle.proof_roundtrip.proofs.RowLaws.{listed}
-use Rattle.proof_roundtrip.proofs.RegionLaws.{or_right}
 use Rattle.proof_roundtrip.proofs.PartsReads.{listed_first, listed_later, listed_cases, listed_blank}
 use Rattle.proof_roundtrip.proofs.FillLaws.{Fills, same_words, idle_sign, fills_then, fills_behind, fills_wider, fills_as}
 use Rattle.proof_roundtrip.proofs.PartFills.{test_region, good, suits, fills_part}
@@ -69,11 +68,11 @@ region_inside c i h =
     ⊎_elim (span_below entries_place exits_place i (omega arith)) (λ h.
     ⊎_elim (span_below exits_place (condition_place 0) i (omega arith)) (λ h.
     ⊎_elim
-    (λ n. ⊎_elim (λ e. let q = eqb-true i task_place e in omega (arith, q)) (λ n. ⊎_elim (λ e. let q = eqb-true i mode_place e in omega (arith, q)) (λ n. ⊎_elim (span_below (condition_place 0) (condition_place 1) i (omega arith)) (span_below assignments_place element_words i (omega arith)) (or_either _ _ n)) (or_either _ _ n)) (or_either _ _ n))
+    (λ n. ⊎_elim (λ e. let q = eqb-true i task_place e in omega (arith, q)) (λ n. ⊎_elim (λ e. let q = eqb-true i mode_place e in omega (arith, q)) (λ n. ⊎_elim (span_below (condition_place 0) (condition_place 1) i (omega arith)) (span_below assignments_place element_words i (omega arith)) (or_cases _ _ n)) (or_cases _ _ n)) (or_cases _ _ n))
     (λ h.
     ⊎_elim (span_below (message_place 0) (message_place 1) i (omega arith)) (λ h.
     ⊎_elim (span_below exits_place (message_place 0) i (omega arith)) (λ h.
-    ⊎_elim (span_below exits_place (condition_place 0) i (omega arith)) (span_below (message_place 0) assignments_place i (omega arith)) (or_either _ _ h))
+    ⊎_elim (span_below exits_place (condition_place 0) i (omega arith)) (span_below (message_place 0) assignments_place i (omega arith)) (or_cases _ _ h))
     (arms _ _ _ h)) (arms _ _ _ h)) (arms _ _ _ h)) (arms _ _ _ h)) (arms _ _ _ h)
 
 -- the row from a part on

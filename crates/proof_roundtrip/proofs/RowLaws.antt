@@ -8,11 +8,11 @@ use mathlib.Core.Logic.{◌⊎◌, inl, inr}
 use lib.Dec.{eqb, ltb}
 use lib.ListN.{length}
 use borrow.Author.Tests.{eqb-true}
+use Rattle.std.proofs.lemmas.Bool.{or_cases}
 use Rattle.base_words.specs.All.{all}
 use Rattle.base_words.specs.Pick.{if◌then◌or_else◌}
 use Rattle.base_kinds.specs.Kinds.{kind_of, one, many}
 use Rattle.text_elements.specs.Elements.{kind_count}
-use Rattle.proof_roundtrip.proofs.TripLaws.{or_either}
 use Rattle.proof_roundtrip.proofs.KindLaws.{of_kind_lem}
 
 -- a part's code stands in a row, before its blanks
@@ -55,7 +55,7 @@ either k (c ∷ cs) b = has k c || either k cs b
 
 pub either_of : (k : ℕ) (cs : List ℕ) (b : Bool) → either k cs b ≡ true → Either k cs (b ≡ true)
 either_of k [] b e = e
-either_of k (c ∷ cs) b e = go (or_either (has k c) (either k cs b) e) (either_of k cs b)
+either_of k (c ∷ cs) b e = go (or_cases (has k c) (either k cs b) e) (either_of k cs b)
   where
     go : (has k c ≡ true) ⊎ (either k cs b ≡ true) → (either k cs b ≡ true → Either k cs (b ≡ true)) → Either k (c ∷ cs) (b ≡ true)
     go (inl h) f = inl h

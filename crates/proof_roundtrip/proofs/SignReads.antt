@@ -8,6 +8,7 @@ use mathlib.Core.Logic.{inl, inr}
 use lib.Dec.{eqb}
 use lib.ListN.{drop}
 use borrow.Author.Tests.{eq-eqb, eqb-false, not-true}
+use Rattle.std.proofs.Math.Bool.{or-false}
 use Rattle.base_words.specs.Each.{each}
 use Rattle.base_words.specs.Pick.{if◌then◌or_else◌}
 use Rattle.base_words.specs.Words.{at}
@@ -19,9 +20,8 @@ use Rattle.text_lexer.specs.Lexer.{is_blank, is_word, is_sign, placed, token_her
 use Rattle.base_bytes.specs.Bytes.{is_letter, is_digit, between, among, past}
 use Rattle.text_lexer.proofs.ClassLaws.{among-each, sign_not_word, word_not_blank}
 use Rattle.text_lexer.proofs.TokenLaws.{sign_at_lem, colon_at, assign_at_lem, of_word}
-use Rattle.text_readers.specs.declared.Read.{Read}
-use Rattle.text_readers.specs.declared.Read.TheVariants.{At, Refused}
-use Rattle.text_readers.specs.Reading.{Parsed, Reader, misplaced, if_at, onward, ◌then◌, sign_at, assign_at, sign, assign}
+use Rattle.std.specs.declared.result.Result.TheVariants.{Ok}
+use Rattle.text_readers.specs.Reading.{Read, Refused, Parsed, Reader, misplaced, if_at, onward, ◌then◌, sign_at, assign_at, sign, assign}
 use Rattle.proof_roundtrip.specs.Trip.{may_follow, may_close, ends}
 use Rattle.proof_roundtrip.proofs.ReadsLaws.{Reads, anything, Nowhere, onto_same, reads_as, reads_then, reads_wider}
 
@@ -46,26 +46,26 @@ opens_on s (b ∷ w) rest e = e
 
 -- THE SIGN AT A PLACE
 module _ (text : List ℕ) (from : ℕ) where
-  by_sign : (s b p q : ℕ) → token_at text from ≡ placed (Sign b) p q → sign_at s text from ≡ (if eqb b s then At q or_else Refused misplaced p)
+  by_sign : (s b p q : ℕ) → token_at text from ≡ placed (Sign b) p q → sign_at s text from ≡ (if eqb b s then Ok q or_else Refused misplaced p)
   unfolding sign_at if_sign
-  by_sign s b p q e = ap (λ (k : Token). if_sign k.form (λ c. if eqb c s then At k.next or_else Refused misplaced k.at) (Refused misplaced k.at)) e
+  by_sign s b p q e = ap (λ (k : Token). if_sign k.form (λ c. if eqb c s then Ok k.next or_else Refused misplaced k.at) (Refused misplaced k.at)) e
 
   by_word : (s p q : ℕ) → token_at text from ≡ placed Word p q → sign_at s text from ≡ Refused misplaced p
   unfolding sign_at if_sign
-  by_word s p q e = ap (λ (k : Token). if_sign k.form (λ c. if eqb c s then At k.next or_else Refused misplaced k.at) (Refused misplaced k.at)) e
+  by_word s p q e = ap (λ (k : Token). if_sign k.form (λ c. if eqb c s then Ok k.next or_else Refused misplaced k.at) (Refused misplaced k.at)) e
 
-  pub sign_hit : (s : ℕ) (rest : List ℕ) → drop from text ≡ s ∷ rest → is_sign s ≡ true → sign_at s text from ≡ At (from + 1)
+  pub sign_hit : (s : ℕ) (rest : List ℕ) → drop from text ≡ s ∷ rest → is_sign s ≡ true → sign_at s text from ≡ Ok (from + 1)
   sign_hit s rest d e = by_sign s s from (from + 1) (sign_at_lem text from s rest d e) ∙ sym (pick_yes (eqb s s) _ _ _ (eq-eqb s s refl) refl)
 
-  pub colon_hit : (rest : List ℕ) → drop from text ≡ 58 ∷ rest → unequal rest ≡ true → sign_at 58 text from ≡ At (from + 1)
+  pub colon_hit : (rest : List ℕ) → drop from text ≡ 58 ∷ rest → unequal rest ≡ true → sign_at 58 text from ≡ Ok (from + 1)
   unfolding unequal
   colon_hit rest d e =
       by_sign 58 58 from (from + 1) (colon_at text from rest d (eqb-false (at rest 0) 61 (not-true (eqb (at rest 0) 61) e)))
       ∙ sym (pick_yes (eqb 58 58) _ _ _ refl refl)
 
-  pub assign_hit : (rest : List ℕ) → drop from text ≡ 58 ∷ 61 ∷ rest → assign_at text from ≡ At (from + 2)
+  pub assign_hit : (rest : List ℕ) → drop from text ≡ 58 ∷ 61 ∷ rest → assign_at text from ≡ Ok (from + 2)
   unfolding assign_at if_assign
-  assign_hit rest d = ap (λ (k : Token). if_assign k.form (At k.next) (Refused misplaced k.at)) (assign_at_lem text from rest d)
+  assign_hit rest d = ap (λ (k : Token). if_assign k.form (Ok k.next) (Refused misplaced k.at)) (assign_at_lem text from rest d)
 
   word_begins : (b : ℕ) (rest : List ℕ) → drop from text ≡ b ∷ rest → is_word b ≡ true → token_at text from ≡ placed Word from (past is_word rest (from + 1))
   unfolding token_at token_here
@@ -131,17 +131,13 @@ closers = 41 ∷ 125 ∷ 62 ∷ []
 abbrev closings : List ℕ
 closings = 44 ∷ closers
 
-or_false : (b : Bool) → b || false ≡ b
-or_false true = refl
-or_false false = refl
-
 shuts_among : (b : ℕ) (r : List ℕ) → shuts (b ∷ r) ≡ among closers b
 unfolding shuts among
-shuts_among b r = rw (or_false (eqb b 62))
+shuts_among b r = rw (or-false (eqb b 62))
 
 closes_among : (b : ℕ) (r : List ℕ) → may_close (b ∷ r) ≡ among closings b
 unfolding may_close among
-closes_among b r = rw (or_false (eqb b 62))
+closes_among b r = rw (or-false (eqb b 62))
 
 abbrev opening : ℕ → ℕ → Bool
 opening s b = is_word b || (is_sign b && not (eqb b s))

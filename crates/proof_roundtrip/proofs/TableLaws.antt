@@ -8,6 +8,7 @@ use native.Mathlib.Numerals.{add-one}
 use native.Mathlib.Omega.{arith}
 use lib.ListN.{length, take, drop, replicate, length-drop, length-replicate, get_or-replicate}
 use lib.Seq.{take_all, take-add, drop-cons, drop-drop, get_or-take, get_or-drop, length-take-le, ext_get_or}
+use Rattle.std.proofs.lemmas.List.{map-append}
 use Rattle.base_words.specs.Counts.{pools, elements}
 use Rattle.base_words.specs.Each.{tab}
 use Rattle.base_words.specs.Words.{at}
@@ -40,14 +41,10 @@ unfolding tab
 tab_ext f g zero h = refl
 tab_ext f g (suc n) h = ap₂ (λ l x. l ++ (x ∷ [])) (tab_ext f g n (λ k l. h k (omega (arith, l)))) (h n (omega arith))
 
-map_append : {A B : Type 0} (f : A → B) (xs ys : List A) → map f (xs ++ ys) ≡ map f xs ++ map f ys
-map_append f [] ys = refl
-map_append f (x ∷ xs) ys = ap (λ l. f x ∷ l) (map_append f xs ys)
-
 pub map-tab : {A B : Type 0} (f : A → B) (g : ℕ → A) (n : ℕ) → map f (tab g n) ≡ tab (λ k. f (g k)) n
 unfolding tab
 map-tab f g zero = refl
-map-tab f g (suc n) = map_append f (tab g n) (g n ∷ []) ∙ ap (λ l. l ++ (f (g n) ∷ [])) (map-tab f g n)
+map-tab f g (suc n) = map-append f (tab g n) (g n ∷ []) ∙ ap (λ l. l ++ (f (g n) ∷ [])) (map-tab f g n)
 
 -- words of which the last are 0
 pub filled_up : (l : List ℕ) (k n : ℕ) → k ≤ n → n ≤ length l → ((i : ℕ) → k ≤ i → i < n → at l i ≡ 0) → filled n (take k l) ≡ take n l

@@ -7,6 +7,7 @@ use mathlib.Core.Logic.{◌⊎◌, inl, inr}
 use lib.Dec.{eqb}
 use lib.ListN.{drop}
 use borrow.Author.Tests.{eqb-true}
+use Rattle.std.proofs.lemmas.Bool.{or_cases}
 use Rattle.base_words.specs.Words.{at}
 use Rattle.base_table.specs.Places.{element_words}
 use Rattle.text_lexer.specs.Lexer.{is_sign}
@@ -19,11 +20,6 @@ use Rattle.proof_roundtrip.proofs.SignReads.{unequal, reads_sign, reads_colon, r
 -- no word
 abbrev pub nowhere : ℕ → Bool
 nowhere i = false
-
--- one of the two
-pub or_either : (a b : Bool) → a || b ≡ true → (a ≡ true) ⊎ (b ≡ true)
-or_either true b e = inl refl
-or_either false b e = inr e
 
 module _ {el : List ℕ} where
   -- the same text, otherwise written; less may follow; further words of el that are 0; a reader that does the same here
@@ -44,7 +40,7 @@ module _ {el : List ℕ} where
   -- one reader after the other
   pub trip_then : {f g : Reader} {w v : List ℕ} {F G : List ℕ → Bool} {r s : ℕ → Bool}
       → Trip el f w F r → Trip el g v G s → ((rest : List ℕ) → G rest ≡ true → F (v ++ rest) ≡ true) → Trip el (f then g) (w ++ v) G (λ i. r i || s i)
-  trip_then {f} {g} {w} {v} {F} {G} {r} {s} a b h = trip_of (λ i e. inl (or_either (r i) (s i) e)) (reads_then (reads_of a) (reads_of b) h)
+  trip_then {f} {g} {w} {v} {F} {G} {r} {s} a b h = trip_of (λ i e. inl (or_cases (r i) (s i) e)) (reads_then (reads_of a) (reads_of b) h)
 
   -- nothing; a word stored; a sign; `:` and `:=`
   pub trip_nothing : Trip el nothing [] anything nowhere

@@ -22,8 +22,7 @@ use Rattle.text_lexer.specs.Lexer.{is_blank, is_word, is_sign, token_of, token_h
 use Rattle.base_bytes.specs.Bytes.{among, between, is_letter, is_digit, past}
 use Rattle.text_numerals.specs.Numerals.{value_from, leading_zero, number_of, is_field_letter, field_behind, field_from, field_of, as_number, as_field, operand_of}
 use Rattle.base_bytes.specs.Bytes.{same_bytes}
-use Rattle.text_readers.specs.declared.Read.TheVariants.{Refused}
-use Rattle.text_readers.specs.Reading.{if_at, onward, ◌then◌, sign_at, assign_at, keep_number, number, field, keep_operand, operand, mode_named, keep_mode, mode}
+use Rattle.text_readers.specs.Reading.{Refused, if_at, onward, ◌then◌, sign_at, assign_at, keep_number, number, field, keep_operand, operand, mode_named, keep_mode, mode}
 use Rattle.text_parts.specs.Parts.{condition, task_part, part_of}
 use Rattle.write_decimals.specs.Decimals.{shown_from, shown}
 use Rattle.write_shown.specs.Shown.{lead, separated, shown_field, shown_operand, shown_pair, shown_expression, shown_condition, shown_mode, shown_assignment, shown_assignments, shown_task, shown_part}

@@ -9,6 +9,7 @@ use native.Mathlib.Omega.{arith}
 use lib.Dec.{eqb, leb, ltb}
 use lib.ListN.{length, length-map}
 use borrow.Author.Tests.{eqb-true, eq-eqb, ltb-true, ltb-false}
+use Rattle.std.proofs.lemmas.Bool.{not-false}
 use Rattle.base_words.specs.All.{all}
 use Rattle.base_words.specs.Counts.{pools, elements, pool_numbers, instances}
 use Rattle.base_words.specs.Each.{each, joined}
@@ -24,7 +25,7 @@ use Rattle.base_kinds.specs.Kinds as kinds
 use Rattle.check_limits.specs.Limits.{element_fits}
 use Rattle.check_model.specs.Checks.{Pool}
 use Rattle.text_passes.proofs.FillLaws.{AtMost, none, some, Block, Fits}
-use Rattle.text_readers.specs.declared.Read.TheVariants.{At}
+use Rattle.std.specs.declared.result.Result.TheVariants.{Ok}
 use Rattle.text_read.specs.Notation.{element_alone, pool, model}
 use Rattle.write_decimals.specs.Decimals.{shown}
 use Rattle.write_shown.specs.Shown.{enclosed_by, shown_element}
@@ -41,7 +42,7 @@ use Rattle.draw_read.proofs.RoomLaws.{content_fits}
 use Rattle.proof_roundtrip.proofs.EndModels.{Every, Right}
 use Rattle.proof_roundtrip.proofs.BarLaws.{Comes}
 use Rattle.proof_map.proofs.Picked.{as_many}
-use Rattle.proof_drawings.proofs.TestLaws.{and_then, or_left, or_right, not-not}
+use Rattle.proof_drawings.proofs.TestLaws.{and_then, or_left, or_right}
 use Rattle.proof_drawings.proofs.SettledLaws.{Settled}
 use Rattle.proof_drawings.proofs.KindShapes.{branch_out}
 use Rattle.proof_drawings.proofs.Fitting.{drawing_few, never_unfit}
@@ -145,7 +146,7 @@ module _ (t w : List ℕ) (n : ℕ) (drawn : is_drawing t w n ≡ true) (beyond 
       c = target w j
 
       is_branch : is_of_kind branch w (target w j) ≡ true
-      is_branch = not-not (is_of_kind branch w (target w j)) (unfold is_wrong_branch in and_then (is_of_kind kinds.event_based w (source w j)) _ g (and_then (of_sort sequence_flow w j) _ s (right_branch j l)))
+      is_branch = not-false (is_of_kind branch w (target w j)) (unfold is_wrong_branch in and_then (is_of_kind kinds.event_based w (source w j)) _ g (and_then (of_sort sequence_flow w j) _ s (right_branch j l)))
 
       low : target w j < n
       low = settled.targets j l (unfold of_sort in eqb-true (sort w j) sequence_flow s)
@@ -265,7 +266,7 @@ module _ (t w : List ℕ) (n : ℕ) (drawn : is_drawing t w n ≡ true) (beyond 
             (λ k l. pairs_one Reading (is_pool owned w k) (pool_text D (1 + count_before (is_pool owned w) k) (participant_at owned t w n k)) (pool_drawn owned t w n k) (pool_reads k l))
 
     -- THE LAW
-    pub content_read : model (spell D) ≡ record { end = At (length (spell D)); value = content t w n }
+    pub content_read : model (spell D) ≡ record { end = Ok (length (spell D)); value = content t w n }
     unfolding spell
     content_read =
         let long = pairs_long (Comes pool) (pools_from D 1 D.participants) (content t w n) pools_pair in

@@ -7,6 +7,7 @@ use native.Mathlib.Omega.{arith}
 use lib.Dec.{eqb, leb, ltb}
 use lib.ListN.{length}
 use borrow.Author.Tests.{eqb-true, leb-true, le-leb}
+use Rattle.base_words.proofs.AllLaws.{and_left}
 use Rattle.base_words.specs.Each.{joined, those}
 use Rattle.base_words.specs.Pick.{if◌then◌or_else◌}
 use Rattle.base_words.specs.Seek.{seek}
@@ -42,10 +43,6 @@ either_one : (a b : Bool) → (a ≡ true → b ≡ false) → one_if (a || b) �
 either_one true b h = (let z : 1 ≡ 1 + one_if b = omega (arith, ap one_if (h refl)) in z)
 either_one false true h = refl
 either_one false false h = refl
-
-and_first : (a b : Bool) → a && b ≡ true → a ≡ true
-and_first true b e = refl
-and_first false b e = e
 
 none_both : (b c d : Bool) → ((false && b) && c) && d ≡ false
 none_both b c d = refl
@@ -147,7 +144,7 @@ module _ (t w : List ℕ) (n : ℕ) (few : n ≤ room) where
       apart : (i : ℕ) → is_edge p w i ≡ true → is_start p w i && ltb i k ≡ false
       apart i e =
           unfold is_start is_of_kind is_node in
-          let s : sort w i ≡ sequence_flow = unfold is_edge of_sort in eqb-true (sort w i) sequence_flow (and_first (eqb (sort w i) sequence_flow) _ e) in
+          let s : sort w i ≡ sequence_flow = unfold is_edge of_sort in eqb-true (sort w i) sequence_flow (and_left (eqb (sort w i) sequence_flow) _ e) in
           ap (λ (c : ℕ). (((leb 12 c && leb c 21) && eqb (kind w i) kinds.start) && eqb (within w i) p) && ltb i k) s
 
   pub first_is : (k : ℕ) → first_edge d (node_at w k) ≡ shown (first_edge_of w n k)

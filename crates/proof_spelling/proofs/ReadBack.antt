@@ -21,9 +21,8 @@ use Rattle.text_lexer.specs.declared.Form.TheVariants.{End}
 use Rattle.text_lexer.specs.Lexer.{is_word, is_sign, is_blank, placed, token_at, if_sign, if_end}
 use Rattle.base_bytes.specs.Bytes.{is_letter, is_digit, among, between as amidst}
 use Rattle.text_lexer.proofs.TokenLaws.{left_at, end_at_lem}
-use Rattle.text_readers.specs.declared.Read.{Read}
-use Rattle.text_readers.specs.declared.Read.TheVariants.{At, Refused}
-use Rattle.text_readers.specs.Reading.{Parsed, misplaced, passed_to, if_at, sign_at, end_at}
+use Rattle.std.specs.declared.result.Result.TheVariants.{Ok}
+use Rattle.text_readers.specs.Reading.{Read, Refused, Parsed, misplaced, passed_to, if_at, sign_at, end_at}
 use Rattle.text_elements.specs.Elements.{starts_element, element}
 use Rattle.text_read.specs.Notation.{Got, no_pool, barred, element_alone, elements_at, pool, starts_pool, pools_at, model}
 use Rattle.write_decimals.specs.Decimals.{shown}
@@ -80,12 +79,12 @@ tab_of (x ∷ xs) d = tab_front (λ j. get_or (x ∷ xs) j d) (length xs) ∙ ap
 -- PIECES WITH BARS BETWEEN THEM
 pub barred_read : {A : Type 0} (thing : List ℕ → ℕ → Got A) (starting : List ℕ → ℕ → Bool) (xs : List (List ℕ)) (vs : List A) (e : A) (m : ℕ) → Pairs (Comes thing) xs vs → 0 < length xs → length xs ≤ m
     → (text rest : List ℕ) (from a b : ℕ) → drop from text ≡ parted (code "|") xs ++ rest → sign_at (code "|") text (from + length (parted (code "|") xs)) ≡ Refused a b
-    → barred thing starting m text from ≡ record { end = At (from + length (parted (code "|") xs)); value = vs }
+    → barred thing starting m text from ≡ record { end = Ok (from + length (parted (code "|") xs)); value = vs }
 barred_read {A} thing starting xs vs e m p l h text rest from a b d s =
     separated_trip thing starting (length xs) m l h (λ i. get_or xs i []) (λ i. get_or vs i e) (λ j u. pairs_at (Comes thing) xs vs [] e j p u) text rest from a b
     (d ∙ ap (λ (w : List ℕ). w ++ rest) (sym same)) (ap (λ (w : List ℕ). sign_at (code "|") text (from + length w)) same ∙ s)
-    ∙ ap (λ (w : List ℕ). record { end = At (from + length w); value = tab (λ i. get_or vs i e) (length xs) }) same
-    ∙ ap (λ (v : List A). record { end = At (from + length (parted (code "|") xs)); value = v }) (ap (tab (λ i. get_or vs i e)) (pairs_long (Comes thing) xs vs p) ∙ tab_of vs e)
+    ∙ ap (λ (w : List ℕ). record { end = Ok (from + length w); value = tab (λ i. get_or vs i e) (length xs) }) same
+    ∙ ap (λ (v : List A). record { end = Ok (from + length (parted (code "|") xs)); value = v }) (ap (tab (λ i. get_or vs i e)) (pairs_long (Comes thing) xs vs p) ∙ tab_of vs e)
   where
     same : separated (code "|") (λ i. get_or xs i []) (length xs) ≡ parted (code "|") xs
     same = separated-parted (code "|") xs
@@ -102,7 +101,7 @@ element_comes el r = record { comes = λ text rest from d. alone text from (leng
         element_trip el r.small r.fits text rest (replicate element_words 0) from d (length-replicate {A = ℕ} element_words 0) (omega (arith, r.long))
         ∙ ap (passed_to (from + length (shown_element el))) whole
 
-    alone : (text : List ℕ) (from n : ℕ) → element text from (replicate element_words 0) ≡ passed_to (from + n) el → element_alone text from ≡ record { end = At (from + n); value = el }
+    alone : (text : List ℕ) (from n : ℕ) → element text from (replicate element_words 0) ≡ passed_to (from + n) el → element_alone text from ≡ record { end = Ok (from + n); value = el }
     alone text from n e = unfold element_alone in ap (λ (r : Parsed). record { end = r.end; value = r.words }) e
 
 -- A POOL, by its elements
@@ -110,7 +109,7 @@ module _ (xs els : List (List ℕ)) (p : Pairs (Comes element_alone) xs els) (so
   abbrev inside : List ℕ
   inside = parted (code "|") xs
 
-  elements_read : (text rest : List ℕ) (from : ℕ) → drop from text ≡ inside ++ rest → opens (code "|") rest ≡ true → elements_at text from ≡ record { end = At (from + length inside); value = els }
+  elements_read : (text rest : List ℕ) (from : ℕ) → drop from text ≡ inside ++ rest → opens (code "|") rest ≡ true → elements_at text from ≡ record { end = Ok (from + length inside); value = els }
   unfolding elements_at
   elements_read text rest from d o =
       barred_read element_alone starts_element xs els [] elements p some most text rest from misplaced (from + length inside) d (sign_miss text (from + length inside) 124 rest (left_at text from inside rest d) o)
@@ -129,10 +128,10 @@ module _ (xs els : List (List ℕ)) (p : Pairs (Comes element_alone) xs els) (so
       far : 4 + (length (shown i) + 2 + (length inside + 1)) ≡ length plain_text
       far = omega (arith, length-append plain_text [], ap length (plain_opened []), length-append (shown i) (code "," ∷ (inside ++ (code ")" ∷ []))), length-append inside (code ")" ∷ []))
 
-      go : (text rest : List ℕ) (from : ℕ) → drop from text ≡ plain_text ++ rest → pool text from ≡ record { end = At (from + length plain_text); value = record { number = i; limit = 0; elements = els } }
+      go : (text rest : List ℕ) (from : ℕ) → drop from text ≡ plain_text ++ rest → pool text from ≡ record { end = Ok (from + length plain_text); value = record { number = i; limit = 0; elements = els } }
       go text rest from d =
           plain_trip text rest from i els inside low high (d ∙ plain_opened rest) (λ a h. elements_read text (code ")" ∷ rest) a h (unfold opens is_word is_letter is_digit amidst is_sign among in refl))
-          ∙ ap (λ (q : ℕ). record { end = At (from + q); value = record { number = i; limit = 0; elements = els } }) far
+          ∙ ap (λ (q : ℕ). record { end = Ok (from + q); value = record { number = i; limit = 0; elements = els } }) far
 
   module _ (m : ℕ) (lm : 1 ≤ m) (um : m ≤ instances) where
     abbrev many_text : List ℕ
@@ -159,11 +158,11 @@ module _ (xs els : List (List ℕ)) (p : Pairs (Comes element_alone) xs els) (so
               length-append (shown m) (code ")" ∷ []),
             )
 
-        go : (text rest : List ℕ) (from : ℕ) → drop from text ≡ many_text ++ rest → pool text from ≡ record { end = At (from + length many_text); value = record { number = i; limit = m; elements = els } }
+        go : (text rest : List ℕ) (from : ℕ) → drop from text ≡ many_text ++ rest → pool text from ≡ record { end = Ok (from + length many_text); value = record { number = i; limit = m; elements = els } }
         go text rest from d =
             multiple_trip text rest from i els inside low high m lm um (d ∙ many_opened rest)
             (λ a h. elements_read text (code "," ∷ (shown m ++ (code ")" ∷ rest))) a h (unfold opens is_word is_letter is_digit amidst is_sign among in refl))
-            ∙ ap (λ (q : ℕ). record { end = At (from + q); value = record { number = i; limit = m; elements = els } }) far
+            ∙ ap (λ (q : ℕ). record { end = Ok (from + q); value = record { number = i; limit = m; elements = els } }) far
 
 -- THE TEXT WHOLE
 module _ (xs : List (List ℕ)) (ps : List Pool) (p : Pairs (Comes pool) xs ps) (some : 0 < length xs) (most : length xs ≤ pools) where
@@ -178,19 +177,19 @@ module _ (xs : List (List ℕ)) (ps : List Pool) (p : Pairs (Comes pool) xs ps) 
 
   no_bar : sign_at (code "|") whole (length body) ≡ Refused misplaced (length whole)
   unfolding sign_at if_sign
-  no_bar = ap (λ (k : Token). if_sign k.form (λ c. if eqb c (code "|") then At k.next or_else Refused misplaced k.at) (Refused misplaced k.at)) ending
+  no_bar = ap (λ (k : Token). if_sign k.form (λ c. if eqb c (code "|") then Ok k.next or_else Refused misplaced k.at) (Refused misplaced k.at)) ending
 
-  the_end : end_at whole (length body) ≡ At (length whole)
+  the_end : end_at whole (length body) ≡ Ok (length whole)
   unfolding end_at if_end
-  the_end = ap (λ (k : Token). if_end k.form (At k.next) (Refused misplaced k.at)) ending
+  the_end = ap (λ (k : Token). if_end k.form (Ok k.next) (Refused misplaced k.at)) ending
 
-  pools_read : pools_at whole 0 ≡ record { end = At (length body); value = ps }
+  pools_read : pools_at whole 0 ≡ record { end = Ok (length body); value = ps }
   unfolding pools_at
   pools_read =
       barred_read pool starts_pool xs ps no_pool pools p some most whole (code "\n" ∷ []) 0 misplaced (length whole) refl (ap (sign_at (code "|") whole) (zero-add (length body)) ∙ no_bar)
-      ∙ ap (λ (q : ℕ). record { end = At q; value = ps }) (zero-add (length body))
+      ∙ ap (λ (q : ℕ). record { end = Ok q; value = ps }) (zero-add (length body))
 
-  pub whole_read : model whole ≡ record { end = At (length whole); value = ps }
+  pub whole_read : model whole ≡ record { end = Ok (length whole); value = ps }
   unfolding model if_at
   whole_read =
       ap (λ (g : Got (List Pool)). record { end = if_at g.end (end_at whole) g.end; value = g.value }) pools_read

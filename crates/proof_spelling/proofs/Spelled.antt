@@ -1,5 +1,7 @@
 -- THE THEOREM OF THE WISH, without going through the code: "an accepted drawing gives the table that the notation text with the same content gives". Where neither 1, 20, 21 nor 3 is due and every pool has an element,
 -- `draw` and `read` of the spelled text agree in number, in the check beside 4 and in the table. Assumes nothing.
+use Rattle.xml_skip.specs.Skipping.{Reached}
+use Rattle.std.specs.Prelude.{Ok, Err}
 use Prim.Native.Nat.{ℕ, suc, ◌≤◌, ◌<◌}
 use mathlib.Core.Path.{◌≡◌, refl, sym, ◌∙◌, ap, subst}
 use mathlib.Core.Bool.{Bool, true, false, not}
@@ -13,11 +15,9 @@ use Rattle.base_words.specs.Pick.{if◌then◌or_else◌}
 use Rattle.base_words.proofs.PickLaws.{pick_no}
 use Rattle.check_model.specs.Checks.{Pool, lowest}
 use Rattle.text_readers.specs.Reading.{excessive}
-use Rattle.text_readers.specs.declared.Read.TheVariants.{At}
+use Rattle.std.specs.declared.result.Result.TheVariants.{Ok}
 use Rattle.text_read.specs.declared.Reading.{Reading}
 use Rattle.text_read.specs.Notation.{Got, ReadInto, model, table_of, rewritten, has_room, checked, answer_for, judged as judgedText, read_into}
-use Rattle.xml_skip.specs.declared.Reached.{Reached}
-use Rattle.xml_skip.specs.declared.Reached.TheVariants.{Past, Fault}
 use Rattle.draw_walk.specs.Walk.{Walk}
 use Rattle.draw_faults.specs.Amiss.{is_drawing}
 use Rattle.draw_limits.specs.Excess.{first_beyond, beyond_at}
@@ -58,18 +58,18 @@ answered-judged text = go (ltb drawing_most (length text)) (walked_text text).en
   where
     go : (b : Bool) (e : Reached) → ((given text b e).number ≡ too_long → ⊥) → ((given text b e).number ≡ not_xml → ⊥) → ((given text b e).number ≡ not_run → ⊥) → ((given text b e).number ≡ excessive → ⊥) → Judged text (things_of text) (walked_text text).count (given text b e)
     go true e no-1 no-20 no-21 no-3 = absurd (no-1 (unfold if◌then◌or_else◌ in refl))
-    go false (Past q) no-1 no-20 no-21 no-3 = unfold if◌then◌or_else◌ unless_fault in meant_judged text (things_of text) (walked_text text).count no-21 no-3
-    go false (Fault q) no-1 no-20 no-21 no-3 = absurd (no-20 (unfold if◌then◌or_else◌ unless_fault in refl))
+    go false (Ok q) no-1 no-20 no-21 no-3 = unfold if◌then◌or_else◌ unless_fault in meant_judged text (things_of text) (walked_text text).count no-21 no-3
+    go false (Err q) no-1 no-20 no-21 no-3 = absurd (no-20 (unfold if◌then◌or_else◌ unless_fault in refl))
 
 -- the same of a text that is walked to its end, of a drawing in which nothing is amiss or beyond
-pub passed_judged : (text : List ℕ) (q : ℕ) → ltb drawing_most (length text) ≡ false → (walked_text text).end ≡ Past q → is_drawing text (things_of text) (walked_text text).count ≡ true
+pub passed_judged : (text : List ℕ) (q : ℕ) → ltb drawing_most (length text) ≡ false → (walked_text text).end ≡ Ok q → is_drawing text (things_of text) (walked_text text).count ≡ true
     → ltb (first_beyond text (things_of text) (walked_text text).count) (walked_text text).count ≡ false → Judged text (things_of text) (walked_text text).count (answered text)
 passed_judged text q l e d b = record { drawn = d; beyond = b; is = whole ∙ ap (λ (s : Reached). unless_fault s (meant_by text (things_of text) (walked_text text).count)) e ∙ walked_on ∙ meant }
   where
     whole : answered text ≡ unless_fault (walked_text text).end (meant_by text (things_of text) (walked_text text).count)
     whole = unfold answered in sym (pick_no (ltb drawing_most (length text)) _ _ _ l refl)
 
-    walked_on : unless_fault (Past q) (meant_by text (things_of text) (walked_text text).count) ≡ meant_by text (things_of text) (walked_text text).count
+    walked_on : unless_fault (Ok q) (meant_by text (things_of text) (walked_text text).count) ≡ meant_by text (things_of text) (walked_text text).count
     walked_on = unfold unless_fault in refl
 
     meant : meant_by text (things_of text) (walked_text text).count ≡ checked_as (content text (things_of text) (walked_text text).count)
@@ -102,7 +102,7 @@ module _ (text t : List ℕ) where
 
   module _ (due : Judged text (things_of text) (walked_text text).count (answered text)) (full : Full) where
     -- its text is read as the model that it means, and is not too long
-    spelled_model : model (spell D) ≡ record { end = At (length (spell D)); value = content text (things_of text) (walked_text text).count }
+    spelled_model : model (spell D) ≡ record { end = Ok (length (spell D)); value = content text (things_of text) (walked_text text).count }
     unfolding collaboration_of
     spelled_model = content_read text (things_of text) (walked_text text).count due.drawn due.beyond (things_settled text (drawing_few text (things_of text) (walked_text text).count due.drawn)) (things_placed text) full
 
@@ -118,7 +118,7 @@ module _ (text t : List ℕ) where
         ∙ judge
         ∙ ap (λ (a : Reading). filled_by a (content text (things_of text) (walked_text text).count) t) (sym due.is)
       where
-        judge : judgedText (At (length (spell D))) (content text (things_of text) (walked_text text).count) t ≡ filled_by (checked_as (content text (things_of text) (walked_text text).count)) (content text (things_of text) (walked_text text).count) t
+        judge : judgedText (Ok (length (spell D))) (content text (things_of text) (walked_text text).count) t ≡ filled_by (checked_as (content text (things_of text) (walked_text text).count)) (content text (things_of text) (walked_text text).count) t
         judge = unfold judgedText in checked_same (content text (things_of text) (walked_text text).count) t
 
   -- THE THEOREM

@@ -8,6 +8,7 @@ use lib.Dec.{eqb, leb, ltb}
 use lib.ListN.{set, drop}
 use lib.Seq.{set-get_or}
 use borrow.Author.Tests.{eqb-true, eqb-false, ltb-true, leb-false}
+use Rattle.std.specs.Prelude.{None, Some}
 use Rattle.base_words.specs.Pick.{if◌then◌or_else◌}
 use Rattle.base_words.specs.Words.{at}
 use Rattle.base_words.specs.Counts.{values, assignments, count_most, fields_named}
@@ -18,8 +19,7 @@ use Rattle.base_table.specs.Places.{assigned_in, left_place, operand_number}
 use Rattle.base_table.specs.Table.{task_in, entry_count, exit_count, entry_at, exit_at, item_at, assignment_count, assignment_at}
 use Rattle.base_state.specs.Places.{token_place, active_place, ready_place, defined_place}
 use Rattle.base_state.specs.Instances.{with_field}
-use Rattle.meaning.specs.declared.Value.{Value}
-use Rattle.meaning.specs.declared.Value.TheVariants.{Undefined, Number}
+use Rattle.meaning.specs.Values.{Value}
 use Rattle.meaning.specs.declared.Tuple.{Tuple}
 use Rattle.meaning.specs.Tuples.{value_of}
 use Rattle.meaning.specs.Expressions.{expression_of}
@@ -72,8 +72,8 @@ module _ (u el : List ℕ) where
   module _ (right : (j : ℕ) → j < assignment_count el → at (assignment_at el j) 0 < fields_named) where
     fit_value : (h : List ℕ) (d : ℕ) (v : Value) → d < fields_named → Fit u h → Fit u (assigned_value h d v).instance
     unfolding assigned_value
-    fit_value h d (Number v) l f = fit_field u h d v l f
-    fit_value h d Undefined l f = f
+    fit_value h d (Some v) l f = fit_field u h d v l f
+    fit_value h d None l f = f
 
     fit_assign : (j : ℕ) (y : Assigned) → Fit u y.instance → Fit u (assign_one el j y).instance
     unfolding assign_one

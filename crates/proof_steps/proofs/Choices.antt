@@ -1,7 +1,6 @@
 -- A choice, by its test. Assumes nothing.
 use mathlib.Core.Path.{◌≡◌, refl, sym, ◌∙◌}
-use mathlib.Core.Bool.{Bool, true, false, ◌||◌}
-use mathlib.Core.Logic.{◌⊎◌, inl, inr}
+use mathlib.Core.Bool.{Bool, true, false}
 use Rattle.base_words.specs.Pick.{if◌then◌or_else◌}
 
 pub by_test : {C : Type 0} (b : Bool) → (b ≡ true → C) → (b ≡ false → C) → C
@@ -29,15 +28,3 @@ chosen_true b x y h e = sym (chosen b x y e) ∙ h
 
 pub passed_true : (b x y : Bool) → (if b then x or_else y) ≡ true → b ≡ false → y ≡ true
 passed_true b x y h e = sym (passed b x y e) ∙ h
-
--- of one or the other
-pub or_left : (a c : Bool) → a ≡ true → a || c ≡ true
-or_left a c e = rw e
-
-pub or_right : (a c : Bool) → c ≡ true → a || c ≡ true
-or_right true c e = refl
-or_right false c e = e
-
-pub or_either : (a c : Bool) → a || c ≡ true → (a ≡ true) ⊎ (c ≡ true)
-or_either true c e = inl refl
-or_either false c e = inr e

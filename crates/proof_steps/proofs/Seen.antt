@@ -5,7 +5,6 @@ use mathlib.Core.List.{List, ◌++◌}
 use native.Mathlib.Omega.{arith}
 use lib.ListN.{length, length-append, get_or-append}
 use lib.Seq.{get_or-append-add}
-use Rattle.base_words.specs.Each.{tab}
 use Rattle.base_words.specs.Words.{at}
 use Rattle.base_words.proofs.ListLaws.{length-tab, get_d_tab}
 use Rattle.base_state.specs.Places.{instance_words, shared_words, shared_place, copy_words}

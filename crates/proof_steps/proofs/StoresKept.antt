@@ -1,5 +1,5 @@
 -- Only a step whose element binds or assigns a store changes it. Assumes nothing.
-use Prim.Native.Nat.{ℕ, ◌+◌, ◌-◌, ◌*◌, ◌<◌}
+use Prim.Native.Nat.{ℕ, ◌+◌, ◌*◌, ◌<◌}
 use mathlib.Core.Path.{◌≡◌, refl, ◌∙◌, ap}
 use mathlib.Core.Bool.{true}
 use mathlib.Core.List.{List, ◌++◌}
@@ -8,6 +8,7 @@ use lib.Dec.{eqb, leb}
 use lib.ListN.{length, set, drop, replicate, length-replicate}
 use lib.Seq.{get_or-set_other}
 use borrow.Author.Tests.{eqb-true, leb-false}
+use Rattle.std.specs.Prelude.{None, Some}
 use Rattle.base_words.specs.Words.{at}
 use Rattle.base_words.specs.Counts.{fields, values, assignments}
 use Rattle.base_words.proofs.IterLaws.{iter_keeps}
@@ -20,8 +21,7 @@ use Rattle.base_table.specs.Table.{task_in, entry_count, exit_count, item_at, as
 use Rattle.base_state.specs.Places.{active_place, ready_place, defined_place, value_place, instance_words, instance_place, shared_place, instances_words}
 use Rattle.base_state.specs.Instances.{with_field}
 use Rattle.check_limits.specs.Limits.{element_fits, table_fits}
-use Rattle.meaning.specs.declared.Value.{Value}
-use Rattle.meaning.specs.declared.Value.TheVariants.{Undefined, Number}
+use Rattle.meaning.specs.Values.{Value}
 use Rattle.meaning.specs.declared.Name.{Name}
 use Rattle.meaning.specs.declared.Tuple.{Tuple}
 use Rattle.meaning.specs.Tuples.{value_of}
@@ -71,8 +71,8 @@ module _ (c i : ℕ) (two : i < 2) (v : ℕ) where
 
   has_value : (h : List ℕ) (d : ℕ) (w : Value) → (d ≡ c → ⊥) → Has h → Has (assigned_value h d w).instance
   unfolding assigned_value
-  has_value h d (Number w) ne e = has_field h d w ne e
-  has_value h d Undefined ne e = e
+  has_value h d (Some w) ne e = has_field h d w ne e
+  has_value h d None ne e = e
 
   has_assigned : (el : List ℕ) → ((j : ℕ) → j < assignment_count el → at (assignment_at el j) 0 ≡ c → ⊥) → (h : List ℕ) → Has h → Has (assigned el h).instance
   unfolding assigned assign_one

@@ -1,12 +1,13 @@
 -- What an accepted step that receives or sends knows of its queue: the name is one of the 16, the message is there or has space, it has at most 4
 -- values. Assumes nothing.
 use Prim.Native.Nat.{ℕ, ◌≤◌, ◌<◌}
-use mathlib.Core.Path.{◌≡◌, refl}
-use mathlib.Core.Bool.{Bool, true, false, ◌&&◌, ◌||◌}
+use mathlib.Core.Path.{◌≡◌}
+use mathlib.Core.Bool.{true, false, ◌&&◌}
 use mathlib.Core.List.{List}
 use lib.Dec.{ltb}
 use lib.ListN.{length, drop}
 use borrow.Author.Tests.{ltb-true, eqb-true, ne_eqb}
+use Rattle.std.proofs.lemmas.Bool.{or_left, or_right}
 use Rattle.base_words.specs.All.{all}
 use Rattle.base_words.specs.Pick.{if◌then◌or_else◌}
 use Rattle.base_words.specs.Counts.{pools, names, fields, values, messages}
@@ -44,13 +45,6 @@ module _ (t s q : List ℕ) (h : state_fits t s q ≡ true) where
   pub state_stores : (d : ℕ) → d < fields → field_fits (drop shared_place s) d ≡ true
   unfolding shared_fits fields_fit
   state_stores = all_at (field_fits (drop shared_place s)) fields (and_right (all (instances_fit t s) pools) (shared_fits s) state_own)
-
-or_left : (a b : Bool) → a ≡ true → a || b ≡ true
-or_left a b e = rw e
-
-or_right : (a b : Bool) → b ≡ true → a || b ≡ true
-or_right true b e = refl
-or_right false b e = e
 
 module _ (t s q : List ℕ) (n : Name) (fits : table_fits t ≡ true) (accepted : first_refusal (refusals t s q n) ≡ 0) where
   abbrev x : Site

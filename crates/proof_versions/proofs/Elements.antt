@@ -10,6 +10,8 @@ use lib.Dec.{eqb, leb, ltb}
 use lib.ListN.{length, set, drop}
 use lib.Seq.{get_or-set_same, get_or-set_other, set_comm}
 use borrow.Author.Tests.{eqb-true, ltb-true, lt-ltb, leb-false}
+use Rattle.std.specs.Prelude.{None, Some}
+use Rattle.std.proofs.lemmas.Bool.{or_left, or_cases}
 use Rattle.base_words.specs.Words.{at}
 use Rattle.base_words.specs.Counts.{fields_named, values, assignments, count_most}
 use Rattle.base_words.proofs.AllLaws.{and_left, and_right}
@@ -23,18 +25,16 @@ use Rattle.base_state.specs.Places.{token_place, active_place, ready_place, defi
 use Rattle.base_state.specs.Instances.{active_count, ready_count, version_seen, with_field}
 use Rattle.base_state.specs.Versions.{former}
 use Rattle.check_limits.specs.Limits.{expression_fits, condition_fits, element_fits}
-use Rattle.meaning.specs.declared.Value.{Value}
-use Rattle.meaning.specs.declared.Value.TheVariants.{Undefined, Number}
 use Rattle.meaning.specs.declared.Tuple.{Tuple}
 use Rattle.meaning.specs.Tuples.{value_of}
-use Rattle.meaning.specs.Values.{is_true, is_false}
+use Rattle.meaning.specs.Values.{Value, is_true, is_false}
 use Rattle.meaning.specs.Expressions.{field_of, expression_of}
 use Rattle.meaning.specs.Conditions.{condition_of, default_at, left_out, other_false, holds}
 use Rattle.meaning.specs.Templates.{binds, item_value, gathered, evaluated, bind_one, bound}
 use Rattle.meaning.specs.Assignments.{Assigned, assigned_value, assign_one, assigned}
 use Rattle.meaning.specs.Requirements.{touched, first_touched, has_token, has_tokens, can_lower, waits, is_alone, counts_permit, granted, edge_has_room, has_rooms, can_raise, roomy}
 use Rattle.meaning.specs.Changes.{take_one, taken, more, count_changed, active_changed, ready_changed, put_one, puts, cleared, moved}
-use Rattle.proof_steps.proofs.Choices.{by_choice, chosen_true, or_left, or_either}
+use Rattle.proof_steps.proofs.Choices.{by_choice, chosen_true}
 use Rattle.proof_steps.proofs.ChangesFit.{touched_within}
 use Rattle.proof_steps.proofs.Elements.{task_few, entry_within, exit_within, assigned_field, bound_field}
 use Rattle.paper.specs.Evaluation.{worth, truth}
@@ -67,7 +67,7 @@ module _ (v : ℕ) where
   -- FIELDS
   fields_same : (h : List ℕ) → (local_of (seen v h)).σd ≡ (local_of h).σd
   unfolding field_of
-  fields_same h = λ i d. same_if (ltb d fields_named) Undefined (field_of (seen v h) d) (field_of h d) (λ w.
+  fields_same h = λ i d. same_if (ltb d fields_named) None (field_of (seen v h) d) (field_of h d) (λ w.
       let l = ltb-true d fields_named w in
       let a : at (seen v h) (defined_place d) ≡ at h (defined_place d) = at_same h (defined_place d) (omega arith) in
       let b : at (seen v h) (value_place d) ≡ at h (value_place d) = at_same h (value_place d) (omega arith) in
@@ -86,8 +86,8 @@ module _ (v : ℕ) where
     -- ASSIGNMENTS
     value_along : (h : List ℕ) (d : ℕ) (w : Value) → d < fields_named → assigned_value (seen v h) d w ≡ seen_after v (assigned_value h d w)
     unfolding assigned_value
-    value_along h d (Number x) l = λ i. record { defined = true; instance = field_along h d x l i }
-    value_along h d Undefined l = refl
+    value_along h d (Some x) l = λ i. record { defined = true; instance = field_along h d x l i }
+    value_along h d None l = refl
 
     assign_along : (j : ℕ) (a : Assigned) → assign_one el j (seen_after v a) ≡ seen_after v (assign_one el j a)
     unfolding assign_one
@@ -173,7 +173,7 @@ module _ (v : ℕ) where
         waits_back e =
             let is : version_seen (seen v h) ≡ v = get_or-set_same h version_place v 0 (omega (arith, long)) in
             ⊎_elim (λ y. or_left (eqb (mode_in el) na_nc) (eqb (version_seen h) former) y) (λ y. absurd (later (sym is ∙ eqb-true (version_seen (seen v h)) former y)))
-            (or_either (eqb (mode_in el) na_nc) (eqb (version_seen (seen v h)) former) e)
+            (or_cases (eqb (mode_in el) na_nc) (eqb (version_seen (seen v h)) former) e)
 
         alone_along : is_alone el h m ≡ true → is_alone el (seen v h) m ≡ true
         unfolding is_alone

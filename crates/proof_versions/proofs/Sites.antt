@@ -5,6 +5,7 @@ use mathlib.Core.Bool.{true, ◌&&◌, ◌||◌}
 use mathlib.Core.List.{List}
 use lib.Dec.{eqb}
 use lib.ListN.{length}
+use Rattle.std.proofs.lemmas.Bool.{or_left, or_right}
 use Rattle.base_words.specs.Pick.{if◌then◌or_else◌}
 use Rattle.base_words.specs.Words.{at}
 use Rattle.base_kinds.specs.declared.moves.Move.{Move}
@@ -24,7 +25,6 @@ use Rattle.meaning.specs.Requirements.{roomy}
 use Rattle.meaning.specs.Changes.{expected, received, worked, message_sent, taken, moved}
 use Rattle.meaning.specs.Step.{Site, receives, sends, template, work, sent, defined, matches, after_taking, message_named, queued, space, instance_after, made_after, queues_after, traffic}
 use Rattle.proof_steps.proofs.AcceptedParts.{Accepted}
-use Rattle.proof_steps.proofs.Choices.{or_left, or_right}
 use Rattle.proof_paper.proofs.Process as Process
 use Rattle.proof_versions.proofs.Laws.{choice_along, choice_same}
 use Rattle.proof_versions.proofs.Elements.{seen, seen_after, assigned_along, evaluated_same, bound_along, permits_along, granted_same, roomy_same, taken_along, moved_along}

@@ -8,8 +8,10 @@ use native.Mathlib.Nat.{le_of_suc-le-suc, eq-or-lt_of_le}
 use native.Mathlib.Omega.{arith}
 use lib.Bits.{bit_or}
 use lib.Dec.{eqb, leb}
+use Rattle.std.specs.Prelude.{min}
+use Rattle.std.proofs.Math.Nat.{min-eq_left, min-eq_right}
 use lib.ListN.{length, get_or-eq_default}
-use borrow.Author.Tests.{eqb-true, leb-false}
+use borrow.Author.Tests.{eqb-true, leb-true, leb-false}
 use Rattle.base_words.specs.All.{all}
 use Rattle.base_words.specs.Counts.{count_most}
 use Rattle.base_words.specs.Pick.{if◌then◌or_else◌}
@@ -60,8 +62,15 @@ module _ (u h : List ℕ) where
   unfolding place_fits if◌then◌or_else◌
   none k l = rw (get_or-eq_default h 0 {n = k} l)
 
-  pub counts_by : (e r : ℕ) → e ≡ defined_place 0 → r ≡ bits_of (excess_at u h) e → eqb r 0 ≡ all (place_fits u h) (defined_place 0)
+  counts_by : (e r : ℕ) → e ≡ defined_place 0 → r ≡ bits_of (excess_at u h) e → eqb r 0 ≡ all (place_fits u h) (defined_place 0)
   counts_by e r q b = fits e r b ∙ ap (all (place_fits u h)) q
 
-  pub counts_by_past : (e r : ℕ) → e ≡ length h → length h < defined_place 0 → r ≡ bits_of (excess_at u h) e → eqb r 0 ≡ all (place_fits u h) (defined_place 0)
+  counts_by_past : (e r : ℕ) → e ≡ length h → length h < defined_place 0 → r ≡ bits_of (excess_at u h) e → eqb r 0 ≡ all (place_fits u h) (defined_place 0)
   counts_by_past e r q l b = fits e r b ∙ all_past (place_fits u h) e (defined_place 0) (omega arith) (λ k j. none k (omega arith))
+
+  pub counts_upto : (e r : ℕ) → e ≡ min (defined_place 0) (length h) → r ≡ bits_of (excess_at u h) e → eqb r 0 ≡ all (place_fits u h) (defined_place 0)
+  counts_upto e r q b = go (leb (defined_place 0) (length h)) refl
+    where
+      go : (t : Bool) → leb (defined_place 0) (length h) ≡ t → eqb r 0 ≡ all (place_fits u h) (defined_place 0)
+      go true t = counts_by e r (q ∙ min-eq_left (leb-true (defined_place 0) (length h) t)) b
+      go false t = let l : length h < defined_place 0 = leb-false (defined_place 0) (length h) t in counts_by_past e r (q ∙ min-eq_right (omega arith)) l b

@@ -11,7 +11,6 @@ use Rattle.base_words.specs.Words.{at}
 use Rattle.base_words.proofs.AllLaws.{le_leb_by, lt_leb_by}
 use Rattle.base_words.proofs.EachLaws.{tab_more}
 use Rattle.base_words.proofs.PickLaws.{pick_yes, pick_no, flag_is}
-use Rattle.base_kinds.specs.declared.Kind.{Kind}
 use Rattle.base_kinds.specs.Kinds.{kind_of}
 use Rattle.base_kinds.specs.Moves.{a}
 use Rattle.base_table.specs.Places.{edge_place}
@@ -40,8 +39,6 @@ module _ (w₀ el : List ℕ) (list : ℕ) where
 
   pub edged_done : (n i : ℕ) (w : List ℕ) → n ≤ i → i ≤ n → w ≡ Edged i → w ≡ Edged n
   edged_done n i w h k e = rw (le_antisymm h k) e
-
-pub ruleset edged = (edged_none, edged_more, edged_done)
 
 -- two cells of the table of kinds, by an element's kind
 pub silent_is : (el : List ℕ) (k r s : ℕ) → k ≡ kind_in el → r ≡ (kind_of k).receives → s ≡ (kind_of k).sends → eqb (r + s) 0 ≡ eqb ((kind_of (kind_in el)).receives + (kind_of (kind_in el)).sends) 0

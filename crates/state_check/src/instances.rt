@@ -18,26 +18,27 @@ use check_limits::zeros::{less, zero_words};
 use state_fits::pools::made_fits;
 
 // 0 where a count n may stand at a place of which u says whether it may be used.
+#[tactic(auto, using(base_words::proofs::PickLaws::picks), unfolding(crate::specs::Places::excess_of))]
 fn excess(u: Word, n: Word) -> Word
     ensures { result ≡ excess_of u n }
 {
     if u == 1 {
-        if n <= COUNT_MOST {
-            return 0;
-        }
-        return 1;
+        Word::from(n > COUNT_MOST)
+    } else {
+        n
     }
-    n
 }
 
+#[tactic(auto, using(base_words::proofs::PickLaws::picks), unfolding(state_fits::specs::Fits::field_fits))]
 fn field_fits(f: &[Word], d: Word) -> bool
     ensures { result ≡ field_fits f.now d }
 {
     let defined = word(f, 2 * (d as usize));
     if defined == 0 {
-        return word(f, 2 * (d as usize) + 1) == 0;
+        word(f, 2 * (d as usize) + 1) == 0
+    } else {
+        defined == 1
     }
-    defined == 1
 }
 
 // The first n places put together: a loop with one way out, as `check_limits::zeros` has it.
@@ -46,10 +47,8 @@ fn excess_below(u: &[Word; DEFINED], h: &[Word], n: usize) -> Word
     ensures { result ≡ bits_of (excess_at u.now h.now) n }
 {
     let mut bits: Word = 0;
-    let mut k: usize = 0;
-    while k < n {
-        bits = bits | excess(u[k], h[k]);
-        k += 1;
+    for k in 0..n {
+        bits |= excess(u[k], h[k]);
     }
     bits
 }
@@ -57,45 +56,28 @@ fn excess_below(u: &[Word; DEFINED], h: &[Word], n: usize) -> Word
 fn counts_fit(u: &[Word; DEFINED], h: &[Word]) -> bool
     ensures { result ≡ all (place_fits u.now h.now) (defined_place 0) }
 {
-    let end = if DEFINED <= h.len() { DEFINED } else { h.len() };
-    excess_below(u, h, end) == 0
+    excess_below(u, h, DEFINED.min(h.len())) == 0
 }
 
 // The fields of an instance, or the stores, from the first one on.
 pub fn fields_fit(f: &[Word]) -> bool
     ensures { result ≡ fields_fit f.now }
 {
-    let mut d: Word = 0;
-    while d < FIELDS {
-        if !field_fits(f, d) {
-            return false;
-        }
-        d += 1;
-    }
-    true
+    (0..FIELDS).all(|d| field_fits(f, d))
 }
 
+#[tactic(auto, unfolding(state_fits::specs::Fits::instance_fits))]
 fn instance_fits(u: &[Word; DEFINED], h: &[Word]) -> bool
     ensures { result ≡ instance_fits u.now h.now }
 {
-    if !counts_fit(u, h) {
-        return false;
-    }
-    fields_fit(tail(h, DEFINED))
+    counts_fit(u, h) && fields_fit(tail(h, DEFINED))
 }
 
 // The first n instances of a pool, and the words of the others.
 fn first_fit(u: &[Word; DEFINED], s: &[Word], p: Word, n: Word) -> bool
     ensures { result ≡ all (λ i. instance_fits u.now (instance_at s.now p i)) n }
 {
-    let mut i: Word = 0;
-    while i < n {
-        if !instance_fits(u, instance_at(s, p, i)) {
-            return false;
-        }
-        i += 1;
-    }
-    true
+    (0..n).all(|i| instance_fits(u, instance_at(s, p, i)))
 }
 
 fn rest_zero(s: &[Word], p: Word, n: Word) -> bool
@@ -115,15 +97,10 @@ fn made_ones_fit(t: &[Word], s: &[Word], p: Word, n: Word) -> bool
 }
 
 // The instances of a pool.
+#[tactic(auto, unfolding(state_fits::specs::Fits::instances_fit))]
 pub fn instances_fit(t: &[Word], s: &[Word], p: Word) -> bool
     ensures { result ≡ instances_fit t.now s.now p }
 {
     let made = made_count(s, p);
-    if !made_fits(t, p, made) {
-        return false;
-    }
-    if !made_ones_fit(t, s, p, made) {
-        return false;
-    }
-    rest_zero(s, p, made)
+    made_fits(t, p, made) && made_ones_fit(t, s, p, made) && rest_zero(s, p, made)
 }

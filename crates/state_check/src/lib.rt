@@ -22,16 +22,10 @@ use messages::queue_fits;
 fn all_instances_fit(t: &[Word], s: &[Word]) -> bool
     ensures { result ≡ all (instances_fit t.now s.now) pools }
 {
-    let mut p: Word = 0;
-    while p < POOLS {
-        if !instances_fit(t, s, p) {
-            return false;
-        }
-        p += 1;
-    }
-    true
+    (0..POOLS).all(|p| instances_fit(t, s, p))
 }
 
+#[tactic(auto, unfolding(state_fits::specs::Fits::shared_fits))]
 fn shared_fits(s: &[Word]) -> bool
     ensures { result ≡ shared_fits s.now }
 {
@@ -41,36 +35,21 @@ fn shared_fits(s: &[Word]) -> bool
 fn queues_fit(q: &[Word]) -> bool
     ensures { result ≡ all (queue_fits q.now) names }
 {
-    let mut m: Word = 0;
-    while m < NAMES {
-        if !queue_fits(q, m) {
-            return false;
-        }
-        m += 1;
-    }
-    true
+    (0..NAMES).all(|m| queue_fits(q, m))
 }
 
+#[tactic(auto, unfolding(state_fits::specs::Fits::state_fits))]
 fn both_fit(t: &[Word], s: &[Word], q: &[Word]) -> bool
     ensures { result ≡ state_fits t.now s.now q.now }
 {
-    if !all_instances_fit(t, s) {
-        return false;
-    }
-    if !shared_fits(s) {
-        return false;
-    }
-    queues_fit(q)
+    all_instances_fit(t, s) && shared_fits(s) && queues_fit(q)
 }
 
 // The first n words.
 fn head(s: &[Word], n: usize) -> &[Word]
     ensures { result.now ≡ take n s.now }
 {
-    if n <= s.len() {
-        return &s[..n];
-    }
-    s
+    &s[..n.min(s.len())]
 }
 
 // Whether a state fits a table; the length is in its type, and callers need it as a fact.

@@ -22,10 +22,8 @@ use base_words::Word;
 fn mark_edges(w: &mut [Word], el: &[Word], list: Word, n: Word)
     ensures { w.new ≡ all_marked w.old (tab (λ j. token_place (at el.now (edge_place list j))) n) }
 {
-    let mut j: Word = 0;
-    while j < n {
+    for j in 0..n {
         put_tokens(w, edge_at(el, list, j), 1);
-        j += 1;
     }
 }
 
@@ -74,10 +72,7 @@ fn mark_element(w: &mut [Word], el: &[Word])
 pub fn mark_pool(w: &mut [Word], t: &[Word], p: Word)
     ensures { w.new ≡ iter (λ e v. all_marked v (places_of (element_at t.now p e))) w.old (element_count t.now p) }
 {
-    let n = element_count(t, p);
-    let mut e: Word = 0;
-    while e < n {
+    for e in 0..element_count(t, p) {
         mark_element(w, element_at(t, p, e));
-        e += 1;
     }
 }

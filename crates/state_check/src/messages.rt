@@ -44,12 +44,10 @@ fn values_fit(q: &[Word], m: Word, k: Word, n: Word) -> bool
     requires { n ≤ values }
     ensures { result ≡ all (shown_by q.now m k n) values }
 {
-    let mut j: Word = n;
-    while j < VALUES {
+    for j in n..VALUES {
         if value_at(q, m, k, j) != 0 {
             return false;
         }
-        j += 1;
     }
     true
 }
@@ -58,23 +56,13 @@ fn message_fits(q: &[Word], m: Word, k: Word) -> bool
     ensures { result ≡ slot_fits q.now m k }
 {
     let n = length_at(q, m, k);
-    if VALUES < n {
-        return false;
-    }
-    values_fit(q, m, k, n)
+    n <= VALUES && values_fit(q, m, k, n)
 }
 
 fn messages_fit(q: &[Word], m: Word, n: Word) -> bool
     ensures { result ≡ all (slot_fits q.now m) n }
 {
-    let mut k: Word = 0;
-    while k < n {
-        if !message_fits(q, m, k) {
-            return false;
-        }
-        k += 1;
-    }
-    true
+    (0..n).all(|k| message_fits(q, m, k))
 }
 
 // The words behind the first n messages.
@@ -91,15 +79,10 @@ fn rest_zero(q: &[Word], m: Word, n: Word) -> bool
     )
 }
 
+#[tactic(auto, unfolding(state_fits::specs::Fits::queue_fits))]
 pub fn queue_fits(q: &[Word], m: Word) -> bool
     ensures { result ≡ queue_fits q.now m }
 {
     let n = queued_in(q, m);
-    if MESSAGES < n {
-        return false;
-    }
-    if !messages_fit(q, m, n) {
-        return false;
-    }
-    rest_zero(q, m, n)
+    n <= MESSAGES && messages_fit(q, m, n) && rest_zero(q, m, n)
 }

@@ -1,6 +1,6 @@
 -- A count over the instances of a pool, as the code makes it. Assumes nothing.
-use Prim.Native.Nat.{ℕ, zero, suc, ◌+◌, ◌-◌, ◌≤◌, ◌<◌}
-use mathlib.Core.Path.{◌≡◌, refl, sym, ◌∙◌, ap}
+use Prim.Native.Nat.{ℕ, zero, suc, ◌+◌, ◌-◌, ◌≤◌}
+use mathlib.Core.Path.{◌≡◌, refl, ◌∙◌, ap}
 use mathlib.Core.Bool.{Bool, true, false, not}
 use mathlib.Core.List.{List, [], ◌∷◌}
 use native.Mathlib.Nat.{le_antisymm}
@@ -9,12 +9,9 @@ use Rattle.base_words.specs.Sum.{sum, one_if}
 use Rattle.base_state.specs.Instances.{made_count, instance_at}
 use Rattle.state_figures.specs.Figures.{is_finished, unfinished, finished, record_of}
 
--- one instance, w its words as the code holds them
-pub one_yes : (h w : List ℕ) (b : Bool) → w ≡ h → b ≡ is_finished w → b ≡ true → (1 ≡ one_if (is_finished h)) × (1 ≤ 1)
-one_yes h w b d e t = (ap one_if (sym t ∙ e ∙ ap is_finished d), omega arith)
-
-pub one_no : (h w : List ℕ) (b : Bool) → w ≡ h → b ≡ is_finished w → b ≡ false → (0 ≡ one_if (is_finished h)) × (0 ≤ 1)
-one_no h w b d e t = (ap one_if (sym t ∙ e ∙ ap is_finished d), omega arith)
+pub one_most : (b : Bool) → one_if b ≤ 1
+one_most true = omega arith
+one_most false = omega arith
 
 -- what passes a test and what does not are all
 both : (f : ℕ → Bool) (n : ℕ) → sum (λ i. one_if (not (f i))) n + sum (λ i. one_if (f i)) n ≡ n

@@ -1,25 +1,26 @@
 -- Records compared, counted and brought up to date, as the code does it. Assumes nothing.
-use Prim.Native.Nat.{ℕ, zero, suc, ◌+◌, ◌-◌, ◌≤◌, ◌<◌}
-use mathlib.Core.Path.{◌≡◌, refl, sym, ◌∙◌, ap, subst}
+use Prim.Native.Nat.{ℕ, suc, ◌+◌, ◌-◌, ◌≤◌, ◌<◌}
+use mathlib.Core.Path.{◌≡◌, refl, sym, ◌∙◌, ap, ap₂, subst}
 use mathlib.Core.Bool.{Bool, true, false, not, ◌&&◌, false≢true}
 use mathlib.Core.List.{List, [], ◌∷◌, ◌++◌, append-nil, append_assoc}
 use native.Mathlib.Nat.{le_antisymm}
 use native.Mathlib.Numerals.{add-one}
 use native.Mathlib.Omega.{arith}
 use lib.Dec.{eqb}
-use lib.ListN.{length, get_or, set, take, drop, drop_of_length-le, take-append-drop}
+use lib.Pointwise.{pointwise, bytes_decides}
+use lib.ListN.{length, get_or, set, take, drop, drop_of_length-le}
 use lib.Seq.{take-suc, take_all, drop-cons, set_at, set_out}
-use borrow.Author.Tests.{eq-eqb, ne_eqb, eqb-true}
+use borrow.Author.Tests.{eq-eqb, ne_eqb}
 use Rattle.base_words.specs.All.{all}
 use Rattle.base_words.specs.Each.{tab}
 use Rattle.base_words.specs.Pick.{if◌then◌or_else◌}
 use Rattle.base_words.specs.Words.{at}
-use Rattle.base_words.proofs.AllLaws.{and_left, and_right, all_none, all_more, all_fails}
-use Rattle.base_words.proofs.ListLaws.{length-tab, get_d_in}
+use Rattle.base_words.proofs.AllLaws.{all_more, all_fails}
+use Rattle.base_words.proofs.ListLaws.{length-tab}
 use Rattle.base_words.proofs.PickLaws.{and_true, and_false_right, flag_yes, flag_no}
 use Rattle.base_table.specs.Table.{pool_count}
 use Rattle.base_state.specs.Instances.{made_count, instance_at}
-use Rattle.state_figures.specs.Figures.{is_finished, unfinished, finished, record_of, counted, record_at, same_record, agree, record_after, updated}
+use Rattle.state_figures.specs.Figures.{is_finished, record_of, counted, record_at, same_record, agree, record_after, updated}
 
 -- a record of three words
 three : (r : List ℕ) → length r ≡ 3 → r ≡ at r 0 ∷ at r 1 ∷ at r 2 ∷ []
@@ -33,23 +34,23 @@ three (a ∷ b ∷ c ∷ d ∷ r) l = absurd (omega (arith, l))
 abbrev Told : List ℕ → List ℕ → Bool → Type 0
 Told r w b = (b ≡ same_record r w) × (b ≡ true → r ≡ w)
 
-module _ (r w o : List ℕ) (e : o ≡ w) where
-  pub first_differs : (at r 0 ≡ at o 0 → ⊥) → Told r w false
-  unfolding same_record
-  first_differs d = (rw (ne_eqb (at r 0) (at w 0) (λ q. d (q ∙ ap (λ (y : List ℕ). at y 0) (sym e)))), λ q. absurd (false≢true q))
+ands : (a b c : Bool) → a && (b && (c && true)) ≡ a && b && c
+ands true true true = refl
+ands true true false = refl
+ands true false c = refl
+ands false b c = refl
 
-  pub second_differs : at r 0 ≡ at o 0 → (at r 1 ≡ at o 1 → ⊥) → Told r w false
-  unfolding same_record
-  second_differs a d = (rw (eq-eqb (at r 0) (at w 0) (a ∙ ap (λ (y : List ℕ). at y 0) e), ne_eqb (at r 1) (at w 1) (λ q. d (q ∙ ap (λ (y : List ℕ). at y 1) (sym e)))), λ q. absurd (false≢true q))
+pub told : (r w o : List ℕ) (b : Bool) → o ≡ w → length r ≡ 3 → length w ≡ 3 → b ≡ pointwise eqb r o → Told r w b
+unfolding same_record
+told r w o b e l k q =
+    let p : b ≡ pointwise eqb r w = q ∙ ap (pointwise eqb r) e in (
+      p ∙ ap₂ (pointwise eqb) (three r l) (three w k) ∙ ands (eqb (at r 0) (at w 0)) (eqb (at r 1) (at w 1)) (eqb (at r 2) (at w 2)),
+      λ t. (bytes_decides r w).0 (sym p ∙ t),
+    )
 
-  pub third_tells : length r ≡ 3 → length w ≡ 3 → at r 0 ≡ at o 0 → at r 1 ≡ at o 1 → Told r w (eqb (at r 2) (at o 2))
-  unfolding same_record
-  third_tells l k a b =
-      let a' : at r 0 ≡ at w 0 = a ∙ ap (λ (y : List ℕ). at y 0) e in
-      let b' : at r 1 ≡ at w 1 = b ∙ ap (λ (y : List ℕ). at y 1) e in (
-        rw (eq-eqb (at r 0) (at w 0) a', eq-eqb (at r 1) (at w 1) b', e),
-        λ q. three r l ∙ rw (a', b', eqb-true (at r 2) (at o 2) q, e) (sym (three w k)),
-      )
+-- two records of three words
+pub same_is : (r w : List ℕ) → length r ≡ 3 → length w ≡ 3 → same_record r w ≡ true → r ≡ w
+same_is r w l k e = let t : Told r w (pointwise eqb r w) = told r w w (pointwise eqb r w) refl l k refl in t.1 (t.0 ∙ e)
 
 pub record_long : (s : List ℕ) (p : ℕ) → length (record_of s p) ≡ 3
 unfolding record_of

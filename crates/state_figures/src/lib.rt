@@ -1,10 +1,8 @@
 // Figures for the route desk: instances made, unfinished and finished, one record for each pool.
 #![tactic(auto)]
 
-ghost use Rattle.std.specs.Prelude.{◌≡◌, ◌≤◌, true, length};
-ghost use Rattle.base_words.specs.Sum.{one_if};
+ghost use Rattle.std.specs.Prelude.{◌≡◌, true, length};
 ghost use Rattle.base_table.specs.Table.{pool_count, pool_of};
-ghost use Rattle.base_state.specs.Instances.{instance_at};
 ghost use Rattle.state_figures.specs.Figures.{is_finished, finished, record_of, counted, same_record, agree, record_after, updated, followed, desk_number, records_left, Figured, figured};
 
 use base_state::places::DEFINED;
@@ -24,27 +22,13 @@ pub fn is_finished(h: &[Word]) -> bool
     zero_words(h, DEFINED)
 }
 
-// 1 for an instance that is finished, else 0.
-fn finished_one(s: &[Word], p: Word, i: Word) -> Word
-    ensures { (result ≡ one_if (is_finished (instance_at s.now p i))) × (result ≤ 1) }
-{
-    if is_finished(instance_at(s, p, i)) {
-        1
-    } else {
-        0
-    }
-}
-
 // How many instances of pool p are finished.
 fn finished_count(s: &[Word], p: Word) -> Word
     ensures { result ≡ finished s.now p }
 {
-    let made = made_count(s, p);
     let mut count: Word = 0;
-    let mut i: Word = 0;
-    while i < made {
-        count += finished_one(s, p, i);
-        i += 1;
+    for i in 0..made_count(s, p) {
+        count += Word::from(is_finished(instance_at(s, p, i)));
     }
     count
 }
@@ -62,14 +46,7 @@ fn record_of(s: &[Word], p: Word) -> [Word; RECORD_WORDS]
 fn record_agrees(r: [Word; RECORD_WORDS], s: &[Word], p: Word) -> bool
     ensures { (result ≡ same_record r (record_of s.now p)) × (result ≡ true → r ≡ record_of s.now p) }
 {
-    let own = record_of(s, p);
-    if r[0] != own[0] {
-        return false;
-    }
-    if r[1] != own[1] {
-        return false;
-    }
-    r[2] == own[2]
+    r == record_of(s, p)
 }
 
 // Whether the lent records are as many as the pools, each what the count gives.
@@ -80,12 +57,10 @@ fn records_agree(rs: &[[Word; RECORD_WORDS]], t: &[Word], s: &[Word]) -> bool
     if rs.len() != wide(pools) {
         return false;
     }
-    let mut p: Word = 0;
-    while p < pools {
+    for p in 0..pools {
         if !record_agrees(rs[p as usize], s, p) {
             return false;
         }
-        p += 1;
     }
     true
 }
@@ -146,11 +121,8 @@ fn count(rs: &mut [[Word; RECORD_WORDS]], t: &[Word], s: &[Word])
     requires { length rs.old ≡ pool_count t.now }
     ensures { rs.new ≡ counted t.now s.now }
 {
-    let pools = pool_count(t);
-    let mut p: Word = 0;
-    while p < pools {
+    for p in 0..pool_count(t) {
         rs[p as usize] = record_of(s, p);
-        p += 1;
     }
 }
 

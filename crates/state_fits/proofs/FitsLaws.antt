@@ -5,7 +5,7 @@ use mathlib.Core.Bool.{true, ◌&&◌}
 use mathlib.Core.List.{List}
 use native.Mathlib.Omega.{arith}
 use lib.Dec.{eqb, leb}
-use lib.ListN.{length, drop, get_or, get_or-eq_default}
+use lib.ListN.{drop, get_or, get_or-eq_default}
 use lib.Seq.{get_or-drop}
 use borrow.Author.Tests.{eqb-true, leb-true, ne_eqb, le-ltb}
 use Rattle.base_words.specs.All.{all}

@@ -1,6 +1,6 @@
 -- "Fresh state: empty queues; a pool with `start` has instance 0, with one token on start's first edge; a pool with `startRcv` has none." "A fresh state is
 -- made for version 10 or 20 and keeps it." (RULES: fresh)
-use Rattle.std.specs.Prelude.{ℕ, ◌+◌, List, set, replicate}
+use Rattle.std.specs.Prelude.{ℕ, ◌+◌, set, replicate}
 use Rattle.base_words.specs.Blocks.{Table, State}
 use Rattle.base_words.specs.Iter.{iter}
 use Rattle.base_words.specs.Pick.{if◌then◌or_else◌}

@@ -12,6 +12,7 @@ use base_table::{edge_at, element_at, pool_count};
 use base_words::{Word, clear, less_one, put};
 use state_fits::pools::{has_start, start_place};
 
+#[tactic(auto, unfolding(state_fits::specs::Fresh::start_edge))]
 fn first_edge(t: &[Word], p: Word) -> Word
     ensures { result ≡ start_edge t.now p }
 {
@@ -34,11 +35,8 @@ fn begin_pool(t: &[Word], p: Word, z: &mut [Word])
 fn begin_pools(t: &[Word], z: &mut [Word])
     ensures { z.new ≡ iter (pool_begun t.now) z.old (pool_count t.now) }
 {
-    let n = pool_count(t);
-    let mut p: Word = 0;
-    while p < n {
+    for p in 0..pool_count(t) {
         begin_pool(t, p, z);
-        p += 1;
     }
 }
 

@@ -20,7 +20,7 @@ pub struct Record {
     pub finished: Word,
 }
 
-// As many records as there can be pools, and how many were lent.
+// As many records as there can be pools, and how many were lent: fields and no array, since the definitions `four_of`, `words_of` and `four_from` name them.
 #[derive(Clone, Copy)]
 pub struct Four {
     pub first: Record,
@@ -34,14 +34,11 @@ pub struct Four {
 fn record_at(rs: &[Record], p: usize) -> Record
     ensures { result ≡ get_or rs.now p no_record }
 {
-    if p < rs.len() {
-        return rs[p];
-    }
-    Record {
+    rs.get(p).copied().unwrap_or(Record {
         made: 0,
         unfinished: 0,
         finished: 0,
-    }
+    })
 }
 
 // Sets the record at place p, and nothing where there is none.
@@ -74,32 +71,36 @@ pub fn put_back(rs: &mut [Record], f: Four)
     put_record(rs, 3, f.fourth);
 }
 
-fn triple_of(r: Record) -> [Word; RECORD_WORDS]
-    ensures { result ≡ triple_of r }
-{
-    [r.made, r.unfinished, r.finished]
+impl From<Record> for [Word; RECORD_WORDS] {
+    ghost from_gives = { λ r w. w ≡ triple_of r };
+
+    fn from(r: Record) -> [Word; RECORD_WORDS] {
+        [r.made, r.unfinished, r.finished]
+    }
 }
 
-fn struct_of(w: [Word; RECORD_WORDS]) -> Record
-    ensures { result ≡ struct_of w }
-{
-    Record {
-        made: w[0],
-        unfinished: w[1],
-        finished: w[2],
+impl From<[Word; RECORD_WORDS]> for Record {
+    ghost from_gives = { λ w r. r ≡ struct_of w };
+
+    fn from(w: [Word; RECORD_WORDS]) -> Record {
+        Record {
+            made: w[0],
+            unfinished: w[1],
+            finished: w[2],
+        }
     }
 }
 
 // The words that the covered calls are lent a part of.
+#[tactic(auto, unfolding(crate::specs::Records::words_of))]
 pub fn words_of(f: Four) -> [[Word; RECORD_WORDS]; LENT]
     ensures { result ≡ words_of f }
 {
-    let first = triple_of(f.first);
-    let second = triple_of(f.second);
-    let third = triple_of(f.third);
-    let fourth = triple_of(f.fourth);
-    let none = [0; RECORD_WORDS];
-    [first, second, third, fourth, none]
+    let first: [Word; RECORD_WORDS] = f.first.into();
+    let second: [Word; RECORD_WORDS] = f.second.into();
+    let third: [Word; RECORD_WORDS] = f.third.into();
+    let fourth: [Word; RECORD_WORDS] = f.fourth.into();
+    [first, second, third, fourth, [0; RECORD_WORDS]]
 }
 
 // How many of them: as many as the desk's records, five at most.
@@ -107,21 +108,21 @@ pub fn words_of(f: Four) -> [[Word; RECORD_WORDS]; LENT]
 pub fn lent_count(f: Four) -> usize
     ensures { result ≡ lent_count f }
 {
-    if f.count < LENT { f.count } else { LENT }
+    f.count.min(LENT)
 }
 
 pub fn four_of(ws: &[[Word; RECORD_WORDS]; LENT], count: usize) -> Four
     ensures { result ≡ four_from ws.now count }
 {
-    let first = struct_of(ws[0]);
-    let second = struct_of(ws[1]);
-    let third = struct_of(ws[2]);
-    let fourth = struct_of(ws[3]);
+    let first = Record::from(ws[0]);
+    let second = Record::from(ws[1]);
+    let third = Record::from(ws[2]);
+    let fourth = Record::from(ws[3]);
     Four {
-        first: first,
-        second: second,
-        third: third,
-        fourth: fourth,
-        count: count,
+        first,
+        second,
+        third,
+        fourth,
+        count,
     }
 }

@@ -19,10 +19,8 @@ fn move_inside(s: &[Word], from: usize, z: &mut [Word], to: usize, n: usize)
     requires { (from + n ≤ length s.now) × (to + n ≤ length z.old) }
     ensures { z.new ≡ writes (λ k. at s.now (from + k)) z.old to n }
 {
-    let mut k: usize = 0;
-    while k < n {
+    for k in 0..n {
         z[to + k] = s[from + k];
-        k += 1;
     }
 }
 
@@ -31,10 +29,8 @@ fn move_across(s: &[Word], from: usize, z: &mut [Word], to: usize, n: usize)
     requires { (from ≤ instance_place greatest greatest) × (to ≤ instance_place greatest greatest) × (n ≤ copy_words) }
     ensures { z.new ≡ writes (λ k. at s.now (from + k)) z.old to n }
 {
-    let mut k: usize = 0;
-    while k < n {
+    for k in 0..n {
         put(z, to + k, word(s, from + k));
-        k += 1;
     }
 }
 
@@ -42,13 +38,11 @@ fn move_words(s: &[Word], from: usize, z: &mut [Word], to: usize, n: usize)
     requires { (from ≤ instance_place greatest greatest) × (to ≤ instance_place greatest greatest) × (n ≤ copy_words) }
     ensures { z.new ≡ writes (λ k. at s.now (from + k)) z.old to n }
 {
-    if from + n <= s.len() {
-        if to + n <= z.len() {
-            move_inside(s, from, z, to, n);
-            return;
-        }
+    if from + n <= s.len() && to + n <= z.len() {
+        move_inside(s, from, z, to, n);
+    } else {
+        move_across(s, from, z, to, n);
     }
-    move_across(s, from, z, to, n);
 }
 
 // The words of an instance, to the first of h; where a move makes the instance, h is left as it is.
@@ -83,13 +77,13 @@ pub fn commit(s: &mut [Word], p: Word, i: Word, h: &[Word], made: Word)
 }
 
 // How many its pool has made after a move.
+#[tactic(auto, using(base_words::proofs::PickLaws::picks), unfolding(crate::specs::Effects::made_by, meaning::specs::Changes::more))]
 pub fn made_after(m: Move, made: Word) -> Word
     ensures { result ≡ made_by m made }
 {
-    if m.also == MAKES {
-        if made < COUNT_MOST {
-            return made + 1;
-        }
+    if m.also == MAKES && made < COUNT_MOST {
+        made + 1
+    } else {
+        made
     }
-    made
 }

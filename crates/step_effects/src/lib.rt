@@ -18,7 +18,7 @@ pub fn refuse(number: Word) -> Answer
     ensures { result ≡ record { number = number; traffic = Nothing; name = 0; tuple = empty } }
 {
     Answer {
-        number: number,
+        number,
         traffic: Traffic::Nothing,
         name: 0,
         tuple: empty_tuple(),
@@ -26,6 +26,7 @@ pub fn refuse(number: Word) -> Answer
 }
 
 // The answer of an accepted step: what it consumed or sent.
+#[tactic(auto, using(base_words::proofs::PickLaws::picks), unfolding(crate::specs::Effects::answer_by))]
 pub fn answer_of(m: Move, name: Word, expected: Tuple, sent: Tuple) -> Answer
     ensures { result ≡ answer_by m name expected sent }
 {
@@ -33,7 +34,7 @@ pub fn answer_of(m: Move, name: Word, expected: Tuple, sent: Tuple) -> Answer
         return Answer {
             number: 0,
             traffic: Traffic::Consumed,
-            name: name,
+            name,
             tuple: expected,
         };
     }
@@ -41,7 +42,7 @@ pub fn answer_of(m: Move, name: Word, expected: Tuple, sent: Tuple) -> Answer
         return Answer {
             number: 0,
             traffic: Traffic::Sent,
-            name: name,
+            name,
             tuple: sent,
         };
     }
@@ -49,16 +50,14 @@ pub fn answer_of(m: Move, name: Word, expected: Tuple, sent: Tuple) -> Answer
 }
 
 // The message of an accepted step, consumed or sent.
+#[tactic(auto, using(base_words::proofs::PickLaws::picks), unfolding(crate::specs::Effects::delivered_by))]
 pub fn deliver(q: &mut [Word], m: Move, name: Word, g: Tuple, sent: Tuple)
     ensures { q.new ≡ delivered_by m name g sent q.old }
 {
     if m.receives == ON {
         let k = oldest_of(q, name, g);
         remove(q, name, k);
-        return;
-    }
-    if m.sends == ON {
+    } else if m.sends == ON {
         append(q, name, sent);
-        return;
     }
 }

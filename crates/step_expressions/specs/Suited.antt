@@ -1,5 +1,5 @@
 -- Whether values could match a template that is worked out once, with no values given: w is what it came to, g the values.
-use Rattle.std.specs.Prelude.{ℕ, Bool, ◌&&◌, ◌||◌, List, eqb}
+use Rattle.std.specs.Prelude.{ℕ, Bool, ◌&&◌, ◌||◌, eqb}
 use Rattle.base_words.specs.Blocks.{Element}
 use Rattle.base_words.specs.All.{all}
 use Rattle.base_words.specs.Words.{at}

@@ -6,6 +6,7 @@ use super::expression;
 use base_state::put_field;
 use base_table::places::ASSIGNED;
 use base_table::{assignment_at, assignment_count};
+use base_words::counts::ASSIGNMENTS;
 use base_words::{Word, tail, word};
 use meaning::Value;
 
@@ -13,7 +14,7 @@ use meaning::Value;
 fn assign_value(h: &mut [Word], d: Word, x: Value) -> bool
     ensures { record { defined = result; instance = h.new } ≡ assigned_value h.old d x }
 {
-    let Value::Number(v) = x else {
+    let Some(v) = x else {
         return false;
     };
     put_field(h, d, v);
@@ -39,8 +40,9 @@ fn assign_one(el: &[Word], j: Word, defined: bool, h: &mut [Word]) -> bool
 pub fn assign(el: &[Word], h: &mut [Word]) -> bool
     ensures { record { defined = result; instance = h.new } ≡ assigned el.now h.old }
 {
-    let a = assign_one(el, 0, true, h);
-    let b = assign_one(el, 1, a, h);
-    let c = assign_one(el, 2, b, h);
-    assign_one(el, 3, c, h)
+    let mut defined = true;
+    for j in 0..ASSIGNMENTS {
+        defined = assign_one(el, j, defined, h);
+    }
+    defined
 }

@@ -53,23 +53,13 @@ fn is_left_out(el: &[Word], b: Word, j: Word) -> bool
 fn other_false(el: &[Word], h: &[Word], b: Word, j: Word) -> bool
     ensures { result ≡ other_false el.now h.now b j }
 {
-    if is_left_out(el, b, j) {
-        return true;
-    }
-    step_values::is_false(condition_of(el, h, j))
+    is_left_out(el, b, j) || step_values::is_false(condition_of(el, h, j))
 }
 
 fn others_false(el: &[Word], h: &[Word], b: Word, n: Word) -> bool
     ensures { result ≡ all (other_false el.now h.now b) n }
 {
-    let mut j: Word = 0;
-    while j < n {
-        if !other_false(el, h, b, j) {
-            return false;
-        }
-        j += 1;
-    }
-    true
+    (0..n).all(|j| other_false(el, h, b, j))
 }
 
 // Whether the condition of branch b is true and those of the earlier ones are false; where it is the default, whether all others are false.
@@ -79,8 +69,5 @@ pub fn does_hold(el: &[Word], h: &[Word], b: Word) -> bool
     if is_default(el, b) {
         return others_false(el, h, b, exit_count(el));
     }
-    if !step_values::is_true(condition_of(el, h, b)) {
-        return false;
-    }
-    others_false(el, h, b, b)
+    step_values::is_true(condition_of(el, h, b)) && others_false(el, h, b, b)
 }

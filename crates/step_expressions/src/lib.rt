@@ -18,9 +18,10 @@ pub fn field_of(h: &[Word], d: Word) -> Value
     ensures { result ≡ field_of h.now d }
 {
     if defined_at(h, d) == 0 {
-        return Value::Undefined;
+        None
+    } else {
+        Some(value_at(h, d))
     }
-    Value::Number(value_at(h, d))
 }
 
 // The operand at place p of an expression or a condition x.
@@ -29,7 +30,7 @@ pub fn operand(x: &[Word], h: &[Word], p: Word) -> Value
 {
     let n = word(x, (p as usize) + OPERAND_NUMBER);
     if word(x, p as usize) == 0 {
-        return Value::Number(n);
+        return Some(n);
     }
     field_of(h, n)
 }

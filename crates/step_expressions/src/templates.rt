@@ -8,6 +8,7 @@ use super::expression;
 use base_state::put_field;
 use base_table::places::{BINDING, FORM, LEFT, OPERAND_NUMBER};
 use base_table::{item_at, message_length};
+use base_words::counts::VALUES;
 use base_words::{Word, wide, word};
 use meaning::{Evaluated, Tuple, Value};
 use step_values::tuples::value_of;
@@ -16,21 +17,17 @@ use step_values::{is_defined, number_in};
 fn does_bind(el: &[Word], b: Word, j: Word) -> bool
     ensures { result ≡ binds el.now b j }
 {
-    if message_length(el, b) <= j {
-        return false;
-    }
-    let x = item_at(el, b, j);
-    word(x, FORM) == BINDING
+    j < message_length(el, b) && word(item_at(el, b, j), FORM) == BINDING
 }
 
 fn item_value(el: &[Word], b: Word, h: &[Word], g: Tuple, j: Word) -> Value
     ensures { result ≡ item_value el.now b h.now g j }
 {
     if message_length(el, b) <= j {
-        return Value::Number(0);
+        return Some(0);
     }
     if does_bind(el, b, j) {
-        return Value::Number(value_of(g, j));
+        return Some(value_of(g, j));
     }
     expression(item_at(el, b, j), h)
 }
@@ -38,29 +35,18 @@ fn item_value(el: &[Word], b: Word, h: &[Word], g: Tuple, j: Word) -> Value
 fn all_defined(u: Value, v: Value, w: Value, x: Value) -> bool
     ensures { result ≡ is_defined u && is_defined v && is_defined w && is_defined x }
 {
-    if !is_defined(u) {
-        return false;
-    }
-    if !is_defined(v) {
-        return false;
-    }
-    if !is_defined(w) {
-        return false;
-    }
-    is_defined(x)
+    is_defined(u) && is_defined(v) && is_defined(w) && is_defined(x)
 }
 
 fn gather(n: Word, u: Value, v: Value, w: Value, x: Value) -> Evaluated
     ensures { result ≡ gathered n u v w x }
 {
-    let defined = all_defined(u, v, w, x);
-    let tuple = Tuple {
-        length: n,
-        values: [number_in(u), number_in(v), number_in(w), number_in(x)],
-    };
     Evaluated {
-        defined: defined,
-        tuple: tuple,
+        defined: all_defined(u, v, w, x),
+        tuple: Tuple {
+            length: n,
+            values: [number_in(u), number_in(v), number_in(w), number_in(x)],
+        },
     }
 }
 
@@ -79,30 +65,14 @@ pub fn evaluate(el: &[Word], b: Word, h: &[Word], g: Tuple) -> Evaluated
 fn item_suits(el: &[Word], b: Word, w: Tuple, g: Tuple, j: Word) -> bool
     ensures { result ≡ item_suits el.now b w g j }
 {
-    let x = w.values;
-    let y = g.values;
-    if word(&x, wide(j)) == word(&y, wide(j)) {
-        return true;
-    }
-    does_bind(el, b, j)
+    word(&w.values, wide(j)) == word(&g.values, wide(j)) || does_bind(el, b, j)
 }
 
 // Whether values could match the template of branch b, which came to w with none given: only what binds may differ.
 pub fn suits(el: &[Word], b: Word, w: Tuple, g: Tuple) -> bool
     ensures { result ≡ suited el.now b w g }
 {
-    let n = w.length;
-    if n != g.length {
-        return false;
-    }
-    let mut j: Word = 0;
-    while j < n {
-        if !item_suits(el, b, w, g, j) {
-            return false;
-        }
-        j += 1;
-    }
-    true
+    w.length == g.length && (0..w.length).all(|j| item_suits(el, b, w, g, j))
 }
 
 fn bind_one(el: &[Word], b: Word, g: Tuple, j: Word, h: &mut [Word])
@@ -118,8 +88,7 @@ fn bind_one(el: &[Word], b: Word, g: Tuple, j: Word, h: &mut [Word])
 pub fn bind(el: &[Word], b: Word, g: Tuple, h: &mut [Word])
     ensures { h.new ≡ bound el.now b g h.old }
 {
-    bind_one(el, b, g, 0, h);
-    bind_one(el, b, g, 1, h);
-    bind_one(el, b, g, 2, h);
-    bind_one(el, b, g, 3, h);
+    for j in 0..VALUES {
+        bind_one(el, b, g, j, h);
+    }
 }

@@ -15,13 +15,11 @@ use step_expressions::conditions::does_hold;
 use step_expressions::templates::{bind, evaluate};
 
 // 13: the guard, or the branch's condition, is true.
+#[tactic(auto, using(base_words::proofs::PickLaws::picks), unfolding(meaning::specs::Requirements::granted))]
 pub fn grants(el: &[Word], h: &[Word], m: Move, b: Word) -> bool
     ensures { result ≡ granted el.now h.now m b }
 {
-    if m.asks == ON {
-        return does_hold(el, h, b);
-    }
-    true
+    m.asks != ON || does_hold(el, h, b)
 }
 
 fn no_values() -> Evaluated
@@ -34,6 +32,7 @@ fn no_values() -> Evaluated
 }
 
 // What is expected of the given values: the template worked out, or no values at all.
+#[tactic(auto, using(base_words::proofs::PickLaws::picks), unfolding(meaning::specs::Changes::expected))]
 pub fn expect(el: &[Word], h: &[Word], m: Move, b: Word, g: Tuple) -> Evaluated
     ensures { result ≡ expected el.now h.now m b g }
 {
@@ -44,6 +43,7 @@ pub fn expect(el: &[Word], h: &[Word], m: Move, b: Word, g: Tuple) -> Evaluated
 }
 
 // The binds of a move that receives.
+#[tactic(auto, using(base_words::proofs::PickLaws::picks), unfolding(meaning::specs::Changes::received))]
 pub fn receive(el: &[Word], m: Move, b: Word, g: Tuple, h: &mut [Word])
     ensures { h.new ≡ received el.now h.old m b g }
 {
@@ -53,6 +53,7 @@ pub fn receive(el: &[Word], m: Move, b: Word, g: Tuple, h: &mut [Word])
 }
 
 // The assignments of a move that assigns; whether all of them were defined.
+#[tactic(auto, using(base_words::proofs::PickLaws::picks), unfolding(meaning::specs::Changes::worked))]
 pub fn work(el: &[Word], m: Move, h: &mut [Word]) -> bool
     ensures { record { defined = result; instance = h.new } ≡ worked el.now h.old m }
 {
@@ -63,6 +64,7 @@ pub fn work(el: &[Word], m: Move, h: &mut [Word]) -> bool
 }
 
 // The message of a move that sends.
+#[tactic(auto, using(base_words::proofs::PickLaws::picks), unfolding(meaning::specs::Changes::message_sent))]
 pub fn message_of(el: &[Word], h: &[Word], m: Move, b: Word) -> Evaluated
     ensures { result ≡ message_sent el.now h.now m b }
 {

@@ -1,15 +1,13 @@
 -- What the code finds of one entry. Assumes nothing.
-use Prim.Native.Nat.{ℕ, ◌+◌, ◌-◌, ◌≤◌}
+use Prim.Native.Nat.{ℕ, zero, suc, ◌+◌, ◌-◌, ◌≤◌}
 use mathlib.Core.Path.{◌≡◌, refl, sym, ◌∙◌, ap}
 use mathlib.Core.Bool.{Bool, true, false, ◌&&◌}
 use mathlib.Core.List.{List, [], ◌∷◌}
 use native.Mathlib.Omega.{arith}
-use denote.Enum.Declared.{tag_of}
 use borrow.Author.Tests.{ne_eqb, eq-eqb, eqb-true, eqb-false}
 use lib.Dec.{eqb}
 use Rattle.base_words.specs.Each.{tab}
-use Rattle.base_words.specs.Sum.{one_if}
-use Rattle.base_words.proofs.EachLaws.{tab_more}
+use Rattle.base_words.specs.Sum.{sum, one_if}
 use Rattle.base_words.proofs.PickLaws.{and_no, and_yes, and_false_right, pick_yes, pick_no}
 use Rattle.meaning.specs.declared.Name.{Name}
 use Rattle.meaning.specs.declared.Answer.{Answer}
@@ -19,7 +17,6 @@ use Rattle.meaning.specs.declared.Tuple.{Tuple}
 use Rattle.meaning.specs.Tuples.{same_tuple}
 use Rattle.meaning.specs.Messages.{times}
 use Rattle.meaning.specs.Queues.{message_count, message_at, messages_of}
-use Rattle.meaning.specs.contracts.Traffic.{the_type}
 use Rattle.step_queues.proofs.MessageLaws.{times_append}
 use Rattle.step_history.specs.declared.Accounts.{Accounts}
 use Rattle.step_history.specs.declared.Moved.{Moved}
@@ -148,19 +145,12 @@ module _ (m : ℕ) (g : Tuple) where
       let y : 0 ≡ one_if (is_accepted (post_gave name t k) && false) = and_never (is_accepted (post_gave name t k)) in
       λ i. record { posted = x i; sent = y i; consumed = y i; moved = w i }
 
--- HOW MANY ARE QUEUED: of the first k messages
-pub times_first : (g : Tuple) (f : ℕ → Tuple) → 0 ≡ times g (tab f 0)
-unfolding times tab
-times_first g f = refl
+-- HOW MANY ARE QUEUED: of the first n messages
+times_sum : (g : Tuple) (f : ℕ → Tuple) (n : ℕ) → sum (λ j. one_if (same_tuple (f j) g)) n ≡ times g (tab f n)
+unfolding times tab sum
+times_sum g f zero = refl
+times_sum g f (suc n) = rw (times_append g (tab f n) (f n ∷ [])) (omega (arith, times_sum g f n))
 
-module _ (q : List ℕ) (m : ℕ) (g : Tuple) where
-  pub times_more : (k all one : ℕ) (b : Bool) (x : Tuple) → all ≡ times g (tab (message_at q m) k) → x ≡ message_at q m k → b ≡ same_tuple x g → one ≡ one_if b
-      → all + one ≡ times g (tab (message_at q m) (k + 1))
-  unfolding times
-  times_more k all one b x e s d f =
-      let w : one ≡ one_if (same_tuple (message_at q m k) g) = f ∙ ap one_if (d ∙ ap (λ (y : Tuple). same_tuple y g) s) in
-      rw (tab_more (message_at q m) k) (rw (times_append g (tab (message_at q m) k) (message_at q m k ∷ [])) (omega (arith, e, w)))
-
-  pub times_done : (k all n : ℕ) → all ≡ times g (tab (message_at q m) k) → n ≡ message_count q m → k ≤ n → n ≤ k → all ≡ times g (messages_of q m)
-  unfolding messages_of
-  times_done k all n e d l r = let s : k ≡ message_count q m = omega (arith, d, l, r) in e ∙ ap (λ (j : ℕ). times g (tab (message_at q m) j)) s
+pub times_counted : (q : List ℕ) (m : ℕ) (g : Tuple) (r n : ℕ) → r ≡ sum (λ j. one_if (same_tuple (message_at q m j) g)) n → n ≡ message_count q m → r ≡ times g (messages_of q m)
+unfolding messages_of
+times_counted q m g r n e d = e ∙ times_sum g (message_at q m) n ∙ ap (λ (j : ℕ). times g (tab (message_at q m) j)) d

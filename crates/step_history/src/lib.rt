@@ -46,22 +46,18 @@ fn one_if(b: bool) -> usize
 }
 
 // Whether it is the message that is counted.
+#[tactic(auto, using(base_words::proofs::PickLaws::picks), unfolding(crate::specs::History::is_message))]
 fn is_message(m: Word, g: Tuple, name: Word, tuple: Tuple) -> bool
     ensures { result ≡ is_message m g name tuple }
 {
-    if name == m {
-        return same_tuple(tuple, g);
-    }
-    false
+    name == m && same_tuple(tuple, g)
 }
 
+#[tactic(auto, using(base_words::proofs::PickLaws::picks), unfolding(crate::specs::History::posts, crate::specs::History::is_accepted, crate::specs::History::as_posted))]
 fn posts(m: Word, g: Tuple, name: Word, tuple: Tuple, number: Word) -> bool
     ensures { result ≡ posts m g (post_gave name tuple number) }
 {
-    if number != ACCEPTED {
-        return false;
-    }
-    is_message(m, g, name, tuple)
+    number == ACCEPTED && is_message(m, g, name, tuple)
 }
 
 fn sends(m: Word, g: Tuple, n: Name, a: Answer) -> bool
@@ -114,7 +110,7 @@ fn moved_by_step(n: Name, a: Answer) -> Moved
         return Moved {
             some: true,
             name: a.name,
-            tuple: tuple,
+            tuple,
         };
     };
     nothing_moved()
@@ -141,9 +137,9 @@ pub fn note_step(m: Word, g: Tuple, n: Name, a: Answer) -> Noted
     let moved = moved_by_step(n, a);
     Noted {
         posted: 0,
-        sent: sent,
-        consumed: consumed,
-        moved: moved,
+        sent,
+        consumed,
+        moved,
     }
 }
 
@@ -153,10 +149,10 @@ pub fn note_post(m: Word, g: Tuple, name: Word, tuple: Tuple, number: Word) -> N
     let posted = one_if(posts(m, g, name, tuple, number));
     let moved = moved_by_post(name, tuple, number);
     Noted {
-        posted: posted,
+        posted,
         sent: 0,
         consumed: 0,
-        moved: moved,
+        moved,
     }
 }
 
@@ -164,15 +160,9 @@ pub fn note_post(m: Word, g: Tuple, name: Word, tuple: Tuple, number: Word) -> N
 fn times_in(q: &[Word], m: Word, g: Tuple) -> usize
     ensures { result ≡ times g (messages_of q.now m) }
 {
-    let n = queued_in(q, m);
-    let mut k: Word = 0;
-    let mut all: usize = 0;
-    while k < n {
-        let one = one_if(same_tuple(message_at(q, m, k), g));
-        all += one;
-        k += 1;
-    }
-    all
+    (0..queued_in(q, m))
+        .filter(|&k| same_tuple(message_at(q, m, k), g))
+        .count()
 }
 
 pub fn queued_of(z: &[Word], m: Word, g: Tuple) -> usize
@@ -186,13 +176,8 @@ pub fn balances(a: Accounts) -> bool
     ensures { result ≡ balances a }
 {
     if a.queued <= a.posted {
-        if a.sent <= a.consumed {
-            return a.posted - a.queued == a.consumed - a.sent;
-        }
-        return false;
+        a.sent <= a.consumed && a.posted - a.queued == a.consumed - a.sent
+    } else {
+        a.consumed <= a.sent && a.queued - a.posted == a.sent - a.consumed
     }
-    if a.consumed <= a.sent {
-        return a.queued - a.posted == a.sent - a.consumed;
-    }
-    false
 }

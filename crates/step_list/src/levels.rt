@@ -61,14 +61,12 @@ fn scan_phase(
     }
     let count = branch_count(element_at(t, p, e), m);
     let mut left = k;
-    let mut b: Word = 0;
-    while b < count {
+    for b in 0..count {
         let r = scan_branch(t, z, p, i, e, f, b, left);
         if r.found {
             return r;
         }
         left = r.left;
-        b += 1;
     }
     passed(left)
 }
@@ -85,14 +83,12 @@ fn scan_phases(
     ensures { result ≡ scan (joined (scan_phase t.now (instances_of z.now) (queues_of z.now) p i e) phases) k }
 {
     let mut left = k;
-    let mut f: Word = 0;
-    while f < PHASES {
+    for f in 0..PHASES {
         let r = scan_phase(t, z, p, i, e, f, left);
         if r.found {
             return r;
         }
         left = r.left;
-        f += 1;
     }
     passed(left)
 }
@@ -109,8 +105,7 @@ fn scan_instance(
 {
     let count = element_count(t, p);
     let mut left = k;
-    let mut e: Word = 0;
-    while e < count {
+    for e in 0..count {
         if stirs_at(t, z, p, i, e) {
             let r = scan_phases(t, z, p, i, e, left);
             if r.found {
@@ -118,7 +113,6 @@ fn scan_instance(
             }
             left = r.left;
         }
-        e += 1;
     }
     passed(left)
 }
@@ -139,14 +133,12 @@ fn scan_pool(t: &[Word; TABLE_WORDS], z: &[Word; STATE_WORDS], p: Word, k: usize
 {
     let made = made_count(instances_in(z), p);
     let mut left = k;
-    let mut i: Word = 0;
-    while i < made {
+    for i in 0..made {
         let r = scan_made(t, z, p, i, left);
         if r.found {
             return r;
         }
         left = r.left;
-        i += 1;
     }
     scan_made(t, z, p, made, left)
 }
@@ -157,14 +149,12 @@ pub fn scan_pools(t: &[Word; TABLE_WORDS], z: &[Word; STATE_WORDS], k: usize) ->
 {
     let count = pool_count(t);
     let mut left = k;
-    let mut p: Word = 0;
-    while p < count {
+    for p in 0..count {
         let r = scan_pool(t, z, p, left);
         if r.found {
             return r;
         }
         left = r.left;
-        p += 1;
     }
     passed(left)
 }

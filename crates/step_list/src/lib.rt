@@ -32,15 +32,14 @@ pub fn list_on(t: &[Word; TABLE_WORDS], z: &[Word; STATE_WORDS], k: usize) -> Li
     ensures { result ≡ chosen (scanned t.now (instances_of z.now) (queues_of z.now)) k }
 {
     let r = scan_pools(t, z, k);
-    let name = r.name;
     if r.found {
         return Listed {
             number: ACCEPTED,
-            name: name,
+            name: r.name,
         };
     }
     Listed {
         number: NOT_LISTED,
-        name: name,
+        name: r.name,
     }
 }

@@ -48,39 +48,25 @@ fn are_bare(t: &[Word], p: Word, e: Word, h: &[Word]) -> bool
     ensures { result ≡ all (is_bare (element_at t.now p e) h.now) (entry_count (element_at t.now p e)) }
 {
     let n = entries_at(t, p, e);
-    let mut j: Word = 0;
-    while j < n {
-        if !is_bare(t, p, e, h, j) {
-            return false;
-        }
-        j += 1;
-    }
-    true
+    (0..n).all(|j| is_bare(t, p, e, h, j))
 }
 
+#[tactic(auto, using(base_words::proofs::PickLaws::picks), unfolding(crate::specs::Scanned::idle))]
 fn is_idle(t: &[Word], p: Word, e: Word, h: &[Word]) -> bool
     ensures { result ≡ idle (element_at t.now p e) h.now }
 {
     let task = word_in(t, p, e, TASK);
-    if !are_bare(t, p, e, h) {
-        return false;
-    }
-    if active_count(h, task) != 0 {
-        return false;
-    }
-    ready_count(h, task) == 0
+    are_bare(t, p, e, h) && active_count(h, task) == 0 && ready_count(h, task) == 0
 }
 
+#[tactic(auto, using(base_words::proofs::PickLaws::picks), unfolding(crate::specs::Scanned::stirs))]
 fn can_stir(t: &[Word], p: Word, e: Word, h: &[Word], i: Word, made: Word) -> bool
     ensures { result ≡ stirs (element_at t.now p e) h.now i made }
 {
     if word_in(t, p, e, KIND) == START_RCV {
         return i == made;
     }
-    if i < made {
-        return !is_idle(t, p, e, h);
-    }
-    false
+    i < made && !is_idle(t, p, e, h)
 }
 
 pub fn stirs_at(t: &[Word], z: &[Word], p: Word, i: Word, e: Word) -> bool
@@ -93,12 +79,10 @@ pub fn stirs_at(t: &[Word], z: &[Word], p: Word, i: Word, e: Word) -> bool
 }
 
 // Instance i of pool p is made, and has no token and no task count left.
+#[tactic(auto, using(base_words::proofs::PickLaws::picks), unfolding(crate::specs::Scanned::still))]
 pub fn is_still(z: &[Word], p: Word, i: Word) -> bool
     ensures { result ≡ still (instances_of z.now) p i }
 {
     let s = instances_in(z);
-    if i < made_count(s, p) {
-        return is_finished(instance_at(s, p, i));
-    }
-    false
+    i < made_count(s, p) && is_finished(instance_at(s, p, i))
 }

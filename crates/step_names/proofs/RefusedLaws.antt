@@ -13,7 +13,6 @@ use Rattle.meaning.specs.declared.Name.{Name}
 use Rattle.meaning.specs.Messages.{has}
 use Rattle.meaning.specs.Queues.{message_count, message_at}
 use Rattle.meaning.specs.Refusals.{first_refusal, ◌unless◌}
-use Rattle.meaning.specs.Requirements.{counts_permit, granted}
 use Rattle.meaning.specs.Step.{site_of, element_named, move_named, matches, template, refusals, refusals_at}
 use Rattle.step_expressions.specs.Suited.{suited}
 use Rattle.step_expressions.proofs.SuitLaws.{unsuited}

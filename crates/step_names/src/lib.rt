@@ -47,17 +47,11 @@ pub fn name_at(t: &[Word], p: Word, i: Word, e: Word, f: Word, b: Word) -> Name
     }
 }
 
+#[tactic(auto, unfolding(crate::specs::Parts::with_values))]
 fn with_values(n: Name, g: Tuple) -> Name
     ensures { result ≡ with_values n g }
 {
-    Name {
-        pool: n.pool,
-        instance: n.instance,
-        element: n.element,
-        phase: n.phase,
-        branch: n.branch,
-        given: g,
-    }
+    Name { given: g, ..n }
 }
 
 fn blank_name() -> Name
@@ -208,14 +202,12 @@ fn scan_messages(
     let el = element_for(t, n);
     let count = queued_in(queues_in(z), m);
     let mut left = k;
-    let mut place: Word = 0;
-    while place < count {
+    for place in 0..count {
         let r = scan_message(t, z, el, w, n, m, place, left);
         if r.found {
             return r;
         }
         left = r.left;
-        place += 1;
     }
     passed(left)
 }

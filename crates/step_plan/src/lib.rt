@@ -11,7 +11,7 @@ use base_words::Word;
 use base_words::numbers::NOT_TRUE;
 use meaning::{Evaluated, Tuple, empty_tuple};
 use step_fields::{expect, message_of, receive, work};
-use step_refusals::numbers::{both, number_after, number_before, number_of_fields};
+use step_refusals::numbers::{number_after, number_before, number_of_fields};
 use step_tokens::changes::{finish, take};
 use step_tokens::is_below_limit;
 use step_values::tuples::same_tuple;
@@ -28,7 +28,7 @@ fn refused_plan(number: Word) -> Plan
     ensures { result ≡ refused_plan number }
 {
     Plan {
-        number: number,
+        number,
         expected: empty_tuple(),
         sent: empty_tuple(),
     }
@@ -55,10 +55,10 @@ fn work_out(el: &[Word], h: &mut [Word], m: Move, b: Word, g: Tuple) -> Evaluate
     let worked = work(el, m, h);
     let message = message_of(el, h, m, b);
     change_first(el, m, b, h);
-    let tuple = message.tuple;
+    let defined = worked && message.defined;
     Evaluated {
-        defined: both(worked, message.defined),
-        tuple: tuple,
+        defined,
+        tuple: message.tuple,
     }
 }
 
@@ -67,12 +67,10 @@ fn match_fields(el: &[Word], h: &mut [Word], m: Move, b: Word, g: Tuple, expecte
     ensures { Matched (site_at el.now h.old m b g 0 0) expected result h.new }
 {
     let worked = work_out(el, h, m, b, g);
-    let sent = worked.tuple;
-    let number = number_of_fields(m, worked.defined, same_tuple(expected, g));
     Plan {
-        number: number,
-        expected: expected,
-        sent: sent,
+        number: number_of_fields(m, worked.defined, same_tuple(expected, g)),
+        expected,
+        sent: worked.tuple,
     }
 }
 
@@ -85,12 +83,11 @@ fn prepare(el: &[Word], h: &mut [Word], m: Move, b: Word, g: Tuple) -> Plan
         return refused_plan(number);
     }
     let template = expect(el, h, m, b, g);
-    let expected = template.tuple;
     let is_defined = template.defined;
     if !is_defined {
         return refused_plan(NOT_TRUE);
     }
-    match_fields(el, h, m, b, g, expected)
+    match_fields(el, h, m, b, g, template.tuple)
 }
 
 // 12 to 18, and the copy after all that the step does to it, or as far as it was worked on when refused.

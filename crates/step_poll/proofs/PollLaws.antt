@@ -1,7 +1,7 @@
 -- A poll as the code makes it, item after item. Assumes nothing.
 use mathlib.Core.Path.{◌≡◌, ◌∙◌, refl, sym, ap, ap₂}
 use mathlib.Core.Bool.{Bool, true, false}
-use mathlib.Core.List.{List, [], ◌∷◌, ◌++◌}
+use mathlib.Core.List.{List, ◌∷◌, ◌++◌}
 use Prim.Native.Nat.{ℕ, suc, ◌+◌, ◌-◌, ◌*◌, ◌≤◌, ◌<◌}
 use native.Mathlib.Omega.{arith}
 use borrow.Author.Tests.{eq-eqb, ne_eqb, eqb-true, lt-ltb, le-ltb}
@@ -17,7 +17,7 @@ use Rattle.meaning.specs.declared.Tuple.{Tuple}
 use Rattle.meaning.specs.declared.Answer.{Answer}
 use Rattle.meaning.specs.Post.{Posted}
 use Rattle.step_take.specs.Settled.{settled, posted, Done}
-use Rattle.step_poll.specs.Items.{Act, a_step, a_post, item_words, items_most, given_in, name_in, act_in, acts_in}
+use Rattle.step_poll.specs.Items.{Act, item_words, items_most, given_in, name_in, act_in, acts_in}
 use Rattle.step_poll.specs.Poll.{Left, Stepped, Polling, one_before, polled_by, polled_from, settled_step, settled_post, settled_act}
 
 -- WHAT A CALL LEAVES, y, is what the step or the post does
@@ -112,6 +112,10 @@ module _ (give : Act → List ℕ → Left) (w : List ℕ) (count : ℕ) where
     pub given_end : count ≤ d → ◌≡◌ {A = Polling} (record { number = 0; accepted = d; state = z }) p
     unfolding Given acts_in polled_by
     given_end h = let l : count - d ≡ 0 = omega (arith, h) in later_end d 0 z ∙ (rw l at given)
+
+    -- the same where the items are counted up to all of them
+    pub given_full : count ≤ d → d ≤ count → ◌≡◌ {A = Polling} (record { number = 0; accepted = count; state = z }) p
+    given_full h k = let e : count ≡ d = omega arith in ap (λ (n : ℕ). record { number = 0; accepted = n; state = z }) e ∙ given_end h
 
 -- THE WHOLE POLL
 module _ (give : Act → List ℕ → Left) (right : ℕ) (w : List ℕ) (count : ℕ) (z : List ℕ) where

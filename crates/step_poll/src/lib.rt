@@ -46,28 +46,27 @@ pub struct Polled {
 fn given_in(item: &[Word]) -> Tuple
     ensures { result ≡ given_in item.now }
 {
-    let length = word(item, LENGTH);
-    let a = word(item, FIRST_VALUE + 0);
-    let b = word(item, FIRST_VALUE + 1);
-    let c = word(item, FIRST_VALUE + 2);
-    let d = word(item, FIRST_VALUE + 3);
     Tuple {
-        length: length,
-        values: [a, b, c, d],
+        length: word(item, LENGTH),
+        values: [
+            word(item, FIRST_VALUE),
+            word(item, FIRST_VALUE + 1),
+            word(item, FIRST_VALUE + 2),
+            word(item, FIRST_VALUE + 3),
+        ],
     }
 }
 
 fn name_in(item: &[Word]) -> Name
     ensures { result ≡ name_in item.now }
 {
-    let given = given_in(item);
     Name {
         pool: word(item, POOL_OR_NAME),
         instance: word(item, INSTANCE),
         element: word(item, ELEMENT),
         phase: word(item, PHASE),
         branch: word(item, BRANCH),
-        given: given,
+        given: given_in(item),
     }
 }
 
@@ -104,19 +103,14 @@ pub fn poll_on(
             accepted: 0,
         };
     }
-    let mut accepted: usize = 0;
-    while accepted < count {
+    for accepted in 0..count {
         let number = take_item(t, z, tail(items, ITEM_WORDS * accepted));
         if number != 0 {
-            return Polled {
-                number: number,
-                accepted: accepted,
-            };
+            return Polled { number, accepted };
         }
-        accepted += 1;
     }
     Polled {
         number: 0,
-        accepted: accepted,
+        accepted: count,
     }
 }

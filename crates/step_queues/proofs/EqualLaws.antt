@@ -1,6 +1,6 @@
 -- A message is equal to a tuple where its words in the queue are. Assumes nothing.
 use mathlib.Core.Path.{◌≡◌, ◌∙◌, refl, sym, ap₂}
-use mathlib.Core.Bool.{Bool, true, false, ◌&&◌}
+use mathlib.Core.Bool.{Bool, false, ◌&&◌}
 use mathlib.Core.List.{List, [], ◌∷◌}
 use Prim.Native.Nat.{ℕ, zero, suc, ◌+◌, ◌≤◌, ◌<◌}
 use native.Mathlib.Omega.{arith}
@@ -40,10 +40,3 @@ module _ (q : List ℕ) (m k : ℕ) (g : Tuple) (i w : ℕ) (s : i ≡ slot_plac
       and_yes _ _ _ (eq_eqb_by w (at q (slot_place m k)) g.length (rw s at e) o)
       (rw s at d ∙ rw long (all_same (λ j. eqb (f j) (at g.values j)) (λ j. eqb (at (f 0 ∷ f 1 ∷ f 2 ∷ f 3 ∷ []) j) (at g.values j)) g.length
       (λ j h. rw (← four_at f j (omega (arith, h, l))))))
-
--- both words as the code read them
-pub read_equal : (x y a b : ℕ) → x ≡ a → y ≡ b → x ≡ y → eqb a b ≡ true
-read_equal x y a b e d h = eq_eqb_by x a b e (h ∙ d)
-
-pub read_other : (x y a b : ℕ) → x ≡ a → y ≡ b → (x ≡ y → ⊥) → eqb a b ≡ false
-read_other x y a b e d h = ne_eqb_by x a b e (λ z. h (z ∙ sym d))

@@ -1,6 +1,6 @@
 -- The same two operations as few words as they change: what the code writes, whatever the words were before. Where a queue holds 0 in what is
 -- not in use, they are the operations on lists of messages (proofs/QueueLaws.antt).
-use Rattle.std.specs.Prelude.{ℕ, ◌+◌, ◌-◌, ◌*◌, Bool, List, ltb, set}
+use Rattle.std.specs.Prelude.{ℕ, ◌+◌, ◌-◌, ◌*◌, Bool, ltb, set}
 use Rattle.base_words.specs.Blocks.{Queues}
 use Rattle.base_words.specs.Pick.{if◌then◌or_else◌}
 use Rattle.base_words.specs.Seek.{seek}

@@ -14,7 +14,7 @@ ghost use Rattle.step_queues.specs.Changes.{message_is, oldest, stored, one_more
 
 use base_state::places::{FIRST_SLOT, FIRST_VALUE, QUEUE_WORDS, SLOT_WORDS};
 use base_words::counts::{MESSAGES, VALUES};
-use base_words::{Word, less_one, put, word};
+use base_words::{Word, less_one, put, wide, word};
 use meaning::{Tuple, empty_tuple};
 use step_values::tuples::{same_tuple, value_of};
 
@@ -37,14 +37,10 @@ pub fn message_at(q: &[Word], m: Word, k: Word) -> Tuple
     ensures { result ≡ message_at q.now m k }
 {
     let i = slot_place(m, k);
-    let length = word(q, i);
-    let a = word(q, i + FIRST_VALUE + 0);
-    let b = word(q, i + FIRST_VALUE + 1);
-    let c = word(q, i + FIRST_VALUE + 2);
-    let d = word(q, i + FIRST_VALUE + 3);
+    let v = i + FIRST_VALUE;
     Tuple {
-        length: length,
-        values: [a, b, c, d],
+        length: word(q, i),
+        values: [word(q, v), word(q, v + 1), word(q, v + 2), word(q, v + 3)],
     }
 }
 
@@ -53,14 +49,7 @@ fn words_are(q: &[Word], i: usize, v: &[Word], n: Word) -> bool
     requires { i ≤ slot_place greatest greatest + values_in }
     ensures { result ≡ all (λ j. eqb (at q.now (i + j)) (at v.now j)) n }
 {
-    let mut j: Word = 0;
-    while j < n {
-        if word(q, i + (j as usize)) != word(v, j as usize) {
-            return false;
-        }
-        j += 1;
-    }
-    true
+    (0..wide(n)).all(|j| word(q, i + j) == word(v, j))
 }
 
 // Message k of queue m is equal to g. Longer ones than there are do not come.
@@ -82,14 +71,7 @@ fn message_is(q: &[Word], m: Word, g: Tuple, k: Word) -> bool
 fn oldest_below(q: &[Word], m: Word, g: Tuple, n: Word) -> Word
     ensures { result ≡ seek (message_is q.now m g) n }
 {
-    let mut k: Word = 0;
-    while k < n {
-        if message_is(q, m, g, k) {
-            return k;
-        }
-        k += 1;
-    }
-    k
+    (0..n).find(|&k| message_is(q, m, g, k)).unwrap_or(n)
 }
 
 // The place of the oldest message equal to g; the count where there is none.
@@ -103,10 +85,8 @@ fn put_values(q: &mut [Word], m: Word, k: Word, g: Tuple)
     ensures { q.new ≡ writes (value_of g) q.old (slot_place m k + values_in) values }
 {
     let i = slot_place(m, k) + FIRST_VALUE;
-    let mut j: Word = 0;
-    while j < VALUES {
+    for j in 0..VALUES {
         put(q, i + (j as usize), value_of(g, j));
-        j += 1;
     }
 }
 
@@ -121,10 +101,7 @@ fn store(q: &mut [Word], m: Word, k: Word, g: Tuple)
 fn one_more(n: Word) -> Word
     ensures { result ≡ one_more n }
 {
-    if n < MESSAGES {
-        return n + 1;
-    }
-    n
+    if n < MESSAGES { n + 1 } else { n }
 }
 
 // Puts a message behind the others.
@@ -143,11 +120,9 @@ fn shift(q: &mut [Word], m: Word, k: Word, n: Word)
 {
     let i = slot_place(m, k);
     let end = SLOT_WORDS * (n as usize);
-    let mut j: usize = 0;
-    while j < end {
+    for j in 0..end {
         let w = word(q, i + j + SLOT_WORDS);
         put(q, i + j, w);
-        j += 1;
     }
 }
 

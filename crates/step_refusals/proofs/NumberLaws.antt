@@ -1,12 +1,11 @@
 -- Tests of the code, and refusals in parts. Assumes nothing.
-use Prim.Native.Nat.{ℕ, ◌≤◌, ◌<◌}
+use Prim.Native.Nat.{ℕ}
 use mathlib.Core.Path.{◌≡◌, refl}
-use mathlib.Core.Bool.{Bool, true, false, not, ◌&&◌, ◌||◌, false≢true}
+use mathlib.Core.Bool.{Bool, true, false, not, ◌&&◌, false≢true}
 use mathlib.Core.List.{List, [], ◌∷◌, ◌++◌}
-use native.Mathlib.Omega.{arith}
 use lib.Dec.{eqb, ltb}
 use lib.ListN.{length, get_or}
-use borrow.Author.Tests.{lt-ltb, le-ltb, eqb-false}
+use borrow.Author.Tests.{eqb-false}
 use Rattle.base_words.specs.Pick.{if◌then◌or_else◌}
 use Rattle.base_words.specs.Each.{each}
 use Rattle.base_words.specs.Counts.{messages}
@@ -22,13 +21,6 @@ use Rattle.meaning.specs.Step.{refusals_at}
 use Rattle.step_queues.specs.Changes.{oldest}
 use Rattle.step_queues.proofs.QueueLaws.{count_is, present_is}
 use Rattle.step_refusals.specs.Chain.{number_at, listed, of_queues}
-
--- a test against a number a that a call's result r is known to equal
-pub lt_with : (p r a : ℕ) → r ≡ a → p < r → ltb p a ≡ true
-lt_with p r a e h = lt-ltb p a (omega arith)
-
-pub le_with : (p r a : ℕ) → r ≡ a → r ≤ p → ltb p a ≡ false
-le_with p r a e h = le-ltb p a (omega arith)
 
 -- 15 and 17, as the code tests them
 pub present_by : (q : List ℕ) (m : ℕ) (g : Tuple) (r n : ℕ) → r ≡ oldest q m g → n ≡ message_count q m → ltb r n ≡ has g (messages_of q m)

@@ -26,36 +26,26 @@ use step_tokens::{branch_count, is_named};
 const ALL_HOLD: Word = ACCEPTED;
 
 // 11, of the table.
+#[tactic(auto, using(base_words::proofs::PickLaws::picks), unfolding(crate::specs::Chain::is_in_table))]
 fn is_placed(t: &[Word], p: Word, e: Word) -> bool
     ensures { result ≡ is_in_table t.now p e }
 {
-    if p < pool_count(t) {
-        return e < element_count(t, p);
-    }
-    false
+    p < pool_count(t) && e < element_count(t, p)
 }
 
 // 11, of the move.
+#[tactic(auto, using(base_words::proofs::PickLaws::picks), unfolding(crate::specs::Chain::offered))]
 fn is_offered(el: &[Word], m: Move, b: Word, i: Word, made: Word) -> bool
     ensures { result ≡ offered el.now m b i made }
 {
-    if m.kind == 0 {
-        return false;
-    }
-    if b < branch_count(el, m) {
-        return is_named(m, i, made);
-    }
-    false
+    m.kind != 0 && b < branch_count(el, m) && is_named(m, i, made)
 }
 
 // 11: there is such a pool, element, phase, branch and instance.
 pub fn is_there(t: &[Word], el: &[Word], m: Move, p: Word, made: Word, n: Name) -> bool
     ensures { result ≡ is_in_table t.now p n.element && offered el.now m n.branch n.instance made }
 {
-    if is_placed(t, p, n.element) {
-        return is_offered(el, m, n.branch, n.instance, made);
-    }
-    false
+    is_placed(t, p, n.element) && is_offered(el, m, n.branch, n.instance, made)
 }
 
 // 12, and 13 of the guard or the condition.
@@ -71,22 +61,10 @@ pub fn number_before(el: &[Word], h: &[Word], m: Move, b: Word) -> Word
     ALL_HOLD
 }
 
-pub fn both(a: bool, b: bool) -> bool
-    ensures { result ≡ a && b }
-{
-    if a {
-        return b;
-    }
-    false
-}
-
 fn receives_or(m: Move, a: bool) -> bool
     ensures { result ≡ eqb m.receives on || a }
 {
-    if m.receives == ON {
-        return true;
-    }
-    a
+    m.receives == ON || a
 }
 
 // 13, 14, 13 of the fields: where a message is received, its values come first.
@@ -118,23 +96,19 @@ pub fn has_place(q: &[Word], name: Word) -> bool
 }
 
 // 15: the message received is queued.
+#[tactic(auto, using(base_words::proofs::PickLaws::picks), unfolding(crate::specs::Chain::queued_for))]
 fn is_queued(m: Move, q: &[Word], name: Word, g: Tuple) -> bool
     ensures { result ≡ queued_for m q.now name g }
 {
-    if m.receives == ON {
-        return is_present(q, name, g);
-    }
-    true
+    m.receives != ON || is_present(q, name, g)
 }
 
 // 17: the queue sent to holds fewer than it may.
+#[tactic(auto, using(base_words::proofs::PickLaws::picks), unfolding(crate::specs::Chain::space_for))]
 pub fn has_space(m: Move, q: &[Word], name: Word) -> bool
     ensures { result ≡ space_for m q.now name }
 {
-    if m.sends == ON {
-        return has_place(q, name);
-    }
-    true
+    m.sends != ON || has_place(q, name)
 }
 
 // 15 to 18, of the instance after the taking.
@@ -169,8 +143,5 @@ pub fn number_after(
 pub fn is_postable(name: Word, length: Word) -> bool
     ensures { result ≡ ltb name names && leb length values }
 {
-    if name < NAMES {
-        return length <= VALUES;
-    }
-    false
+    name < NAMES && length <= VALUES
 }

@@ -93,3 +93,7 @@ module _ (list : List ℕ → List ℕ → List Name) (take : List ℕ → List 
     taken_end l h e =
         let z : limit - d ≡ 0 = omega (arith, h) in
         rw e (later_none d (whether (list s q)) s q ∙ ap (λ (n : ℕ). later d (ran_by list take n s q)) (sym z) ∙ taken)
+
+    -- the same where the turns are counted up to the limit
+    pub taken_full : (l : ℕ) → limit ≤ d → d ≤ limit → l ≡ whether (list s q) → record { steps = limit; left = l; instances = s; queues = q } ≡ r
+    taken_full l h k e = let z : limit ≡ d = omega arith in ap (λ (n : ℕ). record { steps = n; left = l; instances = s; queues = q }) z ∙ taken_end l h e

@@ -28,31 +28,22 @@ fn whether_left(t: &[Word; TABLE_WORDS], z: &[Word; STATE_WORDS]) -> Word
     ensures { result ≡ whether (scanned t.now (instances_of z.now) (queues_of z.now)) }
 {
     let first = list_on(t, z, 0);
-    if first.number == 0 {
-        return 1;
-    }
-    0
+    if first.number == 0 { 1 } else { 0 }
 }
 
 // Takes the first listed step until none is accepted or the limit is used up.
 pub fn run_on(t: &[Word; TABLE_WORDS], z: &mut [Word; STATE_WORDS], limit: Steps) -> Ran
     ensures { record { steps = result.steps; left = result.left; instances = instances_of z.new; queues = queues_of z.new } ≡ ran_by (scanned t.now) (settled t.now) limit (instances_of z.old) (queues_of z.old) }
 {
-    let mut steps: Steps = 0;
-    while steps < limit {
+    for steps in 0..limit {
         let first = list_on(t, z, 0);
         if first.number != 0 {
-            return Ran {
-                steps: steps,
-                left: 0,
-            };
+            return Ran { steps, left: 0 };
         }
         step_on(t, z, first.name);
-        steps += 1;
     }
-    let left = whether_left(t, z);
     Ran {
-        steps: steps,
-        left: left,
+        steps: limit,
+        left: whether_left(t, z),
     }
 }

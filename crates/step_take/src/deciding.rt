@@ -39,10 +39,7 @@ fn is_accepted_at(
     ensures { result ≡ eqb (first_refusal (refusals_at (site_at el.now (before m (instance_of (instances_of z.now) p n.instance) (shared_of (instances_of z.now))) m n.branch n.given made limit) (queues_of z.now))) 0 }
 {
     let name = message_name(el, n.branch);
-    if !has_space_in(z, m, name) {
-        return false;
-    }
-    number_at(el, z, m, p, made, limit, n) == 0
+    has_space_in(z, m, name) && number_at(el, z, m, p, made, limit, n) == 0
 }
 
 pub fn is_accepted_in(t: &[Word], z: &[Word], n: Name) -> bool
@@ -53,9 +50,5 @@ pub fn is_accepted_in(t: &[Word], z: &[Word], n: Name) -> bool
     let el = element_at(t, p, n.element);
     let m = move_at(el, n.phase);
     let made = made_in(z, p);
-    if !is_there(t, el, m, p, made, n) {
-        return false;
-    }
-    let limit = limit_of(t, p);
-    is_accepted_at(el, z, m, p, made, limit, n)
+    is_there(t, el, m, p, made, n) && is_accepted_at(el, z, m, p, made, limit_of(t, p), n)
 }

@@ -1,5 +1,5 @@
 -- Entries and exits in one: edge j of those from edge f on, of a list at a place, and which way a token on it goes.
-use Rattle.std.specs.Prelude.{ℕ, ◌+◌, Bool, List, eqb, ltb}
+use Rattle.std.specs.Prelude.{ℕ, ◌+◌, Bool, eqb, ltb}
 use Rattle.base_words.specs.Blocks.{Element, Instance}
 use Rattle.base_words.specs.Pick.{if◌then◌or_else◌}
 use Rattle.base_words.specs.Words.{at}

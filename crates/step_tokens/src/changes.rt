@@ -15,15 +15,14 @@ use base_words::counts::COUNT_MOST;
 use base_words::{Word, less_one, put};
 
 // One more, and the most stays.
+#[tactic(auto, using(base_words::proofs::PickLaws::picks), unfolding(meaning::specs::Changes::more))]
 fn one_more(n: Word) -> Word
     ensures { result ≡ more n }
 {
-    if n < COUNT_MOST {
-        return n + 1;
-    }
-    n
+    if n < COUNT_MOST { n + 1 } else { n }
 }
 
+#[tactic(auto, using(base_words::proofs::PickLaws::picks), unfolding(meaning::specs::Changes::count_changed))]
 fn count_after(cell: Word, n: Word) -> Word
     ensures { result ≡ count_changed cell n }
 {
@@ -37,6 +36,7 @@ fn count_after(cell: Word, n: Word) -> Word
 }
 
 // A token goes the way given, on edge j of those from edge f on, of a list.
+#[tactic(auto, using(base_words::proofs::PickLaws::picks), unfolding(crate::specs::Edges::change_one))]
 fn change_edge(el: &[Word], list: Word, way: Word, f: Word, j: Word, h: &mut [Word])
     ensures { h.new ≡ change_one el.now list way f j h.old }
 {
@@ -51,10 +51,8 @@ fn change_edges(el: &[Word], list: Word, way: Word, cell: Word, b: Word, n: Word
 {
     let f = first_edge(cell, b);
     let count = touched_count(cell, n);
-    let mut j: Word = 0;
-    while j < count {
+    for j in 0..count {
         change_edge(el, list, way, f, j, h);
-        j += 1;
     }
 }
 
@@ -65,6 +63,7 @@ pub fn take(el: &[Word], m: Move, b: Word, h: &mut [Word])
     change_edges(el, ENTRIES as Word, DOWN, m.takes, b, entry_count(el), h);
 }
 
+#[tactic(auto, using(base_words::proofs::PickLaws::picks), unfolding(meaning::specs::Changes::active_changed))]
 fn change_active(el: &[Word], m: Move, h: &mut [Word])
     ensures { h.new ≡ active_changed el.now m h.old }
 {
@@ -73,6 +72,7 @@ fn change_active(el: &[Word], m: Move, h: &mut [Word])
     put_active(h, task, n);
 }
 
+#[tactic(auto, using(base_words::proofs::PickLaws::picks), unfolding(meaning::specs::Changes::ready_changed))]
 fn change_ready(el: &[Word], m: Move, h: &mut [Word])
     ensures { h.new ≡ ready_changed el.now m h.old }
 {
@@ -90,14 +90,13 @@ fn put_all(el: &[Word], m: Move, b: Word, h: &mut [Word])
 fn clear(h: &mut [Word])
     ensures { h.new ≡ cleared h.old }
 {
-    let mut k: usize = 0;
-    while k < DEFINED {
+    for k in 0..DEFINED {
         put(h, k, 0);
-        k += 1;
     }
 }
 
 // All else, after the taking: counts, tokens of the exits, or the clearing.
+#[tactic(auto, using(base_words::proofs::PickLaws::picks), unfolding(meaning::specs::Changes::moved))]
 pub fn finish(el: &[Word], m: Move, b: Word, h: &mut [Word])
     ensures { h.new ≡ moved el.now m b h.old }
 {

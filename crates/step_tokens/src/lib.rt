@@ -14,6 +14,7 @@ pub mod changes;
 pub mod permission;
 
 // How many of n edges a cell of the table of moves means.
+#[tactic(auto, using(base_words::proofs::PickLaws::picks), unfolding(meaning::specs::Requirements::touched))]
 pub fn touched_count(cell: Word, n: Word) -> Word
     ensures { result ≡ touched cell n }
 {
@@ -27,6 +28,7 @@ pub fn touched_count(cell: Word, n: Word) -> Word
 }
 
 // From which edge on.
+#[tactic(auto, using(base_words::proofs::PickLaws::picks), unfolding(meaning::specs::Requirements::first_touched))]
 pub fn first_edge(cell: Word, b: Word) -> Word
     ensures { result ≡ first_touched cell b }
 {
@@ -47,6 +49,7 @@ pub fn edge_from(el: &[Word], list: Word, f: Word, j: Word) -> Word
 }
 
 // How many branches an element has.
+#[tactic(auto, using(base_words::proofs::PickLaws::picks), unfolding(meaning::specs::Requirements::branch_count))]
 pub fn branch_count(el: &[Word], m: Move) -> Word
     ensures { result ≡ branch_count el.now m }
 {
@@ -60,6 +63,7 @@ pub fn branch_count(el: &[Word], m: Move) -> Word
 }
 
 // Whether instance i may be named: the next one where the move makes it, else a made one.
+#[tactic(auto, using(base_words::proofs::PickLaws::picks), unfolding(meaning::specs::Requirements::instance_named))]
 pub fn is_named(m: Move, i: Word, made: Word) -> bool
     ensures { result ≡ instance_named m i made }
 {
@@ -70,6 +74,7 @@ pub fn is_named(m: Move, i: Word, made: Word) -> bool
 }
 
 // 16: an instance that the move makes is within the pool's limit.
+#[tactic(auto, using(base_words::proofs::PickLaws::picks), unfolding(meaning::specs::Requirements::below_limit))]
 pub fn is_below_limit(m: Move, made: Word, limit: Word) -> bool
     ensures { result ≡ below_limit m made limit }
 {

@@ -14,6 +14,7 @@ use base_words::Word;
 use base_words::counts::COUNT_MOST;
 
 // Edge j of those from edge f on, of a list: a token that goes DOWN is there (12), one that goes UP finds room (18).
+#[tactic(auto, using(base_words::proofs::PickLaws::picks), unfolding(crate::specs::Edges::allows))]
 fn edge_allows(el: &[Word], h: &[Word], list: Word, way: Word, f: Word, j: Word) -> bool
     ensures { result ≡ allows el.now h.now list way f j }
 {
@@ -30,14 +31,7 @@ fn edges_allow(el: &[Word], h: &[Word], list: Word, way: Word, cell: Word, b: Wo
 {
     let f = first_edge(cell, b);
     let count = touched_count(cell, n);
-    let mut j: Word = 0;
-    while j < count {
-        if !edge_allows(el, h, list, way, f, j) {
-            return false;
-        }
-        j += 1;
-    }
-    true
+    (0..count).all(|j| edge_allows(el, h, list, way, f, j))
 }
 
 // 12.
@@ -47,57 +41,41 @@ fn has_tokens(el: &[Word], h: &[Word], m: Move, b: Word) -> bool
     edges_allow(el, h, ENTRIES as Word, DOWN, m.takes, b, entry_count(el))
 }
 
+#[tactic(auto, using(base_words::proofs::PickLaws::picks), unfolding(meaning::specs::Requirements::can_lower))]
 fn can_lower(cell: Word, n: Word) -> bool
     ensures { result ≡ can_lower cell n }
 {
-    if cell == DOWN {
-        return 0 < n;
-    }
-    true
+    cell != DOWN || 0 < n
 }
 
 // Under the former version every na task waits.
+#[tactic(auto, using(base_words::proofs::PickLaws::picks), unfolding(meaning::specs::Requirements::waits))]
 fn must_wait(el: &[Word], h: &[Word]) -> bool
     ensures { result ≡ waits el.now h.now }
 {
-    if mode_in(el) == NA_NC {
-        return true;
-    }
-    version_seen(h) == FORMER
+    mode_in(el) == NA_NC || version_seen(h) == FORMER
 }
 
+#[tactic(auto, using(base_words::proofs::PickLaws::picks), unfolding(meaning::specs::Requirements::is_alone))]
 fn is_alone(el: &[Word], h: &[Word], m: Move) -> bool
     ensures { result ≡ is_alone el.now h.now m }
 {
-    if m.alone == ON {
-        if must_wait(el, h) {
-            let task = task_in(el);
-            let active = active_count(h, task);
-            let ready = ready_count(h, task);
-            if active == 0 {
-                return ready == 0;
-            }
-            return false;
-        }
-        return true;
+    if m.alone == ON && must_wait(el, h) {
+        let task = task_in(el);
+        return active_count(h, task) == 0 && ready_count(h, task) == 0;
     }
     true
 }
 
+#[tactic(auto, using(base_words::proofs::PickLaws::picks), unfolding(meaning::specs::Requirements::counts_permit))]
 pub fn permits(el: &[Word], h: &[Word], m: Move, b: Word) -> bool
     ensures { result ≡ counts_permit el.now h.now m b }
 {
     let task = task_in(el);
-    if !has_tokens(el, h, m, b) {
-        return false;
-    }
-    if !can_lower(m.active, active_count(h, task)) {
-        return false;
-    }
-    if !can_lower(m.ready, ready_count(h, task)) {
-        return false;
-    }
-    is_alone(el, h, m)
+    has_tokens(el, h, m, b)
+        && can_lower(m.active, active_count(h, task))
+        && can_lower(m.ready, ready_count(h, task))
+        && is_alone(el, h, m)
 }
 
 // 18, of the instance after the taking.
@@ -107,24 +85,19 @@ fn has_rooms(el: &[Word], h: &[Word], m: Move, b: Word) -> bool
     edges_allow(el, h, EXITS as Word, UP, m.puts, b, exit_count(el))
 }
 
+#[tactic(auto, using(base_words::proofs::PickLaws::picks), unfolding(meaning::specs::Requirements::can_raise))]
 fn can_raise(cell: Word, n: Word) -> bool
     ensures { result ≡ can_raise cell n }
 {
-    if cell == UP {
-        return n < COUNT_MOST;
-    }
-    true
+    cell != UP || n < COUNT_MOST
 }
 
+#[tactic(auto, using(base_words::proofs::PickLaws::picks), unfolding(meaning::specs::Requirements::roomy))]
 pub fn is_roomy(el: &[Word], h: &[Word], m: Move, b: Word) -> bool
     ensures { result ≡ roomy el.now h.now m b }
 {
     let task = task_in(el);
-    if !has_rooms(el, h, m, b) {
-        return false;
-    }
-    if !can_raise(m.active, active_count(h, task)) {
-        return false;
-    }
-    can_raise(m.ready, ready_count(h, task))
+    has_rooms(el, h, m, b)
+        && can_raise(m.active, active_count(h, task))
+        && can_raise(m.ready, ready_count(h, task))
 }

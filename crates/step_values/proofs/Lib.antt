@@ -1,1 +1,2 @@
 pub mod TupleLaws
+pub mod ValueLaws

@@ -1,8 +1,8 @@
 -- What callers need of `sameTuple`: it is an equivalence, and equal tuples have equal lengths and values. Assumes nothing.
 use mathlib.Core.Path.{◌≡◌, ◌∙◌, refl, sym}
-use mathlib.Core.Bool.{Bool, true, false, ◌&&◌}
+use mathlib.Core.Bool.{Bool, true, false}
 use mathlib.Core.List.{List}
-use Prim.Native.Nat.{ℕ, zero, suc, ◌<◌}
+use Prim.Native.Nat.{ℕ, ◌<◌}
 use native.Mathlib.Omega.{arith}
 use lib.Dec.{ltb, eqb}
 use borrow.Author.Tests.{eq-eqb, ne_eqb, eqb-true, ltb-true}
@@ -10,7 +10,7 @@ use Rattle.base_words.specs.Pick.{if◌then◌or_else◌}
 use Rattle.base_words.specs.All.{all}
 use Rattle.base_words.specs.Words.{at}
 use Rattle.base_words.proofs.AllLaws.{all_at, all_of, and_left, and_right}
-use Rattle.base_words.proofs.PickLaws.{and_true, and_false_right}
+use Rattle.base_words.proofs.PickLaws.{and_true}
 use Rattle.meaning.specs.Tuples.{value_of, same_tuple}
 use Rattle.meaning.specs.declared.Tuple.{Tuple}
 
@@ -67,9 +67,3 @@ module _ (s t : List ℕ) (j v w x y : ℕ) (p : v ≡ j) (q : w ≡ j) (l : x �
 
   pub words_differ : (x ≡ y → ⊥) → eqb (at s j) (at t j) ≡ false
   words_differ e = ne_eqb (at s j) (at t j) (λ z. e (cc))
-
--- unequal words decide, whatever the lengths
-pub and_fails : (a b : Bool) → false ≡ b → false ≡ a && b
-and_fails a b e = sym (and_false_right a b (sym e))
-
-pub ruleset same_loop = (words_equal, words_differ, and_fails)

@@ -9,29 +9,16 @@ use meaning::Tuple;
 pub fn value_of(g: Tuple, j: Word) -> Word
     ensures { result ≡ value_of g j }
 {
-    let values = g.values;
     if j < g.length {
-        return word(&values, wide(j));
+        word(&g.values, wide(j))
+    } else {
+        0
     }
-    0
 }
 
-// Equal length, and equal values within it.
+// Equal length, and equal values within it: a derived equality would read what stands behind them too.
 pub fn same_tuple(g: Tuple, h: Tuple) -> bool
     ensures { result ≡ same_tuple g h }
 {
-    let a = g.values;
-    let b = h.values;
-    let n = g.length;
-    if n != h.length {
-        return false;
-    }
-    let mut j: Word = 0;
-    while j < n {
-        if word(&a, wide(j)) != word(&b, wide(j)) {
-            return false;
-        }
-        j += 1;
-    }
-    true
+    g.length == h.length && (0..wide(g.length)).all(|j| word(&g.values, j) == word(&h.values, j))
 }

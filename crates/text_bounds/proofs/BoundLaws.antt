@@ -8,8 +8,7 @@ use borrow.Author.Tests.{lt-ltb, le-ltb}
 use Rattle.base_words.specs.Pick.{if◌then◌or_else◌}
 use Rattle.text_lexer.specs.declared.Token.{Token}
 use Rattle.text_lexer.specs.Lexer.{token_at}
-use Rattle.text_readers.specs.declared.Read.TheVariants.{Refused}
-use Rattle.text_readers.specs.Reading.{misplaced, excessive, passed_to, refused_at, place_of}
+use Rattle.text_readers.specs.Reading.{Refused, misplaced, excessive, passed_to, refused_at, place_of}
 use Rattle.text_readers.proofs.KeepLaws.{stored}
 use Rattle.text_readers.proofs.WordLaws.{place_known}
 use Rattle.text_bounds.specs.Bounds.{one_too_many, counted}

@@ -1,11 +1,9 @@
 -- HOW MANY ITEMS A LIST HAS: what can start an item, one item too many, too few of them.
 use Prim.Native.Char.{code}
-use Rattle.std.specs.Prelude.{ℕ, Bool, ◌||◌, List, eqb, ltb, set}
+use Rattle.std.specs.Prelude.{ℕ, Bool, ◌||◌, eqb, ltb, set}
 use Rattle.base_words.specs.Blocks.{Block, Bytes}
 use Rattle.base_words.specs.Pick.{if◌then◌or_else◌}
-use Rattle.text_readers.specs.declared.Read.{Read}
-use Rattle.text_readers.specs.declared.Read.TheVariants.{Refused}
-use Rattle.text_readers.specs.Reading.{Parsed, Reader, misplaced, excessive, passed_to, refused_at, place_of, starts_number, starts_field, starts_sign}
+use Rattle.text_readers.specs.Reading.{Read, Refused, Parsed, Reader, misplaced, excessive, passed_to, refused_at, place_of, starts_number, starts_field, starts_sign}
 
 -- What the items are: edges, items of a template, of a message, assignments, guarded branches, branches that receive.
 abbrev pub an_edge : ℕ

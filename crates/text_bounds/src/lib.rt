@@ -8,7 +8,7 @@ ghost use Rattle.text_bounds.specs.Bounds.{starts_operand, starts, one_too_many,
 use base_words::numbers::{EXCESSIVE, MISPLACED};
 use base_words::{Word, put};
 use text_lexer::token_at;
-use text_readers::{Read, starts_field, starts_number, starts_sign};
+use text_readers::{Read, Refusal, starts_field, starts_number, starts_sign};
 
 pub const AN_EDGE: u8 = b'E';
 
@@ -50,12 +50,11 @@ pub fn starts(text: &[u8], at: usize, item: u8) -> bool
 pub fn too_many(text: &[u8], at: usize, item: bool) -> Read
     ensures { result ≡ one_too_many item (place_of text.now at) }
 {
-    let token = token_at(text, at);
-    let p = token.at;
-    if item {
-        return Read::Refused(EXCESSIVE, p);
-    }
-    Read::Refused(MISPLACED, p)
+    let number = if item { EXCESSIVE } else { MISPLACED };
+    Err(Refusal {
+        number,
+        place: token_at(text, at).at,
+    })
 }
 
 // Stores the count of k items that were read.
@@ -63,9 +62,11 @@ pub fn counted(text: &[u8], at: usize, x: &mut [Word], least: Word, count: u32, 
     ensures { record { end = result; words = x.new } ≡ counted least count k text.now at x.old }
 {
     if k < least {
-        let token = token_at(text, at);
-        return Read::Refused(MISPLACED, token.at);
+        return Err(Refusal {
+            number: MISPLACED,
+            place: token_at(text, at).at,
+        });
     }
     put(x, count as usize, k);
-    Read::At(at)
+    Ok(at)
 }

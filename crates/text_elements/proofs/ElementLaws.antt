@@ -1,14 +1,12 @@
 -- Keywords, parts one after the other, and an element, by the calls on the way. Assumes nothing.
-use Prim.Native.Char.{code}
-use Prim.Native.Nat.{ℕ, zero, suc, ◌+◌, ◌-◌, ◌<◌, ◌≤◌}
+use Prim.Native.Nat.{ℕ, ◌+◌, ◌-◌, ◌<◌, ◌≤◌}
 use mathlib.Core.Path.{◌≡◌, refl, sym, ◌∙◌, ap}
-use mathlib.Core.Bool.{Bool, true, false, not}
-use mathlib.Core.List.{List, [], ◌∷◌}
+use mathlib.Core.Bool.{Bool, false, not}
+use mathlib.Core.List.{List}
 use native.Mathlib.Numerals.{add-one}
 use native.Mathlib.Omega.{arith}
-use denote.Enum.Declared.{tag_of}
-use lib.Dec.{eqb, ltb}
-use lib.ListN.{length, set, drop, take, get_or, replicate, length-set, length-replicate, drop_of_length-le}
+use lib.Dec.{eqb}
+use lib.ListN.{length, set, drop, take, get_or, replicate, drop_of_length-le}
 use lib.Seq.{drop-cons}
 use borrow.Author.Tests.{eq-eqb, ne_eqb, eqb-true}
 use Rattle.base_words.specs.Each.{each}
@@ -24,12 +22,12 @@ use Rattle.base_table.specs.Places.{kind_place}
 use Rattle.text_lexer.specs.declared.Token.{Token}
 use Rattle.text_lexer.specs.declared.Form.TheVariants.{Word}
 use Rattle.text_lexer.specs.Lexer.{token_at}
-use Rattle.text_lexer.specs.contracts.Form.{the_type}
 use Rattle.base_bytes.specs.Bytes.{same_bytes}
 use Rattle.base_bytes.proofs.SameLaws.{same_lengths}
-use Rattle.text_readers.specs.declared.Read.{Read}
-use Rattle.text_readers.specs.declared.Read.TheVariants.{At, Refused}
-use Rattle.text_readers.specs.Reading.{Parsed, Reader, misplaced, passed_to, refused_at, if_at, onward, ◌then◌, letters, sign_at, sign}
+use Rattle.std.specs.Result.{IsErrAnd}
+use Rattle.std.specs.declared.result.Result.TheVariants.{Ok, Err}
+use Rattle.text_readers.specs.declared.Refusal.{Refusal}
+use Rattle.text_readers.specs.Reading.{Read, Parsed, Reader, misplaced, passed_to, refused_at, if_at, onward, ◌then◌, letters, sign_at, sign}
 use Rattle.text_readers.proofs.ReadingLaws.{then_passed, then_stopped, sign_last}
 use Rattle.text_readers.proofs.WordLaws.{word_read, word_missed}
 use Rattle.text_parts.specs.Parts.{part_of}
@@ -58,8 +56,8 @@ unfolding ◌then◌ onward if_at
 then_then f g h text at x = go (f text at x).end (f text at x).words
   where
     go : (e : Read) (y : List ℕ) → onward (onward (record { end = e; words = y }) (g text)) (h text) ≡ onward (record { end = e; words = y }) (λ q z. onward (g text q z) (h text))
-    go (At q) y = refl
-    go (Refused n p) y = refl
+    go (Ok q) y = refl
+    go (Err e) y = refl
 
 -- one turn of the parts, from the code at the place i on: W is what they come to
 module _ (s : ℕ) (cs text : List ℕ) (at i : ℕ) (x : List ℕ) (W : Parsed) (inv : parts_from s (drop i cs) text at x ≡ W) where
@@ -79,10 +77,10 @@ module _ (s : ℕ) (cs text : List ℕ) (at i : ℕ) (x : List ℕ) (W : Parsed)
           then_then (sign s) (part_of (get_or cs i 0)) (parts_from 44 (drop (i + 1) cs)) text at x
           ∙ (rw (drop-cons cs i 0 h, ne_eqb (get_or cs i 0) 32 n, add-one)) ∙ inv
 
-      pub parts_stopped : (m p : ℕ) → r ≡ Refused m p → record { end = r; words = y } ≡ W
-      parts_stopped m p q = then_stopped (sign s then part_of (get_or cs i 0)) (parts_from 44 (drop (i + 1) cs)) text at x r y e m p q ∙ turn
+      pub parts_stopped : (d : Refusal) (v : Read) → r ≡ Err d → IsErrAnd v (λ (z : Refusal). z ≡ d) → record { end = v; words = y } ≡ W
+      parts_stopped d v q k = then_stopped (sign s then part_of (get_or cs i 0)) (parts_from 44 (drop (i + 1) cs)) text at x r y e d v q k ∙ turn
 
-      pub parts_more : (a : ℕ) → r ≡ At a → parts_from 44 (drop (i + 1) cs) text a y ≡ W
+      pub parts_more : (a : ℕ) → r ≡ Ok a → parts_from 44 (drop (i + 1) cs) text a y ≡ W
       parts_more a q = then_passed (sign s then part_of (get_or cs i 0)) (parts_from 44 (drop (i + 1) cs)) text at x r y e a _ q refl ∙ turn
 
 -- what stands in x beforehand does not matter
@@ -144,10 +142,10 @@ module _ (text : List ℕ) (at : ℕ) (x : List ℕ) (k : ℕ) (codes : List ℕ
   by_row : record { end = r; words = y } ≡ parts_from 40 (kind_of k).parts text at x
   by_row = e ∙ ap (λ (d : List ℕ). parts_from 40 d text at x) er
 
-  pub row_stopped : (n p : ℕ) → r ≡ Refused n p → record { end = r; words = y } ≡ parts_of k text at x
+  pub row_stopped : (d : Refusal) (v : Read) → r ≡ Err d → IsErrAnd v (λ (z : Refusal). z ≡ d) → record { end = v; words = y } ≡ parts_of k text at x
   unfolding parts_of
-  row_stopped n p h = then_stopped (parts_from 40 (kind_of k).parts) (sign 41) text at x r y by_row n p h
+  row_stopped d v h f = then_stopped (parts_from 40 (kind_of k).parts) (sign 41) text at x r y by_row d v h f
 
-  pub row_closed : (q : ℕ) (v : Read) → r ≡ At q → v ≡ sign_at 41 text q → record { end = v; words = y } ≡ parts_of k text at x
+  pub row_closed : (q : ℕ) (v : Read) → r ≡ Ok q → v ≡ sign_at 41 text q → record { end = v; words = y } ≡ parts_of k text at x
   unfolding parts_of
   row_closed q v h s = then_passed (parts_from 40 (kind_of k).parts) (sign 41) text at x r y by_row q _ h (sign_last 41 text q y v s)

@@ -8,13 +8,11 @@ use lib.Dec.{eqb, ltb}
 use lib.ListN.{length, length-set, length-replicate}
 use Rattle.base_words.specs.Pick.{if◌then◌or_else◌}
 use Rattle.base_words.specs.Text.{bytes}
-use Rattle.base_kinds.specs.declared.Kind.{Kind}
 use Rattle.base_kinds.specs.Kinds.{kind_of}
 use Rattle.text_lexer.specs.Lexer.{token_at}
 use Rattle.base_bytes.specs.Bytes.{same_bytes}
-use Rattle.text_readers.specs.declared.Read.{Read}
-use Rattle.text_readers.specs.declared.Read.TheVariants.{At, Refused}
-use Rattle.text_readers.specs.Reading.{Parsed, Reader, if_at, ◌then◌, place_of, behind, letters, sign_at, sign, operand}
+use Rattle.std.specs.declared.result.Result.TheVariants.{Ok, Err}
+use Rattle.text_readers.specs.Reading.{Read, Parsed, Reader, if_at, ◌then◌, place_of, behind, letters, sign_at, sign, operand}
 use Rattle.text_readers.proofs.ReadingLaws.{Keeps, keeps_then, keeps_number, keeps_field, keeps_operand, keeps_mode, onward-length, word_length}
 use Rattle.text_parts.specs.declared.Series.{Series}
 use Rattle.text_parts.specs.Parts.{store, joint, expression, bind, template_item, comparison, condition, assignment, guarded, item_of, starts, too_many, counted, items_from, items, inside, series, message, receiving, receiving_branches, one_edge, task_part, part_of}
@@ -29,8 +27,8 @@ module _ (n : ℕ) where
 
   placed : (e : Read) (go : ℕ → Parsed) (s : Parsed) → ((q : ℕ) → length (go q).words ≡ n) → length s.words ≡ n → length (if_at e go s).words ≡ n
   unfolding if_at
-  placed (At q) go s h k = h q
-  placed (Refused m p) go s h k = k
+  placed (Ok q) go s h k = h q
+  placed (Err e) go s h k = k
 
 either_reader : (b : Bool) (f g : Reader) → Keeps f → Keeps g → Keeps (if b then f or_else g)
 unfolding if◌then◌or_else◌

@@ -1,10 +1,9 @@
 -- AN ELEMENT'S TEXT: its keyword, and in parentheses its parts with commas between them, from the table of kinds.
 use Prim.Native.Char.{code}
-use Rattle.std.specs.Prelude.{ℕ, zero, suc, ◌+◌, Bool, true, false, not, List, [], ◌∷◌, eqb, ltb, length, set, replicate}
+use Rattle.std.specs.Prelude.{ℕ, ◌+◌, Bool, false, not, List, [], ◌∷◌, eqb, ltb, length, set, replicate}
 use Rattle.base_words.specs.Blocks.{Block, Bytes}
 use Rattle.base_words.specs.Pick.{if◌then◌or_else◌}
 use Rattle.base_words.specs.Seek.{seek}
-use Rattle.base_kinds.specs.declared.Kind.{Kind}
 use Rattle.base_kinds.specs.Kinds.{kind_of, keyword_of}
 use Rattle.base_table.specs.Places.{kind_place}
 use Rattle.text_lexer.specs.Lexer.{token_at, if_word}

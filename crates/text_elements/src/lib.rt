@@ -2,12 +2,11 @@
 #![tactic(auto)]
 
 ghost use Rattle.std.specs.Prelude.{◌≡◌, length, replicate};
-ghost use Rattle.base_words.specs.Seek.{seek};
 ghost use Rattle.base_kinds.specs.Kinds.{keyword_of};
 ghost use Rattle.base_bytes.specs.Bytes.{same_bytes};
 ghost use Rattle.text_readers.specs.Reading.{sign, ◌then◌};
 ghost use Rattle.text_parts.specs.Parts.{part_of};
-ghost use Rattle.text_elements.specs.Elements.{kind_count, is_keyword, kind_named, blank, parts_from, parts_of, element_of, element, starts_element};
+ghost use Rattle.text_elements.specs.Elements.{kind_named, blank, parts_from, parts_of, element_of, element, starts_element};
 
 use base_bytes::{piece, same};
 use base_kinds::{keyword_of, letters_of};
@@ -16,7 +15,7 @@ use base_words::numbers::MISPLACED;
 use base_words::{Word, clear, put, wide};
 use text_lexer::{Form, token_at};
 use text_parts::part_of;
-use text_readers::{Read, sign_at};
+use text_readers::{Read, Refusal, sign_at};
 
 // How many kinds there are.
 const KINDS: Word = 15;
@@ -33,26 +32,14 @@ fn is_keyword(word: &[u8], k: Word) -> bool
     same(word, piece(&keyword, 0, letters))
 }
 
-fn keyword_sought(word: &[u8]) -> Word
-    ensures { result ≡ seek (is_keyword word.now) kind_count }
-{
-    let mut j: Word = 0;
-    while j < KINDS {
-        if is_keyword(word, j + 1) {
-            return j;
-        }
-        j += 1;
-    }
-    j
-}
-
 // The kind whose keyword a word is; 0 where there is none.
 pub fn kind_named(word: &[u8]) -> Word
     ensures { result ≡ kind_named word.now }
 {
-    let j = keyword_sought(word);
-    if j < KINDS {
-        return j + 1;
+    for j in 0..KINDS {
+        if is_keyword(word, j + 1) {
+            return j + 1;
+        }
     }
     0
 }
@@ -69,10 +56,7 @@ fn blank(x: &mut [Word], k: Word)
 fn part_behind(text: &[u8], at: usize, x: &mut [Word], s: u8, c: u8) -> Read
     ensures { record { end = result; words = x.new } ≡ (sign s then part_of c) text.now at x.old }
 {
-    let r = sign_at(text, at, s);
-    let Read::At(q) = r else {
-        return r;
-    };
+    let q = sign_at(text, at, s)?;
     part_of(text, q, x, c)
 }
 
@@ -82,21 +66,14 @@ fn parts_from(text: &[u8], start: usize, x: &mut [Word], first: u8, codes: &[u8]
 {
     let mut at = start;
     let mut s = first;
-    let mut i = 0;
-    while i < codes.len() {
-        let c = codes[i];
+    for &c in codes {
         if c == b' ' {
-            return Read::At(at);
+            return Ok(at);
         }
-        let r = part_behind(text, at, x, s, c);
-        let Read::At(q) = r else {
-            return r;
-        };
-        at = q;
+        at = part_behind(text, at, x, s, c)?;
         s = b',';
-        i += 1;
     }
-    Read::At(at)
+    Ok(at)
 }
 
 // The parts of an element of kind k, in parentheses.
@@ -104,10 +81,7 @@ fn parts_of(text: &[u8], at: usize, x: &mut [Word], k: Word) -> Read
     ensures { record { end = result; words = x.new } ≡ parts_of k text.now at x.old }
 {
     let codes = base_kinds::parts_of(k);
-    let r = parts_from(text, at, x, b'(', &codes);
-    let Read::At(q) = r else {
-        return r;
-    };
+    let q = parts_from(text, at, x, b'(', &codes)?;
     sign_at(text, q, b')')
 }
 
@@ -117,7 +91,10 @@ fn element_of(text: &[u8], k: Word, p: usize, q: usize, x: &mut [Word]) -> Read
 {
     blank(x, k);
     if k == 0 {
-        return Read::Refused(MISPLACED, p);
+        return Err(Refusal {
+            number: MISPLACED,
+            place: p,
+        });
     }
     parts_of(text, q, x, k)
 }
@@ -132,7 +109,10 @@ pub fn element(text: &[u8], at: usize, x: &mut [Word]) -> Read
     let form = token.form;
     let Form::Word = form else {
         blank(x, 0);
-        return Read::Refused(MISPLACED, p);
+        return Err(Refusal {
+            number: MISPLACED,
+            place: p,
+        });
     };
     element_of(text, kind_named(piece(text, p, q)), p, q, x)
 }

@@ -1,29 +1,26 @@
 -- What one endSnd treated does to counts, and that a pool without endSnds is left alone. Assumes nothing.
 use Prim.Native.Nat.{ℕ, zero, suc, ◌+◌, ◌≤◌, ◌<◌}
-use mathlib.Core.Path.{◌≡◌, refl, sym, ◌∙◌, ap, ap₂, subst}
-use mathlib.Core.Bool.{Bool, true, false, cond, ◌&&◌, false≢true}
-use mathlib.Core.List.{List, [], ◌∷◌, ◌++◌}
+use mathlib.Core.Path.{◌≡◌, refl, sym, ◌∙◌, ap, ap₂}
+use mathlib.Core.Bool.{Bool, true, false, cond, ◌&&◌}
+use mathlib.Core.List.{List, [], ◌∷◌}
 use native.Mathlib.Nat.{zero-add, add-zero}
-use native.Mathlib.Numerals.{add-one}
 use native.Mathlib.Omega.{arith}
 use lib.Dec.{eqb, ltb}
-use lib.ListN.{length, set, get_or, replicate, length-append, length-set}
+use lib.ListN.{length, set, get_or, length-append, length-set}
 use lib.Seq.{get_or-set_same, get_or-set_other}
 use borrow.Author.Tests.{ltb-true, ltb-false}
 use Rattle.base_words.specs.All.{all}
-use Rattle.base_words.specs.Counts.{edges}
 use Rattle.base_words.specs.Each.{total, each}
 use Rattle.base_words.specs.Iter.{iter}
 use Rattle.base_words.specs.Pick.{if◌then◌or_else◌}
 use Rattle.base_words.specs.Seek.{seek}
 use Rattle.base_words.specs.Sum.{sum, one_if}
-use Rattle.base_words.specs.Words.{at}
 use Rattle.base_words.proofs.EachLaws.{total_append}
 use Rattle.base_words.proofs.SeekLaws.{seek_more, seek_found, sought}
 use Rattle.base_kinds.specs.Kinds.{end_snd}
-use Rattle.base_table.specs.Places.{kind_place, entries_place, exits_place, edge_place, element_words}
+use Rattle.base_table.specs.Places.{kind_place, exits_place, edge_place, element_words}
 use Rattle.check_model.specs.Checks.{Pool}
-use Rattle.text_ends.specs.Rewriting.{is_end_snd, is_unused, first_from, lowest_unused, with_one, sending_to, end_of, first_end, treated, end_sends, all_treated, rewritten}
+use Rattle.text_ends.specs.Rewriting.{is_end_snd, first_from, lowest_unused, with_one, sending_to, end_of, first_end, treated, end_sends, all_treated, rewritten}
 
 -- THE FIRST: from 0 on it is the first that `seek` finds
 first_from_lem : (f : ℕ → Bool) (n k : ℕ) → seek f k ≡ k → first_from f n k ≡ seek f (k + n)

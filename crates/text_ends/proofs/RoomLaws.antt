@@ -12,10 +12,10 @@ use borrow.Author.Tests.{le-leb, lt-leb, lt-ltb, eq-eqb, ne_eqb}
 use Rattle.base_words.specs.Counts.{elements, branches, edges}
 use Rattle.base_words.specs.Each.{total, each}
 use Rattle.base_words.specs.Pick.{if◌then◌or_else◌}
-use Rattle.base_words.specs.Sum.{sum, hit, one_if}
+use Rattle.base_words.specs.Sum.{hit, one_if}
 use Rattle.base_words.specs.Words.{at, greatest}
 use Rattle.base_words.proofs.EachLaws.{total_append}
-use Rattle.base_words.proofs.PickLaws.{and_yes, and_no, pick_no, pick_yes}
+use Rattle.base_words.proofs.PickLaws.{and_yes, and_no, pick_yes}
 use Rattle.base_words.proofs.SumLaws.{sum_ext}
 use Rattle.base_table.specs.Places.{entries_place, exits_place}
 use Rattle.check_tally.specs.Tally.{Region, marked, tally, region_marks, count, capped}
@@ -23,7 +23,7 @@ use Rattle.check_tally.proofs.TallyLaws.{tally_at, length_marked, eqb-capped}
 use Rattle.check_tally.proofs.RegionLaws.{count_in_lem, count_out}
 use Rattle.check_summary.specs.Summary.{edge_region}
 use Rattle.text_ends.specs.Rewriting.{is_end_snd, times_in, mentioned, is_unused, end_sends, unused_count, room_for}
-use Rattle.text_ends.specs.Room.{count_in, ends_in, used_from, noted_words, ends_with, count_noted, element_noted, free_by, room_by, room_noted}
+use Rattle.text_ends.specs.Room.{count_in, ends_in, used_from, noted_words, ends_with, count_noted, element_noted, free_by, room_by}
 use Rattle.base_words.specs.Words.{one_more}
 
 -- THE CODE: e, f, c are what calls say of the notes s

@@ -1,15 +1,14 @@
 -- A pool's summary with its notes behind it, and a model's tally with a word behind it: what is marked before leaves what stands behind, and the other way round. Assumes nothing.
 use Prim.Native.Nat.{ℕ, zero, suc, ◌+◌, ◌≤◌, ◌<◌}
 use mathlib.Core.Path.{◌≡◌, refl, sym, ◌∙◌, ap, ap₂}
-use mathlib.Core.Bool.{Bool, true, false, not, ◌&&◌}
+use mathlib.Core.Bool.{Bool, true, false, ◌&&◌}
 use mathlib.Core.List.{List, [], ◌∷◌, ◌++◌}
-use native.Mathlib.Decide.{dec_lt}
 use native.Mathlib.Omega.{arith}
 use lib.Dec.{eqb, leb, ltb}
-use lib.ListN.{length, set, get_or, take, replicate, length-set, length-take, length-replicate}
-use lib.Seq.{get_or-set_same, get_or-set_other, get_or-take, set_out, take-set-le, take-set-lt, length-take-le}
+use lib.ListN.{length, set, take, replicate, length-set, length-replicate}
+use lib.Seq.{get_or-set_same, get_or-take, set_out, take-set-le, take-set-lt}
 use borrow.Author.Tests.{ltb-true, ltb-false}
-use Rattle.base_words.specs.Counts.{branches, edges}
+use Rattle.base_words.specs.Counts.{branches}
 use Rattle.base_words.specs.Each.{total, each, tab}
 use Rattle.base_words.specs.Pick.{if◌then◌or_else◌}
 use Rattle.base_words.specs.Sum.{hit}
@@ -17,13 +16,13 @@ use Rattle.base_words.specs.Words.{at, greatest}
 use Rattle.base_words.proofs.AllLaws.{and_left, and_right}
 use Rattle.base_words.proofs.EachLaws.{total_append, each_append}
 use Rattle.base_table.specs.Places.{entries_place, exits_place}
-use Rattle.check_tally.specs.Tally.{Region, one_region, more, marked, tally, place, region_marks, marks_of, tallied, count}
-use Rattle.check_tally.proofs.TallyLaws.{tally_none, tally-more, tallied_none, tallied-more, length_marked}
+use Rattle.check_tally.specs.Tally.{Region, one_region, more, marked, tally, place, region_marks, marks_of, count}
+use Rattle.check_tally.proofs.TallyLaws.{tally_none, tally-more, tallied_none, tallied-more}
 use Rattle.check_tally.proofs.RegionLaws.{count_out}
 use Rattle.check_summary.specs.Summary.{summary_words, edge_region, name_region, edge_regions, head_regions, name_regions, flag_regions, regions, summary}
 use Rattle.check_model.specs.Checks.{Pool}
 use Rattle.check_verdict.specs.Verdict.{model_words, names_region, broken_region, summary_regions, pool_regions, model_tally}
-use Rattle.text_ends.specs.Rewriting.{has_room, room_for}
+use Rattle.text_ends.specs.Rewriting.{has_room}
 use Rattle.text_ends.specs.Room.{count_in, ends_in, used_from, noted_words, room_in, judged_words, count_noted, element_noted, room_by, room_noted}
 use Rattle.text_ends.proofs.RoomLaws.{Noted, noted_none, noted_more, room_is, untouched, long_tally}
 

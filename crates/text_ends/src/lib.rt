@@ -1,8 +1,7 @@
 // What the first pass notes of a pool behind its summary, so that it is known whether there is room for what its endSnds become.
 #![tactic(auto)]
 
-ghost use Rattle.std.specs.Prelude.{◌≡◌, ◌+◌, ◌≤◌, eqb, take};
-ghost use Rattle.base_words.specs.Sum.{one_if};
+ghost use Rattle.std.specs.Prelude.{◌≡◌, ◌+◌, eqb, take};
 ghost use Rattle.base_words.specs.Words.{at};
 ghost use Rattle.text_ends.specs.Rewriting.{is_end_snd};
 ghost use Rattle.text_ends.specs.Room.{used_from, ends_with, count_noted, element_noted, free_by, room_by, room_noted};
@@ -73,26 +72,17 @@ pub fn note_element(s: &mut [Word], count: Word, el: &[Word])
     mark_list(s, USED_FROM, el, EXITS as Word, BRANCHES);
 }
 
-// 1 where the edge k + 1 is not mentioned.
-fn is_free(s: &[Word], k: Word) -> usize
-    ensures { (result ≡ one_if (eqb (at s.now (used_from + (k + 1))) 0)) × (result ≤ 1) }
+// Whether the edge k + 1 is not mentioned.
+fn is_free(s: &[Word], k: Word) -> bool
+    ensures { result ≡ eqb (at s.now (used_from + (k + 1))) 0 }
 {
-    if word(s, USED_FROM as usize + (k as usize + 1)) == 0 {
-        return 1;
-    }
-    0
+    word(s, USED_FROM as usize + (k as usize + 1)) == 0
 }
 
 fn free_by(s: &[Word]) -> usize
     ensures { result ≡ free_by s.now }
 {
-    let mut n: usize = 0;
-    let mut k: Word = 0;
-    while k < EDGES {
-        n += is_free(s, k);
-        k += 1;
-    }
-    n
+    (0..EDGES).filter(|&k| is_free(s, k)).count()
 }
 
 fn room_by(s: &[Word]) -> bool

@@ -1,9 +1,6 @@
 -- A form taken apart: the arm of `let Form::X = form else ..`, and its else. Assumes nothing.
 use mathlib.Core.Path.{◌≡◌, refl}
-use mathlib.Core.List.{[], ◌∷◌}
 use Prim.Native.Nat.{ℕ}
-use denote.Enum.Declared.{tag_of}
-use Rattle.text_lexer.specs.contracts.Form.{the_type}
 use Rattle.text_lexer.specs.declared.Form.{Form}
 use Rattle.text_lexer.specs.declared.Form.TheVariants.{Word, Sign, Assign, End, Other}
 use Rattle.text_lexer.specs.Lexer.{if_word, if_sign, if_assign, if_end}

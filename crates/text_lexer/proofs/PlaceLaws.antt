@@ -1,8 +1,8 @@
 -- The token at or after a place, by where the blanks and then the letters end, and by the place behind a sign. Assumes nothing.
 use mathlib.Core.Path.{◌≡◌, ◌∙◌, refl, sym, ap}
 use mathlib.Core.Bool.{Bool, true, false, false≢true}
-use mathlib.Core.List.{List, [], ◌∷◌}
-use Prim.Native.Nat.{ℕ, ◌+◌, ◌<◌, ◌≤◌}
+use mathlib.Core.List.{List}
+use Prim.Native.Nat.{ℕ, ◌+◌, ◌<◌, ◌≤◌, max}
 use native.Mathlib.Omega.{arith}
 use lib.Dec.{eqb}
 use lib.ListN.{length, drop}
@@ -12,12 +12,19 @@ use Rattle.base_words.specs.Words.{at}
 use Rattle.text_lexer.specs.declared.Form.{Form}
 use Rattle.text_lexer.specs.declared.Form.TheVariants.{Word, Sign, Assign, End, Other}
 use Rattle.text_lexer.specs.declared.Token.{Token}
-use Rattle.text_lexer.specs.Lexer.{is_blank, is_word, is_sign, placed, token_of, token_here, token_at, if_word, if_sign, sign_behind}
+use Rattle.text_lexer.specs.Lexer.{is_blank, is_word, is_sign, placed, token_here, token_at, if_word, if_sign, sign_behind}
 use Rattle.base_bytes.specs.Bytes.{past}
 use Rattle.text_lexer.proofs.ClassLaws.{sign_not_word}
 use Rattle.base_bytes.proofs.PieceLaws.{by_order}
-use Rattle.base_bytes.proofs.PastLaws.{past_more, past_stop, past_end}
+use Rattle.base_bytes.proofs.PastLaws.{past_more, past_stop, past_end, past_all}
 use Rattle.text_lexer.proofs.TokenLaws.{colon_not_word, here_some, here_none, here_assign, here_colon, of_sign, at_some, at_none, Begun, word, sign, assign, colon, other, begun}
+
+-- the end of the text, or the place itself beyond it, where a loop over the places from `from` on has come to i
+pub past_farthest : (class : ℕ → Bool) (t : List ℕ) (from i : ℕ) → past class (drop i t) i ≡ past class (drop from t) from → length t ≤ i → (from ≤ length t → i ≤ length t) → max from (length t) ≡ past class (drop from t) from
+past_farthest class t from i e l far =
+    by_order (length t) from
+    (λ h. let z : max from (length t) ≡ from = omega arith in z ∙ sym (past_end class t from h))
+    (λ h. let k : i ≤ length t = far (omega arith) in let z : max from (length t) ≡ i = omega arith in z ∙ past_all class t i _ e l)
 
 -- WHERE THE BLANKS END, p, AND WHERE THE LETTERS BEHIND THEM END, q: the token is a word there, or it is none and q is p
 pub data Worded (t : List ℕ) (from p q : ℕ) : Type 0 where

@@ -29,11 +29,7 @@ pub struct Token {
 fn placed(form: Form, at: usize, next: usize) -> Token
     ensures { result ≡ placed form at next }
 {
-    Token {
-        form: form,
-        at: at,
-        next: next,
-    }
+    Token { form, at, next }
 }
 
 fn is_blank(b: u8) -> bool
@@ -72,28 +68,24 @@ fn is_sign(b: u8) -> bool
 pub fn past_blanks(text: &[u8], from: usize) -> usize
     ensures { result ≡ past is_blank (drop from text.now) from }
 {
-    let mut i = from;
-    while i < text.len() {
+    for i in from..text.len() {
         if !is_blank(text[i]) {
             return i;
         }
-        i += 1;
     }
-    i
+    from.max(text.len())
 }
 
 // The place of the first byte from `from` on that is not of a word, or of the end.
 pub fn past_word(text: &[u8], from: usize) -> usize
     ensures { result ≡ past is_word (drop from text.now) from }
 {
-    let mut i = from;
-    while i < text.len() {
+    for i in from..text.len() {
         if !is_word(text[i]) {
             return i;
         }
-        i += 1;
     }
-    i
+    from.max(text.len())
 }
 
 // The token that begins at a place, no blank first.

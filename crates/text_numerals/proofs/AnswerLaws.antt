@@ -1,10 +1,6 @@
 -- An answer taken apart: the arm of `let Number::Value(v) = n else ..` and its else, and so for operands. Assumes nothing.
 use mathlib.Core.Path.{◌≡◌, refl}
-use mathlib.Core.List.{[], ◌∷◌}
 use Prim.Native.Nat.{ℕ}
-use denote.Enum.Declared.{tag_of}
-use Rattle.text_numerals.specs.contracts.Number.{the_type as number-type}
-use Rattle.text_numerals.specs.contracts.Operand.{the_type as operand_type}
 use Rattle.text_numerals.specs.declared.Number.{Number}
 use Rattle.text_numerals.specs.declared.Number.TheVariants.{Value, TooLarge, NotANumber}
 use Rattle.text_numerals.specs.declared.Operand.{Operand}

@@ -2,7 +2,7 @@
 use mathlib.Core.Path.{◌≡◌, ◌∙◌, sym, ap}
 use mathlib.Core.Bool.{true, false}
 use mathlib.Core.List.{List, [], ◌∷◌}
-use mathlib.Core.Logic.{◌⊎◌, ⊎_elim}
+use mathlib.Core.Logic.{◌⊎◌, ⊎_elim, inl, inr}
 use Prim.Native.Nat.{ℕ, ◌+◌, ◌*◌, ◌-◌, ◌<◌, ◌≤◌}
 use native.Mathlib.Numerals.{add-one}
 use native.Mathlib.Omega.{arith}
@@ -14,9 +14,10 @@ use Rattle.base_words.specs.Pick.{if◌then◌or_else◌}
 use Rattle.base_words.specs.Words.{at, greatest}
 use Rattle.base_words.proofs.AllLaws.{and_left, and_right}
 use Rattle.base_bytes.specs.Bytes.{between, is_digit}
+use Rattle.base_bytes.proofs.PieceLaws.{by_order}
 use Rattle.text_numerals.specs.declared.Number.{Number}
 use Rattle.text_numerals.specs.declared.Number.TheVariants.{Value, TooLarge, NotANumber}
-use Rattle.text_numerals.specs.Numerals.{value_from}
+use Rattle.text_numerals.specs.Numerals.{value_from, grown}
 
 pub digit_bounds : (d : ℕ) → is_digit d ≡ true → (48 ≤ d) × (d ≤ 57)
 unfolding is_digit between
@@ -47,6 +48,11 @@ value_large [] v u hv hu = rw (lt-leb v greatest hv, lt-leb u greatest hu)
 value_large (d ∷ w) v u hv hu =
     ap (λ (n : Number). if is_digit d then n or_else NotANumber)
     (value_large w (v * 10 + (d - 48)) (u * 10 + (d - 48)) (omega arith) (omega arith))
+
+-- the next value, by whether it still grows
+pub grown_cases : (v d u : ℕ) → u ≡ grown v d → ((v ≤ greatest) × (u ≡ v * 10 + (d - 48))) ⊎ ((greatest < v) × (u ≡ v))
+unfolding grown if◌then◌or_else◌
+grown_cases v d u e = by_order v greatest (λ h. inl (h, rw (e, le-leb v greatest h))) (λ h. inr (h, rw (e, lt-leb v greatest h)))
 
 -- one digit more, whose value u is kept as it was where it is above the greatest word already
 pub value_on : (w : List ℕ) (v i : ℕ) → i < length w → is_digit (at w i) ≡ true → (n : Number) → v ≤ greatest * 10 + 9 → value_from v (drop i w) ≡ n

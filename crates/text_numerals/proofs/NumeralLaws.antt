@@ -1,20 +1,20 @@
 -- A word at a place of a text, taken digit by digit: as a number, and as an operand. Assumes nothing.
 use mathlib.Core.Path.{◌≡◌, ◌∙◌, refl, sym, ap, ap₂, subst}
-use mathlib.Core.Bool.{Bool, true, false, ◌||◌, false≢true}
+use mathlib.Core.Bool.{Bool, true, false, ◌||◌}
 use mathlib.Core.List.{List, [], ◌∷◌, ◌++◌}
-use Prim.Native.Nat.{ℕ, zero, suc, ◌+◌, ◌-◌, ◌*◌, ◌<◌, ◌≤◌}
-use native.Mathlib.Nat.{add-zero, add-sub_cancel_left}
+use Prim.Native.Nat.{ℕ, zero, suc, ◌+◌, ◌-◌, ◌*◌, ◌<◌, ◌≤◌, max}
+use native.Mathlib.Nat.{add-zero}
 use native.Mathlib.Numerals.{add-one}
 use native.Mathlib.Omega.{arith}
 use lib.Dec.{leb, eqb}
 use lib.ListN.{length, take, drop, length-drop, drop_of_length-le}
 use lib.Seq.{drop-cons, get_or-drop, drop-drop, drop-append_seam, take-append_seam, take_all}
-use borrow.Author.Tests.{eqb-true, leb-true, leb-false}
+use borrow.Author.Tests.{eqb-true, leb-false}
 use Rattle.base_words.specs.Each.{each}
 use Rattle.base_words.specs.Pick.{if◌then◌or_else◌}
 use Rattle.base_words.specs.Words.{at, part, greatest}
 use Rattle.base_words.proofs.AllLaws.{and_left, and_right}
-use Rattle.base_words.proofs.PickLaws.{pick_yes, pick_no, and_true}
+use Rattle.base_words.proofs.PickLaws.{and_true}
 use Rattle.text_lexer.specs.Lexer.{is_word}
 use Rattle.base_bytes.specs.Bytes.{past, is_digit, is_letter, between}
 use Rattle.base_bytes.proofs.OrLaws.{or_second}
@@ -22,11 +22,10 @@ use Rattle.base_bytes.proofs.PastLaws.{past_more, past_end, past_from}
 use Rattle.base_bytes.proofs.PieceLaws.{by_order}
 use Rattle.text_numerals.specs.declared.Decimal.{Decimal}
 use Rattle.text_numerals.specs.declared.Number.{Number}
-use Rattle.text_numerals.specs.declared.Number.TheVariants.{Value, TooLarge, NotANumber}
+use Rattle.text_numerals.specs.declared.Number.TheVariants.{NotANumber}
 use Rattle.text_numerals.specs.declared.Numeral.{Numeral}
 use Rattle.text_numerals.specs.declared.Operand.{Operand}
 use Rattle.text_numerals.specs.declared.Operand.TheVariants.{NotAnOperand}
-use Rattle.text_numerals.specs.declared.Term.{Term}
 use Rattle.text_numerals.specs.Numerals.{value_from, leading_zero, number_of, is_field_letter, field_from, field_of, as_number, as_field, operand_of, grown, digits_from, number_by, word_end, numeral_at, operand_at}
 use Rattle.text_numerals.proofs.NumberLaws.{value_large}
 
@@ -47,6 +46,16 @@ module _ (t : List ℕ) (v i : ℕ) (w : Decimal) (inv : digits_from v (drop i t
   pub digits_more : (u : ℕ) → i < length t → is_digit (at t i) ≡ true → u ≡ grown v (at t i) → digits_from u (drop (i + 1) t) (i + 1) ≡ w
   unfolding digits_from if◌then◌or_else◌
   digits_more u h e g = ap (λ z. digits_from z (drop (i + 1) t) (i + 1)) g ∙ sym (rw (drop-cons t i 0 h, e, add-one i)) ∙ inv
+
+-- the end of the text, or the place itself beyond it, where the loop has come to i
+pub digits_farthest : (t : List ℕ) (from v i m : ℕ) → digits_from v (drop i t) i ≡ digits_from 0 (drop from t) from → length t ≤ i → (from ≤ length t → i ≤ length t) → m ≡ max from (length t) → ◌≡◌ {A = Decimal} (record { value = v; end = m }) (digits_from 0 (drop from t) from)
+digits_farthest t from v i m e l far g = ap (λ (z : ℕ). record { value = v; end = z }) same ∙ digits_end t v i _ e l
+  where
+    same : m ≡ i
+    same =
+        by_order (length t) from
+        (λ h. let k : i ≡ from = ap (λ (d : Decimal). d.end) (digits_end t v i _ e l ∙ sym (digits_end t 0 from _ refl h)) in omega arith)
+        (λ h. let k : i ≤ length t = far (omega arith) in omega arith)
 
 -- WHERE DIGITS END: ds are they, r is what is left behind them
 pub record Split (v : ℕ) (s : List ℕ) (p : ℕ) (d : Decimal) : Type 0 where

@@ -18,7 +18,7 @@ use Rattle.base_words.proofs.PickLaws.{and_true, and_false_right}
 use Rattle.text_lexer.specs.Lexer.{is_word}
 use Rattle.base_bytes.specs.Bytes.{between, is_digit, is_letter}
 use Rattle.text_numerals.specs.declared.Number.TheVariants.{Value, TooLarge}
-use Rattle.text_numerals.specs.declared.Operand.TheVariants.{Number as Constant, Field}
+use Rattle.text_numerals.specs.declared.Operand.TheVariants.{Number as Constant}
 use Rattle.text_numerals.specs.Numerals.{value_from, leading_zero, number_of, is_field_letter, field_behind, field_from, field_of, as_number, operand_of}
 
 -- the word w spells the number n: one digit, or a number but 0 and one digit behind it

@@ -34,16 +34,11 @@ fn digits(word: &[u8]) -> Number
     ensures { result ≡ value_from 0 word.now }
 {
     let mut v: u64 = 0;
-    let mut i = 0;
-    while i < word.len() {
-        let d = word[i];
+    for &d in word {
         if !is_digit(d) {
             return Number::NotANumber;
         }
-        if v <= GREATEST as u64 {
-            v = v * 10 + (d - b'0') as u64;
-        }
-        i += 1;
+        v = grown(v, d);
     }
     if v <= GREATEST as u64 {
         return Number::Value(v as Word);
@@ -157,16 +152,17 @@ fn digits_at(text: &[u8], from: usize) -> Decimal
     ensures { result ≡ digits_from 0 (drop from text.now) from }
 {
     let mut v: u64 = 0;
-    let mut i = from;
-    while i < text.len() {
+    for i in from..text.len() {
         let d = text[i];
         if !is_digit(d) {
             return Decimal { value: v, end: i };
         }
         v = grown(v, d);
-        i += 1;
     }
-    Decimal { value: v, end: i }
+    Decimal {
+        value: v,
+        end: from.max(text.len()),
+    }
 }
 
 // A word of digits alone, which come to v, as a number.
@@ -203,7 +199,7 @@ pub fn numeral_at(text: &[u8], from: usize) -> Numeral
     if end < next {
         return Numeral {
             number: Number::NotANumber,
-            next: next,
+            next,
         };
     }
     Numeral {

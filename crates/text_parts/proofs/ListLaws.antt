@@ -5,9 +5,11 @@ use mathlib.Core.Path.{◌≡◌, ◌∙◌, ap}
 use mathlib.Core.Bool.{Bool}
 use mathlib.Core.List.{List}
 use native.Mathlib.Omega.{arith}
-use Rattle.text_readers.specs.declared.Read.{Read}
-use Rattle.text_readers.specs.declared.Read.TheVariants.{At, Refused}
-use Rattle.text_readers.specs.Reading.{Parsed, Reader, if_at, onward, sign_at, place_of}
+use Rattle.std.specs.declared.result.Result.TheVariants.{Ok, Err}
+use Rattle.std.specs.Result.{IsErrAnd}
+use Rattle.text_readers.specs.declared.Refusal.{Refusal}
+use Rattle.text_readers.proofs.ReadingLaws.{handed}
+use Rattle.text_readers.specs.Reading.{Read, Parsed, Reader, if_at, onward, sign_at, place_of}
 use Rattle.text_bounds.specs.Bounds.{one_too_many}
 use Rattle.text_parts.specs.Parts.{items_from, counted, too_many, series}
 use Rattle.text_parts.specs.declared.Series.{Series}
@@ -23,16 +25,16 @@ module _ (item : ℕ → Reader) (starting : List ℕ → ℕ → Bool) (least c
   rest_full b r z e h = rw (z, h, e)
 
   module _ (r : Read) (y : List ℕ) (m : ℕ) (more : n ≡ suc m) (read : record { end = r; words = y } ≡ item k text at x) where
-    pub rest_stops : (d p : ℕ) → r ≡ Refused d p → record { end = r; words = y } ≡ items_from item starting least count n k text at x
+    pub rest_stops : (d : Refusal) → r ≡ Err d → record { end = r; words = y } ≡ items_from item starting least count n k text at x
     unfolding items_from onward if_at
-    rest_stops d p h = rw (more, ← read, h)
+    rest_stops d h = rw (more, ← read, h)
 
-    module _ (q : ℕ) (got : r ≡ At q) (s : Read) (sign : s ≡ sign_at (code ",") text q) where
-      pub rest_ends : (d p : ℕ) (w : Parsed) → s ≡ Refused d p → w ≡ counted least count (k + 1) text q y → w ≡ items_from item starting least count n k text at x
+    module _ (q : ℕ) (got : r ≡ Ok q) (s : Read) (sign : s ≡ sign_at (code ",") text q) where
+      pub rest_ends : (d : Refusal) (w : Parsed) → s ≡ Err d → w ≡ counted least count (k + 1) text q y → w ≡ items_from item starting least count n k text at x
       unfolding items_from onward if_at
-      rest_ends d p w h e = rw (more, ← read, got, ← sign, h) e
+      rest_ends d w h e = rw (more, ← read, got, ← sign, h) e
 
-      pub rest_goes : (a : ℕ) → s ≡ At a → items_from item starting least count m (k + 1) text a y ≡ items_from item starting least count n k text at x
+      pub rest_goes : (a : ℕ) → s ≡ Ok a → items_from item starting least count m (k + 1) text a y ≡ items_from item starting least count n k text at x
       unfolding items_from onward if_at
       rest_goes a h = rw (more, ← read, got, ← sign, h)
 
@@ -55,12 +57,13 @@ module _ (item : ℕ → Reader) (starting : List ℕ → ℕ → Bool) (least c
     one_more_lem : most - k ≡ suc (most - (k + 1))
     one_more_lem = omega arith
 
-    pub items_stop : (d p : ℕ) → r ≡ Refused d p → record { end = r; words = y } ≡ items_from item starting least count most 0 text start x₀
-    items_stop d p h = rest_stops item starting least count (most - k) k text at x r y (most - (k + 1)) one_more_lem read d p h ∙ inv
+    pub items_stop : (d : Refusal) (z : Read) → r ≡ Err d → IsErrAnd z (λ (v : Refusal). v ≡ d) → record { end = z; words = y } ≡ items_from item starting least count most 0 text start x₀
+    items_stop d z h f =
+        ap (λ (v : Read). record { end = v; words = y }) (handed r z d h f) ∙ rest_stops item starting least count (most - k) k text at x r y (most - (k + 1)) one_more_lem read d h ∙ inv
 
-    module _ (q : ℕ) (got : r ≡ At q) (s : Read) (sign : s ≡ sign_at (code ",") text q) where
-      pub items_end : (d p : ℕ) (w : Parsed) → s ≡ Refused d p → w ≡ counted least count (k + 1) text q y → w ≡ items_from item starting least count most 0 text start x₀
-      items_end d p w h e = rest_ends item starting least count (most - k) k text at x r y (most - (k + 1)) one_more_lem read q got s sign d p w h e ∙ inv
+    module _ (q : ℕ) (got : r ≡ Ok q) (s : Read) (sign : s ≡ sign_at (code ",") text q) where
+      pub items_end : (d : Refusal) (w : Parsed) → s ≡ Err d → w ≡ counted least count (k + 1) text q y → w ≡ items_from item starting least count most 0 text start x₀
+      items_end d w h e = rest_ends item starting least count (most - k) k text at x r y (most - (k + 1)) one_more_lem read q got s sign d w h e ∙ inv
 
-      pub items_go : (a : ℕ) → s ≡ At a → Rest item starting least count most text start x₀ (k + 1) a y
+      pub items_go : (a : ℕ) → s ≡ Ok a → Rest item starting least count most text start x₀ (k + 1) a y
       items_go a h = rest_goes item starting least count (most - k) k text at x r y (most - (k + 1)) one_more_lem read q got s sign a h ∙ inv

@@ -4,7 +4,7 @@ use Rattle.std.specs.Prelude.{ℕ, zero, suc, ◌+◌, ◌-◌, Bool, false, Lis
 use Rattle.base_words.specs.Pick.{if◌then◌or_else◌}
 use Rattle.base_words.specs.Counts.{fewest, branches, tasks, names, values, assignments}
 use Rattle.base_table.specs.Places.{task_place, entries_place, exits_place, edge_place, condition_place, message_place, length_place, item_place, assignments_place}
-use Rattle.text_readers.specs.Reading.{Parsed, Reader, if_at, onward, ◌then◌, nothing, place_of, sign_at, sign, number, mode, starts_sign}
+use Rattle.text_readers.specs.Reading.{Reader, if_at, onward, ◌then◌, nothing, place_of, sign_at, sign, number, mode, starts_sign}
 pub use Rattle.text_terms.specs.Terms.{store, edge}
 unfoldable pub use Rattle.text_terms.specs.Terms.{joint, expression, bind, template_item, comparison, condition, assignment, guarded}
 pub use Rattle.text_bounds.specs.Bounds.{an_edge, a_template_item, a_message_item, an_assignment, a_guarded_branch}

@@ -36,21 +36,15 @@ pub struct Series {
 fn message(text: &[u8], at: usize, x: &mut [Word], item: u8, b: u8) -> Read
     ensures { record { end = result; words = x.new } ≡ message item b text.now at x.old }
 {
-    let r = number_in(
+    let q = number_in(
         text,
         at,
         x,
         0,
         NAMES - 1,
         MESSAGES as u32 + MESSAGE_WORDS as u32 * (b as u32),
-    );
-    let Read::At(q) = r else {
-        return r;
-    };
-    let s = sign_at(text, q, b':');
-    let Read::At(a) = s else {
-        return s;
-    };
+    )?;
+    let a = sign_at(text, q, b':')?;
     series(text, a, x, tuple(item, b))
 }
 
@@ -58,21 +52,15 @@ fn message(text: &[u8], at: usize, x: &mut [Word], item: u8, b: u8) -> Read
 fn receiving_exit(text: &[u8], at: usize, x: &mut [Word], b: u8) -> Read
     ensures { record { end = result; words = x.new } ≡ receiving_exit b text.now at x.old }
 {
-    let r = sign_at(text, at, b',');
-    let Read::At(q) = r else {
-        return r;
-    };
-    let s = number_in(
+    let q = sign_at(text, at, b',')?;
+    let a = number_in(
         text,
         q,
         x,
         1,
         EDGES,
         EXITS as u32 + FIRST_EDGE as u32 + (b as u32),
-    );
-    let Read::At(a) = s else {
-        return s;
-    };
+    )?;
     sign_at(text, a, b')')
 }
 
@@ -80,14 +68,8 @@ fn receiving_exit(text: &[u8], at: usize, x: &mut [Word], b: u8) -> Read
 fn receiving(text: &[u8], at: usize, x: &mut [Word], b: u8) -> Read
     ensures { record { end = result; words = x.new } ≡ receiving b text.now at x.old }
 {
-    let r = sign_at(text, at, b'(');
-    let Read::At(q) = r else {
-        return r;
-    };
-    let s = message(text, q, x, A_TEMPLATE_ITEM, b);
-    let Read::At(a) = s else {
-        return s;
-    };
+    let q = sign_at(text, at, b'(')?;
+    let a = message(text, q, x, A_TEMPLATE_ITEM, b)?;
     receiving_exit(text, a, x, b)
 }
 
@@ -96,16 +78,10 @@ fn receiving_branches(text: &[u8], start: usize, x: &mut [Word]) -> Read
     ensures { record { end = result; words = x.new } ≡ receiving_branches text.now start x.old }
 {
     let mut at = start;
-    let mut k: u8 = 0;
-    while k < BRANCHES_MOST {
-        let r = receiving(text, at, x, k);
-        let Read::At(q) = r else {
-            return r;
-        };
-        k += 1;
-        let more = sign_at(text, q, b',');
-        let Read::At(next) = more else {
-            return counted(text, q, x, FEWEST, EXITS as u32, k as Word);
+    for k in 0..BRANCHES_MOST {
+        let q = receiving(text, at, x, k)?;
+        let Ok(next) = sign_at(text, q, b',') else {
+            return counted(text, q, x, FEWEST, EXITS as u32, k as Word + 1);
         };
         at = next;
     }
@@ -116,30 +92,18 @@ fn receiving_branches(text: &[u8], start: usize, x: &mut [Word]) -> Read
 fn one_edge(text: &[u8], at: usize, x: &mut [Word], list: u8) -> Read
     ensures { record { end = result; words = x.new } ≡ one_edge list text.now at x.old }
 {
-    let r = number_in(text, at, x, 1, EDGES, list as u32 + FIRST_EDGE as u32 + 0);
-    let Read::At(q) = r else {
-        return r;
-    };
+    let q = number_in(text, at, x, 1, EDGES, list as u32 + FIRST_EDGE as u32 + 0)?;
     put(x, list as usize, 1);
-    Read::At(q)
+    Ok(q)
 }
 
 // Behind the mode of a task.
 fn guard_and_assignments(text: &[u8], at: usize, x: &mut [Word]) -> Read
     ensures { record { end = result; words = x.new } ≡ guard_and_assignments text.now at x.old }
 {
-    let r = sign_at(text, at, b',');
-    let Read::At(q) = r else {
-        return r;
-    };
-    let s = condition_of(text, q, x, false, 0);
-    let Read::At(a) = s else {
-        return s;
-    };
-    let t = sign_at(text, a, b',');
-    let Read::At(b) = t else {
-        return t;
-    };
+    let q = sign_at(text, at, b',')?;
+    let a = condition_of(text, q, x, false, 0)?;
+    let b = sign_at(text, a, b',')?;
     series(text, b, x, assignment_list())
 }
 
@@ -147,18 +111,9 @@ fn guard_and_assignments(text: &[u8], at: usize, x: &mut [Word]) -> Read
 fn task_part(text: &[u8], at: usize, x: &mut [Word]) -> Read
     ensures { record { end = result; words = x.new } ≡ task_part text.now at x.old }
 {
-    let r = number_in(text, at, x, 1, TASKS, TASK as u32);
-    let Read::At(q) = r else {
-        return r;
-    };
-    let s = sign_at(text, q, b',');
-    let Read::At(a) = s else {
-        return s;
-    };
-    let t = mode_in(text, a, x);
-    let Read::At(b) = t else {
-        return t;
-    };
+    let q = number_in(text, at, x, 1, TASKS, TASK as u32)?;
+    let a = sign_at(text, q, b',')?;
+    let b = mode_in(text, a, x)?;
     guard_and_assignments(text, b, x)
 }
 
@@ -193,5 +148,5 @@ pub fn part_of(text: &[u8], at: usize, x: &mut [Word], c: u8) -> Read
     if c == b'B' {
         return receiving_branches(text, at, x);
     }
-    Read::At(at)
+    Ok(at)
 }

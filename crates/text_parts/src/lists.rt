@@ -65,7 +65,7 @@ pub fn tuple(item: u8, b: u8) -> Series
     ensures { (result ≡ tuple item b) × (result.count ≤ farthest) }
 {
     Series {
-        item: item,
+        item,
         opener: b'<',
         closer: b'>',
         least: 0,
@@ -108,16 +108,10 @@ fn items(text: &[u8], start: usize, x: &mut [Word], s: Series) -> Read
     ensures { record { end = result; words = x.new } ≡ items s text.now start x.old }
 {
     let mut at = start;
-    let mut k: u8 = 0;
-    while k < s.most {
-        let r = item_of(text, at, x, s, k);
-        let Read::At(q) = r else {
-            return r;
-        };
-        k += 1;
-        let more = sign_at(text, q, b',');
-        let Read::At(next) = more else {
-            return counted(text, q, x, s.least, s.count, k as Word);
+    for k in 0..s.most {
+        let q = item_of(text, at, x, s, k)?;
+        let Ok(next) = sign_at(text, q, b',') else {
+            return counted(text, q, x, s.least, s.count, k as Word + 1);
         };
         at = next;
     }
@@ -128,10 +122,7 @@ fn items_to_close(text: &[u8], at: usize, x: &mut [Word], s: Series) -> Read
     requires { s.count ≤ farthest }
     ensures { record { end = result; words = x.new } ≡ items_to_close s text.now at x.old }
 {
-    let r = items(text, at, x, s);
-    let Read::At(q) = r else {
-        return r;
-    };
+    let q = items(text, at, x, s)?;
     sign_at(text, q, s.closer)
 }
 
@@ -141,12 +132,10 @@ fn inside(text: &[u8], at: usize, x: &mut [Word], s: Series) -> Read
     ensures { record { end = result; words = x.new } ≡ inside s text.now at x.old }
 {
     if s.least == 0 {
-        let closed = sign_at(text, at, s.closer);
-        let Read::At(q) = closed else {
-            return items_to_close(text, at, x, s);
-        };
-        put(x, s.count as usize, 0);
-        return Read::At(q);
+        if let Ok(q) = sign_at(text, at, s.closer) {
+            put(x, s.count as usize, 0);
+            return Ok(q);
+        }
     }
     items_to_close(text, at, x, s)
 }
@@ -155,9 +144,6 @@ pub fn series(text: &[u8], at: usize, x: &mut [Word], s: Series) -> Read
     requires { s.count ≤ farthest }
     ensures { record { end = result; words = x.new } ≡ series s text.now at x.old }
 {
-    let r = sign_at(text, at, s.opener);
-    let Read::At(q) = r else {
-        return r;
-    };
+    let q = sign_at(text, at, s.opener)?;
     inside(text, q, x, s)
 }

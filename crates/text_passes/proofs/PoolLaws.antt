@@ -18,10 +18,11 @@ use Rattle.text_lexer.specs.declared.Form.TheVariants.{Word}
 use Rattle.text_lexer.specs.Lexer.{token_at}
 use Rattle.text_lexer.specs.contracts.Form.{the_type}
 use Rattle.base_bytes.specs.Bytes.{same_bytes}
-use Rattle.text_readers.specs.declared.Read.{Read}
-use Rattle.text_readers.specs.declared.Read.TheVariants.{At, Refused}
-use Rattle.text_readers.specs.Reading.{Parsed, Reader, misplaced, if_at, ◌then◌, sign_at, sign, number, end_at}
-use Rattle.text_readers.proofs.ReadingLaws.{then_passed, then_stopped, sign_passed, sign_stopped, sign_last, if_at_at, if_at_refused}
+use Rattle.std.specs.Result.{IsErrAnd}
+use Rattle.std.specs.declared.result.Result.TheVariants.{Ok, Err}
+use Rattle.text_readers.specs.declared.Refusal.{Refusal}
+use Rattle.text_readers.specs.Reading.{Read, Refused, Parsed, Reader, misplaced, if_at, ◌then◌, sign_at, sign, number, end_at}
+use Rattle.text_readers.proofs.ReadingLaws.{then_passed, then_stopped, sign_passed, sign_stopped, sign_last, if_at_at, if_at_refused, handed}
 use Rattle.text_readers.proofs.WordLaws.{word_read, word_missed}
 use Rattle.text_elements.specs.Elements.{element}
 use Rattle.text_elements.proofs.ElementLaws.{element_any}
@@ -82,28 +83,31 @@ module _ (i : ℕ) (g : Got (List (List ℕ))) (s w : List ℕ) (r : Read) where
 module _ (fills : Bool) (i k : ℕ) (text : List ℕ) (a : ℕ) (h : List ℕ) (w : List ℕ) (r : Read) (s u : List ℕ)
     (es : Passed (summed fills i) (elements_at text a) (replicate noted_words 0) r s) (eu : Passed (elements_placed fills i) (elements_at text a) w r u) where
   abbrev Whole : Read → List ℕ → Type 0
-  Whole e v = Passed (kept_pool fills i) (inside_pool k text (record { end = At a; words = h })) w e v
+  Whole e v = Passed (kept_pool fills i) (inside_pool k text (record { end = Ok a; words = h })) w e v
 
-  pub elements_stopped : (n p : ℕ) → r ≡ Refused n p → Whole r u
+  pub elements_stopped : (d : Refusal) (z : Read) → r ≡ Err d → IsErrAnd z (λ (x : Refusal). x ≡ d) → Whole z u
   unfolding inside_pool if_at
-  elements_stopped n p e =
-      stopped _ _ w u r n p
-      (es.ended ∙ sym (ap (λ (g : Got Pool). g.end) (if_at_refused (elements_at text a).end _ (unread (elements_at text a).end) n p (sym es.ended ∙ e)))) e
+  elements_stopped d z e f =
+      let same = handed r z d e f in
+      stopped _ _ w u z d
+      (same ∙ es.ended ∙ sym (ap (λ (g : Got Pool). g.end) (if_at_refused (elements_at text a).end _ (unread (elements_at text a).end) d (sym es.ended ∙ e)))) (same ∙ e)
 
-  module _ (c : ℕ) (ec : r ≡ At c) (b : Read) (y : List ℕ) (eb : record { end = b; words = y } ≡ closing k text c h) where
-    value : inside_pool k text (record { end = At a; words = h }) ≡ closed (record { end = b; words = y }) (elements_at text a).value
+  module _ (c : ℕ) (ec : r ≡ Ok c) (b : Read) (y : List ℕ) (eb : record { end = b; words = y } ≡ closing k text c h) where
+    value : inside_pool k text (record { end = Ok a; words = h }) ≡ closed (record { end = b; words = y }) (elements_at text a).value
     unfolding inside_pool if_at
     value = if_at_at (elements_at text a).end _ _ c (sym es.ended ∙ ec) ∙ ap (λ (z : Parsed). closed z (elements_at text a).value) (sym eb)
 
-    pub closing-stopped : (n p : ℕ) → b ≡ Refused n p → Whole b u
+    pub closing-stopped : (d : Refusal) (z : Read) → b ≡ Err d → IsErrAnd z (λ (x : Refusal). x ≡ d) → Whole z u
     unfolding closed
-    closing-stopped n p e = stopped _ _ w u b n p (sym (ap (λ (g : Got Pool). g.end) value)) e
+    closing-stopped d z e f =
+        let same = handed b z d e f in
+        stopped _ _ w u z d (same ∙ sym (ap (λ (g : Got Pool). g.end) value)) (same ∙ e)
 
-    pub closing_passed : (q x l : ℕ) (v : List ℕ) → b ≡ At q → x ≡ at y 0 → l ≡ at y limit_in → v ≡ kept_head fills i x l s u → Whole b v
+    pub closing_passed : (q x l : ℕ) (v : List ℕ) → b ≡ Ok q → x ≡ at y 0 → l ≡ at y limit_in → v ≡ kept_head fills i x l s u → Whole (Ok q) v
     unfolding closed kept_pool
     closing_passed q x l v e ex el ev =
         record {
-          ended = sym (ap (λ (g : Got Pool). g.end) value);
+          ended = sym e ∙ sym (ap (λ (g : Got Pool). g.end) value);
           left = λ z f.
               ev ∙ ap₂ (λ m n. kept_head fills i m n s u) ex el
               ∙ ap₂ (kept_head fills i (at y 0) (at y limit_in)) (es.left c ec) (eu.left c ec)
@@ -116,11 +120,13 @@ module _ (fills : Bool) (i k : ℕ) (text : List ℕ) (at : ℕ) (w : List ℕ) 
   abbrev Behind : Read → List ℕ → Type 0
   Behind b v = Passed (kept_pool fills i) (inside_pool k text (opening text at (0 ∷ 0 ∷ []))) w b v
 
-  pub opening-stopped : (n p : ℕ) → r ≡ Refused n p → (v : List ℕ) → Behind r v
+  pub opening-stopped : (d : Refusal) (z : Read) → r ≡ Err d → IsErrAnd z (λ (x : Refusal). x ≡ d) → (v : List ℕ) → Behind z v
   unfolding inside_pool
-  opening-stopped n p f v = stopped _ _ w v r n p (rw (← e) (sym (ap (λ (g : Got Pool). g.end) (if_at_refused r _ (unread r) n p f)))) f
+  opening-stopped d z f k v =
+      let same = handed r z d f k in
+      stopped _ _ w v z d (same ∙ rw (← e) (sym (ap (λ (g : Got Pool). g.end) (if_at_refused r _ (unread r) d f)))) (same ∙ f)
 
-  pub opening_passed : (a : ℕ) (b : Read) (v : List ℕ) → r ≡ At a → Passed (kept_pool fills i) (inside_pool k text (record { end = At a; words = h })) w b v → Behind b v
+  pub opening_passed : (a : ℕ) (b : Read) (v : List ℕ) → r ≡ Ok a → Passed (kept_pool fills i) (inside_pool k text (record { end = Ok a; words = h })) w b v → Behind b v
   opening_passed a b v f p = rw (← e, f) p
 
 -- A POOL BY ITS FIRST TOKEN
@@ -146,7 +152,7 @@ module _ (fills : Bool) (i : ℕ) (text : List ℕ) (at : ℕ) (w : List ℕ) (t
   pub pool_missed : (t.form ≡ Word → ⊥) → PoolHere (Refused misplaced t.at) w
   unfolding pool
   pool_missed f =
-      stopped _ _ w w (Refused misplaced t.at) misplaced t.at
+      stopped _ _ w w (Refused misplaced t.at) (record { number = misplaced; place = t.at })
       (ap (λ (g : Got Pool). g.end) (word_missed text at t e of_word of_other (unread (Refused misplaced t.at)) f refl)) refl
 
   module _ (l : List ℕ) (k : ℕ) (f : t.form ≡ Word) (el : l ≡ part text t.at t.next) (ek : k ≡ pool_word l) where
@@ -157,7 +163,7 @@ module _ (fills : Bool) (i : ℕ) (text : List ℕ) (at : ℕ) (w : List ℕ) (t
     pub pool_unnamed : k ≡ 0 → PoolHere (Refused misplaced t.at) w
     unfolding pool_of_word
     pool_unnamed z =
-        stopped _ _ w w (Refused misplaced t.at) misplaced t.at
+        stopped _ _ w w (Refused misplaced t.at) (record { number = misplaced; place = t.at })
         (ap (λ (g : Got Pool). g.end) (pick_yes (eqb k 0) (unread (Refused misplaced t.at)) _ _ (eq-eqb k 0 z) refl ∙ here)) refl
 
     pub pool_passed : (b : Read) (v : List ℕ) → (k ≡ 0 → ⊥) → Passed (kept_pool fills i) (inside_pool k text (opening text t.next (0 ∷ 0 ∷ []))) w b v → PoolHere b v

@@ -11,9 +11,8 @@ use Rattle.base_table.specs.Places.{element_words}
 use Rattle.text_lexer.specs.declared.Form.{Form}
 use Rattle.text_lexer.specs.declared.Form.TheVariants.{Word, Sign, Assign, End, Other}
 use Rattle.text_lexer.specs.Lexer.{token_at, if_word}
-use Rattle.text_readers.specs.declared.Read.{Read}
-use Rattle.text_readers.specs.declared.Read.TheVariants.{At, Refused}
-use Rattle.text_readers.specs.Reading.{Parsed, if_at, place_of, behind, letters}
+use Rattle.std.specs.declared.result.Result.TheVariants.{Ok, Err}
+use Rattle.text_readers.specs.Reading.{Read, Parsed, if_at, place_of, behind, letters}
 use Rattle.text_elements.specs.Elements.{starts_element}
 use Rattle.text_elements.proofs.LengthLaws.{element_keeps}
 use Rattle.check_model.specs.Checks.{Pool}
@@ -45,8 +44,8 @@ worded Other g h a b = b
 
 placed : (r : Read) (go : ℕ → Got Pool) (h : Got Pool) → ((q : ℕ) → Fits (go q).value) → Fits h.value → Fits (if_at r go h).value
 unfolding if_at
-placed (At q) go h a b = a q
-placed (Refused n p) go h a b = b
+placed (Ok q) go h a b = a q
+placed (Err e) go h a b = b
 
 inside_fits : (k : ℕ) (text : List ℕ) (h : Parsed) → Fits (inside_pool k text h).value
 unfolding inside_pool closed

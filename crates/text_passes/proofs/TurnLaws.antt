@@ -4,10 +4,11 @@ use mathlib.Core.Path.{◌≡◌, refl, sym, ◌∙◌, ap}
 use mathlib.Core.Bool.{Bool}
 use mathlib.Core.List.{List}
 use Rattle.base_words.specs.Counts.{pools, elements}
-use Rattle.text_readers.specs.declared.Read.{Read}
-use Rattle.text_readers.specs.declared.Read.TheVariants.{At, Refused}
-use Rattle.text_readers.specs.Reading.{if_at, place_of, sign_at, end_at}
-use Rattle.text_readers.proofs.ReadingLaws.{if_at_at, if_at_refused}
+use Rattle.std.specs.Result.{IsErrAnd}
+use Rattle.std.specs.declared.result.Result.TheVariants.{Ok, Err}
+use Rattle.text_readers.specs.declared.Refusal.{Refusal}
+use Rattle.text_readers.specs.Reading.{Read, if_at, place_of, sign_at, end_at}
+use Rattle.text_readers.proofs.ReadingLaws.{if_at_at, if_at_refused, handed}
 use Rattle.text_elements.specs.Elements.{starts_element}
 use Rattle.check_model.specs.Checks.{Pool}
 use Rattle.text_bounds.specs.Bounds.{one_too_many}
@@ -31,17 +32,17 @@ module _ (fills : Bool) (i : ℕ) (text : List ℕ) (at n : ℕ) (w : List ℕ) 
     ended : e ≡ (element_alone text at).end
     ended = ap (λ (g : Got (List ℕ)). g.end) read
 
-    pub element_refused : (k p : ℕ) → e ≡ Refused k p → P e w
-    element_refused k p h = out_refused element_alone starts_element (kept_element fills i) text elements at n w P inv l e ended k p h w
+    pub element_refused : (d : Refusal) (r : Read) → e ≡ Err d → IsErrAnd r (λ (z : Refusal). z ≡ d) → P r w
+    element_refused d r h k = out_refused element_alone starts_element (kept_element fills i) text elements at n w P inv l e ended d r h k w
 
-    module _ (q : ℕ) (h : e ≡ At q) (u : List ℕ) (kept : u ≡ kept_element fills i n x w) (b : Read) (bar : b ≡ sign_at 124 text q) where
+    module _ (q : ℕ) (h : e ≡ Ok q) (u : List ℕ) (kept : u ≡ kept_element fills i n x w) (b : Read) (bar : b ≡ sign_at 124 text q) where
       stays : u ≡ kept_element fills i n (element_alone text at).value w
       stays = kept ∙ ap (λ (g : Got (List ℕ)). kept_element fills i n g.value w) read
 
-      pub elements_last : (j p : ℕ) → b ≡ Refused j p → P (At q) u
-      elements_last j p g = out_last element_alone starts_element (kept_element fills i) text elements at n w P inv l e ended q h u stays b bar j p g
+      pub elements_last : (d : Refusal) → b ≡ Err d → P (Ok q) u
+      elements_last d g = out_last element_alone starts_element (kept_element fills i) text elements at n w P inv l e ended q h u stays b bar d g
 
-      pub elements-again : (a : ℕ) → b ≡ At a → Elements fills i text a (n + 1) u P
+      pub elements-again : (a : ℕ) → b ≡ Ok a → Elements fills i text a (n + 1) u P
       elements-again a g = again element_alone starts_element (kept_element fills i) text elements at n w P inv l e ended q h u stays b bar a g
 
 -- POOLS: n are kept in w
@@ -57,23 +58,25 @@ module _ (fills : Bool) (text : List ℕ) (at n : ℕ) (w : List ℕ) (P : Read 
   pools_full h b r e f = out_full pool starts_pool (kept_pool fills) text pools at n w P inv h r (f ∙ ap (λ z. one_too_many z (place_of text at)) e)
 
   module _ (l : n < pools) (e : Read) (u : List ℕ) (read : Passed (kept_pool fills n) (pool text at) w e u) where
-    pub pool_refused : (k p : ℕ) → e ≡ Refused k p → P e u
-    pool_refused k p h = out_refused pool starts_pool (kept_pool fills) text pools at n w P inv l e read.ended k p h u
+    pub pool_refused : (d : Refusal) (r : Read) → e ≡ Err d → IsErrAnd r (λ (z : Refusal). z ≡ d) → P r u
+    pool_refused d r h k = out_refused pool starts_pool (kept_pool fills) text pools at n w P inv l e read.ended d r h k u
 
-    module _ (q : ℕ) (h : e ≡ At q) (b : Read) (bar : b ≡ sign_at 124 text q) where
-      pub pools_last : (j p : ℕ) → b ≡ Refused j p → P (At q) u
-      pools_last j p g = out_last pool starts_pool (kept_pool fills) text pools at n w P inv l e read.ended q h u (read.left q h) b bar j p g
+    module _ (q : ℕ) (h : e ≡ Ok q) (b : Read) (bar : b ≡ sign_at 124 text q) where
+      pub pools_last : (d : Refusal) → b ≡ Err d → P (Ok q) u
+      pools_last d g = out_last pool starts_pool (kept_pool fills) text pools at n w P inv l e read.ended q h u (read.left q h) b bar d g
 
-      pub pools-again : (a : ℕ) → b ≡ At a → Pools fills text a (n + 1) u P
+      pub pools-again : (a : ℕ) → b ≡ Ok a → Pools fills text a (n + 1) u P
       pools-again a g = again pool starts_pool (kept_pool fills) text pools at n w P inv l e read.ended q h u (read.left q h) b bar a g
 
 -- THE END of the text behind the pools
 module _ (fills : Bool) (text w v : List ℕ) (r : Read) (p : Passed (kept_all (kept_pool fills) 0) (pools_at text 0) w r v) where
-  pub text_refused : (n q : ℕ) → r ≡ Refused n q → Passed (kept_all (kept_pool fills) 0) (model text) w r v
+  pub text_refused : (d : Refusal) (z : Read) → r ≡ Err d → IsErrAnd z (λ (x : Refusal). x ≡ d) → Passed (kept_all (kept_pool fills) 0) (model text) w z v
   unfolding model
-  text_refused n q e = stopped _ _ w v r n q (p.ended ∙ sym (if_at_refused (pools_at text 0).end (end_at text) (pools_at text 0).end n q (sym p.ended ∙ e))) e
+  text_refused d z e k =
+      let same = handed r z d e k in
+      stopped _ _ w v z d (same ∙ p.ended ∙ sym (if_at_refused (pools_at text 0).end (end_at text) (pools_at text 0).end d (sym p.ended ∙ e))) (same ∙ e)
 
-  pub text_ended : (q : ℕ) (b : Read) → r ≡ At q → b ≡ end_at text q → Passed (kept_all (kept_pool fills) 0) (model text) w b v
+  pub text_ended : (q : ℕ) (b : Read) → r ≡ Ok q → b ≡ end_at text q → Passed (kept_all (kept_pool fills) 0) (model text) w b v
   unfolding model
   text_ended q b e f =
       record {

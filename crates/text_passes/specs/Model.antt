@@ -9,9 +9,8 @@ use Rattle.base_words.specs.Counts.{pools, elements, pool_numbers, instances}
 use Rattle.base_table.specs.Places.{limit_in, element_words, pool_words}
 use Rattle.text_lexer.specs.Lexer.{token_at, if_word}
 use Rattle.base_bytes.specs.Bytes.{same_bytes}
-use Rattle.text_readers.specs.declared.Read.{Read}
-use Rattle.text_readers.specs.declared.Read.TheVariants.{At, Refused}
-use Rattle.text_readers.specs.Reading.{Parsed, Reader, misplaced, if_at, ◌then◌, place_of, behind, letters, sign_at, end_at, sign, number}
+use Rattle.std.specs.declared.result.Result.TheVariants.{Ok}
+use Rattle.text_readers.specs.Reading.{Read, Refused, Parsed, Reader, misplaced, if_at, ◌then◌, place_of, behind, letters, sign_at, end_at, sign, number}
 use Rattle.text_bounds.specs.Bounds.{one_too_many}
 use Rattle.text_elements.specs.Elements.{element, starts_element}
 use Rattle.check_model.specs.Checks.{Pool}
@@ -33,7 +32,7 @@ barred thing starting (suc n) text at =
     (λ q.
     if_at (sign_at (code "|") text q)
     (λ a. put_before (thing text at).value (barred thing starting n text a))
-    (record { end = At q; value = (thing text at).value ∷ [] }))
+    (record { end = Ok q; value = (thing text at).value ∷ [] }))
     (record { end = (thing text at).end; value = [] })
 
 -- an element by itself, and the 1 to 32 of a pool

@@ -11,9 +11,9 @@ use Rattle.check_summary.specs.Summary.{regions, summary_words}
 use Rattle.check_model.specs.Checks.{Pool}
 use Rattle.check_verdict.specs.Verdict.{summary_regions}
 use Rattle.text_ends.specs.Room.{noted_words, element_noted, room_noted}
-use Rattle.text_readers.specs.declared.Read.{Read}
-use Rattle.text_readers.specs.declared.Read.TheVariants.{At}
+use Rattle.std.specs.declared.result.Result.TheVariants.{Ok}
 use Rattle.text_passes.specs.Model.{Got}
+use Rattle.text_readers.specs.Reading.{Read}
 
 -- element n of pool i, stored in a table t, and counted
 abbrev pub stored_as : ℕ → ℕ → ℕ → Element → Table → Table
@@ -60,4 +60,4 @@ kept_pool fills i p w = kept_head fills i p.number p.limit (summed fills i p.ele
 -- WHAT A PASS PROMISES of reading g, where it ended at r and left v in the words w: where it ended; and what was kept, where it was not refused
 pub record Passed {A : Type 0} (keep : A → List ℕ → List ℕ) (g : Got A) (w : List ℕ) (r : Read) (v : List ℕ) : Type 0 where
   pub ended : r ≡ g.end
-  pub left : (q : ℕ) → r ≡ At q → v ≡ keep g.value w
+  pub left : (q : ℕ) → r ≡ Ok q → v ≡ keep g.value w

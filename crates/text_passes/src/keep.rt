@@ -36,10 +36,8 @@ fn copy_element(t: &mut [Word], i: Word, n: Word, x: &[Word; ELEMENT_WORDS])
         + FIRST_ELEMENT
         + ELEMENT_WORDS * (n as usize);
     let count = fitting(place, t.len());
-    let mut j: usize = 0;
-    while j < count {
+    for j in 0..count {
         t[place + j] = x[j];
-        j += 1;
     }
 }
 

@@ -15,9 +15,6 @@ mod pools;
 pub fn pass(fills: bool, text: &[u8], w: &mut [Word]) -> Read
     ensures { Passed (kept_all (kept_pool fills) 0) (model text.now) w.old result w.new }
 {
-    let r = pools::pools_at(fills, text, 0, w);
-    let Read::At(q) = r else {
-        return r;
-    };
+    let q = pools::pools_at(fills, text, 0, w)?;
     end_at(text, q)
 }

@@ -1,6 +1,5 @@
 // The pools of a text, read by a pass.
-ghost use Rattle.std.specs.Prelude.{◌≡◌, [], ◌∷◌};
-ghost use Rattle.text_readers.specs.declared.Read.TheVariants.{At};
+ghost use Rattle.std.specs.Prelude.{◌≡◌, [], ◌∷◌, Ok};
 ghost use Rattle.text_readers.specs.Reading.{◌then◌, sign, number};
 ghost use Rattle.text_passes.specs.Model.{element_alone, elements_at, pool_word, opening, closing, inside_pool, pool_of_word, pool, starts_pool, pools_at};
 ghost use Rattle.text_passes.specs.Passes.{kept_element, kept_all, summed, elements_placed, kept_pool, Passed};
@@ -15,7 +14,7 @@ use text_bounds::too_many;
 use text_elements::{element, starts_element};
 use text_ends::NOTED_WORDS;
 use text_lexer::{Form, token_at};
-use text_readers::{Read, number_in, sign_at};
+use text_readers::{Read, Refusal, number_in, sign_at};
 
 // The two keywords of a pool.
 const PLAIN: Word = 1;
@@ -40,19 +39,13 @@ fn elements_at(fills: bool, text: &[u8], start: usize, i: u8, w: &mut [Word]) ->
 {
     let mut x = [0; ELEMENT_WORDS];
     let mut at = start;
-    let mut n: u8 = 0;
-    while (n as Word) < ELEMENTS {
-        let r = element_alone(text, at, &mut x);
-        let Read::At(q) = r else {
-            return r;
-        };
+    for n in 0..ELEMENTS as u8 {
+        let q = element_alone(text, at, &mut x)?;
         keep_element(fills, w, i, n, &x);
-        let bar = sign_at(text, q, b'|');
-        let Read::At(a) = bar else {
-            return Read::At(q);
+        let Ok(a) = sign_at(text, q, b'|') else {
+            return Ok(q);
         };
         at = a;
-        n += 1;
     }
     too_many(text, at, starts_element(text, at))
 }
@@ -80,14 +73,8 @@ fn number_between(
 ) -> Read
     ensures { record { end = result; words = h.new } ≡ (sign first then number 1 most place then sign last) text.now at h.old }
 {
-    let before = sign_at(text, at, first);
-    let Read::At(p) = before else {
-        return before;
-    };
-    let r = number_in(text, p, h, 1, most, place);
-    let Read::At(q) = r else {
-        return r;
-    };
+    let p = sign_at(text, at, first)?;
+    let q = number_in(text, p, h, 1, most, place)?;
     sign_at(text, q, last)
 }
 
@@ -116,19 +103,13 @@ fn pool_inside(
     h: &mut [Word],
     w: &mut [Word],
 ) -> Read
-    ensures { Passed (kept_pool fills i) (inside_pool k text.now (record { end = At at; words = h.old })) w.old result w.new }
+    ensures { Passed (kept_pool fills i) (inside_pool k text.now (record { end = Ok at; words = h.old })) w.old result w.new }
 {
     let mut s = [0; NOTED_WORDS];
-    let r = elements_of(fills, text, at, i, &mut s, w);
-    let Read::At(q) = r else {
-        return r;
-    };
-    let end = closing(text, q, h, k);
-    let Read::At(_) = end else {
-        return end;
-    };
+    let q = elements_of(fills, text, at, i, &mut s, w)?;
+    let end = closing(text, q, h, k)?;
     keep_head(fills, w, i, word(h, NUMBER), word(h, LIMIT), &s);
-    end
+    Ok(end)
 }
 
 // Pool i behind its keyword.
@@ -136,10 +117,7 @@ fn pool_of(fills: bool, text: &[u8], at: usize, k: Word, i: u8, w: &mut [Word]) 
     ensures { Passed (kept_pool fills i) (inside_pool k text.now (opening text.now at (0 ∷ 0 ∷ []))) w.old result w.new }
 {
     let mut h = [0; HEAD_WORDS];
-    let r = opening(text, at, &mut h);
-    let Read::At(q) = r else {
-        return r;
-    };
+    let q = opening(text, at, &mut h)?;
     pool_inside(fills, text, q, k, i, &mut h, w)
 }
 
@@ -164,11 +142,17 @@ fn pool_at(fills: bool, text: &[u8], at: usize, i: u8, w: &mut [Word]) -> Read
     let q = token.next;
     let form = token.form;
     let Form::Word = form else {
-        return Read::Refused(MISPLACED, p);
+        return Err(Refusal {
+            number: MISPLACED,
+            place: p,
+        });
     };
     let k = pool_named(piece(text, p, q));
     if k == 0 {
-        return Read::Refused(MISPLACED, p);
+        return Err(Refusal {
+            number: MISPLACED,
+            place: p,
+        });
     }
     pool_of(fills, text, q, k, i, w)
 }
@@ -192,18 +176,12 @@ pub fn pools_at(fills: bool, text: &[u8], start: usize, w: &mut [Word]) -> Read
     ensures { Passed (kept_all (kept_pool fills) 0) (pools_at text.now start) w.old result w.new }
 {
     let mut at = start;
-    let mut i: u8 = 0;
-    while (i as Word) < POOLS {
-        let r = pool_at(fills, text, at, i, w);
-        let Read::At(q) = r else {
-            return r;
-        };
-        let bar = sign_at(text, q, b'|');
-        let Read::At(a) = bar else {
-            return Read::At(q);
+    for i in 0..POOLS as u8 {
+        let q = pool_at(fills, text, at, i, w)?;
+        let Ok(a) = sign_at(text, q, b'|') else {
+            return Ok(q);
         };
         at = a;
-        i += 1;
     }
     too_many(text, at, starts_pool(text, at))
 }

@@ -13,8 +13,7 @@ use Rattle.base_words.specs.Words.{at}
 use Rattle.base_words.specs.Counts.{text_most}
 use Rattle.base_words.proofs.PickLaws.{pick_yes, pick_no}
 use Rattle.base_table.specs.Places.{table_words}
-use Rattle.text_readers.specs.declared.Read.{Read}
-use Rattle.text_readers.specs.declared.Read.TheVariants.{At, Refused}
+use Rattle.std.specs.declared.result.Result.TheVariants.{Ok, Err}
 use Rattle.check_model.specs.Checks.{Pool, lowest}
 use Rattle.check_verdict.specs.Verdict.{model_words, lowest_in}
 use Rattle.text_read.specs.declared.Reading.{Reading}
@@ -26,9 +25,8 @@ use Rattle.text_passes.proofs.FillLaws.{table_filled}
 use Rattle.text_passes.proofs.SizeLaws.{model_fits}
 use Rattle.text_rewrite.specs.InTable.{rewritten_in}
 use Rattle.text_rewrite.proofs.TableLaws.{table_rewritten}
-
-pub refusal_is : (r : Read) (n p k q : ℕ) → r ≡ Refused n p → r ≡ Refused k q → ◌≡◌ {A = Reading} (record { number = n; beside = p }) (record { number = k; beside = q })
-refusal_is r n p k q e f = cc
+use Rattle.text_readers.specs.Reading.{Read}
+use Rattle.text_readers.specs.declared.Refusal.{Refusal}
 
 -- the answer to a model, where calls say k of its lowest check broken and v of the word of its room
 module _ (k j : ℕ) (e : k ≡ j) where
@@ -50,7 +48,7 @@ module _ (k j : ℕ) (e : k ≡ j) where
 
 -- the second pass ends as the first did, and fills the cleared table; then its pools are rewritten
 pub filled_by : (text t u v y : List ℕ) (r : Read) → length t ≡ table_words → u ≡ replicate (length t) 0 → Passed (kept_all (kept_pool true) 0) (model text) u r v → y ≡ rewritten_in v
-    → (q : ℕ) → (model text).end ≡ At q → each has_room (model text).value ≡ true → y ≡ table_of (map rewritten (model text).value)
+    → (q : ℕ) → (model text).end ≡ Ok q → each has_room (model text).value ≡ true → y ≡ table_of (map rewritten (model text).value)
 filled_by text t u v y r l e p w q h room =
     w ∙ ap rewritten_in (p.left q (p.ended ∙ h) ∙ table_filled (model text).value u (model_fits text) (e ∙ ap (λ n. replicate n 0) l)) ∙ table_rewritten (model text).value (model_fits text) room
 
@@ -94,12 +92,12 @@ module _ (text t : List ℕ) where
     unfolding read_into
     by_end a e = pick_no _ _ _ _ (le-ltb text_most (length text) short) (e ∙ ap (λ (z : Read). judged z (model text).value t) p.ended)
 
-    pub text_refused : (a : Reading) (n q : ℕ) → r ≡ Refused n q → a ≡ record { number = n; beside = q } → record { number = a.number; beside = a.beside; table = t } ≡ read_into text t
+    pub text_refused : (a : Reading) (d : Refusal) → r ≡ Err d → a ≡ record { number = d.number; beside = d.place } → record { number = a.number; beside = a.beside; table = t } ≡ read_into text t
     unfolding judged
-    text_refused a n q e f =
+    text_refused a d e f =
         by_end _ (ap (λ (z : Reading). record { number = z.number; beside = z.beside; table = t }) f ∙ sym (ap (λ (z : Read). judged z (model text).value t) e))
 
-    module _ (q : ℕ) (e : r ≡ At q) (a : Reading) (f : a ≡ answer_for (lowest_in (take model_words m)) (eqb (at m room_in) 0)) where
+    module _ (q : ℕ) (e : r ≡ Ok q) (a : Reading) (f : a ≡ answer_for (lowest_in (take model_words m)) (eqb (at m room_in) 0)) where
       abbrev ps : List Pool
       ps = (model text).value
 
@@ -113,5 +111,5 @@ module _ (text t : List ℕ) where
       pub model_refused : (a.number ≡ 0 → ⊥) → record { number = a.number; beside = a.beside; table = t } ≡ read_into text t
       model_refused n = by_lowest _ (table_stays (lowest ps) ps t a answer_is n)
 
-      pub text_read : a.number ≡ 0 → (v : List ℕ) → ((z : ℕ) → (model text).end ≡ At z → each has_room ps ≡ true → v ≡ table_of (map rewritten ps)) → record { number = a.number; beside = a.beside; table = v } ≡ read_into text t
+      pub text_read : a.number ≡ 0 → (v : List ℕ) → ((z : ℕ) → (model text).end ≡ Ok z → each has_room ps ≡ true → v ≡ table_of (map rewritten ps)) → record { number = a.number; beside = a.beside; table = v } ≡ read_into text t
       text_read n v h = by_lowest _ (table_fills (lowest ps) ps t a answer_is n v (h q (sym p.ended ∙ e)))

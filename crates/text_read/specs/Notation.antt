@@ -5,9 +5,9 @@ use Rattle.base_words.specs.Each.{each}
 use Rattle.base_words.specs.Pick.{if◌then◌or_else◌}
 use Rattle.base_words.specs.Counts.{text_most}
 use Rattle.text_read.specs.declared.Reading.{Reading}
-use Rattle.text_readers.specs.declared.Read.{Read}
-use Rattle.text_readers.specs.declared.Read.TheVariants.{At, Refused}
+use Rattle.std.specs.declared.result.Result.TheVariants.{Ok, Err}
 use Rattle.check_model.specs.Checks.{Pool, lowest}
+use Rattle.text_readers.specs.Reading.{Read}
 unfoldable pub use Rattle.text_ends.specs.Rewriting.{rewritten, has_room}
 unfoldable pub use Rattle.text_bounds.specs.Bounds.{one_too_many}
 pub use Rattle.text_passes.specs.Model.{Got, plain, multiple, no_pool, unread}
@@ -31,8 +31,8 @@ unfoldable pub answer_for : ℕ → Bool → Reading
 answer_for k room = record { number = if eqb k 0 then (if room then 0 or_else 28) or_else 4; beside = k }
 
 unfoldable pub judged : Read → List Pool → Table → ReadInto
-judged (At q) ps t = checked (lowest ps) ps t
-judged (Refused n p) ps t = record { number = n; beside = p; table = t }
+judged (Ok q) ps t = checked (lowest ps) ps t
+judged (Err e) ps t = record { number = e.number; beside = e.place; table = t }
 
 unfoldable pub read_into : Bytes → Table → ReadInto
 read_into text t =

@@ -1,12 +1,11 @@
 // A text read into a lent table. It is read twice: the first pass judges it, so that a refusal changes nothing; the second fills the table.
 #![tactic(auto)]
 
-ghost use Rattle.std.specs.Prelude.{◌≡◌, ℕ, true, map, eqb, take};
+ghost use Rattle.std.specs.Prelude.{◌≡◌, ℕ, true, map, eqb, take, Ok};
 ghost use Rattle.base_words.specs.Each.{each};
 ghost use Rattle.base_words.specs.Words.{at};
 ghost use Rattle.check_verdict.specs.Verdict.{model_words, lowest_in};
 ghost use Rattle.text_ends.specs.Room.{room_in};
-ghost use Rattle.text_readers.specs.declared.Read.TheVariants.{At, Refused};
 ghost use Rattle.text_read.specs.Notation.{model, table_of, rewritten, has_room, answer_for, read_into};
 
 use base_table::places::TABLE_WORDS;
@@ -16,7 +15,7 @@ use base_words::{Word, clear, word};
 use check_verdict::{MODEL_WORDS, lowest_in};
 use text_ends::{JUDGED_WORDS, ROOM, head};
 use text_passes::pass;
-use text_readers::Read;
+use text_readers::Refusal;
 use text_rewrite::rewrite;
 
 // A number given back; beside 2 and 3 the place, beside 4 the lowest check broken.
@@ -29,26 +28,22 @@ pub struct Reading {
 
 // The table of a text that is not refused.
 fn fill(text: &[u8], t: &mut [Word; TABLE_WORDS])
-    ensures { (q : ℕ) → (model text.now).end ≡ At q → each has_room (model text.now).value ≡ true → t.new ≡ table_of (map rewritten (model text.now).value) }
+    ensures { (q : ℕ) → (model text.now).end ≡ Ok q → each has_room (model text.now).value ≡ true → t.new ≡ table_of (map rewritten (model text.now).value) }
 {
     clear(t);
-    pass(true, text, t);
+    // It ends as the first pass did, which was not refused.
+    let _ = pass(true, text, t);
     rewrite(t);
 }
 
-// A refusal's number and place.
-fn refusal(r: Read) -> Reading
-    ensures { (n p : ℕ) → r ≡ Refused n p → result ≡ record { number = n; beside = p } }
-{
-    match r {
-        Read::Refused(n, p) => Reading {
-            number: n,
-            beside: p,
-        },
-        Read::At(_) => Reading {
-            number: ACCEPTED,
-            beside: 0,
-        },
+impl From<Refusal> for Reading {
+    ghost from_gives = { λ r z. z ≡ record { number = r.number; beside = r.place } };
+
+    fn from(r: Refusal) -> Reading {
+        Reading {
+            number: r.number,
+            beside: r.place,
+        }
     }
 }
 
@@ -93,10 +88,9 @@ pub fn read_into(text: &[u8], t: &mut [Word; TABLE_WORDS]) -> Reading
         };
     }
     let mut m = [0; JUDGED_WORDS];
-    let r = pass(false, text, &mut m);
-    let Read::At(_) = r else {
-        return refusal(r);
-    };
+    if let Err(r) = pass(false, text, &mut m) {
+        return Reading::from(r);
+    }
     let answer = answer_for(&m);
     if answer.number != ACCEPTED {
         return answer;

@@ -10,19 +10,19 @@ use Rattle.text_lexer.specs.Lexer.{is_blank, is_sign, is_word, token_of, token_h
 use Rattle.base_bytes.specs.Bytes.{among, between, is_digit, is_letter, past}
 use Rattle.text_numerals.specs.Numerals.{value_from, leading_zero, number_of, is_field_letter, field_behind, field_from, field_of, as_number, as_field, operand_of}
 use Rattle.base_bytes.specs.Bytes.{same_bytes}
-use Rattle.text_readers.specs.declared.Read.TheVariants.{At, Refused}
-use Rattle.text_readers.specs.Reading.{passed_to, refused_at, if_at, onward, ◌then◌, sign_at, assign_at, end_at, sign, keep_number, number, field, keep_operand, operand, mode_named, keep_mode, mode, is_spelled, starts_number, starts_field, starts_sign}
+use Rattle.std.specs.declared.result.Result.TheVariants.{Ok}
+use Rattle.text_readers.specs.Reading.{Refused, passed_to, refused_at, if_at, onward, ◌then◌, sign_at, assign_at, end_at, sign, keep_number, number, field, keep_operand, operand, mode_named, keep_mode, mode, is_spelled, starts_number, starts_field, starts_sign}
 
 abbrev none : List ℕ
 none = 0 ∷ 0 ∷ 0 ∷ 0 ∷ []
 
 pub record Signs : Type 0 where
-  pub behind_blanks : sign_at (code "(") (bytes "  (3") 0 ≡ At 3
+  pub behind_blanks : sign_at (code "(") (bytes "  (3") 0 ≡ Ok 3
   pub other : sign_at (code ")") (bytes "  (3") 0 ≡ Refused 2 2
   pub at_the_end : sign_at (code ",") (bytes "pool(1,  ") 7 ≡ Refused 2 9
-  pub assign : assign_at (bytes "d0:=1") 2 ≡ At 4
+  pub assign : assign_at (bytes "d0:=1") 2 ≡ Ok 4
   pub parted : assign_at (bytes "d0: =1") 2 ≡ Refused 2 2
-  pub end : end_at (bytes "a \n") 1 ≡ At 3
+  pub end : end_at (bytes "a \n") 1 ≡ Ok 3
   pub more : end_at (bytes "a b") 1 ≡ Refused 2 2
 
 pub signs : Signs

@@ -16,19 +16,20 @@ use Rattle.text_numerals.specs.declared.Number.TheVariants.{Value, TooLarge, Not
 use Rattle.text_numerals.specs.declared.Operand.{Operand}
 use Rattle.text_numerals.specs.declared.Operand.TheVariants.{Number as OfNumber, Field, OutOfRange, NotAnOperand}
 use Rattle.text_numerals.specs.Numerals.{number_of, field_of, operand_of}
-use Rattle.text_readers.specs.declared.Read.{Read}
-use Rattle.text_readers.specs.declared.Read.TheVariants.{At, Refused}
-use Rattle.text_readers.specs.Reading.{Parsed, Reader, passed_to, refused_at, if_at, onward, ◌then◌, place_of, behind, letters, sign_at, assign_at, sign, assign, keep_number, number, field, keep_operand, operand, mode_named, keep_mode, mode}
+use Rattle.std.specs.Result.{IsErrAnd}
+use Rattle.std.specs.declared.result.Result.TheVariants.{Ok, Err}
+use Rattle.text_readers.specs.declared.Refusal.{Refusal}
+use Rattle.text_readers.specs.Reading.{Read, Parsed, Reader, passed_to, refused_at, if_at, onward, ◌then◌, place_of, behind, letters, sign_at, assign_at, sign, assign, keep_number, number, field, keep_operand, operand, mode_named, keep_mode, mode}
 
 -- THE DEFINITIONS, by the answer they start from
 module _ {A : Type 0} (r : Read) (go : ℕ → A) (stay : A) where
-  pub if_at_at : (q : ℕ) → r ≡ At q → if_at r go stay ≡ go q
+  pub if_at_at : (q : ℕ) → r ≡ Ok q → if_at r go stay ≡ go q
   unfolding if_at
   if_at_at q e = rw e
 
-  pub if_at_refused : (n p : ℕ) → r ≡ Refused n p → if_at r go stay ≡ stay
+  pub if_at_refused : (d : Refusal) → r ≡ Err d → if_at r go stay ≡ stay
   unfolding if_at
-  if_at_refused n p e = rw e
+  if_at_refused d e = rw e
 
 module _ (f : Parsed) (go : ℕ → List ℕ → Parsed) where
   pub onward_at : (q : ℕ) (y : List ℕ) → f ≡ passed_to q y → onward f go ≡ go q y
@@ -48,51 +49,57 @@ module _ (f g : Reader) (text : List ℕ) (at : ℕ) (x : List ℕ) where
   unfolding ◌then◌
   then_refused n p y e = onward_refused (f text at x) (g text) n p y e
 
--- THE SAME AS A PROOF HAS IT behind `let r = ..; let Read::At(q) = r else { return r; };`: e is the call's promise, h what the pattern told of r, and
+-- a sign is read without the words
+as_reader : (r s : Read) (x : List ℕ) → r ≡ s → ◌≡◌ {A = Parsed} (record { end = r; words = x }) (record { end = s; words = x })
+as_reader r s x e = ap (λ (z : Read). record { end = z; words = x }) e
+
+-- THE SAME AS A PROOF HAS IT behind `let q = ..?;`: r is what the call gave, e the call's promise, h what the `?` told of r, and
 -- w is what the function gives in the end.
 answer : (r s : Read) (y : List ℕ) (f : Parsed) → record { end = r; words = y } ≡ f → r ≡ s → f ≡ record { end = s; words = y }
 answer r s y f e h = sym e ∙ ap (λ (z : Read). record { end = z; words = y }) h
 
+-- what a `?` returns is the call's own refusal
+pub handed : (r s : Read) (d : Refusal) → r ≡ Err d → IsErrAnd s (λ (z : Refusal). z ≡ d) → s ≡ r
+handed r (Ok q) d h k = absurd k
+handed r (Err z) d h k = ap Err k ∙ sym h
+
 module _ {A : Type 0} (r s : Read) (e : r ≡ s) (w : A) (go : ℕ → A) (stay : A) where
-  pub if_passed : (q : ℕ) → r ≡ At q → w ≡ go q → w ≡ if_at s go stay
+  pub if_passed : (q : ℕ) → r ≡ Ok q → w ≡ go q → w ≡ if_at s go stay
   if_passed q h k = k ∙ sym (if_at_at s go stay q (sym e ∙ h))
 
-  pub if_stopped : (n p : ℕ) → r ≡ Refused n p → w ≡ stay → w ≡ if_at s go stay
-  if_stopped n p h k = k ∙ sym (if_at_refused s go stay n p (sym e ∙ h))
+  pub if_stopped : (d : Refusal) → r ≡ Err d → w ≡ stay → w ≡ if_at s go stay
+  if_stopped d h k = k ∙ sym (if_at_refused s go stay d (sym e ∙ h))
 
 module _ (r : Read) (y : List ℕ) (f : Parsed) (e : record { end = r; words = y } ≡ f) (go : ℕ → List ℕ → Parsed) where
-  pub onward_passed : (q : ℕ) (w : Parsed) → r ≡ At q → w ≡ go q y → w ≡ onward f go
-  onward_passed q w h k = k ∙ sym (onward_at f go q y (answer r (At q) y f e h))
+  pub onward_passed : (q : ℕ) (w : Parsed) → r ≡ Ok q → w ≡ go q y → w ≡ onward f go
+  onward_passed q w h k = k ∙ sym (onward_at f go q y (answer r (Ok q) y f e h))
 
-  pub onward_stopped : (n p : ℕ) → r ≡ Refused n p → record { end = r; words = y } ≡ onward f go
-  onward_stopped n p h = e ∙ answer r (Refused n p) y f e h ∙ sym (onward_refused f go n p y (answer r (Refused n p) y f e h))
+  pub onward_stopped : (d : Refusal) (s : Read) → r ≡ Err d → IsErrAnd s (λ (z : Refusal). z ≡ d) → record { end = s; words = y } ≡ onward f go
+  onward_stopped d s h k =
+      as_reader s (Err d) y (handed r s d h k ∙ h) ∙ sym (onward_refused f go d.number d.place y (answer r (Err d) y f e h))
 
 module _ (f g : Reader) (text : List ℕ) (at : ℕ) (x : List ℕ) (r : Read) (y : List ℕ) (e : record { end = r; words = y } ≡ f text at x) where
-  pub then_passed : (q : ℕ) (w : Parsed) → r ≡ At q → w ≡ g text q y → w ≡ (f then g) text at x
+  pub then_passed : (q : ℕ) (w : Parsed) → r ≡ Ok q → w ≡ g text q y → w ≡ (f then g) text at x
   unfolding ◌then◌
   then_passed q w h k = onward_passed r y (f text at x) e (g text) q w h k
 
-  pub then_stopped : (n p : ℕ) → r ≡ Refused n p → record { end = r; words = y } ≡ (f then g) text at x
+  pub then_stopped : (d : Refusal) (s : Read) → r ≡ Err d → IsErrAnd s (λ (z : Refusal). z ≡ d) → record { end = s; words = y } ≡ (f then g) text at x
   unfolding ◌then◌
-  then_stopped n p h = onward_stopped r y (f text at x) e (g text) n p h
-
--- a sign first, which is read without the words
-as_reader : (r s : Read) (x : List ℕ) → r ≡ s → ◌≡◌ {A = Parsed} (record { end = r; words = x }) (record { end = s; words = x })
-as_reader r s x e = ap (λ (z : Read). record { end = z; words = x }) e
+  then_stopped d s h k = onward_stopped r y (f text at x) e (g text) d s h k
 
 module _ (s : ℕ) (g : Reader) (text : List ℕ) (at : ℕ) (x : List ℕ) (r : Read) (e : r ≡ sign_at s text at) where
-  pub sign_passed : (q : ℕ) (w : Parsed) → r ≡ At q → w ≡ g text q x → w ≡ (sign s then g) text at x
+  pub sign_passed : (q : ℕ) (w : Parsed) → r ≡ Ok q → w ≡ g text q x → w ≡ (sign s then g) text at x
   sign_passed q w h k = then_passed (sign s) g text at x r x (as_reader r (sign_at s text at) x e) q w h k
 
-  pub sign_stopped : (n p : ℕ) → r ≡ Refused n p → record { end = r; words = x } ≡ (sign s then g) text at x
-  sign_stopped n p h = then_stopped (sign s) g text at x r x (as_reader r (sign_at s text at) x e) n p h
+  pub sign_stopped : (d : Refusal) (z : Read) → r ≡ Err d → IsErrAnd z (λ (v : Refusal). v ≡ d) → record { end = z; words = x } ≡ (sign s then g) text at x
+  sign_stopped d z h k = then_stopped (sign s) g text at x r x (as_reader r (sign_at s text at) x e) d z h k
 
 module _ (g : Reader) (text : List ℕ) (at : ℕ) (x : List ℕ) (r : Read) (e : r ≡ assign_at text at) where
-  pub assign_passed : (q : ℕ) (w : Parsed) → r ≡ At q → w ≡ g text q x → w ≡ (assign then g) text at x
+  pub assign_passed : (q : ℕ) (w : Parsed) → r ≡ Ok q → w ≡ g text q x → w ≡ (assign then g) text at x
   assign_passed q w h k = then_passed assign g text at x r x (as_reader r (assign_at text at) x e) q w h k
 
-  pub assign_stopped : (n p : ℕ) → r ≡ Refused n p → record { end = r; words = x } ≡ (assign then g) text at x
-  assign_stopped n p h = then_stopped assign g text at x r x (as_reader r (assign_at text at) x e) n p h
+  pub assign_stopped : (d : Refusal) (z : Read) → r ≡ Err d → IsErrAnd z (λ (v : Refusal). v ≡ d) → record { end = z; words = x } ≡ (assign then g) text at x
+  assign_stopped d z h k = then_stopped assign g text at x r x (as_reader r (assign_at text at) x e) d z h k
 
 -- a sign last
 pub sign_last : (s : ℕ) (text : List ℕ) (at : ℕ) (x : List ℕ) (r : Read) → r ≡ sign_at s text at → record { end = r; words = x } ≡ sign s text at x
@@ -107,8 +114,8 @@ unfolding onward if_at
 onward-length f go n e k = go_on f.end
   where
     go_on : (r : Read) → length (if_at r (λ q. go q f.words) f).words ≡ n
-    go_on (At q) = k q
-    go_on (Refused m p) = e
+    go_on (Ok q) = k q
+    go_on (Err d) = e
 
 pub keeps_then : (f g : Reader) → Keeps f → Keeps g → Keeps (f then g)
 unfolding ◌then◌

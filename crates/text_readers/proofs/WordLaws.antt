@@ -1,33 +1,26 @@
 -- The token at a place, by the answers of the calls that take it apart. Assumes nothing.
 use mathlib.Core.Path.{◌≡◌, ◌∙◌, refl, sym, ap}
-use mathlib.Core.Bool.{Bool, true, false}
-use mathlib.Core.List.{List, [], ◌∷◌}
-use Prim.Native.Nat.{ℕ, suc, ◌-◌, ◌<◌, ◌≤◌}
+use mathlib.Core.Bool.{Bool, false}
+use mathlib.Core.List.{List, []}
+use Prim.Native.Nat.{ℕ, ◌-◌, ◌<◌, ◌≤◌}
 use native.Mathlib.Omega.{arith}
-use denote.Enum.Declared.{tag_of}
-use lib.Dec.{eqb, ltb}
-use lib.ListN.{length, take, drop}
-use borrow.Author.Tests.{ltb-true, ltb-false}
+use lib.Dec.{eqb}
+use lib.ListN.{take, drop}
 use Rattle.base_words.specs.Pick.{if◌then◌or_else◌}
 use Rattle.base_words.specs.Counts.{fields_named}
 use Rattle.base_words.specs.Words.{part}
 use Rattle.text_lexer.specs.declared.Token.{Token}
 use Rattle.text_lexer.specs.declared.Form.TheVariants.{Word, Sign, Assign, End}
-use Rattle.text_lexer.specs.Lexer.{is_blank, is_word, token_at, if_word, if_sign, if_assign, if_end, sign_behind}
+use Rattle.text_lexer.specs.Lexer.{is_blank, is_word, token_at, if_word, if_assign, if_end, sign_behind}
 use Rattle.base_bytes.specs.Bytes.{past}
-use Rattle.text_lexer.specs.contracts.Form.{the_type}
 use Rattle.text_lexer.proofs.FormLaws.{is_word_lem, is_sign, is_assign, is_end, not_word, not_sign, not_assign, not_end}
 use Rattle.text_lexer.proofs.PlaceLaws.{Worded, some_word, no_word, not_worded, worded, sign_hit, sign_miss}
 use Rattle.text_numerals.specs.declared.Number.{Number}
-use Rattle.text_numerals.specs.declared.Operand.{Operand}
 use Rattle.text_numerals.specs.declared.Numeral.{Numeral}
 use Rattle.text_numerals.specs.declared.Term.{Term}
 use Rattle.text_numerals.specs.Numerals.{number_of, is_field_letter, field_from, field_of, as_number, operand_of, word_end, numeral_at, operand_at}
-use Rattle.text_readers.specs.declared.Read.{Read}
-use Rattle.text_readers.specs.declared.Read.TheVariants.{At, Refused}
-use Rattle.text_readers.specs.declared.Asked.{Asked}
-use Rattle.text_readers.specs.declared.Asked.TheVariants.{Behind, Another}
-use Rattle.text_readers.specs.Reading.{taken, Parsed, passed_to, refused_at, misplaced, place_of, behind, letters, sign_at, assign_at, end_at, keep_number, number, field, keep_operand, operand, mode_named, keep_mode, mode, is_spelled, starts_number, starts_field, starts_sign}
+use Rattle.std.specs.declared.result.Result.TheVariants.{Ok}
+use Rattle.text_readers.specs.Reading.{Refused, Parsed, passed_to, refused_at, misplaced, place_of, behind, letters, sign_at, assign_at, end_at, keep_number, number, field, keep_operand, operand, mode_named, keep_mode, mode, is_spelled, starts_number, starts_field, starts_sign}
 
 -- what a token gives where a word is asked for
 abbrev word_of : {A : Type 0} → List ℕ → (List ℕ → ℕ → ℕ → A) → (ℕ → A) → Token → A
@@ -104,46 +97,25 @@ module _ (text : List ℕ) (at : ℕ) (t : Token) (e : t ≡ token_at text at) w
     starts_missed f = rw (← e) (sym (not_sign t.form (λ z. eqb z s) false f))
 
   -- `:=` and the end
-  by_assign : if_assign t.form (At t.next) (Refused misplaced t.at) ≡ assign_at text at
+  by_assign : if_assign t.form (Ok t.next) (Refused misplaced t.at) ≡ assign_at text at
   unfolding assign_at
-  by_assign = ap (λ (z : Token). if_assign z.form (At z.next) (Refused misplaced z.at)) e
+  by_assign = ap (λ (z : Token). if_assign z.form (Ok z.next) (Refused misplaced z.at)) e
 
-  pub assign_read : t.form ≡ Assign → At t.next ≡ assign_at text at
-  assign_read f = sym (is_assign t.form (At t.next) (Refused misplaced t.at) f) ∙ by_assign
+  pub assign_read : t.form ≡ Assign → Ok t.next ≡ assign_at text at
+  assign_read f = sym (is_assign t.form (Ok t.next) (Refused misplaced t.at) f) ∙ by_assign
 
   pub assign_missed : (t.form ≡ Assign → ⊥) → Refused misplaced t.at ≡ assign_at text at
-  assign_missed f = sym (not_assign t.form (At t.next) (Refused misplaced t.at) f) ∙ by_assign
+  assign_missed f = sym (not_assign t.form (Ok t.next) (Refused misplaced t.at) f) ∙ by_assign
 
-  by_end : if_end t.form (At t.next) (Refused misplaced t.at) ≡ end_at text at
+  by_end : if_end t.form (Ok t.next) (Refused misplaced t.at) ≡ end_at text at
   unfolding end_at
-  by_end = ap (λ (z : Token). if_end z.form (At z.next) (Refused misplaced z.at)) e
+  by_end = ap (λ (z : Token). if_end z.form (Ok z.next) (Refused misplaced z.at)) e
 
-  pub end_read : t.form ≡ End → At t.next ≡ end_at text at
-  end_read f = sym (is_end t.form (At t.next) (Refused misplaced t.at) f) ∙ by_end
+  pub end_read : t.form ≡ End → Ok t.next ≡ end_at text at
+  end_read f = sym (is_end t.form (Ok t.next) (Refused misplaced t.at) f) ∙ by_end
 
   pub end_missed : (t.form ≡ End → ⊥) → Refused misplaced t.at ≡ end_at text at
-  end_missed f = sym (not_end t.form (At t.next) (Refused misplaced t.at) f) ∙ by_end
-
--- A TOKEN ASKED FOR at p, k is where it ends: it stands there, or another does
-is_behind : Asked → ℕ
-is_behind (Behind q) = suc q
-is_behind Another = 0
-
-pub taken-behind : (r : Asked) (p k q : ℕ) → r ≡ taken p k → r ≡ Behind q → (q ≡ k) × (p < k)
-unfolding taken is_behind if◌then◌or_else◌
-taken-behind r p k q e h = go (ltb p k) refl (sym h ∙ e)
-  where
-    go : (b : Bool) → ltb p k ≡ b → Behind q ≡ (if b then Behind k or_else Another) → (q ≡ k) × (p < k)
-    go true l z = (omega (arith, ap is_behind z), ltb-true p k l)
-    go false l z = absurd (omega (arith, ap is_behind z))
-
-pub taken_another : (r : Asked) (p k : ℕ) → r ≡ taken p k → r ≡ Another → k ≤ p
-unfolding taken is_behind if◌then◌or_else◌
-taken_another r p k e h = go (ltb p k) refl (sym h ∙ e)
-  where
-    go : (b : Bool) → ltb p k ≡ b → Another ≡ (if b then Behind k or_else Another) → k ≤ p
-    go true l z = absurd (omega (arith, ap is_behind z))
-    go false l z = ltb-false p k l
+  end_missed f = sym (not_end t.form (Ok t.next) (Refused misplaced t.at) f) ∙ by_end
 
 -- A TOKEN WITH NO TOKEN MADE: p is where the blanks end, q where the letters behind them end, or the place behind a sign
 module _ (text : List ℕ) (at p q : ℕ) (e : p ≡ past is_blank (drop at text) at) where
@@ -167,13 +139,13 @@ module _ (text : List ℕ) (at p q : ℕ) (e : p ≡ past is_blank (drop at text
         ∙ word_direct (λ z a b. keep_number (field_of z) 0 (fields_named - 1) place a b x) (λ a. refused_at misplaced a x) (λ z. refl)
 
   module _ (s : ℕ) (g : q ≡ sign_behind s (drop p text) p) where
-    pub sign_read : p < q → At q ≡ sign_at s text at
+    pub sign_read : p < q → Ok q ≡ sign_at s text at
     unfolding sign_at
-    sign_read l = sign_hit s At (Refused misplaced) text at p q e g l
+    sign_read l = sign_hit s Ok (Refused misplaced) text at p q e g l
 
     pub sign_missed : q ≤ p → Refused misplaced p ≡ sign_at s text at
     unfolding sign_at
-    sign_missed l = sign_miss s At (Refused misplaced) text at p q e g l
+    sign_missed l = sign_miss s Ok (Refused misplaced) text at p q e g l
 
 -- the same for words that were taken digit by digit
 module _ (text : List ℕ) (at p : ℕ) (e : p ≡ past is_blank (drop at text) at) where

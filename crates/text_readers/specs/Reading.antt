@@ -1,15 +1,13 @@
 -- READING. A reader takes a text, a place in it and words that it may store in, and gives the place behind what it read, or a refusal with its place; and the
 -- words afterwards. The leftmost place decides, since readers go from left to right.
-use Prim.Native.Char.{code}
-use Rattle.std.specs.Prelude.{ℕ, ◌+◌, ◌-◌, Bool, true, false, ◌&&◌, ◌||◌, List, [], ◌∷◌, eqb, leb, ltb, set, drop}
+use Rattle.std.specs.Prelude.{ℕ, ◌+◌, ◌-◌, Bool, true, false, ◌&&◌, List, eqb, leb, set, Result, Ok, Err}
 use Rattle.base_words.specs.Blocks.{Block, Bytes}
 use Rattle.base_words.specs.Pick.{if◌then◌or_else◌}
 use Rattle.base_words.specs.Text.{bytes}
-use Rattle.base_words.specs.Words.{at as word_at, part}
+use Rattle.base_words.specs.Words.{part}
 use Rattle.base_words.specs.Counts.{fields_named}
 use Rattle.base_kinds.specs.Moves.{a, na_c, na_nc}
 use Rattle.base_table.specs.Places.{a_field, operand_number, mode_place}
-use Rattle.text_lexer.specs.declared.Token.{Token}
 use Rattle.text_lexer.specs.Lexer.{token_at, if_word, if_sign, if_assign, if_end}
 use Rattle.text_numerals.specs.declared.Number.{Number}
 use Rattle.text_numerals.specs.declared.Number.TheVariants.{Value, TooLarge, NotANumber}
@@ -17,10 +15,14 @@ use Rattle.text_numerals.specs.declared.Operand.{Operand}
 use Rattle.text_numerals.specs.declared.Operand.TheVariants.{Number as OfNumber, Field, OutOfRange, NotAnOperand}
 use Rattle.text_numerals.specs.Numerals.{number_of, field_of, operand_of}
 use Rattle.base_bytes.specs.Bytes.{same_bytes}
-use Rattle.text_readers.specs.declared.Read.{Read}
-use Rattle.text_readers.specs.declared.Read.TheVariants.{At, Refused}
-use Rattle.text_readers.specs.declared.Asked.{Asked}
-use Rattle.text_readers.specs.declared.Asked.TheVariants.{Behind, Another}
+use Rattle.text_readers.specs.declared.Refusal.{Refusal}
+
+-- the place behind what was read; or the number of a refusal and its place
+abbrev pub Read : Type 0
+Read = Result ℕ Refusal
+
+abbrev pub Refused : ℕ → ℕ → Read
+Refused n p = Err (record { number = n; place = p })
 
 pub record Parsed : Type 0 where
   pub end : Read
@@ -37,14 +39,14 @@ abbrev pub excessive : ℕ
 excessive = 3
 
 abbrev pub passed_to : ℕ → Block → Parsed
-passed_to q x = record { end = At q; words = x }
+passed_to q x = record { end = Ok q; words = x }
 
 abbrev pub refused_at : ℕ → ℕ → Block → Parsed
 refused_at n p x = record { end = Refused n p; words = x }
 
 unfoldable pub if_at : {A : Type 0} → Read → (ℕ → A) → A → A
-if_at (At q) go stay = go q
-if_at (Refused n p) go stay = stay
+if_at (Ok q) go stay = go q
+if_at (Err e) go stay = stay
 
 -- what follows on a reading, where it was not refused
 unfoldable pub onward : Parsed → (ℕ → List ℕ → Parsed) → Parsed
@@ -70,20 +72,16 @@ behind text at = (token_at text at).next
 abbrev pub letters : Bytes → ℕ → Bytes
 letters text at = part text (place_of text at) (behind text at)
 
--- a token that is asked for at p and ends at q, if it stands there
-unfoldable pub taken : ℕ → ℕ → Asked
-taken p q = if ltb p q then Behind q or_else Another
-
 -- a given sign; `:=`; the text's end
 unfoldable pub sign_at : ℕ → Bytes → ℕ → Read
 sign_at s text at =
-    if_sign (token_at text at).form (λ b. if eqb b s then At (behind text at) or_else Refused misplaced (place_of text at)) (Refused misplaced (place_of text at))
+    if_sign (token_at text at).form (λ b. if eqb b s then Ok (behind text at) or_else Refused misplaced (place_of text at)) (Refused misplaced (place_of text at))
 
 unfoldable pub assign_at : Bytes → ℕ → Read
-assign_at text at = if_assign (token_at text at).form (At (behind text at)) (Refused misplaced (place_of text at))
+assign_at text at = if_assign (token_at text at).form (Ok (behind text at)) (Refused misplaced (place_of text at))
 
 unfoldable pub end_at : Bytes → ℕ → Read
-end_at text at = if_end (token_at text at).form (At (behind text at)) (Refused misplaced (place_of text at))
+end_at text at = if_end (token_at text at).form (Ok (behind text at)) (Refused misplaced (place_of text at))
 
 -- as readers, which store nothing
 abbrev pub sign : ℕ → Reader

@@ -2,7 +2,7 @@
 #![tactic(auto)]
 
 ghost use Rattle.std.specs.Prelude.{◌≡◌};
-ghost use Rattle.text_readers.specs.Reading.{taken, sign_at, assign_at, end_at, keep_number, number, field, keep_operand, operand, mode_named, keep_mode, mode, is_spelled, starts_number, starts_field, starts_sign};
+ghost use Rattle.text_readers.specs.Reading.{sign_at, assign_at, end_at, keep_number, number, field, keep_operand, operand, mode_named, keep_mode, mode, is_spelled, starts_number, starts_field, starts_sign};
 
 use base_bytes::{byte, piece, same};
 use base_kinds::moves::{A, NA_C, NA_NC};
@@ -13,40 +13,30 @@ use base_words::{Word, put};
 use text_lexer::{Form, past_blanks, past_word, sign_behind, token_at};
 use text_numerals::{Number, Operand, field_of, number_of, numeral_at, operand_at};
 
-// The place behind what was read; or the number of a refusal and its place.
+// Why a text is refused, a number of document 01, and the place of the token at fault.
 #[derive(Clone, Copy)]
-pub enum Read {
-    At(usize),
-    Refused(Word, usize),
+pub struct Refusal {
+    pub number: Word,
+    pub place: usize,
 }
 
-// A token that is asked for at p: the place behind it, or another token stands there.
-#[derive(Clone, Copy)]
-pub enum Asked {
-    Behind(usize),
-    Another,
-}
-
-// Where the token that is asked for ends behind p, it stands there.
-fn taken(p: usize, q: usize) -> Asked
-    ensures { result ≡ taken p q }
-{
-    if p < q {
-        return Asked::Behind(q);
-    }
-    Asked::Another
-}
+// The place behind what was read.
+pub type Read = Result<usize, Refusal>;
 
 // A given sign.
 pub fn sign_at(text: &[u8], at: usize, s: u8) -> Read
     ensures { result ≡ sign_at s text.now at }
 {
     let p = past_blanks(text, at);
-    let token = taken(p, sign_behind(text, p, s));
-    let Asked::Behind(q) = token else {
-        return Read::Refused(MISPLACED, p);
-    };
-    Read::At(q)
+    let q = sign_behind(text, p, s);
+    if p < q {
+        Ok(q)
+    } else {
+        Err(Refusal {
+            number: MISPLACED,
+            place: p,
+        })
+    }
 }
 
 // The sign `:=`.
@@ -58,9 +48,12 @@ pub fn assign_at(text: &[u8], at: usize) -> Read
     let q = token.next;
     let form = token.form;
     let Form::Assign = form else {
-        return Read::Refused(MISPLACED, p);
+        return Err(Refusal {
+            number: MISPLACED,
+            place: p,
+        });
     };
-    Read::At(q)
+    Ok(q)
 }
 
 // The end of the text.
@@ -72,9 +65,12 @@ pub fn end_at(text: &[u8], at: usize) -> Read
     let q = token.next;
     let form = token.form;
     let Form::End = form else {
-        return Read::Refused(MISPLACED, p);
+        return Err(Refusal {
+            number: MISPLACED,
+            place: p,
+        });
     };
-    Read::At(q)
+    Ok(q)
 }
 
 // A number from `least` to `most`, stored; its word stands at p, and q is behind it.
@@ -93,12 +89,21 @@ fn keep_number(
         Number::Value(v) => {
             if least <= v && v <= most {
                 put(x, place as usize, v);
-                return Read::At(q);
+                return Ok(q);
             }
-            Read::Refused(EXCESSIVE, p)
+            Err(Refusal {
+                number: EXCESSIVE,
+                place: p,
+            })
         }
-        Number::TooLarge => Read::Refused(EXCESSIVE, p),
-        Number::NotANumber => Read::Refused(MISPLACED, p),
+        Number::TooLarge => Err(Refusal {
+            number: EXCESSIVE,
+            place: p,
+        }),
+        Number::NotANumber => Err(Refusal {
+            number: MISPLACED,
+            place: p,
+        }),
     }
 }
 
@@ -136,15 +141,21 @@ fn keep_operand(o: Operand, place: u32, p: usize, q: usize, x: &mut [Word]) -> R
         Operand::Number(v) => {
             put(x, place as usize, 0);
             put(x, place as usize + OPERAND_NUMBER, v);
-            Read::At(q)
+            Ok(q)
         }
         Operand::Field(d) => {
             put(x, place as usize, A_FIELD);
             put(x, place as usize + OPERAND_NUMBER, d);
-            Read::At(q)
+            Ok(q)
         }
-        Operand::OutOfRange => Read::Refused(EXCESSIVE, p),
-        Operand::NotAnOperand => Read::Refused(MISPLACED, p),
+        Operand::OutOfRange => Err(Refusal {
+            number: EXCESSIVE,
+            place: p,
+        }),
+        Operand::NotAnOperand => Err(Refusal {
+            number: MISPLACED,
+            place: p,
+        }),
     }
 }
 
@@ -179,10 +190,13 @@ fn keep_mode(m: Word, p: usize, q: usize, x: &mut [Word]) -> Read
     ensures { record { end = result; words = x.new } ≡ keep_mode m p q x.old }
 {
     if m == 0 {
-        return Read::Refused(MISPLACED, p);
+        return Err(Refusal {
+            number: MISPLACED,
+            place: p,
+        });
     }
     put(x, MODE, m);
-    Read::At(q)
+    Ok(q)
 }
 
 // A task's mode, stored at its place of the element x.
@@ -194,7 +208,10 @@ pub fn mode_in(text: &[u8], at: usize, x: &mut [Word]) -> Read
     let q = token.next;
     let form = token.form;
     let Form::Word = form else {
-        return Read::Refused(MISPLACED, p);
+        return Err(Refusal {
+            number: MISPLACED,
+            place: p,
+        });
     };
     keep_mode(mode_named(piece(text, p, q)), p, q, x)
 }

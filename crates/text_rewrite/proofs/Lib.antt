@@ -1,3 +1,2 @@
 pub mod PoolLaws
 pub mod TableLaws
-pub mod LoopLaws

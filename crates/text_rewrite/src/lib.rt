@@ -5,9 +5,7 @@ ghost use Rattle.std.specs.Prelude.{◌≡◌, ◌+◌, ◌≤◌, eqb};
 ghost use Rattle.base_words.specs.All.{all};
 ghost use Rattle.base_words.specs.Counts.{edges};
 ghost use Rattle.base_words.specs.Seek.{seek};
-ghost use Rattle.base_words.specs.Sum.{sum, hit, one_if};
-ghost use Rattle.base_words.specs.Words.{at};
-ghost use Rattle.base_table.specs.Places.{edge_place, element_place};
+ghost use Rattle.base_table.specs.Places.{element_place};
 ghost use Rattle.base_table.specs.Table.{element_count, element_at};
 ghost use Rattle.text_ends.specs.Rewriting.{is_end_snd, times_in, mentioned};
 ghost use Rattle.text_rewrite.specs.InTable.{absent_in, unused_in, first_in, one_at, treated_with, treated_in, ends_in, pool_in, rewritten_in};
@@ -22,27 +20,11 @@ use base_words::counts::{BRANCHES, EDGES};
 use base_words::{Word, one_more, put};
 use text_ends::is_end_snd;
 
-// 1 where edge j of a list is e.
-fn is_edge(el: &[Word], list: Word, j: Word, e: Word) -> usize
-    ensures { (result ≡ hit (at el.now (edge_place list j)) e) × (result ≤ 1) }
-{
-    if edge_at(el, list, j) == e {
-        return 1;
-    }
-    0
-}
-
 // How often the edge e stands in a list of an element.
 fn times_in(el: &[Word], list: Word, e: Word) -> usize
     ensures { (result ≡ times_in el.now list e) × (result ≤ 8) }
 {
-    let mut n: usize = 0;
-    let mut j: Word = 0;
-    while j < BRANCHES {
-        n += is_edge(el, list, j, e);
-        j += 1;
-    }
-    n
+    (0..BRANCHES).filter(|&j| edge_at(el, list, j) == e).count()
 }
 
 fn is_absent(t: &[Word], p: Word, j: Word, e: Word) -> bool
@@ -56,29 +38,19 @@ fn is_absent(t: &[Word], p: Word, j: Word, e: Word) -> bool
 fn absent_in(t: &[Word], p: Word, e: Word) -> bool
     ensures { result ≡ absent_in t.now p e }
 {
-    let n = element_count(t, p);
-    let mut j: Word = 0;
-    while j < n {
-        if !is_absent(t, p, j, e) {
-            return false;
-        }
-        j += 1;
-    }
-    true
+    (0..element_count(t, p)).all(|j| is_absent(t, p, j, e))
 }
 
 // How many edges stand below the lowest unused one.
 fn used_below(t: &[Word], p: Word) -> Word
     ensures { (result ≡ seek (λ k. absent_in t.now p (k + 1)) edges) × (result ≤ edges) }
 {
-    let mut k: Word = 0;
-    while k < EDGES {
+    for k in 0..EDGES {
         if absent_in(t, p, k + 1) {
             return k;
         }
-        k += 1;
     }
-    k
+    EDGES
 }
 
 fn is_end(t: &[Word], p: Word, j: Word) -> bool
@@ -92,14 +64,7 @@ fn first_in(t: &[Word], p: Word) -> Word
     ensures { result ≡ first_in t.now p }
 {
     let n = element_count(t, p);
-    let mut j: Word = 0;
-    while j < n {
-        if is_end(t, p, j) {
-            return j;
-        }
-        j += 1;
-    }
-    j
+    (0..n).find(|&j| is_end(t, p, j)).unwrap_or(n)
 }
 
 // Element j of pool p is of a kind now, with the one edge f in a list.
@@ -138,38 +103,20 @@ fn treat(t: &mut [Word], p: Word)
     treat_with(t, p, j, n, f);
 }
 
-// 1 where element j of a pool is an endSnd.
-fn one_end(t: &[Word], p: Word, j: Word) -> Word
-    ensures { (result ≡ one_if (is_end_snd (element_at t.now p j))) × (result ≤ 1) }
-{
-    if is_end(t, p, j) {
-        return 1;
-    }
-    0
-}
-
-fn ends_in(t: &[Word], p: Word) -> Word
+fn ends_in(t: &[Word], p: Word) -> usize
     ensures { result ≡ ends_in t.now p }
 {
-    let n = element_count(t, p);
-    let mut ends: Word = 0;
-    let mut j: Word = 0;
-    while j < n {
-        ends += one_end(t, p, j);
-        j += 1;
-    }
-    ends
+    (0..element_count(t, p))
+        .filter(|&j| is_end(t, p, j))
+        .count()
 }
 
 // The endSnds of a pool, in text order.
 fn rewrite_pool(t: &mut [Word], p: Word)
     ensures { t.new ≡ pool_in p t.old }
 {
-    let n = ends_in(t, p);
-    let mut k: Word = 0;
-    while k < n {
+    for _k in 0..ends_in(t, p) {
         treat(t, p);
-        k += 1;
     }
 }
 
@@ -177,10 +124,7 @@ fn rewrite_pool(t: &mut [Word], p: Word)
 pub fn rewrite(t: &mut [Word])
     ensures { t.new ≡ rewritten_in t.old }
 {
-    let n = pool_count(t);
-    let mut p: Word = 0;
-    while p < n {
+    for p in 0..pool_count(t) {
         rewrite_pool(t, p);
-        p += 1;
     }
 }

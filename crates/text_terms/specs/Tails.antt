@@ -1,12 +1,12 @@
 -- What a function of its own reads: the second half of a long chain of readers, or of a choice.
 use Prim.Native.Char.{code}
-use Rattle.std.specs.Prelude.{ℕ, ◌+◌, Bool, true, ◌&&◌, List}
+use Rattle.std.specs.Prelude.{ℕ, ◌+◌, Bool, true, ◌&&◌}
 use Rattle.base_words.specs.Blocks.{Bytes}
 use Rattle.base_words.specs.Pick.{if◌then◌or_else◌}
 use Rattle.base_words.specs.Text.{bytes}
 use Rattle.base_table.specs.Places.{always, default, form_place, left_place, right_place, condition_place}
 use Rattle.base_bytes.specs.Bytes.{same_bytes}
-use Rattle.text_readers.specs.Reading.{Reader, passed_to, place_of, behind, letters, ◌then◌, sign, operand}
+use Rattle.text_readers.specs.Reading.{Reader, behind, letters, ◌then◌, sign, operand}
 use Rattle.text_terms.specs.Terms.{store, comparison, condition}
 
 -- No place of an element lies beyond it, whatever bytes number the branch and the item; and what stands behind it still has a place that fits.

@@ -1,14 +1,14 @@
 -- THE TERMS OF AN ELEMENT'S TEXT, in the words of document 01: expressions, items of a template, conditions, assignments, guarded branches. x is the words
 -- of the element, in which each is stored at its place. (RULES: reading)
 use Prim.Native.Char.{code}
-use Rattle.std.specs.Prelude.{ℕ, ◌+◌, Bool, true, ◌&&◌, List, set}
+use Rattle.std.specs.Prelude.{ℕ, ◌+◌, Bool, true, ◌&&◌, set}
 use Rattle.base_words.specs.Pick.{if◌then◌or_else◌}
 use Rattle.base_words.specs.Text.{bytes}
 use Rattle.base_words.specs.Counts.{edges}
 use Rattle.base_table.specs.Places.{form_place, left_place, right_place, single, plus, minus, binding, always, default, equals, below, a_field, operand_number, exits_place, edge_place, condition_place, assigned_in, assignment_place}
 use Rattle.text_lexer.specs.Lexer.{token_at, if_word}
 use Rattle.base_bytes.specs.Bytes.{same_bytes}
-use Rattle.text_readers.specs.Reading.{Parsed, Reader, misplaced, passed_to, refused_at, if_at, ◌then◌, place_of, behind, letters, sign_at, sign, assign, number, field, operand}
+use Rattle.text_readers.specs.Reading.{Reader, misplaced, passed_to, refused_at, if_at, ◌then◌, place_of, behind, letters, sign_at, sign, assign, number, field, operand}
 
 -- a word stored, nothing read
 abbrev pub store : ℕ → ℕ → Reader

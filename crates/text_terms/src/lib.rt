@@ -20,7 +20,7 @@ use base_words::counts::EDGES;
 use base_words::numbers::MISPLACED;
 use base_words::{Word, put};
 use text_lexer::{Form, token_at};
-use text_readers::{Read, assign_at, field_in, number_in, operand_in, sign_at};
+use text_readers::{Read, Refusal, assign_at, field_in, number_in, operand_in, sign_at};
 
 // A form, and the second operand.
 fn joined(text: &[u8], at: usize, x: &mut [Word], place: u32, form: Word) -> Read
@@ -36,26 +36,21 @@ fn joint(text: &[u8], at: usize, x: &mut [Word], place: u32) -> Read
     requires { place ≤ farthest }
     ensures { record { end = result; words = x.new } ≡ joint place text.now at x.old }
 {
-    let sum = sign_at(text, at, b'+');
-    let Read::At(q) = sum else {
-        let difference = sign_at(text, at, b'-');
-        let Read::At(q) = difference else {
-            put(x, place as usize + FORM, SINGLE);
-            return Read::At(at);
-        };
+    if let Ok(q) = sign_at(text, at, b'+') {
+        return joined(text, q, x, place, PLUS);
+    }
+    if let Ok(q) = sign_at(text, at, b'-') {
         return joined(text, q, x, place, MINUS);
-    };
-    joined(text, q, x, place, PLUS)
+    }
+    put(x, place as usize + FORM, SINGLE);
+    Ok(at)
 }
 
 fn expression(text: &[u8], at: usize, x: &mut [Word], place: u32) -> Read
     requires { place ≤ farthest }
     ensures { record { end = result; words = x.new } ≡ expression place text.now at x.old }
 {
-    let r = operand_in(text, at, x, place + LEFT as u32);
-    let Read::At(q) = r else {
-        return r;
-    };
+    let q = operand_in(text, at, x, place + LEFT as u32)?;
     joint(text, q, x, place)
 }
 
@@ -73,11 +68,10 @@ fn template_item(text: &[u8], at: usize, x: &mut [Word], place: u32) -> Read
     requires { place ≤ farthest }
     ensures { record { end = result; words = x.new } ≡ template_item place text.now at x.old }
 {
-    let binds = sign_at(text, at, b'?');
-    let Read::At(q) = binds else {
-        return expression(text, at, x, place);
-    };
-    bind(text, q, x, place)
+    if let Ok(q) = sign_at(text, at, b'?') {
+        return bind(text, q, x, place);
+    }
+    expression(text, at, x, place)
 }
 
 // The place of item k of the message of branch b.
@@ -109,25 +103,18 @@ fn comparison(text: &[u8], at: usize, x: &mut [Word], place: u32) -> Read
     requires { place ≤ farthest }
     ensures { record { end = result; words = x.new } ≡ comparison place text.now at x.old }
 {
-    let equal = sign_at(text, at, b'=');
-    let Read::At(q) = equal else {
-        let r = sign_at(text, at, b'<');
-        let Read::At(q) = r else {
-            return r;
-        };
-        return joined(text, q, x, place, BELOW);
-    };
-    joined(text, q, x, place, EQUALS)
+    if let Ok(q) = sign_at(text, at, b'=') {
+        return joined(text, q, x, place, EQUALS);
+    }
+    let q = sign_at(text, at, b'<')?;
+    joined(text, q, x, place, BELOW)
 }
 
 fn compared(text: &[u8], at: usize, x: &mut [Word], place: u32) -> Read
     requires { place ≤ farthest }
     ensures { record { end = result; words = x.new } ≡ compared place text.now at x.old }
 {
-    let r = operand_in(text, at, x, place + LEFT as u32);
-    let Read::At(q) = r else {
-        return r;
-    };
+    let q = operand_in(text, at, x, place + LEFT as u32)?;
     comparison(text, q, x, place)
 }
 
@@ -152,7 +139,7 @@ fn keep_form(q: usize, x: &mut [Word], place: u32, form: Word) -> Read
     ensures { record { end = result; words = x.new } ≡ passed_to q (set x.old (place + form_place) form) }
 {
     put(x, place as usize + FORM, form);
-    Read::At(q)
+    Ok(q)
 }
 
 // A condition that starts with the word from p to q.
@@ -186,7 +173,10 @@ fn condition(text: &[u8], at: usize, x: &mut [Word], defaults: bool, place: u32)
     let q = token.next;
     let form = token.form;
     let Form::Word = form else {
-        return Read::Refused(MISPLACED, p);
+        return Err(Refusal {
+            number: MISPLACED,
+            place: p,
+        });
     };
     condition_word(text, at, p, q, x, defaults, place)
 }
@@ -209,14 +199,8 @@ pub fn assignment(text: &[u8], at: usize, x: &mut [Word], j: u8) -> Read
     ensures { record { end = result; words = x.new } ≡ assignment j text.now at x.old }
 {
     let place = FIRST_ASSIGNMENT as u32 + ASSIGNMENT_WORDS as u32 * (j as u32);
-    let r = field_in(text, at, x, place);
-    let Read::At(q) = r else {
-        return r;
-    };
-    let s = assign_at(text, q);
-    let Read::At(a) = s else {
-        return s;
-    };
+    let q = field_in(text, at, x, place)?;
+    let a = assign_at(text, q)?;
     expression(text, a, x, place + ASSIGNED as u32)
 }
 
@@ -224,14 +208,8 @@ pub fn assignment(text: &[u8], at: usize, x: &mut [Word], j: u8) -> Read
 fn guard(text: &[u8], at: usize, x: &mut [Word], b: u8) -> Read
     ensures { record { end = result; words = x.new } ≡ guard b text.now at x.old }
 {
-    let r = sign_at(text, at, b',');
-    let Read::At(q) = r else {
-        return r;
-    };
-    let s = condition_of(text, q, x, true, b);
-    let Read::At(a) = s else {
-        return s;
-    };
+    let q = sign_at(text, at, b',')?;
+    let a = condition_of(text, q, x, true, b)?;
     sign_at(text, a, b')')
 }
 
@@ -239,20 +217,14 @@ fn guard(text: &[u8], at: usize, x: &mut [Word], b: u8) -> Read
 pub fn guarded(text: &[u8], at: usize, x: &mut [Word], b: u8) -> Read
     ensures { record { end = result; words = x.new } ≡ guarded b text.now at x.old }
 {
-    let r = sign_at(text, at, b'(');
-    let Read::At(q) = r else {
-        return r;
-    };
-    let s = number_in(
+    let q = sign_at(text, at, b'(')?;
+    let a = number_in(
         text,
         q,
         x,
         1,
         EDGES,
         EXITS as u32 + FIRST_EDGE as u32 + (b as u32),
-    );
-    let Read::At(a) = s else {
-        return s;
-    };
+    )?;
     guard(text, a, x, b)
 }

@@ -57,13 +57,7 @@ fn told(
 }
 
 fn is_counted(a: Accounts) -> bool {
-    if a.posted != 0 {
-        return true;
-    }
-    if a.sent != 0 {
-        return true;
-    }
-    a.consumed != 0
+    a.posted != 0 || a.sent != 0 || a.consumed != 0
 }
 
 // The row of the message that an event moved, where none of the events before it did.
@@ -77,21 +71,17 @@ fn tell_new(
 ) {
     let g = moved.tuple;
     let earlier = told(t, z, log, before, moved.name, g);
-    let a = earlier.accounts;
-    if is_counted(a) {
+    if is_counted(earlier.accounts) {
         return;
     }
     let all = told(t, z, log, log.len(), moved.name, g);
-    let b = all.accounts;
-    tell_row(rt, moved.name, g, b);
+    tell_row(rt, moved.name, g, all.accounts);
 }
 
 // Event after event, as long as there is one more.
 fn tell_events(rt: &impl Print, t: &[Word; TABLE_WORDS], z: &[Word; STATE_WORDS], log: &[u8]) {
-    let mut k: usize = 0;
-    while k < log.len() {
-        let next = k + 1;
-        let one = told(t, z, log, next, 0, empty_tuple());
+    for k in 0..log.len() {
+        let one = told(t, z, log, k + 1, 0, empty_tuple());
         if one.room > 0 {
             return;
         }
@@ -99,7 +89,6 @@ fn tell_events(rt: &impl Print, t: &[Word; TABLE_WORDS], z: &[Word; STATE_WORDS]
         if moved.some {
             tell_new(rt, t, z, log, k, moved);
         }
-        k = next;
     }
 }
 

@@ -48,9 +48,8 @@ fn log_once(
     if r.number != 0 {
         return;
     }
-    let name = r.name;
-    let a = take(t, z, rs, name);
-    tell_event(rt, name, a);
+    let a = take(t, z, rs, r.name);
+    tell_event(rt, r.name, a);
 }
 
 fn log_steps(
@@ -60,10 +59,8 @@ fn log_steps(
     rs: &mut [[Word; RECORD_WORDS]],
     steps: Steps,
 ) {
-    let mut n: Steps = 0;
-    while n < steps {
+    for _ in 0..steps {
         log_once(rt, t, z, rs);
-        n += 1;
     }
 }
 

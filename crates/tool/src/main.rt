@@ -12,7 +12,7 @@
 // The version is 20 where none is given. A text or a drawing that is refused is told as the program `run` tells it. A command that there is not is said on standard error.
 #![tactic(auto)]
 
-use base_bytes::{piece, same};
+use base_bytes::piece;
 use tool_print::{argument, tell};
 
 mod accounts;
@@ -48,39 +48,17 @@ fn tell_unknown(err: &impl Print, name: &[u8]) {
 }
 
 fn do_command(rt: &HostRuntime, name: &[u8]) {
-    if same(name, b"drawing") {
-        do_drawing(rt);
-        return;
+    match name {
+        b"drawing" => do_drawing(rt),
+        b"map" => do_map(rt),
+        b"diagnose" => do_diagnose(rt),
+        b"judge" => do_judge(rt),
+        b"accounts" => do_accounts(rt),
+        b"repair" => do_repair(rt),
+        b"log" => do_log(rt),
+        b"nested" => do_nested(rt),
+        _ => tell_unknown(&rt.stderr(), name),
     }
-    if same(name, b"map") {
-        do_map(rt);
-        return;
-    }
-    if same(name, b"diagnose") {
-        do_diagnose(rt);
-        return;
-    }
-    if same(name, b"judge") {
-        do_judge(rt);
-        return;
-    }
-    if same(name, b"accounts") {
-        do_accounts(rt);
-        return;
-    }
-    if same(name, b"repair") {
-        do_repair(rt);
-        return;
-    }
-    if same(name, b"log") {
-        do_log(rt);
-        return;
-    }
-    if same(name, b"nested") {
-        do_nested(rt);
-        return;
-    }
-    tell_unknown(&rt.stderr(), name);
 }
 
 fn main(rt: HostRuntime) {

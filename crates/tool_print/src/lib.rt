@@ -64,20 +64,14 @@ pub fn asked_version(rt: &impl Env, at: usize) -> Word
 pub fn argument(rt: &impl Env, at: usize, out: &mut [u8]) -> usize
     ensures { result ≤ length out.new }
 {
-    match rt.arg(at, out) {
-        Ok(n) => n,
-        Err(_) => 0,
-    }
+    rt.arg(at, out).unwrap_or(0)
 }
 
 // Reads once, what is there; gives back how many bytes came, 0 at the input's end. A read that fails is the end.
 pub fn read_part(rt: &impl Input, out: &mut [u8]) -> usize
     ensures { result ≤ length out.new }
 {
-    match rt.reader().read(out) {
-        Ok(n) => n,
-        Err(_) => 0,
-    }
+    rt.reader().read(out).unwrap_or(0)
 }
 
 // Reads until a buffer is full or the input is at its end; gives back how many bytes came.
@@ -85,6 +79,7 @@ pub fn read_full(rt: &impl Input, out: &mut [u8]) -> usize
     ensures { result ≤ length out.new }
 {
     let mut done: usize = 0;
+    // Stays a while: each read says how far it came.
     while done < out.len() {
         let n = read_part(rt, &mut out[done..]);
         if n == 0 {
@@ -145,13 +140,7 @@ pub fn tell_fresh(
 {
     let number = engine::fresh(t, v, z);
     if number != 0 {
-        tell_unread(
-            rt,
-            Reading {
-                number: number,
-                beside: 0,
-            },
-        );
+        tell_unread(rt, Reading { number, beside: 0 });
     }
     number
 }
@@ -172,10 +161,7 @@ fn put_next(out: &mut [u8], from: usize, told: bool, n: usize) -> usize
 fn has_beside(number: Word) -> bool
     ensures { result ≡ has_beside number }
 {
-    if number == NOT_A_LOG {
-        return true;
-    }
-    number == AT_FAULT
+    number == NOT_A_LOG || number == AT_FAULT
 }
 
 // 10 and 25 have nothing beside them, 23 its place, 24 the event's ordinal and its own number.
@@ -333,9 +319,8 @@ fn run_once(
     if r.number != 0 {
         return;
     }
-    let name = r.name;
-    let a = take(t, y, ys, name);
-    tell_step(rt, name, a);
+    let a = take(t, y, ys, r.name);
+    tell_step(rt, r.name, a);
 }
 
 fn run_each(
@@ -345,10 +330,8 @@ fn run_each(
     ys: &mut [[Word; RECORD_WORDS]],
     steps: Steps,
 ) {
-    let mut n: Steps = 0;
-    while n < steps {
+    for _ in 0..steps {
         run_once(rt, t, y, ys);
-        n += 1;
     }
 }
 

@@ -156,6 +156,10 @@ either {P} a b f g = go (ltb a b) refl
 next_on : (p : ℕ) → p ≤ next p
 next_on p = either p last_place (λ h. omega (arith, next_below p h)) (λ h. omega (arith, next_last p h))
 
+-- which is what a sum that stays within a word's places gives
+pub next_least : (p : ℕ) → p ≤ last_place → next p ≡ min (p + 1) last_place
+next_least p l = either p last_place (λ h. omega (arith, next_below p h)) (λ h. omega (arith, next_last p h))
+
 next_within : (p : ℕ) → p ≤ last_place → next p ≤ last_place
 next_within p l = either p last_place (λ h. omega (arith, next_below p h)) (λ h. omega (arith, next_last p h))
 

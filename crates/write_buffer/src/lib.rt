@@ -3,36 +3,29 @@
 #![tactic(auto)]
 
 ghost use Rattle.std.specs.Prelude.{◌≡◌, [], ◌∷◌, ◌+◌, ◌≤◌, length};
-ghost use Rattle.write_buffer.specs.Buffers.{lesser, last_place, next, Put};
+ghost use Rattle.write_buffer.specs.Buffers.{lesser, last_place, Put};
 
 // The lesser of two numbers.
+#[tactic(auto, unfolding(crate::specs::Buffers::lesser))]
 pub fn least(a: usize, b: usize) -> usize
     ensures { (result ≡ lesser a b) × (result ≤ a) × (result ≤ b) }
 {
-    if a <= b { a } else { b }
-}
-
-// The place behind another; the greatest stays.
-fn next_place(p: usize) -> usize
-    ensures { result ≡ next p }
-{
-    if p < usize::MAX { p + 1 } else { p }
+    a.min(b)
 }
 
 // The place n bytes behind another, as far as there are places.
+#[tactic(auto, unfolding(crate::specs::Buffers::lesser))]
 pub fn further(p: usize, n: usize) -> usize
     ensures { result ≡ lesser (p + n) last_place }
 {
-    if n <= usize::MAX - p {
-        return p + n;
-    }
-    usize::MAX
+    p.saturating_add(n)
 }
 
+#[tactic(auto, using(crate::proofs::OverLaws::next_least), unfolding(crate::specs::Buffers::end_written, crate::specs::Buffers::over_from))]
 pub fn put_byte(out: &mut [u8], from: usize, b: u8) -> usize
     ensures { Put (b ∷ []) 1 from out.old result out.new }
 {
-    let to = next_place(from);
+    let to = from.saturating_add(1);
     if from < out.len() {
         out[from] = b;
     }
@@ -43,10 +36,8 @@ pub fn put_bytes(out: &mut [u8], from: usize, s: &[u8]) -> usize
     ensures { Put s.now (length s.now) from out.old result out.new }
 {
     let mut to = from;
-    let mut i: usize = 0;
-    while i < s.len() {
-        to = put_byte(out, to, s[i]);
-        i += 1;
+    for b in s {
+        to = put_byte(out, to, *b);
     }
     to
 }

@@ -15,9 +15,10 @@ fn first_power(n: Word) -> Word
 {
     let mut left = n;
     let mut power: Word = 1;
+    // Stays a while: it goes on until one digit is left, over no range.
     while left >= 10 {
-        left = left / 10;
-        power = power * 10;
+        left /= 10;
+        power *= 10;
     }
     power
 }
@@ -29,9 +30,10 @@ pub fn put_number(out: &mut [u8], from: usize, n: Word) -> usize
 {
     let mut to = from;
     let mut power = first_power(n);
+    // Stays a while: it goes on until no digit is left; over the digits' places it would take a power for each.
     while power > 0 {
         to = put_byte(out, to, b'0' + (n / power % 10) as u8);
-        power = power / 10;
+        power /= 10;
     }
     to
 }

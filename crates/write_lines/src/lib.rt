@@ -11,7 +11,7 @@ ghost use Rattle.write_lines.specs.Lines.{marked_off, row, values_line, tuple_li
 use base_words::counts::VALUES;
 use base_words::{DIGITS, GREATEST, Word, word};
 use meaning::{Answer, Name, Traffic, Tuple};
-use write_buffer::{least, put_byte, put_bytes};
+use write_buffer::{put_byte, put_bytes};
 use write_decimals::put_number;
 
 // How many numbers stand before a step's traffic.
@@ -44,11 +44,9 @@ fn put_row(out: &mut [u8], from: usize, mark: u8, s: &[Word], n: Word) -> usize
     ensures { Put (row (mark ∷ []) s.now n) (row_most n) from out.old result out.new }
 {
     let mut end = from;
-    let mut j: Word = 0;
-    while j < n {
+    for j in 0..n {
         let x = word(s, j as usize);
         end = put_marked(out, end, mark, j, x);
-        j += 1;
     }
     end
 }
@@ -57,9 +55,7 @@ fn put_row(out: &mut [u8], from: usize, mark: u8, s: &[Word], n: Word) -> usize
 pub fn put_values(out: &mut [u8], from: usize, g: Tuple) -> usize
     ensures { Put (values_line g) values_most from out.old result out.new }
 {
-    let values = g.values;
-    let n = least(g.length as usize, VALUES as usize);
-    put_row(out, from, b',', &values, n as Word)
+    put_row(out, from, b',', &g.values, g.length.min(VALUES))
 }
 
 // A tuple by itself: `-` where it has no values.
@@ -78,8 +74,7 @@ fn put_message(out: &mut [u8], from: usize, a: Answer) -> usize
 {
     let name = put_number(out, from, a.name);
     let colon = put_byte(out, name, b':');
-    let values = a.tuple;
-    put_values(out, colon, values)
+    put_values(out, colon, a.tuple)
 }
 
 fn put_signed(out: &mut [u8], from: usize, sign: u8, a: Answer) -> usize
@@ -93,8 +88,7 @@ fn put_signed(out: &mut [u8], from: usize, sign: u8, a: Answer) -> usize
 pub fn put_traffic(out: &mut [u8], from: usize, a: Answer) -> usize
     ensures { Put (traffic_line a) traffic_most from out.old result out.new }
 {
-    let traffic = a.traffic;
-    match traffic {
+    match a.traffic {
         Traffic::Nothing => put_byte(out, from, b'-'),
         Traffic::Consumed => put_signed(out, from, b'?', a),
         Traffic::Sent => put_signed(out, from, b'!', a),
@@ -105,7 +99,7 @@ pub fn put_traffic(out: &mut [u8], from: usize, a: Answer) -> usize
 pub fn put_place(out: &mut [u8], from: usize, n: Name) -> usize
     ensures { Put (place_line n) place_most from out.old result out.new }
 {
-    let numbers: [Word; PLACE_NUMBERS] = [n.pool, n.instance, n.element, n.phase, n.branch];
+    let numbers = [n.pool, n.instance, n.element, n.phase, n.branch];
     put_row(out, from, b' ', &numbers, PLACE_NUMBERS as Word)
 }
 
@@ -124,8 +118,7 @@ pub fn put_name(out: &mut [u8], from: usize, n: Name) -> usize
 {
     let place = put_place(out, from, n);
     let blank = put_byte(out, place, b' ');
-    let given = n.given;
-    put_tuple(out, blank, given)
+    put_tuple(out, blank, n.given)
 }
 
 pub const UNREAD_LINE: usize = 8 + DIGITS + 1 + DIGITS + 1;
@@ -134,8 +127,7 @@ pub const UNREAD_LINE: usize = 8 + DIGITS + 1 + DIGITS + 1;
 pub fn put_beside(out: &mut [u8], from: usize, beside: usize) -> usize
     ensures { Put (shown (lesser beside greatest)) digits from out.old result out.new }
 {
-    let held = least(beside, GREATEST as usize);
-    put_number(out, from, held as Word)
+    put_number(out, from, beside.min(GREATEST as usize) as Word)
 }
 
 // A refused text: the number, and what stands beside it.

@@ -24,11 +24,9 @@ fn put_items(out: &mut [u8], from: usize, el: &[Word], b: Word) -> usize
 {
     let n = message_length(el, b);
     let mut end = from;
-    let mut j: Word = 0;
-    while j < n {
+    for j in 0..n {
         let comma = put_lead(out, end, b',', j);
         end = put_item(out, comma, item_at(el, b, j));
-        j += 1;
     }
     end
 }
@@ -56,11 +54,9 @@ fn put_edges(out: &mut [u8], from: usize, el: &[Word], list: Word) -> usize
 {
     let n = word(el, list as usize);
     let mut end = from;
-    let mut j: Word = 0;
-    while j < n {
+    for j in 0..n {
         let comma = put_lead(out, end, b',', j);
         end = put_number(out, comma, edge_at(el, list, j));
-        j += 1;
     }
     end
 }
@@ -125,11 +121,9 @@ pub fn put_branches(out: &mut [u8], from: usize, el: &[Word], receives: bool) ->
 {
     let n = word(el, EXITS);
     let mut end = from;
-    let mut j: Word = 0;
-    while j < n {
+    for j in 0..n {
         let comma = put_lead(out, end, b',', j);
         end = put_branch(out, comma, el, receives, j);
-        j += 1;
     }
     end
 }
@@ -147,11 +141,9 @@ fn put_assigned(out: &mut [u8], from: usize, el: &[Word]) -> usize
 {
     let n = assignment_count(el);
     let mut end = from;
-    let mut j: Word = 0;
-    while j < n {
+    for j in 0..n {
         let comma = put_lead(out, end, b',', j);
         end = put_assignment(out, comma, assignment_at(el, j));
-        j += 1;
     }
     end
 }

@@ -66,14 +66,11 @@ fn put_pair(out: &mut [u8], from: usize, sign: u8, x: &[Word]) -> usize
 fn put_expression(out: &mut [u8], from: usize, x: &[Word]) -> usize
     ensures { Put (shown_expression x.now) pair_most from out.old result out.new }
 {
-    let form = word(x, FORM);
-    if form == PLUS {
-        return put_pair(out, from, b'+', x);
+    match word(x, FORM) {
+        PLUS => put_pair(out, from, b'+', x),
+        MINUS => put_pair(out, from, b'-', x),
+        _ => put_operand(out, from, tail(x, LEFT)),
     }
-    if form == MINUS {
-        return put_pair(out, from, b'-', x);
-    }
-    put_operand(out, from, tail(x, LEFT))
 }
 
 // An item of a message or a template.
@@ -90,29 +87,22 @@ pub fn put_item(out: &mut [u8], from: usize, x: &[Word]) -> usize
 pub fn put_condition(out: &mut [u8], from: usize, x: &[Word]) -> usize
     ensures { Put (shown_condition x.now) pair_most from out.old result out.new }
 {
-    let form = word(x, FORM);
-    if form == ALWAYS {
-        return put_bytes(out, from, b"true");
+    match word(x, FORM) {
+        ALWAYS => put_bytes(out, from, b"true"),
+        DEFAULT => put_bytes(out, from, b"default"),
+        EQUALS => put_pair(out, from, b'=', x),
+        _ => put_pair(out, from, b'<', x),
     }
-    if form == DEFAULT {
-        return put_bytes(out, from, b"default");
-    }
-    if form == EQUALS {
-        return put_pair(out, from, b'=', x);
-    }
-    put_pair(out, from, b'<', x)
 }
 
 pub fn put_mode(out: &mut [u8], from: usize, m: Word) -> usize
     ensures { Put (shown_mode m) mode_most from out.old result out.new }
 {
-    if m == A {
-        return put_bytes(out, from, b"a");
+    match m {
+        A => put_bytes(out, from, b"a"),
+        NA_C => put_bytes(out, from, b"na_c"),
+        _ => put_bytes(out, from, b"na_nc"),
     }
-    if m == NA_C {
-        return put_bytes(out, from, b"na_c");
-    }
-    put_bytes(out, from, b"na_nc")
 }
 
 pub fn put_assignment(out: &mut [u8], from: usize, x: &[Word]) -> usize

@@ -21,7 +21,7 @@ use Rattle.base_table.specs.Table.{kind_in}
 use Rattle.write_buffer.specs.Buffers.{Put}
 use Rattle.write_buffer.proofs.OverLaws.{after, put_as, put_within, put_nothing}
 use Rattle.write_shown.specs.Lengths.{keyword_most}
-use Rattle.write_shown.specs.Shown.{shown_entries, shown_exits, shown_receiving_list, shown_parts}
+use Rattle.write_shown.specs.Shown.{shown_entries, shown_exits, shown_receiving_list, shown_part, shown_parts}
 use Rattle.write_phrases.specs.Pieces.{edge_list, shown_branch, branches}
 use Rattle.write_table.specs.Pieces.{signed, parts}
 
@@ -65,6 +65,14 @@ exits_is el = refl
 pub receiving_is : (el : List ℕ) → branches true el ≡ shown_receiving_list el
 unfolding shown_receiving_list shown_branch if◌then◌or_else◌
 receiving_is el = refl
+
+-- the part with none of the other codes
+pub other_part : (c : ℕ) (el : List ℕ) → (c ≡ code "E" → ⊥) → (c ≡ code "X" → ⊥) → (c ≡ code "F" → ⊥) → (c ≡ code "Y" → ⊥) → (c ≡ code "N" → ⊥) → (c ≡ code "T" → ⊥) → (c ≡ code "S" → ⊥) → (c ≡ code "G" → ⊥)
+    → shown_receiving_list el ≡ shown_part c el
+unfolding shown_part
+other_part c el e x f y n t s g =
+    pick_no _ _ _ _ (ne_eqb c _ e) (pick_no _ _ _ _ (ne_eqb c _ x) (pick_no _ _ _ _ (ne_eqb c _ f) (pick_no _ _ _ _ (ne_eqb c _ y)
+    (pick_no _ _ _ _ (ne_eqb c _ n) (pick_no _ _ _ _ (ne_eqb c _ t) (pick_no _ _ _ _ (ne_eqb c _ s) (pick_no _ _ _ _ (ne_eqb c _ g) refl)))))))
 
 -- What is known in a loop that writes a text piece by piece: of the whole text, so much was written, and a rest is to come.
 pub record Going (whole rest : List ℕ) (most from : ℕ) (out : List ℕ) (r : ℕ) (now : List ℕ) : Type 0 where

@@ -1,11 +1,10 @@
 -- Pieces of the texts in Shown, each written by a function of its own.
 use Prim.Native.Char.{code}
-use Rattle.std.specs.Prelude.{ℕ, List, [], ◌∷◌, ◌++◌, eqb, ltb}
+use Rattle.std.specs.Prelude.{ℕ, [], ◌∷◌, ◌++◌, eqb, ltb}
 use Rattle.base_words.specs.Blocks.{Bytes, Table, Element}
 use Rattle.base_words.specs.Pick.{if◌then◌or_else◌}
 use Rattle.base_words.specs.Text.{bytes}
 use Rattle.base_words.specs.Words.{at}
-use Rattle.base_kinds.specs.declared.Kind.{Kind}
 use Rattle.base_kinds.specs.Kinds.{kind_of}
 use Rattle.base_table.specs.Places.{pool_place, limit_place}
 use Rattle.base_table.specs.Table.{kind_in, pool_count}

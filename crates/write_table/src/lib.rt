@@ -11,12 +11,12 @@ ghost use Rattle.write_shown.specs.Shown.{shown_part, shown_element, shown_eleme
 ghost use Rattle.write_shown.specs.Lengths.{part_most, parts_most, keyword_most, element_most, elements_most, limit_most, contents_most, numbered_most, enclosed_most, pool_word_most, pool_most, pools_most};
 ghost use Rattle.write_table.specs.Pieces.{signed, parts, contents, numbered, pool_enclosed, pool_word, next_pool};
 
-use base_kinds::{PARTS, keyword_of, letters_of, parts_of};
+use base_kinds::{keyword_of, letters_of, parts_of};
 use base_table::places::{ENTRIES, EXITS, FIRST_POOL, LIMIT, POOL_WORDS};
 use base_table::{edge_at, element_at, element_count, kind_in, pool_count};
 use base_words::counts::POOLS;
 use base_words::{Word, word};
-use write_buffer::{further, least, put_byte, put_bytes};
+use write_buffer::{put_byte, put_bytes};
 use write_decimals::put_number;
 use write_phrases::{put_branches, put_edge_list, put_guarded_list, put_message, put_task};
 use write_shown::put_lead;
@@ -25,31 +25,17 @@ use write_shown::put_lead;
 fn put_part(out: &mut [u8], from: usize, c: u8, el: &[Word]) -> usize
     ensures { Put (shown_part c el.now) part_most from out.old result out.new }
 {
-    if c == b'E' {
-        return put_number(out, from, edge_at(el, ENTRIES as Word, 0));
+    match c {
+        b'E' => put_number(out, from, edge_at(el, ENTRIES as Word, 0)),
+        b'X' => put_number(out, from, edge_at(el, EXITS as Word, 0)),
+        b'F' => put_edge_list(out, from, el, ENTRIES as Word),
+        b'Y' => put_edge_list(out, from, el, EXITS as Word),
+        b'N' => put_task(out, from, el),
+        b'T' => put_message(out, from, el, 0),
+        b'S' => put_message(out, from, el, 0),
+        b'G' => put_guarded_list(out, from, el),
+        _ => put_branches(out, from, el, true),
     }
-    if c == b'X' {
-        return put_number(out, from, edge_at(el, EXITS as Word, 0));
-    }
-    if c == b'F' {
-        return put_edge_list(out, from, el, ENTRIES as Word);
-    }
-    if c == b'Y' {
-        return put_edge_list(out, from, el, EXITS as Word);
-    }
-    if c == b'N' {
-        return put_task(out, from, el);
-    }
-    if c == b'T' {
-        return put_message(out, from, el, 0);
-    }
-    if c == b'S' {
-        return put_message(out, from, el, 0);
-    }
-    if c == b'G' {
-        return put_guarded_list(out, from, el);
-    }
-    put_branches(out, from, el, true)
 }
 
 // A part behind its sign.
@@ -67,15 +53,12 @@ fn put_parts(out: &mut [u8], from: usize, el: &[Word]) -> usize
     let codes = parts_of(kind_in(el));
     let mut sign = b'(';
     let mut end = from;
-    let mut i: usize = 0;
-    while i < PARTS {
-        let c = codes[i];
+    for c in codes {
         if c == b' ' {
             return end;
         }
         end = put_signed(out, end, sign, c, el);
         sign = b',';
-        i += 1;
     }
     end
 }
@@ -103,13 +86,11 @@ fn put_elements(out: &mut [u8], from: usize, t: &[Word], p: Word) -> usize
 {
     let n = element_count(t, p);
     let mut end = from;
-    let mut e: Word = 0;
-    while e < n {
+    for e in 0..n {
         let bar = put_lead(out, end, b'|', e);
-        let rest = least(bar, out.len());
+        let rest = bar.min(out.len());
         let length = put_element(&mut out[rest..], element_at(t, p, e));
-        end = further(bar, length);
-        e += 1;
+        end = bar.saturating_add(length);
     }
     end
 }
@@ -189,10 +170,8 @@ fn put_pools(out: &mut [u8], from: usize, t: &[Word]) -> usize
     ensures { Put (shown_pools t.now) pools_most from out.old result out.new }
 {
     let mut end = from;
-    let mut p: Word = 0;
-    while p < POOLS {
+    for p in 0..POOLS {
         end = put_next_pool(out, end, t, p);
-        p += 1;
     }
     end
 }

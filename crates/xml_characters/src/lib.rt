@@ -8,16 +8,11 @@ use base_bytes::{is_digit, is_letter};
 
 pub mod references;
 
+#[tactic(auto, using(std::proofs::lemmas::Bool::Decides::nat_tests), unfolding(crate::specs::Names::is_blank))]
 pub fn is_blank(b: u8) -> bool
     ensures { result ≡ is_blank b }
 {
-    if b == b' ' {
-        return true;
-    }
-    if b == b'\t' {
-        return true;
-    }
-    b == b'\r' || b == b'\n'
+    matches!(b, b' ' | b'\t' | b'\r' | b'\n')
 }
 
 pub fn is_control(b: u8) -> bool
@@ -26,26 +21,16 @@ pub fn is_control(b: u8) -> bool
     b < 32 && !is_blank(b)
 }
 
+#[tactic(auto, using(std::proofs::lemmas::Bool::Decides::nat_tests), unfolding(crate::specs::Names::begins_name))]
 pub fn begins_name(b: u8) -> bool
     ensures { result ≡ begins_name b }
 {
-    if is_letter(b) {
-        return true;
-    }
-    if b == b'_' {
-        return true;
-    }
-    b == b':' || 128 <= b
+    is_letter(b) || b == b'_' || b == b':' || 128 <= b
 }
 
+#[tactic(auto, using(std::proofs::lemmas::Bool::Decides::nat_tests), unfolding(crate::specs::Names::is_name))]
 pub fn is_name(b: u8) -> bool
     ensures { result ≡ is_name b }
 {
-    if begins_name(b) {
-        return true;
-    }
-    if is_digit(b) {
-        return true;
-    }
-    b == b'-' || b == b'.'
+    begins_name(b) || is_digit(b) || b == b'-' || b == b'.'
 }

@@ -1,4 +1,6 @@
 // References and the characters that they say.
+#![tactic(auto, using(base_words::proofs::PickLaws::picks, std::proofs::lemmas::Bool::Decides::nat_tests), unfolding(crate::specs::References::digit, crate::specs::References::base, crate::specs::References::more, crate::specs::References::numbered, crate::specs::References::character_of, crate::specs::References::is_character))]
+
 ghost use Rattle.std.specs.Prelude.{◌≡◌};
 ghost use Rattle.xml_characters.specs.References.{digit, base, more, number_from, numbered, character_of, is_character};
 
@@ -10,25 +12,12 @@ const GREATEST: u32 = 1114111;
 fn digit(b: u8) -> u8
     ensures { result ≡ digit b }
 {
-    if b < b'0' {
-        return 16;
+    match b {
+        b'0'..=b'9' => b - b'0',
+        b'A'..=b'F' => b - b'A' + 10,
+        b'a'..=b'f' => b - b'a' + 10,
+        _ => 16,
     }
-    if b < b':' {
-        return b - b'0';
-    }
-    if b < b'A' {
-        return 16;
-    }
-    if b < b'G' {
-        return b - b'A' + 10;
-    }
-    if b < b'a' {
-        return 16;
-    }
-    if b < b'g' {
-        return b - b'a' + 10;
-    }
-    16
 }
 
 fn base(hex: bool) -> u8
@@ -54,14 +43,12 @@ fn number(hex: bool, word: &[u8]) -> u32
     ensures { result ≡ number_from hex 0 word.now }
 {
     let mut v: u32 = 0;
-    let mut i = 0;
-    while i < word.len() {
-        let d = digit(word[i]);
+    for b in word {
+        let d = digit(*b);
         if base(hex) <= d {
             return 0;
         }
         v = more(hex, v, d);
-        i += 1;
     }
     v
 }
@@ -102,20 +89,10 @@ pub fn character_of(w: &[u8]) -> u32
 pub fn is_character(n: u32) -> bool
     ensures { result ≡ is_character n }
 {
-    if n < 32 {
-        return is_blank(n as u8);
+    match n {
+        0..=31 => is_blank(n as u8),
+        55296..=57343 => false,
+        65534..=65535 => false,
+        _ => n <= GREATEST,
     }
-    if n < 55296 {
-        return true;
-    }
-    if n < 57344 {
-        return false;
-    }
-    if n < 65534 {
-        return true;
-    }
-    if n < 65536 {
-        return false;
-    }
-    n <= GREATEST
 }

@@ -1,7 +1,7 @@
 -- "Character data, CDATA and references together": the bytes that a text says, one by one, with the place where the next one comes from. "A CR standing in the text is a line end" (R21), with
 -- an LF behind it one line end; the character that a reference says is its number, and 128 for every number from 128 on: such bytes are alike in what is read here. (RULES: flows)
 use Prim.Native.Char.{code}
-use Rattle.std.specs.Prelude.{ℕ, ◌+◌, ◌-◌, List, ltb, eqb, length}
+use Rattle.std.specs.Prelude.{ℕ, ◌-◌, ltb, eqb}
 use Rattle.base_words.specs.Blocks.{Bytes}
 use Rattle.base_words.specs.Pick.{if◌then◌or_else◌}
 use Rattle.base_words.specs.Words.{at, part}

@@ -1,6 +1,6 @@
 -- "Outside the root only blanks (space, tab, CR, LF), comments, instructions; anything else is 20 there" (R9). A whole `</`name or `<![CDATA[` is at fault whatever follows it. (RULES: xml)
 use Prim.Native.Char.{code}
-use Rattle.std.specs.Prelude.{ℕ, zero, suc, Bool, List, leb, eqb, length}
+use Rattle.std.specs.Prelude.{ℕ, zero, suc, Bool, leb, eqb, length}
 use Rattle.base_words.specs.Blocks.{Bytes}
 use Rattle.base_words.specs.Pick.{if◌then◌or_else◌}
 use Rattle.base_words.specs.Text.{bytes}

@@ -1,4 +1,6 @@
 // Character data, byte by byte, each with the place behind it.
+#![tactic(auto, using(base_words::proofs::PickLaws::picks, std::proofs::lemmas::Bool::Decides::nat_tests), unfolding(crate::specs::Decoding::narrow, crate::specs::Decoding::behind_line, crate::specs::Decoding::plain_at, crate::specs::Decoding::referred_at, crate::specs::Decoding::decoded_at))]
+
 ghost use Rattle.std.specs.Prelude.{◌≡◌, ◌-◌};
 ghost use Rattle.xml_document.specs.Decoding.{narrow, behind_line, plain_at, referred_at, decoded_at};
 
@@ -17,48 +19,39 @@ pub struct Decoded {
 fn narrow(n: u32) -> u8
     ensures { result ≡ narrow n }
 {
-    if n < 128 {
-        return n as u8;
-    }
-    128
+    if n < 128 { n as u8 } else { 128 }
 }
 
 fn behind_line(text: &[u8], i: usize) -> usize
     ensures { result ≡ behind_line text.now i }
 {
     if byte(text, i) == b'\n' {
-        return after(text, i);
+        after(text, i)
+    } else {
+        i
     }
-    i
 }
 
 // A byte of a CDATA section: a line's end is one newline, as CR, LF or both write it.
 pub fn plain_at(text: &[u8], i: usize) -> Decoded
     ensures { result ≡ plain_at text.now i }
 {
-    let b = byte(text, i);
-    let q = after(text, i);
-    if b == b'\r' {
-        let e = behind_line(text, q);
+    let byte = byte(text, i);
+    let next = after(text, i);
+    if byte == b'\r' {
         return Decoded {
             byte: b'\n',
-            next: e,
+            next: behind_line(text, next),
         };
     }
-    Decoded { byte: b, next: q }
-}
-
-fn one_back(q: usize) -> usize
-    ensures { result ≡ q - 1 }
-{
-    if q == 0 { 0 } else { q - 1 }
+    Decoded { byte, next }
 }
 
 fn referred_at(text: &[u8], i: usize, q: usize) -> Decoded
     ensures { result ≡ referred_at text.now i q }
 {
-    let b = narrow(character_of(piece(text, i, one_back(q))));
-    Decoded { byte: b, next: q }
+    let byte = narrow(character_of(piece(text, i, q.saturating_sub(1))));
+    Decoded { byte, next: q }
 }
 
 // A byte of character data or of a value: a reference is the byte that it says.

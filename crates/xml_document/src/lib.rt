@@ -1,5 +1,5 @@
 // A document around its root: blanks, comments and instructions, and nothing else; and its character data byte by byte.
-#![tactic(auto)]
+#![tactic(auto, using(base_words::proofs::PickLaws::picks, std::proofs::lemmas::Bool::Decides::nat_tests), unfolding(crate::specs::Document::other_by, crate::specs::Document::other_of, crate::specs::Document::opens_data, crate::specs::Document::tag_for, crate::specs::Document::tag_at, crate::specs::Document::outside_at, crate::specs::Document::further, crate::specs::Document::outside))]
 
 ghost use Rattle.std.specs.Prelude.{◌≡◌};
 ghost use Rattle.xml_document.specs.Document.{other_of, opens_data, tag_at, outside_at, outside};
@@ -25,19 +25,16 @@ pub enum Outside {
 fn other_of(m: Markup, p: usize) -> Outside
     ensures { result ≡ other_of m p }
 {
-    let s = m.sort;
-    let q = m.next;
-    match s {
-        Sort::StartTag => Outside::Fault(p),
-        Sort::EmptyTag => Outside::Fault(p),
-        Sort::EndTag => Outside::Fault(p),
-        Sort::Text => Outside::Fault(p),
-        Sort::Reference => Outside::Fault(p),
-        Sort::Comment => Outside::On(q),
-        Sort::Data => Outside::Fault(p),
-        Sort::Instruction => Outside::On(q),
-        Sort::End => Outside::Fault(p),
-        Sort::Fault => Outside::Fault(q),
+    match m.sort {
+        Sort::Comment | Sort::Instruction => Outside::On(m.next),
+        Sort::Fault => Outside::Fault(m.next),
+        Sort::StartTag
+        | Sort::EmptyTag
+        | Sort::EndTag
+        | Sort::Text
+        | Sort::Reference
+        | Sort::Data
+        | Sort::End => Outside::Fault(p),
     }
 }
 
@@ -50,8 +47,7 @@ fn opens_data(text: &[u8], p: usize) -> bool
 fn tag_at(text: &[u8], p: usize) -> Outside
     ensures { result ≡ tag_at text.now p }
 {
-    let o = opener(text, p);
-    match o {
+    match opener(text, p) {
         Opener::Start => Outside::Element(p),
         Opener::End => Outside::Fault(p),
         Opener::Other => {
@@ -70,14 +66,11 @@ pub fn outside_at(text: &[u8], p: usize) -> Outside
     if text.len() <= p {
         return Outside::Nothing;
     }
-    let b = byte(text, p);
-    if b == b'<' {
-        return tag_at(text, p);
+    match byte(text, p) {
+        b'<' => tag_at(text, p),
+        b'&' => other_of(markup(text, p), p),
+        _ => Outside::Fault(p),
     }
-    if b == b'&' {
-        return other_of(markup(text, p), p);
-    }
-    Outside::Fault(p)
 }
 
 // The first element outside from a place on, that there is none, or the fault before it.
@@ -85,6 +78,7 @@ pub fn outside_from(text: &[u8], p: usize) -> Outside
     ensures { result ≡ outside text.now p }
 {
     let mut at = p;
+    // Stays a while: each comment or instruction is passed whole.
     while at < text.len() {
         let o = outside_at(text, run(Class::Blanks, text, at));
         let Outside::On(q) = o else {

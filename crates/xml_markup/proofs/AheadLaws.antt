@@ -1,4 +1,6 @@
 -- A tag read ahead, byte by byte: names that are new stay out of a search, and where they are new nothing is at fault. Assumes nothing.
+use Rattle.std.proofs.lemmas.Option.{none-some, same_Some}
+use Rattle.std.specs.Prelude.{Some, None}
 use mathlib.Core.Path.{◌≡◌, ◌∙◌, refl, sym, ap}
 use mathlib.Core.Bool.{Bool, true, false, false≢true}
 use mathlib.Core.List.{List, [], ◌∷◌}
@@ -8,7 +10,6 @@ use native.Mathlib.Omega.{arith}
 use lib.Dec.{leb, eqb}
 use lib.ListN.{length, take, drop, get_or, length-drop}
 use lib.Seq.{drop-cons, get_or-take, take-take, take_all, length-take-le}
-use denote.Enum.Declared.{tag_of}
 use borrow.Author.Tests.{eqb-true, lt-leb}
 use Rattle.base_words.specs.Pick.{if◌then◌or_else◌}
 use Rattle.base_words.specs.Words.{at, part}
@@ -20,16 +21,11 @@ use Rattle.xml_characters.specs.Names.{is_control}
 use Rattle.xml_markup.specs.declared.Cursor.{Cursor}
 use Rattle.xml_markup.specs.declared.Scan.{Scan}
 use Rattle.xml_markup.specs.declared.Scan.TheVariants.{On, Past, Fault}
-use Rattle.xml_markup.specs.declared.Taken.{Taken}
-use Rattle.xml_markup.specs.declared.Taken.TheVariants.{To, Not}
 use Rattle.xml_markup.specs.declared.Whole.{Whole}
 use Rattle.xml_markup.specs.declared.Whole.TheVariants.{Nothing, Attribute, Target, Reference}
-use Rattle.xml_markup.specs.declared.Found.{Found}
-use Rattle.xml_markup.specs.declared.Found.TheVariants.{Behind, Nowhere}
 use Rattle.xml_markup.specs.Tokens.{whole, moved, if_on, if_attribute, is_named, found_from, begun, found, is_found, twice, is_faulty}
-use Rattle.xml_markup.specs.Markup.{advance, scan_from}
+use Rattle.xml_markup.specs.Markup.{advance}
 use Rattle.xml_markup.specs.Ahead.{name_number, key_of, key_at, Rising, Kept, More, With, New, ReadTo, is_faulty_else, tried, Ahead, Sure}
-use Rattle.xml_markup.specs.contracts.Whole.{the_type as whole-type}
 use Rattle.xml_markup.proofs.TokenLaws.{is_attribute, found_here, found_on, found_end}
 use Rattle.xml_markup.proofs.ScanLaws.{scan_on}
 use Rattle.xml_markup.proofs.CutLaws.{rest_of}
@@ -44,10 +40,6 @@ same_true (x ∷ a) (y ∷ b) e = rw (eqb-true x y (and_left (eqb x y) (same_byt
 never : (b : Bool) → (b ≡ true → ⊥) → b ≡ false
 never true n = absurd (n refl)
 never false n = refl
-
-behind_not : (i : ℕ) → Behind i ≡ Nowhere → ⊥
-unfolding is_found
-behind_not i e = false≢true (sym (ap is_found e))
 
 fault_not : (q : ℕ) (c : Cursor) → Fault q ≡ On c → ⊥
 unfolding if_on
@@ -75,26 +67,26 @@ module _ (t : List ℕ) (m : ℕ) (k : m ≤ length t) where
     unfolding is_named
     same_named = rw (same_byte, part_of_lem c.mark i (omega arith))
 
-    at_here : is_named t name c i ≡ true → found_from (part t 0 m) name c (drop i (part t 0 m)) i ≡ Behind i
+    at_here : is_named t name c i ≡ true → found_from (part t 0 m) name c (drop i (part t 0 m)) i ≡ Some i
     at_here e = found_here (part t 0 m) name c i (omega (arith, long)) (same_named ∙ e)
 
     at_next : is_named t name c i ≡ false → (next : Cursor) → moved c (at t i) i (i + 1) ≡ On next → found_from (part t 0 m) name c (drop i (part t 0 m)) i ≡ found_from (part t 0 m) name next (drop (i + 1) (part t 0 m)) (i + 1)
     at_next e next g = found_on (part t 0 m) name c i (omega (arith, long)) (same_named ∙ e) (at t i) (sym same_byte) (moved c (at t i) i (i + 1)) refl next g
 
   -- what is not found in a text is not found in a beginning of it
-  cut_none : (name s : List ℕ) (c : Cursor) (i n : ℕ) → i + n ≤ m → found_from t name c s i ≡ Nowhere → found_from (part t 0 m) name c (take n s) i ≡ Nowhere
+  cut_none : (name s : List ℕ) (c : Cursor) (i n : ℕ) → i + n ≤ m → found_from t name c s i ≡ None → found_from (part t 0 m) name c (take n s) i ≡ None
   unfolding found_from if_on if◌then◌or_else◌
   cut_none name s c i zero h e = refl
   cut_none name [] c i (suc n) h e = refl
   cut_none name (b ∷ s) c i (suc n) h e = rw (same_named name c i (omega arith), same_byte name c i (omega arith)) (go (is_named t name c i) (moved c (at t i) i (i + 1)) e (λ next. cut_none name s next (i + 1) n (omega arith)))
     where
-      go : (x : Bool) (r : Scan) → (if x then Behind i or_else if_on r (λ next. found_from t name next s (i + 1)) Nowhere) ≡ Nowhere → ((next : Cursor) → found_from t name next s (i + 1) ≡ Nowhere → found_from (part t 0 m) name next (take n s) (i + 1) ≡ Nowhere) → (if x then Behind i or_else if_on r (λ next. found_from (part t 0 m) name next (take n s) (i + 1)) Nowhere) ≡ Nowhere
+      go : (x : Bool) (r : Scan) → (if x then Some i or_else if_on r (λ next. found_from t name next s (i + 1)) None) ≡ None → ((next : Cursor) → found_from t name next s (i + 1) ≡ None → found_from (part t 0 m) name next (take n s) (i + 1) ≡ None) → (if x then Some i or_else if_on r (λ next. found_from (part t 0 m) name next (take n s) (i + 1)) None) ≡ None
       go true r e f = e
       go false (On next) e f = f next e
       go false (Past sort q) e f = refl
       go false (Fault q) e f = refl
 
-  cut : (name : List ℕ) (start : ℕ) → found t name start ≡ Nowhere → found (part t 0 m) name start ≡ Nowhere
+  cut : (name : List ℕ) (start : ℕ) → found t name start ≡ None → found (part t 0 m) name start ≡ None
   unfolding found
   cut name start e =
       by_order start m
@@ -122,7 +114,7 @@ module _ (t : List ℕ) (start : ℕ) where
         old = less i (i + 1) (omega arith) (omega arith) name new
 
         other : is_named t name c i ≡ false
-        other = never (is_named t name c i) (λ e. behind_not i (sym (at_here t (i + 1) (omega arith) name c i (omega arith) e) ∙ sym (r name (i + 1) (omega arith) (omega arith) old) ∙ new))
+        other = never (is_named t name c i) (λ e. none-some i (sym (sym (at_here t (i + 1) (omega arith) name c i (omega arith) e) ∙ sym (r name (i + 1) (omega arith) (omega arith) old) ∙ new)))
 
     new_byte : (name : List ℕ) → New t start i name → is_named t name c i ≡ false → New t start (i + 1) name
     new_byte name new e =
@@ -189,28 +181,11 @@ pub kept_as : (κ : ℕ → ℕ) (v : List ℕ) (n : ℕ) (w x name : List ℕ) 
 kept_as κ v n w x name b e y = rw (ap (λ (z : List ℕ). name_number z 0) (b ∙ e)) y
 
 -- what is taken of a name
-abbrev count : Taken → ℕ
-count (To m) = m
-count Not = 0
-
-abbrev is_to : Taken → Bool
-is_to (To m) = true
-is_to Not = false
-
-pub not_to : (m : ℕ) → Not ≡ To m → ⊥
-not_to m e = false≢true (ap is_to e)
-
-pub to_not : (m : ℕ) → To m ≡ Not → ⊥
-to_not m e = not_to m (sym e)
-
 module _ (κ : ℕ → ℕ) (v : List ℕ) (n k : ℕ) (w : Whole) (m : ℕ) where
-  pub takes_none : n ≤ length v → (w ≡ Attribute → ⊥) → To n ≡ To m → Rising κ v n → More κ v n v m × (w ≡ Attribute → With κ k v n v m)
+  pub takes_none : n ≤ length v → (w ≡ Attribute → ⊥) → Some n ≡ Some m → Rising κ v n → More κ v n v m × (w ≡ Attribute → With κ k v n v m)
   takes_none h o e up =
-      rw (sym (ap count e))
+      rw (sym (same_Some _ _ e))
       (record { rising = up; fits = h; kept = λ x y. y }, λ a. absurd (o a))
-
-  pub takes_one : (u : List ℕ) → More κ v n u (n + 1) × With κ k v n u (n + 1) → To (n + 1) ≡ To m → More κ v n u m × (w ≡ Attribute → With κ k v n u m)
-  takes_one u (a, b) e = rw (sym (ap count e)) (a, λ y. b)
 
 -- what holds behind each byte of a class holds behind a run of them
 module _ (t : List ℕ) (f : ℕ → Bool) (P : ℕ → Type 0) (on : (i : ℕ) → i < length t → f (at t i) ≡ true → P i → P (i + 1)) where
@@ -271,9 +246,3 @@ module _ (t : List ℕ) (start : ℕ) where
 
     pub ahead_sure : (v : List ℕ) (n : ℕ) (d : Cursor) (i : ℕ) → Ahead t start c p v n d i → ((name : List ℕ) → Kept (key_at t) v n (key_of name) → New t start p name) → Sure t start c p d i
     ahead_sure v n d i a new = record { on = a.on; reached = a.reached; same = a.same new }
-
-    pub sure_here : ReadTo t start c p → Sure t start c p c p
-    sure_here r = record { on = omega arith; reached = r; same = refl }
-
-    pub sure_on : (d : Cursor) (i : ℕ) (f : Cursor) (j : ℕ) → Sure t start c p d i → Sure t start d i f j → Sure t start c p f j
-    sure_on d i f j a b = record { on = omega (arith, a.on, b.on); reached = b.reached; same = a.same ∙ b.same }

@@ -11,11 +11,10 @@ use borrow.Author.Tests.{lt-leb}
 use Rattle.base_words.specs.Pick.{if◌then◌or_else◌}
 use Rattle.base_words.specs.Words.{at}
 use Rattle.xml_scanner.specs.declared.Sort.TheVariants.{Fault as AFault}
-use Rattle.xml_markup.specs.declared.Scan.{Scan}
 use Rattle.xml_markup.specs.declared.Scan.TheVariants.{Fault}
 use Rattle.xml_markup.specs.declared.Markup.{Markup}
 use Rattle.xml_markup.specs.Tokens.{begun}
-use Rattle.xml_markup.specs.Markup.{scan_from, scan, opens_markup, marked, placed, markup}
+use Rattle.xml_markup.specs.Markup.{scan, opens_markup, marked, placed, markup}
 use Rattle.xml_markup.proofs.ScanLaws.{cut_from}
 use Rattle.xml_markup.proofs.MarkupLaws.{markup_within}
 

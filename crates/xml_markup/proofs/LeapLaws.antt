@@ -1,6 +1,6 @@
 -- Bytes passed together: each of the steps, and what the readers of a markup make of them. Assumes nothing.
-use mathlib.Core.Path.{◌≡◌, ◌∙◌, refl, sym, ap, subst}
-use mathlib.Core.Bool.{Bool, true, false, false≢true}
+use mathlib.Core.Path.{◌≡◌, ◌∙◌, refl, sym, ap}
+use mathlib.Core.Bool.{true, false, false≢true}
 use mathlib.Core.List.{List}
 use Prim.Native.Nat.{ℕ, ◌+◌, ◌<◌, ◌≤◌}
 use native.Mathlib.Omega.{arith}
@@ -15,7 +15,6 @@ use Rattle.xml_scanner.specs.declared.InOpening.TheVariants.{Less}
 use Rattle.xml_scanner.specs.declared.InTag.{InTag}
 use Rattle.xml_scanner.specs.declared.InTag.TheVariants.{Name, Blank, Attribute as InAttribute, Equals, Value, Behind}
 use Rattle.xml_scanner.specs.declared.Move.TheVariants.{On as Onward}
-use Rattle.xml_scanner.specs.declared.State.{State}
 use Rattle.xml_scanner.specs.declared.State.TheVariants.{Begin, Opening, Tag}
 use Rattle.xml_scanner.specs.Openings.{behind_less, in_opening}
 use Rattle.xml_scanner.specs.Tags.{is_quote, behind_blank, equals, in_value, in_tag}
@@ -65,9 +64,6 @@ module _ (t : List ℕ) where
       run_to t (stays c.state) (Leads t c i c)
       (λ k h s l. let x = in_state c.mark (at t k) k (k + 1) c.state s in leads_on l (byte c h x.nothing x.plain x.goes here))
       i j e here
-
-  pub at-equals : (c : Cursor) (s : InTag) → c.state ≡ Tag s → s ≡ Equals → {d : Cursor} {i j : ℕ} → Leads t (record { state = Tag Equals; mark = c.mark }) i d j → Leads t c i d j
-  at-equals c s e f {d = d} {i = i} {j = j} l = subst (λ (x : State). Leads t (record { state = x; mark = c.mark }) i d j) (sym (e ∙ ap Tag f)) l
 
   -- the steps
   one : (c next : Cursor) (i : ℕ) → i < length t → whole c.state (at t i) ≡ Nothing → is_control (at t i) ≡ false → moved c (at t i) i (i + 1) ≡ On next → Leads t c i next (i + 1)

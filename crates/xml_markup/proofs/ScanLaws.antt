@@ -1,19 +1,17 @@
 -- A markup read byte by byte: as its loop goes, where it ends, and what the end of the text cuts off. Assumes nothing.
 use mathlib.Core.Logic.{◌⊎◌, inl, inr, ⊎_elim}
-use mathlib.Core.Path.{◌≡◌, ◌∙◌, refl, sym, ap}
+use mathlib.Core.Path.{◌≡◌, ◌∙◌, refl, ap}
 use mathlib.Core.Bool.{Bool, true, false}
 use mathlib.Core.List.{List, [], ◌∷◌}
-use Prim.Native.Nat.{ℕ, zero, suc, ◌+◌, ◌-◌, ◌<◌, ◌≤◌}
+use Prim.Native.Nat.{ℕ, zero, suc, ◌+◌, ◌<◌, ◌≤◌}
 use native.Mathlib.Numerals.{add-one}
 use native.Mathlib.Omega.{arith}
 use lib.Dec.{leb}
 use lib.ListN.{length, take, drop, drop_of_length-le}
-use lib.Seq.{drop-cons, get_or-take, take-take}
-use denote.Enum.Declared.{tag_of}
+use lib.Seq.{drop-cons}
 use borrow.Author.Tests.{lt-leb}
 use Rattle.base_words.specs.Pick.{if◌then◌or_else◌}
 use Rattle.base_words.specs.Words.{at, part}
-use Rattle.xml_markup.specs.contracts.Scan.{the_type as scan-type}
 use Rattle.xml_markup.proofs.TokenLaws.{not_on}
 use Rattle.xml_markup.specs.declared.Cursor.{Cursor}
 use Rattle.xml_scanner.specs.declared.Move.{Move}

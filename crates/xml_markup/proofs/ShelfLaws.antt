@@ -8,8 +8,10 @@ use native.Mathlib.Nat.{eq-or-lt_of_le, mod-lt}
 use native.Mathlib.Numerals.{add-one}
 use native.Mathlib.Omega.{arith}
 use lib.Dec.{ltb}
-use lib.ListN.{length, drop, set, length-set, length-drop, drop_of_length-le}
-use lib.Seq.{drop-cons, get_or-set_same, get_or-set_other}
+use lib.ListN.{length, drop, take, length-drop, drop_of_length-le}
+use lib.Seq.{drop-cons, get_or-take, length-take-le}
+use Rattle.std.specs.List.Sorted.{IsPartitionedBy, IsPartitionPoint}
+use Rattle.std.proofs.lemmas.List.{get_or_default}
 use borrow.Author.Tests.{ltb-true, ltb-false, lt-ltb, le-ltb, not-false}
 use Rattle.base_words.specs.Words.{at, part}
 use Rattle.base_bytes.proofs.PieceLaws.{by_order}
@@ -71,14 +73,6 @@ by_end a b i h e (k, p, q) = sym (le-ltb (key_of a) (key_of b) (omega (arith, p,
 
 -- what a test says of a word's name and another
 module _ (t name w : List ℕ) (x : ℕ) (e : w ≡ kept_name t x) where
-  pub word_less : (r : Bool) → r ≡ ltb (key_of w) (key_of name) → r ≡ true → key_at t x < key_of name
-  unfolding key_at
-  word_less r f g = rw (sym e) (ltb-true _ _ (sym f ∙ g))
-
-  pub word_not_less : (r : Bool) → r ≡ ltb (key_of w) (key_of name) → r ≡ false → key_of name ≤ key_at t x
-  unfolding key_at
-  word_not_less r f g = rw (sym e) (ltb-false _ _ (sym f ∙ g))
-
   pub word_other : (r : Bool) → r ≡ ltb (key_of name) (key_of w) → not r ≡ false → key_at t x ≡ key_of name → ⊥
   unfolding key_at
   word_other r f g q = omega (arith, ltb-true (key_of name) (key_of w) (sym f ∙ not-false r g), ap (λ (z : List ℕ). name_number z 0) e, q)
@@ -91,51 +85,23 @@ key_at_lem t from to h =
     let m : (from * 4294967296 + to) % 4294967296 ≡ to = omega arith in
     rw (d, m) refl
 
--- the number in the middle is too small, or is not
-module _ (κ : ℕ → ℕ) (v : List ℕ) (n k m : ℕ) (h : m < n) where
-  pub low_on : κ (at v m) < k → Rising κ v n → (j : ℕ) → j < m + 1 → κ (at v j) < k
-  low_on l up j q = ⊎_elim (λ e. rw e l) (λ s. omega (arith, up j m s h)) (eq-or-lt_of_le (let z : j ≤ m = omega arith in z))
+-- where the numbers below k end among those in order
+pub parted : (κ : ℕ → ℕ) (v : List ℕ) (n k : ℕ) → n ≤ length v → Rising κ v n → IsPartitionedBy (λ w. ltb (κ w) k) (take n v)
+parted κ v n k h up i j d q l e =
+    let m : j < n = omega (arith, length-take-le n v h, l) in
+    let p : i < n = omega arith in
+    let lower : κ (at v j) < k = rw (get_or_default v j d 0 (omega arith)) at (ltb-true _ _ (rw (get_or-take n v j d m) at e)) in
+    rw (get_or-take n v i d p, get_or_default v i d 0 (omega arith)) (lt-ltb _ _ (⊎_elim (λ z. rw z lower) (λ s. omega (arith, up i j s m, lower)) (eq-or-lt_of_le q)))
 
-  pub high_on : k ≤ κ (at v m) → Rising κ v n → (j : ℕ) → m ≤ j → j < n → k ≤ κ (at v j)
-  high_on l up j q r = ⊎_elim (λ e. rw (← e) l) (λ s. omega (arith, up m j s r)) (eq-or-lt_of_le q)
-
-pub between_end : (κ : ℕ → ℕ) (v : List ℕ) (n k low high : ℕ) → Between κ v n k low high → high ≤ low → Between κ v n k low low
-between_end κ v n k low high b h = record { order = omega arith; within = omega (arith, b.order, b.within); below = b.below; above = λ up j l q. b.above up j (omega (arith, b.order)) q }
-
--- the number in the middle decides
-module _ (κ : ℕ → ℕ) (v : List ℕ) (n k low high : ℕ) (h : low < high) (b : Between κ v n k low high) where
-  pub halved_low : κ (at v (low + (high - low) / 2)) < k → (high - (low + (high - low) / 2 + 1) < high - low) × Between κ v n k (low + (high - low) / 2 + 1) high
-  halved_low l = (omega arith, record { order = omega arith; within = b.within; below = low_on κ v n k (low + (high - low) / 2) (omega (arith, b.within)) l; above = b.above })
-
-  pub halved_high : k ≤ κ (at v (low + (high - low) / 2)) → (low + (high - low) / 2 - low < high - low) × Between κ v n k low (low + (high - low) / 2)
-  halved_high l = (omega arith, record { order = omega arith; within = omega (arith, b.within); below = b.below; above = high_on κ v n k (low + (high - low) / 2) (omega (arith, b.within)) l })
-
--- the numbers from j on, up to n, are one place further
-pub record Shifted (v₀ v : List ℕ) (n j : ℕ) : Type 0 where
-  pub long : length v ≡ length v₀
-  pub before : (x : ℕ) → x < j → at v x ≡ at v₀ x
-  pub behind : (x : ℕ) → j ≤ x → x < n → at v (x + 1) ≡ at v₀ x
-
-module _ (v₀ v : List ℕ) (n j : ℕ) (s : Shifted v₀ v n j) where
-  pub shift_on : 0 < j → j < length v → Shifted v₀ (set v j (at v (j - 1))) n (j - 1)
-  shift_on h l =
-      record {
-        long = length-set v j _ ∙ s.long;
-        before = λ x q. get_or-set_other v j x _ 0 (λ z. omega arith) ∙ s.before x (omega arith);
-        behind = λ x q r. ⊎_elim (λ z. here x z) (λ z. get_or-set_other v j (x + 1) _ 0 (λ y. omega arith) ∙ s.behind x (omega arith) r) (eq-or-lt_of_le q);
-      }
-    where
-      here : (x : ℕ) → j - 1 ≡ x → at (set v j (at v (j - 1))) (x + 1) ≡ at v₀ x
-      here x z = ap (at (set v j (at v (j - 1)))) (let y : x + 1 ≡ j = omega arith in y) ∙ get_or-set_same v j (at v (j - 1)) 0 l ∙ s.before (j - 1) (omega arith) ∙ ap (at v₀) z
-
-  pub shift_end : (r k : ℕ) → r ≤ j → j ≤ r → r < length v → Inserted v₀ n r k (set v r k)
-  shift_end r k h i l =
-      record {
-        long = length-set v r k ∙ s.long;
-        before = λ x q. get_or-set_other v r x k 0 (λ z. omega arith) ∙ s.before x (omega arith);
-        here = get_or-set_same v r k 0 l;
-        behind = λ x q t. get_or-set_other v r (x + 1) k 0 (λ z. omega arith) ∙ s.behind x (omega arith) t;
-      }
+pub between_parts : (κ : ℕ → ℕ) (v : List ℕ) (n k r : ℕ) → n ≤ length v → r ≤ length (take n v)
+    → (Rising κ v n → IsPartitionPoint (λ y. ltb (κ y) k ≡ true) (λ y. ltb (κ y) k ≡ false) (take n v) r) → Between κ v n k r r
+between_parts κ v n k r h b f =
+    record {
+      order = omega arith;
+      within = omega (arith, length-take-le n v h);
+      below = λ up j l. ltb-true _ _ (rw (get_or-take n v j 0 (omega (arith, length-take-le n v h))) at ((f up).0 j 0 (omega arith) l));
+      above = λ up j l q. ltb-false _ _ (rw (get_or-take n v j 0 q) at ((f up).1 j 0 l (omega (arith, length-take-le n v h))));
+    }
 
 module _ (κ : ℕ → ℕ) (v : List ℕ) (n k r : ℕ) (p : Between κ v n k r r) (other : r < n → κ (at v r) ≡ k → ⊥) (up : Rising κ v n) where
   above : (j : ℕ) → r ≤ j → j < n → k < κ (at v j)

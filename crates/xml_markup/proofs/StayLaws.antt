@@ -8,7 +8,7 @@ use native.Mathlib.Omega.{arith}
 use lib.Dec.{ltb, eqb}
 use lib.ListN.{length, drop, get_or, length-drop}
 use lib.Seq.{drop-cons}
-use borrow.Author.Tests.{lt-leb, le-ltb, eq-eqb, ne_eqb, lt-ltb}
+use borrow.Author.Tests.{lt-leb, le-ltb, ne_eqb, lt-ltb}
 use Rattle.base_words.specs.Pick.{if◌then◌or_else◌}
 use Rattle.base_words.specs.Words.{at}
 use Rattle.base_bytes.specs.Bytes.{between, is_letter, is_digit, past}
@@ -47,18 +47,6 @@ unfolding is_control
 high_control b h = rw (le-ltb b 32 h)
 
 -- a byte that is looked for before the others
-pub plain_quote : (q b : ℕ) → b ≡ q → false ≡ is_plain q b
-unfolding is_plain if◌then◌or_else◌
-plain_quote q b e = rw (eq-eqb b q e) (go (ltb b 32))
-  where
-    go : (x : Bool) → false ≡ (if x then false or_else false)
-    go true = refl
-    go false = refl
-
-pub plain_high : (q b : ℕ) → (b ≡ q → ⊥) → 60 < b → true ≡ is_plain q b
-unfolding is_plain if◌then◌or_else◌
-plain_high q b n h = rw (le-ltb b 32 (omega arith), ne_eqb b q n, ne_eqb b 38 (λ e. omega (arith, e)), ne_eqb b 60 (λ e. omega (arith, e))) refl
-
 name_control : (b : ℕ) → is_name b ≡ true → is_control b ≡ false
 name_control b e = by_order 32 b (high_control b) (λ h. absurd (false≢true (sym (low_name b h) ∙ e)))
 

@@ -1,24 +1,20 @@
 -- The search of a tag for an attribute, byte by byte, as its loop goes. Assumes nothing.
+use Rattle.std.specs.Prelude.{Some, None}
 use mathlib.Core.Path.{◌≡◌, ◌∙◌, refl, sym}
 use mathlib.Core.Bool.{Bool, true, false}
-use mathlib.Core.List.{List, [], ◌∷◌}
+use mathlib.Core.List.{List}
 use Prim.Native.Nat.{ℕ, ◌+◌, ◌<◌, ◌≤◌}
 use native.Mathlib.Numerals.{add-one}
 use lib.ListN.{length, drop, drop_of_length-le}
 use lib.Seq.{drop-cons}
-use denote.Enum.Declared.{tag_of}
 use Rattle.base_words.specs.Pick.{if◌then◌or_else◌}
 use Rattle.base_words.specs.Words.{at, part}
 use Rattle.base_bytes.specs.Bytes.{same_bytes}
-use Rattle.xml_markup.specs.contracts.Scan.{the_type as scan-type}
-use Rattle.xml_markup.specs.contracts.Whole.{the_type as whole-type}
 use Rattle.xml_markup.specs.declared.Cursor.{Cursor}
 use Rattle.xml_markup.specs.declared.Scan.{Scan}
 use Rattle.xml_markup.specs.declared.Scan.TheVariants.{On, Past, Fault}
 use Rattle.xml_markup.specs.declared.Whole.{Whole}
 use Rattle.xml_markup.specs.declared.Whole.TheVariants.{Nothing, Attribute, Target, Reference}
-use Rattle.xml_markup.specs.declared.Found.{Found}
-use Rattle.xml_markup.specs.declared.Found.TheVariants.{Behind, Nowhere}
 use Rattle.xml_markup.specs.Tokens.{whole, moved, if_on, if_attribute, is_named, found_from}
 
 -- an answer taken apart: the arm of `let Scan::On(c) = .. else`, and its else
@@ -45,7 +41,7 @@ not_attribute Reference a b e = refl
 
 -- the byte at i, where the loop stands at c
 module _ (t name : List ℕ) (c : Cursor) (i : ℕ) (h : i < length t) where
-  pub found_here : is_named t name c i ≡ true → found_from t name c (drop i t) i ≡ Behind i
+  pub found_here : is_named t name c i ≡ true → found_from t name c (drop i t) i ≡ Some i
   unfolding found_from if◌then◌or_else◌
   found_here e = rw (drop-cons t i 0 h, e)
 
@@ -54,11 +50,11 @@ module _ (t name : List ℕ) (c : Cursor) (i : ℕ) (h : i < length t) where
     unfolding found_from if_on if◌then◌or_else◌
     found_on next m = rw (drop-cons t i 0 h, e, ← eb, ← er, m, add-one i)
 
-    pub found_stops : ((v : Cursor) → r ≡ On v → ⊥) → found_from t name c (drop i t) i ≡ Nowhere
+    pub found_stops : ((v : Cursor) → r ≡ On v → ⊥) → found_from t name c (drop i t) i ≡ None
     unfolding found_from if◌then◌or_else◌
     found_stops m = rw (drop-cons t i 0 h, e, ← eb, ← er) (not_on _ _ _ m)
 
-pub found_end : (t name : List ℕ) (c : Cursor) (i : ℕ) → length t ≤ i → found_from t name c (drop i t) i ≡ Nowhere
+pub found_end : (t name : List ℕ) (c : Cursor) (i : ℕ) → length t ≤ i → found_from t name c (drop i t) i ≡ None
 unfolding found_from
 found_end t name c i h = rw (drop_of_length-le t h)
 

@@ -1,13 +1,12 @@
 -- A TAG READ AHEAD: its names are looked at many at a time. They are kept in the order of their numbers, the shorter first and then byte by byte, so that one is found without looking at
 -- all of them; a name whose number stands nowhere is new in its tag.
-use Rattle.std.specs.Prelude.{ℕ, ◌+◌, ◌*◌, ◌/◌, ◌%◌, ◌<◌, ◌≤◌, ◌≡◌, Bool, false, not, List, [], ◌∷◌, leb, length, drop}
+use Rattle.std.specs.Prelude.{ℕ, ◌+◌, ◌*◌, ◌/◌, ◌%◌, ◌<◌, ◌≤◌, ◌≡◌, Bool, false, not, List, [], ◌∷◌, leb, length, drop, None}
 use Rattle.base_words.specs.Blocks.{Bytes}
 use Rattle.base_words.specs.Pick.{if◌then◌or_else◌}
 use Rattle.base_words.specs.Words.{at, part}
 use Rattle.xml_characters.specs.Names.{is_control}
 use Rattle.xml_characters.specs.References.{character_of, is_character}
 use Rattle.xml_markup.specs.declared.Cursor.{Cursor}
-use Rattle.xml_markup.specs.declared.Found.TheVariants.{Nowhere}
 use Rattle.xml_markup.specs.declared.Scan.{Scan}
 use Rattle.xml_markup.specs.declared.Scan.TheVariants.{Fault}
 use Rattle.xml_markup.specs.declared.Whole.{Whole}
@@ -66,7 +65,7 @@ pub record With (κ : ℕ → ℕ) (k : ℕ) (v : List ℕ) (n : ℕ) (u : List 
 
 -- no attribute of that name stands in the tag up to the place i
 abbrev pub New : Bytes → ℕ → ℕ → Bytes → Type 0
-New t start i name = found (part t 0 i) name start ≡ Nowhere
+New t start i name = found (part t 0 i) name start ≡ None
 
 -- a search that comes to the place i without finding the name stands at the cursor c there
 abbrev pub ReadTo : Bytes → ℕ → Cursor → ℕ → Type 0

@@ -1,7 +1,7 @@
 -- Where a tag's name and its attributes' values stand, and how names are compared. "Prefixes are not resolved: an element's name is what stands behind its last colon.
 -- Attributes are compared whole. An end tag repeats the start tag's name byte for byte." (R6) (RULES: xml)
 use Prim.Native.Char.{code}
-use Rattle.std.specs.Prelude.{ℕ, ◌+◌, Bool, false, not, ◌||◌, List, [], ◌∷◌, ltb, leb, eqb, length, drop}
+use Rattle.std.specs.Prelude.{ℕ, ◌+◌, Bool, false, not, ◌||◌, List, [], ◌∷◌, ltb, leb, eqb, length, drop, Option, Some, None}
 use Rattle.base_words.specs.Blocks.{Bytes}
 use Rattle.base_words.specs.Pick.{if◌then◌or_else◌}
 use Rattle.base_words.specs.Words.{at, part}
@@ -12,10 +12,6 @@ use Rattle.xml_markup.specs.declared.Class.TheVariants.{Blanks, Name, Value}
 use Rattle.xml_markup.specs.declared.Span.{Span}
 use Rattle.xml_markup.specs.declared.Opener.{Opener}
 use Rattle.xml_markup.specs.declared.Opener.TheVariants.{Start, End, Other}
-use Rattle.xml_markup.specs.declared.Attribute.{Attribute}
-use Rattle.xml_markup.specs.declared.Attribute.TheVariants.{Is, Absent}
-use Rattle.xml_markup.specs.declared.Found.{Found}
-use Rattle.xml_markup.specs.declared.Found.TheVariants.{Behind, Nowhere}
 use Rattle.xml_characters.specs.Names.{is_blank, begins_name, is_name}
 use Rattle.xml_markup.specs.Tokens.{found}
 
@@ -84,12 +80,12 @@ same_name t p q = same_bytes (bytes_of t (name_at t p)) (bytes_of t (name_at t q
 unfoldable pub quote_at : Bytes → ℕ → ℕ
 quote_at t i = run Blanks t (after t (run Blanks t i))
 
-unfoldable pub value_at : Bytes → ℕ → Attribute
-value_at t q = Is (after t q) (run (Value (at t q)) t (after t q))
+unfoldable pub value_at : Bytes → ℕ → Option (ℕ × ℕ)
+value_at t q = Some (after t q, run (Value (at t q)) t (after t q))
 
-unfoldable pub value_of : Bytes → Found → Attribute
-value_of t (Behind i) = value_at t (quote_at t i)
-value_of t Nowhere = Absent
+unfoldable pub value_of : Bytes → Option ℕ → Option (ℕ × ℕ)
+value_of t (Some i) = value_at t (quote_at t i)
+value_of t None = None
 
-unfoldable pub attribute : Bytes → ℕ → Bytes → Attribute
+unfoldable pub attribute : Bytes → ℕ → Bytes → Option (ℕ × ℕ)
 attribute t p name = value_of t (found t name p)

@@ -1,7 +1,7 @@
 -- Tokens that are judged when they are whole, that is, when the byte behind them shows where they end; one at fault is a fault at its first byte. What the end of the
 -- text cuts off is not judged (R4). u is the text up to the token's end, `start` the place of the markup, `mark` that of the token. (RULES: xml)
 use Prim.Native.Char.{code}
-use Rattle.std.specs.Prelude.{ℕ, ◌+◌, Bool, true, false, not, ◌&&◌, List, [], ◌∷◌, ltb, leb, eqb, length, drop}
+use Rattle.std.specs.Prelude.{ℕ, ◌+◌, Bool, true, false, not, List, [], ◌∷◌, ltb, eqb, length, drop, Option, Some, None}
 use Rattle.base_words.specs.Blocks.{Bytes}
 use Rattle.base_words.specs.Pick.{if◌then◌or_else◌}
 use Rattle.base_words.specs.Text.{bytes}
@@ -20,8 +20,6 @@ use Rattle.xml_scanner.specs.declared.Move.TheVariants.{On as Onward, Next, Clos
 use Rattle.xml_markup.specs.declared.Cursor.{Cursor}
 use Rattle.xml_markup.specs.declared.Scan.{Scan}
 use Rattle.xml_markup.specs.declared.Scan.TheVariants.{On, Past, Fault}
-use Rattle.xml_markup.specs.declared.Found.{Found}
-use Rattle.xml_markup.specs.declared.Found.TheVariants.{Behind, Nowhere}
 use Rattle.xml_characters.specs.Names.{is_name}
 use Rattle.xml_characters.specs.References.{character_of, is_character}
 use Rattle.xml_scanner.specs.Moves.{step}
@@ -85,21 +83,21 @@ unfoldable pub is_named : Bytes → Bytes → Cursor → ℕ → Bool
 is_named t name c i = if_attribute (whole c.state (at t i)) (same_bytes (part t c.mark i) name) false
 
 -- the first attribute of that name, in the tag that is read so far, with the bytes s from the place i on
-unfoldable pub found_from : Bytes → Bytes → Cursor → List ℕ → ℕ → Found
-found_from t name c [] i = Nowhere
+unfoldable pub found_from : Bytes → Bytes → Cursor → List ℕ → ℕ → Option ℕ
+found_from t name c [] i = None
 found_from t name c (b ∷ s) i =
-    if is_named t name c i then Behind i
-    or_else if_on (moved c (at t i) i (i + 1)) (λ next. found_from t name next s (i + 1)) Nowhere
+    if is_named t name c i then Some i
+    or_else if_on (moved c (at t i) i (i + 1)) (λ next. found_from t name next s (i + 1)) None
 
 abbrev pub begun : ℕ → Cursor
 begun p = record { state = Begin; mark = p }
 
-unfoldable pub found : Bytes → Bytes → ℕ → Found
+unfoldable pub found : Bytes → Bytes → ℕ → Option ℕ
 found t name start = found_from t name (begun start) (drop start t) start
 
-unfoldable pub is_found : Found → Bool
-is_found (Behind i) = true
-is_found Nowhere = false
+unfoldable pub is_found : Option ℕ → Bool
+is_found (Some i) = true
+is_found None = false
 
 -- "a second attribute of the same name (compared whole, with prefix): at its name" (R5) (RULES: xml)
 unfoldable pub twice : Bytes → ℕ → ℕ → Bool

@@ -1,9 +1,7 @@
 // A tag read ahead: whether its names are new is asked of many at a time.
-ghost use Rattle.std.specs.Prelude.{◌≡◌, true, false, List, ℕ, ◌≤◌, length, drop};
+ghost use Rattle.std.specs.Prelude.{◌≡◌, true, false, List, ℕ, ◌≤◌, length, drop, Some, None};
 ghost use Rattle.base_words.specs.Words.{at, part};
-ghost use Rattle.xml_markup.specs.declared.Taken.TheVariants.{To, Not};
 ghost use Rattle.xml_markup.specs.declared.Whole.TheVariants.{Attribute};
-ghost use Rattle.xml_markup.specs.declared.Found.TheVariants.{Nowhere};
 ghost use Rattle.xml_markup.specs.Tokens.{whole, is_named, found};
 ghost use Rattle.xml_markup.specs.Markup.{scan_from};
 ghost use Rattle.xml_markup.specs.Ahead.{key_of, key_at, Rising, Kept, More, With, ReadTo, Ahead, Sure, is_faulty_else, tried};
@@ -11,7 +9,7 @@ ghost use Rattle.xml_markup.specs.Ahead.{key_of, key_at, Rising, Kept, More, Wit
 use super::leaping::{leap, leap_begin};
 use super::shelf::{PLACES, count_between, keep, kept_at};
 use super::tokens::{moved, reserved, speaks, whole};
-use super::{Cursor, Reach, Scan, Taken, Whole};
+use super::{Cursor, Reach, Scan, Whole};
 use base_bytes::{byte, piece};
 use xml_characters::is_control;
 
@@ -50,23 +48,30 @@ pub fn tried(text: &[u8], start: usize, c: Cursor, i: usize) -> Scan
     moved(c, b, i, i + 1)
 }
 
-// Puts the name that the byte at a place shows to be whole among the first n.
-fn take_name(text: &[u8], c: Cursor, i: usize, most: usize, v: &mut [usize], n: usize) -> Taken
+// Puts the name that the byte at a place shows to be whole among the first n: how many are kept then, or nothing where it is none more.
+fn take_name(
+    text: &[u8],
+    c: Cursor,
+    i: usize,
+    most: usize,
+    v: &mut [usize],
+    n: usize,
+) -> Option<usize>
     requires { n ≤ length v.old }
-    ensures { ((m : ℕ) → result ≡ To m → Rising (key_at text.now) v.old n → More (key_at text.now) v.old n v.new m × (whole c.state (at text.now i) ≡ Attribute → With (key_at text.now) (key_of (part text.now c.mark i)) v.old n v.new m)) × (result ≡ Not → v.new ≡ v.old) }
+    ensures { ((m : ℕ) → result ≡ Some m → Rising (key_at text.now) v.old n → More (key_at text.now) v.old n v.new m × (whole c.state (at text.now i) ≡ Attribute → With (key_at text.now) (key_of (part text.now c.mark i)) v.old n v.new m)) × (result ≡ None → v.new ≡ v.old) }
 {
     let s = c.state;
     let w = whole(s, byte(text, i));
     let Whole::Attribute = w else {
-        return Taken::To(n);
+        return Some(n);
     };
     if most <= n || v.len() <= n {
-        return Taken::Not;
+        return None;
     }
     if keep(text, v, n, c.mark, i) {
-        return Taken::To(n + 1);
+        return Some(n + 1);
     }
-    Taken::Not
+    None
 }
 
 // Where the one of the first n of `all` begins that the byte at a place shows to be whole, or nowhere.
@@ -82,23 +87,18 @@ fn met_at(all: &[u8], text: &[u8], c: Cursor, i: usize, v: &[usize], n: usize) -
     kept_at(all, v, n, piece(text, c.mark, i))
 }
 
-fn lesser(a: usize, b: usize) -> usize
-    ensures { (result ≤ a) × (result ≤ b) }
-{
-    if a <= b { a } else { b }
-}
-
 // Where the first one of the first n of `all` begins that the tag at `start` has too, or nowhere.
 fn first_met(all: &[u8], text: &[u8], start: usize, v: &[usize], n: usize) -> usize
     requires { n ≤ length v.now }
-    ensures { result ≡ 4294967296 → Rising (key_at all.now) v.now n → (name : List ℕ) → Kept (key_at all.now) v.now n (key_of name) → found text.now name start ≡ Nowhere }
+    ensures { result ≡ 4294967296 → Rising (key_at all.now) v.now n → (name : List ℕ) → Kept (key_at all.now) v.now n (key_of name) → found text.now name start ≡ None }
 {
     let mut first = PLACES;
     let b = leap_begin(text, start);
     let mut c = b.cursor;
     let mut i = b.place;
+    // Stays a while: a byte is passed with those behind it that show nothing.
     while i < text.len() {
-        first = lesser(first, met_at(all, text, c, i, v, n));
+        first = first.min(met_at(all, text, c, i, v, n));
         let a = moved(c, byte(text, i), i, i + 1);
         let Scan::On(next) = a else {
             return first;
@@ -119,6 +119,7 @@ fn read_ahead(text: &[u8], start: usize, c: Cursor, p: usize, most: usize, v: &m
     let mut here = c;
     let mut i = p;
     let mut n: usize = 0;
+    // Stays a while: a byte is passed with those behind it that show nothing.
     while i < text.len() {
         let a = tried(text, start, here, i);
         let Scan::On(next) = a else {
@@ -129,7 +130,7 @@ fn read_ahead(text: &[u8], start: usize, c: Cursor, p: usize, most: usize, v: &m
             };
         };
         let t = take_name(text, here, i, most, v, n);
-        let Taken::To(m) = t else {
+        let Some(m) = t else {
             return Reach {
                 cursor: here,
                 place: i,
@@ -174,7 +175,7 @@ fn read_with(text: &[u8], start: usize, c: Cursor, p: usize, most: usize, v: &mu
     Reach {
         cursor: d,
         place: r.place,
-        most: most,
+        most,
     }
 }
 
@@ -205,7 +206,7 @@ fn read_some(text: &[u8], start: usize, c: Cursor, p: usize, most: usize) -> Rea
         return Reach {
             cursor: c,
             place: p,
-            most: most,
+            most,
         };
     };
     if most <= FEW {
@@ -222,6 +223,7 @@ pub fn read_new(text: &[u8], start: usize, c: Cursor, p: usize, most: usize) -> 
     let mut last = p;
     let mut here = c;
     let mut many = most;
+    // Stays a while: each round reads as far as it gets.
     while last < text.len() {
         let r = read_some(text, start, here, last, many);
         if r.place <= last {

@@ -18,14 +18,8 @@ use xml_scanner::{InOpening, InTag, State};
 fn stand(state: State, mark: usize, place: usize) -> Stand
     ensures { result ≡ record { cursor = record { state = state; mark = mark }; place = place } }
 {
-    let c = Cursor {
-        state: state,
-        mark: mark,
-    };
-    Stand {
-        cursor: c,
-        place: place,
-    }
+    let cursor = Cursor { state, mark };
+    Stand { cursor, place }
 }
 
 // Behind a blank of a tag: the name that begins there.

@@ -35,18 +35,12 @@ pub struct Stand {
 }
 
 // A markup read so far; or its sort and the place behind it; or the place of the fault.
+// The fault stays a variant: it is a markup of a sort like the others, so `?` would pass nothing on.
 #[derive(Clone, Copy)]
 pub enum Scan {
     On(Cursor),
     Past(Sort, usize),
     Fault(usize),
-}
-
-// The place behind an attribute's name, where the tag has it.
-#[derive(Clone, Copy)]
-pub enum Found {
-    Behind(usize),
-    Nowhere,
 }
 
 // What stands at a place, and the place behind it; the place of the fault, where it is one.
@@ -71,13 +65,6 @@ pub enum Opener {
     Other,
 }
 
-// The span of an attribute's value, where the tag has the attribute.
-#[derive(Clone, Copy)]
-pub enum Attribute {
-    Is(usize, usize),
-    Absent,
-}
-
 // Bytes that are passed together: blanks, a name's, all but this quote.
 #[derive(Clone, Copy)]
 pub enum Class {
@@ -86,24 +73,10 @@ pub enum Class {
     Value(u8),
 }
 
-// How many names are kept; or no more are.
-#[derive(Clone, Copy)]
-pub enum Taken {
-    To(usize),
-    Not,
-}
-
 // How far a tag is read ahead, and how many names are kept or may be.
 #[derive(Clone, Copy)]
 pub struct Reach {
     pub cursor: Cursor,
     pub place: usize,
     pub most: usize,
-}
-
-// Between these places a name is looked for.
-#[derive(Clone, Copy)]
-pub struct Bounds {
-    pub low: usize,
-    pub high: usize,
 }

@@ -1,4 +1,6 @@
 // A markup read byte by byte.
+#![tactic(auto, using(base_words::proofs::PickLaws::picks, std::proofs::lemmas::Bool::Decides::nat_tests), unfolding(crate::specs::Markup::advance, crate::specs::Markup::begins_at, crate::specs::Markup::closes_data, crate::specs::Markup::opens_markup, crate::specs::Markup::placed, crate::specs::Markup::markup))]
+
 ghost use Rattle.std.specs.Prelude.{◌≡◌, drop, false};
 ghost use Rattle.base_words.specs.Words.{at, part};
 ghost use Rattle.xml_markup.specs.Tokens.{whole, if_attribute, twice};
@@ -46,6 +48,7 @@ fn scan(text: &[u8], p: usize) -> Scan
     let mut c = f.cursor;
     let mut i = f.place;
     let mut most = f.most;
+    // Stays a while: a byte is passed with those behind it that show nothing.
     while i < text.len() {
         let a = advance(text, p, c, i);
         let Scan::On(next) = a else {
@@ -73,10 +76,7 @@ pub fn begins_at(text: &[u8], i: usize, word: &[u8]) -> bool
 fn closes_data(text: &[u8], i: usize) -> bool
     ensures { result ≡ closes_data text.now i }
 {
-    if byte(text, i) != b']' {
-        return false;
-    }
-    begins_at(text, i, b"]]>")
+    byte(text, i) == b']' && begins_at(text, i, b"]]>")
 }
 
 fn opens_markup(b: u8) -> bool
@@ -89,8 +89,7 @@ fn opens_markup(b: u8) -> bool
 fn text_from(text: &[u8], p: usize) -> Scan
     ensures { result ≡ text_from text.now (drop p text.now) p }
 {
-    let mut i = p;
-    while i < text.len() {
+    for i in p..text.len() {
         let b = text[i];
         if opens_markup(b) {
             return Scan::Past(Sort::Text, i);
@@ -101,18 +100,14 @@ fn text_from(text: &[u8], p: usize) -> Scan
         if closes_data(text, i) {
             return Scan::Fault(i);
         }
-        i += 1;
     }
-    Scan::Past(Sort::Text, i)
+    Scan::Past(Sort::Text, p.max(text.len()))
 }
 
 fn marked(sort: Sort, q: usize) -> Markup
     ensures { result ≡ marked sort q }
 {
-    Markup {
-        sort: sort,
-        next: q,
-    }
+    Markup { sort, next: q }
 }
 
 fn placed(s: Scan) -> Markup

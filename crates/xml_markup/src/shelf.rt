@@ -3,7 +3,6 @@ ghost use Rattle.std.specs.Prelude.{◌≡◌, true, false, ◌+◌, ◌-◌, �
 ghost use Rattle.base_words.specs.Words.{at, part};
 ghost use Rattle.xml_markup.specs.Ahead.{kept_name, key_of, key_at, Rising, Kept, Between, Inserted, More, With};
 
-use super::Bounds;
 use base_bytes::piece;
 
 // A word holds two places below this one; as a place it is none.
@@ -23,12 +22,10 @@ fn is_before(a: &[u8], b: &[u8]) -> bool
     if a.len() != b.len() {
         return a.len() < b.len();
     }
-    let mut i = 0;
-    while i < a.len() {
+    for i in 0..a.len() {
         if a[i] != b[i] {
             return is_less(a[i], b[i]);
         }
-        i += 1;
     }
     false
 }
@@ -40,35 +37,12 @@ fn kept_name(text: &[u8], w: usize) -> &[u8]
     piece(text, w / PLACES, w % PLACES)
 }
 
-fn halve(text: &[u8], v: &[usize], n: usize, name: &[u8], b: Bounds) -> Bounds
-    requires { (b.low < b.high) × (n ≤ length v.now) × Between (key_at text.now) v.now n (key_of name.now) b.low b.high }
-    ensures { (result.high - result.low < b.high - b.low) × Between (key_at text.now) v.now n (key_of name.now) result.low result.high }
-{
-    let low = b.low;
-    let high = b.high;
-    let middle = low + (high - low) / 2;
-    if is_before(kept_name(text, v[middle]), name) {
-        return Bounds {
-            low: middle + 1,
-            high: high,
-        };
-    }
-    Bounds {
-        low: low,
-        high: middle,
-    }
-}
-
 // Where a name stands among the first n, or should stand.
 fn place_of(text: &[u8], v: &[usize], n: usize, name: &[u8]) -> usize
     requires { n ≤ length v.now }
     ensures { Between (key_at text.now) v.now n (key_of name.now) result result }
 {
-    let mut b = Bounds { low: 0, high: n };
-    while b.low < b.high {
-        b = halve(text, v, n, name, b);
-    }
-    b.low
+    v[..n].partition_point(|w| is_before(kept_name(text, *w), name))
 }
 
 // Whether a name is the one at its place.
@@ -110,11 +84,9 @@ pub fn kept_at(text: &[u8], v: &[usize], n: usize, name: &[u8]) -> usize
     PLACES
 }
 
-fn one_between(w: usize, from: usize, to: usize) -> usize
-    ensures { result ≤ 1 }
-{
+fn is_between(w: usize, from: usize, to: usize) -> bool {
     let p = begin(w);
-    if from <= p && p < to { 1 } else { 0 }
+    from <= p && p < to
 }
 
 // How many of the first n begin between two places.
@@ -122,24 +94,14 @@ pub fn count_between(v: &[usize], n: usize, from: usize, to: usize) -> usize
     requires { n ≤ length v.now }
     ensures { result ≤ n }
 {
-    let mut count = 0;
-    let mut j = 0;
-    while j < n {
-        count += one_between(v[j], from, to);
-        j += 1;
-    }
-    count
+    v[..n].iter().filter(|w| is_between(**w, from, to)).count()
 }
 
 fn insert(v: &mut [usize], n: usize, r: usize, w: usize)
     requires { (r ≤ n) × (n < length v.old) }
     ensures { Inserted v.old n r w v.new }
 {
-    let mut j = n;
-    while r < j {
-        v[j] = v[j - 1];
-        j -= 1;
-    }
+    v.copy_within(r..n, r + 1);
     v[r] = w;
 }
 

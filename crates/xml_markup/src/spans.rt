@@ -1,9 +1,11 @@
 // Where names and values stand, and names compared.
+#![tactic(auto, using(base_words::proofs::PickLaws::picks, std::proofs::lemmas::Bool::Decides::nat_tests), unfolding(crate::specs::Spans::is_of, crate::specs::Spans::after, crate::specs::Spans::has_second, crate::specs::Spans::name_from, crate::specs::Spans::name_at, crate::specs::Spans::bytes_of, crate::specs::Spans::second, crate::specs::Spans::opens_name, crate::specs::Spans::opener, crate::specs::Spans::behind_colon, crate::specs::Spans::local_of, crate::specs::Spans::is_called, crate::specs::Spans::same_name, crate::specs::Spans::quote_at, crate::specs::Spans::value_at, crate::specs::Spans::value_of, crate::specs::Spans::attribute))]
+
 ghost use Rattle.std.specs.Prelude.{◌≡◌};
 ghost use Rattle.xml_markup.specs.Spans.{is_of, run, after, has_second, name_from, name_at, bytes_of, second, opens_name, opener, behind_colon, local_from, local_of, is_called, same_name, quote_at, value_at, value_of, attribute};
 
 use super::tokens::found;
-use super::{Attribute, Class, Found, Opener, Span};
+use super::{Class, Opener, Span};
 use base_bytes::{byte, piece, same};
 use xml_characters::{begins_name, is_blank, is_name};
 
@@ -21,24 +23,19 @@ fn is_of(class: Class, b: u8) -> bool
 pub fn run(class: Class, text: &[u8], from: usize) -> usize
     ensures { result ≡ run class text.now from }
 {
-    let mut i = from;
-    while i < text.len() {
+    for i in from..text.len() {
         if !is_of(class, text[i]) {
             return i;
         }
-        i += 1;
     }
-    i
+    from.max(text.len())
 }
 
 // One place on; the end stays.
 pub fn after(text: &[u8], i: usize) -> usize
     ensures { result ≡ after text.now i }
 {
-    if i < text.len() {
-        return i + 1;
-    }
-    text.len()
+    if i < text.len() { i + 1 } else { text.len() }
 }
 
 fn has_second(b: u8) -> bool
@@ -63,7 +60,7 @@ pub fn name_at(text: &[u8], p: usize) -> Span
 {
     let from = name_from(text, p);
     let to = run(Class::Name, text, from);
-    Span { from: from, to: to }
+    Span { from, to }
 }
 
 // The bytes of a span.
@@ -86,10 +83,7 @@ fn opens_name(text: &[u8], p: usize) -> bool
         return false;
     }
     let n = name_at(text, p);
-    if text.len() <= n.to {
-        return false;
-    }
-    begins_name(byte(text, n.from))
+    n.to < text.len() && begins_name(byte(text, n.from))
 }
 
 // Whether a whole token `<`name or `</`name stands at a place.
@@ -99,14 +93,11 @@ pub fn opener(text: &[u8], p: usize) -> Opener
     if !opens_name(text, p) {
         return Opener::Other;
     }
-    let b = second(text, p);
-    if b == b'/' {
-        return Opener::End;
+    match second(text, p) {
+        b'/' => Opener::End,
+        b'?' => Opener::Other,
+        _ => Opener::Start,
     }
-    if b == b'?' {
-        return Opener::Other;
-    }
-    Opener::Start
 }
 
 fn behind_colon(b: u8, q: usize, r: usize) -> usize
@@ -120,10 +111,8 @@ fn local_from(name: &[u8]) -> usize
     ensures { result ≡ local_from name.now 0 0 }
 {
     let mut from = 0;
-    let mut i = 0;
-    while i < name.len() {
-        from = behind_colon(name[i], i + 1, from);
-        i += 1;
+    for (i, b) in name.iter().enumerate() {
+        from = behind_colon(*b, i + 1, from);
     }
     from
 }
@@ -163,21 +152,18 @@ pub fn quote_at(text: &[u8], i: usize) -> usize
     )
 }
 
-// The value behind a quote.
-pub fn value_at(text: &[u8], q: usize) -> Attribute
+// Where the value behind a quote begins and ends.
+pub fn value_at(text: &[u8], q: usize) -> Option<(usize, usize)>
     ensures { result ≡ value_at text.now q }
 {
     let from = after(text, q);
-    Attribute::Is(from, run(Class::Value(byte(text, q)), text, from))
+    Some((from, run(Class::Value(byte(text, q)), text, from)))
 }
 
-// The value of an attribute of the tag at a place, its name compared whole.
-pub fn attribute(text: &[u8], p: usize, name: &[u8]) -> Attribute
+// Where an attribute's value begins and ends in the tag at a place, its name compared whole.
+pub fn attribute(text: &[u8], p: usize, name: &[u8]) -> Option<(usize, usize)>
     ensures { result ≡ attribute text.now p name.now }
 {
-    let f = found(text, name, p);
-    let Found::Behind(i) = f else {
-        return Attribute::Absent;
-    };
+    let i = found(text, name, p)?;
     value_at(text, quote_at(text, i))
 }

@@ -1,4 +1,6 @@
 // Bytes that leave a markup where it is, passed together.
+#![tactic(auto, using(base_words::proofs::PickLaws::picks, std::proofs::lemmas::Bool::Decides::nat_tests), unfolding(crate::specs::Staying::is_plain, crate::specs::Staying::stays_in_comment, crate::specs::Staying::stays_in_data, crate::specs::Staying::stays_in_instruction, crate::specs::Staying::stays_in_tag, crate::specs::Staying::stays_in_end, crate::specs::Staying::stays))]
+
 ghost use Rattle.std.specs.Prelude.{◌≡◌, drop};
 ghost use Rattle.base_bytes.specs.Bytes.{past};
 ghost use Rattle.xml_markup.specs.Staying.{is_plain, stays_in_comment, stays_in_data, stays_in_instruction, stays_in_tag, stays_in_end, stays};
@@ -11,32 +13,18 @@ use xml_scanner::{InComment, InData, InEnd, InInstruction, InTag, State};
 fn is_plain(q: u8, b: u8) -> bool
     ensures { result ≡ is_plain q b }
 {
-    if b == q {
-        return false;
-    }
-    if b'<' < b {
-        return true;
-    }
-    if b < 32 {
-        return false;
-    }
-    if b == b'&' {
-        return false;
-    }
-    b != b'<'
+    b != q && (b'<' < b || 32 <= b && b != b'&' && b != b'<')
 }
 
 pub fn plain_from(q: u8, text: &[u8], from: usize) -> usize
     ensures { result ≡ past (is_plain q) (drop from text.now) from }
 {
-    let mut i = from;
-    while i < text.len() {
+    for i in from..text.len() {
         if !is_plain(q, text[i]) {
             return i;
         }
-        i += 1;
     }
-    i
+    from.max(text.len())
 }
 
 fn stay_in_comment(s: InComment, text: &[u8], i: usize) -> usize

@@ -1,11 +1,13 @@
 // Tokens that are judged when they are whole.
+#![tactic(auto, using(base_words::proofs::PickLaws::picks, std::proofs::lemmas::Bool::Decides::nat_tests), unfolding(crate::specs::Tokens::end_of, crate::specs::Tokens::whole_in_tag, crate::specs::Tokens::whole_in_instruction, crate::specs::Tokens::whole, crate::specs::Tokens::move_to, crate::specs::Tokens::moved, crate::specs::Tokens::if_attribute, crate::specs::Tokens::is_named, crate::specs::Tokens::is_found, crate::specs::Tokens::twice, crate::specs::Tokens::first, crate::specs::Tokens::lower, crate::specs::Tokens::says_xml, crate::specs::Tokens::is_declaration, crate::specs::Tokens::reserved))]
+
 ghost use Rattle.std.specs.Prelude.{◌≡◌, length};
 ghost use Rattle.base_words.specs.Words.{part};
 ghost use Rattle.xml_characters.specs.References.{character_of, is_character};
 ghost use Rattle.xml_markup.specs.Tokens.{end_of, whole_in_tag, whole_in_instruction, whole, move_to, moved, is_named, begun, found, is_found, twice, first, lower, says_xml, is_declaration, reserved};
 
 use super::leaping::{leap, leap_begin};
-use super::{Cursor, Found, Scan, Whole};
+use super::{Cursor, Scan, Whole};
 use base_bytes::{byte, piece, same};
 use xml_characters::is_name;
 use xml_characters::references::{character_of, is_character};
@@ -15,10 +17,7 @@ use xml_scanner::{InInstruction, InTag, Move, State};
 fn end_of(w: Whole, ended: bool) -> Whole
     ensures { result ≡ end_of w ended }
 {
-    if ended {
-        return w;
-    }
-    Whole::Nothing
+    if ended { w } else { Whole::Nothing }
 }
 
 fn whole_in_tag(s: InTag, b: u8) -> Whole
@@ -68,10 +67,7 @@ fn move_to(m: Move, mark: usize, i: usize, q: usize) -> Scan
     ensures { result ≡ move_to m mark i q }
 {
     match m {
-        Move::On(s) => Scan::On(Cursor {
-            state: s,
-            mark: mark,
-        }),
+        Move::On(s) => Scan::On(Cursor { state: s, mark }),
         Move::Next(s) => Scan::On(Cursor { state: s, mark: i }),
         Move::Close(sort) => Scan::Past(sort, q),
         Move::Here => Scan::Fault(i),
@@ -106,36 +102,28 @@ pub fn begun(p: usize) -> Cursor
     }
 }
 
-// The first attribute of that name in the tag at `start`.
-pub fn found(text: &[u8], name: &[u8], start: usize) -> Found
+// The place behind the first attribute's name that is this one, in the tag at `start`.
+pub fn found(text: &[u8], name: &[u8], start: usize) -> Option<usize>
     ensures { result ≡ found text.now name.now start }
 {
     let b = leap_begin(text, start);
     let mut c = b.cursor;
     let mut i = b.place;
+    // Stays a while: a byte is passed with those behind it that show nothing.
     while i < text.len() {
         if is_named(text, name, c, i) {
-            return Found::Behind(i);
+            return Some(i);
         }
         let a = moved(c, byte(text, i), i, i + 1);
         let Scan::On(next) = a else {
-            return Found::Nowhere;
+            return None;
         };
         let l = leap(next, text, i + 1);
         let d = l.cursor;
         c = d;
         i = l.place;
     }
-    Found::Nowhere
-}
-
-fn is_found(f: Found) -> bool
-    ensures { result ≡ is_found f }
-{
-    match f {
-        Found::Behind(i) => true,
-        Found::Nowhere => false,
-    }
+    None
 }
 
 // Whether the name from `mark` on is that of an attribute before it in the tag at `start`.
@@ -144,7 +132,7 @@ pub fn twice(text: &[u8], start: usize, mark: usize) -> bool
 {
     let tag = piece(text, 0, mark);
     let name = piece(text, mark, text.len());
-    is_found(found(tag, name, start))
+    found(tag, name, start).is_some()
 }
 
 // Where the document begins.
@@ -168,16 +156,10 @@ fn lower(b: u8) -> u8
 fn says_xml(w: &[u8]) -> bool
     ensures { result ≡ says_xml w.now }
 {
-    if w.len() != 5 {
-        return false;
-    }
-    if lower(byte(w, 2)) != b'x' {
-        return false;
-    }
-    if lower(byte(w, 3)) != b'm' {
-        return false;
-    }
-    lower(byte(w, 4)) == b'l'
+    w.len() == 5
+        && lower(byte(w, 2)) == b'x'
+        && lower(byte(w, 3)) == b'm'
+        && lower(byte(w, 4)) == b'l'
 }
 
 fn is_declaration(w: &[u8]) -> bool
@@ -190,13 +172,7 @@ pub fn reserved(text: &[u8], start: usize, mark: usize) -> bool
     ensures { result ≡ reserved text.now start mark }
 {
     let w = piece(text, mark, text.len());
-    if !says_xml(w) {
-        return false;
-    }
-    if !is_declaration(w) {
-        return true;
-    }
-    start != first(text)
+    says_xml(w) && (!is_declaration(w) || start != first(text))
 }
 
 pub fn speaks(text: &[u8], mark: usize) -> bool

@@ -8,7 +8,6 @@ use Rattle.xml_scanner.specs.declared.InTag.TheVariants.{Name, Blank, Attribute,
 use Rattle.xml_scanner.specs.declared.InEnd.{InEnd}
 use Rattle.xml_scanner.specs.declared.InEnd.TheVariants.{Opened, Name as EndName, Behind as EndBehind}
 use Rattle.xml_scanner.specs.declared.Sort.TheVariants.{StartTag, EmptyTag, EndTag as anEndTag, Reference as aReference}
-use Rattle.xml_scanner.specs.declared.State.{State}
 use Rattle.xml_scanner.specs.declared.State.TheVariants.{Tag, EndTag, Reference as InReference}
 use Rattle.xml_scanner.specs.declared.Move.{Move}
 use Rattle.xml_scanner.specs.declared.Move.TheVariants.{On, Next, Close, Here, Back}

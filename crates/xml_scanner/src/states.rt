@@ -1,4 +1,6 @@
 // What a byte does where it stands in a markup.
+#![tactic(auto, using(base_words::proofs::PickLaws::picks, std::proofs::lemmas::Bool::Decides::nat_tests), unfolding(crate::specs::Openings::behind_less, crate::specs::Openings::behind_bracket, crate::specs::Openings::in_opening, crate::specs::Passages::in_comment, crate::specs::Passages::in_data, crate::specs::Passages::in_target, crate::specs::Passages::in_instruction, crate::specs::Tags::closing, crate::specs::Tags::behind, crate::specs::Tags::named, crate::specs::Tags::is_quote, crate::specs::Tags::is_reference, crate::specs::Tags::equals, crate::specs::Tags::behind_blank, crate::specs::Tags::in_value, crate::specs::Tags::in_value_reference, crate::specs::Tags::in_tag, crate::specs::Tags::behind_end, crate::specs::Tags::in_end, crate::specs::Tags::in_reference, crate::specs::Moves::at_begin, crate::specs::Moves::step))]
+
 ghost use Rattle.std.specs.Prelude.{◌≡◌};
 ghost use Rattle.xml_scanner.specs.Openings.{behind_less, behind_bracket, in_opening};
 ghost use Rattle.xml_scanner.specs.Passages.{in_comment, in_data, in_target, in_instruction};

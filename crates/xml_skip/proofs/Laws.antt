@@ -1,12 +1,13 @@
 -- The laws of content that the proofs cite. Assumes nothing.
-use mathlib.Core.Path.{◌≡◌, refl, sym, ap, ◌∙◌}
+use Rattle.std.specs.Prelude.{Ok, Err}
+use mathlib.Core.Path.{◌≡◌, refl, sym, ◌∙◌}
 use mathlib.Core.List.{List}
 use mathlib.Core.Bool.{Bool, true, false}
 use Prim.Native.Nat.{ℕ, zero, suc, ◌+◌, ◌-◌, ◌<◌, ◌≤◌}
 use native.Mathlib.Omega.{arith}
 use lib.Dec.{leb, eqb}
 use lib.ListN.{length}
-use borrow.Author.Tests.{le-leb, lt-leb, eq-eqb, ne_eqb}
+use borrow.Author.Tests.{le-leb, lt-leb, ne_eqb}
 use Rattle.base_words.specs.Pick.{if◌then◌or_else◌}
 use Rattle.xml_scanner.specs.declared.Sort.{Sort}
 use Rattle.xml_scanner.specs.declared.Sort.TheVariants.{StartTag, EmptyTag, EndTag, Text, Reference, Comment, Data, Instruction, End, Fault as AFault}
@@ -16,18 +17,17 @@ use Rattle.xml_markup.specs.declared.Opener.TheVariants.{Start, End as EndOpener
 use Rattle.xml_markup.specs.Markup.{markup}
 use Rattle.xml_markup.specs.Spans.{opener, same_name}
 use Rattle.xml_markup.proofs.MarkupLaws.{Ahead, markup_ahead, markup_within}
-use Rattle.xml_skip.specs.declared.Reached.{Reached}
-use Rattle.xml_skip.specs.declared.Reached.TheVariants.{Past, Fault}
+use Rattle.xml_skip.specs.declared.Fault.{Fault}
 use Rattle.xml_skip.specs.declared.Part.{Part}
 use Rattle.xml_skip.specs.declared.Part.TheVariants.{Element, Close, On, Fault as PartFault}
 use Rattle.xml_skip.specs.declared.Tag.{Tag}
 use Rattle.xml_skip.specs.declared.Tag.TheVariants.{Open, Empty, Fault as TagFault}
-use Rattle.xml_skip.specs.Skipping.{part_by, part_of, part_for, part_at, tag_by, tag_of, go_on, by_tag, element_by, by_part, content_by, content_in, content_at, element_at, depth, skipped}
+use Rattle.xml_skip.specs.Skipping.{part_by, part_of, part_for, part_at, tag_by, tag_of, go_on, by_tag, element_by, by_part, content_by, content_in, content_at, element_at, depth, skipped, Reached, fault_at}
 
 -- WHAT IS PASSED IS FURTHER ON
 abbrev pub Further : ℕ → Reached → Type 0
-Further p (Past q) = p < q
-Further p (Fault q) = Unit {0}
+Further p (Ok q) = p < q
+Further p (Err q) = Unit {0}
 
 abbrev pub Onward : ℕ → Part → Type 0
 Onward p Element = Unit {0}
@@ -41,8 +41,8 @@ Behind p (Empty q) = p < q
 Behind p (TagFault q) = Unit {0}
 
 further_from : (p q : ℕ) (r : Reached) → p < q → Further q r → Further p r
-further_from p q (Past x) h o = omega arith
-further_from p q (Fault x) h o = tt
+further_from p q (Ok x) h o = omega arith
+further_from p q (Err x) h o = tt
 
 further_if : (p : ℕ) (b : Bool) (x y : Reached) → Further p x → Further p y → Further p (if b then x or_else y)
 unfolding if◌then◌or_else◌
@@ -132,8 +132,8 @@ module _ (C : ℕ → ℕ → ℕ → Reached) (on : (o q e : ℕ) → Further q
 
   behind_on : (outer : ℕ) (r : Reached) → Further p r → Further p (go_on r (λ q. C outer q d))
   unfolding go_on
-  behind_on outer (Past q) o = further_from p q (C outer q d) o (on outer q d)
-  behind_on outer (Fault q) o = tt
+  behind_on outer (Ok q) o = further_from p q (C outer q d) o (on outer q d)
+  behind_on outer (Err q) o = tt
 
   by_part_lem : (outer : ℕ) (g : Part) → Onward p g → Further p (by_part g (element_by C t p d) (λ q. C outer q d))
   unfolding by_part
@@ -165,8 +165,8 @@ module _ (C D : ℕ → ℕ → ℕ → Reached) (on : (o q e : ℕ) → Further
 
   behind_same : (outer : ℕ) (r : Reached) → Further p r → go_on r (λ q. C outer q d) ≡ go_on r (λ q. D outer q d)
   unfolding go_on
-  behind_same outer (Past q) o = same outer q d o
-  behind_same outer (Fault q) o = refl
+  behind_same outer (Ok q) o = same outer q d o
+  behind_same outer (Err q) o = refl
 
   part_same : (outer : ℕ) (g : Part) → Onward p g → by_part g (element_by D t p d) (λ q. C outer q d) ≡ by_part g (element_by D t p d) (λ q. D outer q d)
   unfolding by_part
@@ -192,7 +192,7 @@ pub content_is : (t : List ℕ) (outer p d : ℕ) → content_at t outer p d ≡
 unfolding content_at content_in
 content_is t outer p d = stable (length t) (suc (length t)) t outer p d (omega arith) (omega arith)
 
-pub element_past : (t : List ℕ) (p d : ℕ) (r : Reached) → r ≡ element_at t p d → (q : ℕ) → r ≡ Past q → p < q
+pub element_past : (t : List ℕ) (p d : ℕ) (r : Reached) → r ≡ element_at t p d → (q : ℕ) → r ≡ Ok q → p < q
 unfolding element_at content_at
 element_past t p d r er q e = rw (← er, e) at (element_on (content_at t) (in_on (length t) t) t p d)
 
@@ -204,7 +204,7 @@ skipped_further t p = element_on (content_at t) (in_on (length t) t) t p depth
 pub part_past : (t : List ℕ) (outer p : ℕ) (g : Part) → g ≡ part_at t outer p → (q : ℕ) → g ≡ On q → p < q
 part_past t outer p g eg q e = rw (← eg, e) at (part_onward t outer p)
 
-pub content_end : (t : List ℕ) (outer p d : ℕ) → length t ≤ p → content_at t outer p d ≡ Fault (length t)
+pub content_end : (t : List ℕ) (outer p d : ℕ) → length t ≤ p → content_at t outer p d ≡ fault_at (length t)
 unfolding content_by if◌then◌or_else◌
 content_end t outer p d h = content_is t outer p d ∙ rw (le-leb (length t) p h)
 
@@ -213,11 +213,11 @@ module _ (t : List ℕ) (outer p d : ℕ) (in_text : p < length t) (g : Part) (e
   unfolding content_by element_at if◌then◌or_else◌
   content_part = content_is t outer p d ∙ rw (lt-leb (length t) p in_text, ← eg)
 
-  pub content_close : (q : ℕ) → g ≡ Close q → content_at t outer p d ≡ Past q
+  pub content_close : (q : ℕ) → g ≡ Close q → content_at t outer p d ≡ Ok q
   unfolding by_part
   content_close q e = content_part ∙ rw e
 
-  pub content_fault : (q : ℕ) → g ≡ PartFault q → content_at t outer p d ≡ Fault q
+  pub content_fault : (q : ℕ) → g ≡ PartFault q → content_at t outer p d ≡ fault_at q
   unfolding by_part
   content_fault q e = content_part ∙ rw e
 
@@ -225,16 +225,16 @@ module _ (t : List ℕ) (outer p d : ℕ) (in_text : p < length t) (g : Part) (e
   unfolding by_part
   content_onward q e = content_part ∙ rw e
 
-  pub content_past : g ≡ Element → (r : Reached) → r ≡ element_at t p d → (q : ℕ) → r ≡ Past q → content_at t outer p d ≡ content_at t outer q d
+  pub content_past : g ≡ Element → (r : Reached) → r ≡ element_at t p d → (q : ℕ) → r ≡ Ok q → content_at t outer p d ≡ content_at t outer q d
   unfolding by_part go_on
   content_past k r er q e = content_part ∙ rw (k, ← er, e)
 
-  pub content_refused : g ≡ Element → (r : Reached) → r ≡ element_at t p d → (q : ℕ) → r ≡ Fault q → content_at t outer p d ≡ r
+  pub content_refused : g ≡ Element → (r : Reached) → r ≡ element_at t p d → (q : Fault) → r ≡ Err q → content_at t outer p d ≡ r
   unfolding by_part go_on
   content_refused k r er q e = content_part ∙ rw (k, ← er, e)
 
 -- an element at p
-pub element_deep : (t : List ℕ) (p d : ℕ) → d ≡ 0 → element_at t p d ≡ Fault p
+pub element_deep : (t : List ℕ) (p d : ℕ) → d ≡ 0 → element_at t p d ≡ fault_at p
 unfolding element_at element_by if◌then◌or_else◌
 element_deep t p d e = rw e
 
@@ -247,11 +247,11 @@ module _ (t : List ℕ) (p d : ℕ) (deep : d ≡ 0 → ⊥) (m : Markup) (em : 
   unfolding by_tag
   element_open q e = element_tag ∙ rw e
 
-  pub element_empty : (q : ℕ) → g ≡ Empty q → element_at t p d ≡ Past q
+  pub element_empty : (q : ℕ) → g ≡ Empty q → element_at t p d ≡ Ok q
   unfolding by_tag
   element_empty q e = element_tag ∙ rw e
 
-  pub element_fault : (q : ℕ) → g ≡ TagFault q → element_at t p d ≡ Fault q
+  pub element_fault : (q : ℕ) → g ≡ TagFault q → element_at t p d ≡ fault_at q
   unfolding by_tag
   element_fault q e = element_tag ∙ rw e
 

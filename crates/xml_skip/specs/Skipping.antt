@@ -1,6 +1,6 @@
 -- "An element inside an element, up to 16 deep, is skipped whole." "It is 1 deep, an element in it 2, and so on; the 17th is 20 at its `<`, an empty tag too" (R11a). "An end tag
 -- repeats the start tag's name byte for byte" (R6), "an end tag with another name: at the `<`" (R5). (RULES: skipping)
-use Rattle.std.specs.Prelude.{ℕ, zero, suc, ◌-◌, List, leb, eqb, length}
+use Rattle.std.specs.Prelude.{ℕ, zero, suc, ◌-◌, leb, eqb, length, Ok, Err, Result}
 use Rattle.base_words.specs.Blocks.{Bytes}
 use Rattle.base_words.specs.Pick.{if◌then◌or_else◌}
 use Rattle.xml_scanner.specs.declared.Sort.{Sort}
@@ -10,12 +10,18 @@ use Rattle.xml_markup.specs.declared.Opener.{Opener}
 use Rattle.xml_markup.specs.declared.Opener.TheVariants.{Start, End as EndOpener, Other}
 use Rattle.xml_markup.specs.Markup.{markup}
 use Rattle.xml_markup.specs.Spans.{opener, same_name}
-use Rattle.xml_skip.specs.declared.Reached.{Reached}
-use Rattle.xml_skip.specs.declared.Reached.TheVariants.{Past, Fault}
+use Rattle.xml_skip.specs.declared.Fault.{Fault}
 use Rattle.xml_skip.specs.declared.Part.{Part}
 use Rattle.xml_skip.specs.declared.Part.TheVariants.{Element, Close, On, Fault as PartFault}
 use Rattle.xml_skip.specs.declared.Tag.{Tag}
 use Rattle.xml_skip.specs.declared.Tag.TheVariants.{Open, Empty, Fault as TagFault}
+
+-- the place behind an element, or where the fault is
+abbrev pub Reached : Type 0
+Reached = Result ℕ Fault
+
+abbrev pub fault_at : ℕ → Reached
+fault_at q = Err (record { place = q })
 
 -- how deep an element may be
 abbrev pub depth : ℕ
@@ -64,33 +70,33 @@ tag_of m p = tag_by m.sort m.next p
 
 -- goes on from the place that was reached; a fault stays
 unfoldable pub go_on : Reached → (ℕ → Reached) → Reached
-go_on (Past q) on = on q
-go_on (Fault q) on = Fault q
+go_on (Ok q) on = on q
+go_on (Err q) on = Err q
 
 unfoldable pub by_tag : Tag → (ℕ → Reached) → Reached
 by_tag (Open q) content = content q
-by_tag (Empty q) content = Past q
-by_tag (TagFault q) content = Fault q
+by_tag (Empty q) content = Ok q
+by_tag (TagFault q) content = fault_at q
 
 -- an element at p, where `content` skips the content of the element at a place, from a place on, at a depth
 unfoldable pub element_by : (ℕ → ℕ → ℕ → Reached) → Bytes → ℕ → ℕ → Reached
-element_by content t p d = if eqb d 0 then Fault p or_else by_tag (tag_of (markup t p) p) (λ q. content p q (d - 1))
+element_by content t p d = if eqb d 0 then fault_at p or_else by_tag (tag_of (markup t p) p) (λ q. content p q (d - 1))
 
 unfoldable pub by_part : Part → Reached → (ℕ → Reached) → Reached
 by_part Element element content = go_on element content
-by_part (Close q) element content = Past q
+by_part (Close q) element content = Ok q
 by_part (On q) element content = content q
-by_part (PartFault q) element content = Fault q
+by_part (PartFault q) element content = fault_at q
 
 -- content from p on, of the element at `outer`
 unfoldable pub content_by : (ℕ → ℕ → ℕ → Reached) → Bytes → ℕ → ℕ → ℕ → Reached
 content_by content t outer p d =
-    if leb (length t) p then Fault (length t)
+    if leb (length t) p then fault_at (length t)
     or_else by_part (part_at t outer p) (element_by content t p d) (λ q. content outer q d)
 
 -- the same, in n steps at most
 unfoldable pub content_in : ℕ → Bytes → ℕ → ℕ → ℕ → Reached
-content_in zero t outer p d = Fault (length t)
+content_in zero t outer p d = fault_at (length t)
 content_in (suc n) t outer p d = content_by (content_in n t) t outer p d
 
 -- each step passes a byte, so the text's length is enough steps

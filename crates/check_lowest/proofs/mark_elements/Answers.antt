@@ -1,27 +1,13 @@
-use Prim.Native.Nat.{◌-◌}
-use Rattle.check_tally.proofs.TallyLaws.{folds}
-use borrow.Author.Rules.{rules}
+use Rattle.base_table.specs.Table.{element_at}
+use Rattle.check_summary.specs.Summary.{regions}
+use Rattle.check_tally.proofs.TallyLaws.{fold_none, fold_more, fold_done}
 use Rattle.check_lowest.proofs.mark_elements.Goals as goal
 
-ruleset L = (rules, folds)
-
 pub loop-e-init : goal.loop-e-init
-loop-e-init c = search L
-
-pub mark_at-requires : goal.mark_at-requires
-mark_at-requires c = search L
-
-pub overflow_add-e : goal.overflow_add-e
-overflow_add-e c = search L
-
-pub loop-e-smaller : goal.loop-e-smaller
-loop-e-smaller c = search L
+loop-e-init c = fold_none regions (element_at c.args.t.now c.args.p) _
 
 pub loop-e-preserved : goal.loop-e-preserved
-loop-e-preserved c = search L
-
-pub shape_of-s : goal.shape_of-s
-shape_of-s c = search L
+loop-e-preserved c = fold_more regions (element_at c.args.t.now c.args.p) _ _ _ _ c.mark_at.ensures c.loop-e.invariant
 
 pub returns : goal.returns
-returns c = search L
+returns c = fold_done regions (element_at c.args.t.now c.args.p) _ _ _ _ c.loop-e-test.false c.loop-e.auto.e-end c.loop-e.invariant

@@ -1,14 +1,9 @@
-use Prim.Native.Nat.{◌-◌, ◌≤◌}
 use Rattle.base_table.specs.Table.{element_at}
 use Rattle.check_tally.specs.Tally.{all_marks, tally}
-use lib.ListN.{length}
 use Rattle.check_summary.specs.Summary.{regions}
 use Rattle.base_words.specs.Each.{tab}
 use mathlib.Core.Path.{◌≡◌}
 use Rattle.check_lowest.proofs.mark_elements.Given as goal
 
 abbrev pub invariant-loop-e : goal.invariant-loop-e
-invariant-loop-e l = (l.e ≤ l.n) × (length l.s ≡ length l.initial.s) × (l.s ≡ tally l.initial.s (all_marks regions (tab (element_at l.t l.p) l.e)))
-
-abbrev pub decreases-loop-e : goal.decreases-loop-e
-decreases-loop-e l = l.n - l.e
+invariant-loop-e l = l.s ≡ tally l.initial.s (all_marks regions (tab (element_at l.t l.p) l.e))

@@ -1,27 +1,13 @@
-use Prim.Native.Nat.{◌-◌}
-use Rattle.check_tally.proofs.TallyLaws.{folds}
-use borrow.Author.Rules.{rules}
+use Rattle.check_verdict.specs.Verdict.{pool_regions}
+use Rattle.check_lowest.specs.Model.{pool_at}
+use Rattle.check_tally.proofs.TallyLaws.{fold_none, fold_more, fold_done}
 use Rattle.check_lowest.proofs.mark_pools.Goals as goal
 
-ruleset L = (rules, folds)
-
 pub loop-p-init : goal.loop-p-init
-loop-p-init c = search L
-
-pub mark_pool_at-requires : goal.mark_pool_at-requires
-mark_pool_at-requires c = search L
-
-pub overflow_add-p : goal.overflow_add-p
-overflow_add-p c = search L
-
-pub loop-p-smaller : goal.loop-p-smaller
-loop-p-smaller c = search L
+loop-p-init c = fold_none pool_regions (pool_at c.args.t.now) _
 
 pub loop-p-preserved : goal.loop-p-preserved
-loop-p-preserved c = search L
-
-pub shape_of-m : goal.shape_of-m
-shape_of-m c = search L
+loop-p-preserved c = fold_more pool_regions (pool_at c.args.t.now) _ _ _ _ c.mark_pool_at.ensures c.loop-p.invariant
 
 pub returns : goal.returns
-returns c = search L
+returns c = fold_done pool_regions (pool_at c.args.t.now) _ _ _ _ c.loop-p-test.false c.loop-p.auto.p-end c.loop-p.invariant

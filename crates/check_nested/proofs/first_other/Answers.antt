@@ -1,35 +1,10 @@
-use Prim.Native.Nat.{◌-◌}
-use mathlib.Core.Path.{ap}
+use Rattle.std.proofs.Common.{rules, ◌∙◌}
+use Rattle.base_words.proofs.RangeLaws.{seek_of_range}
+use borrow.Author.Tests.{tests}
 use mathlib.Core.Bool.{not}
 use lib.Dec.{eqb}
 use Rattle.base_words.specs.Words.{at}
-use Rattle.base_words.proofs.AllLaws.{eq_eqb_by, ne_eqb_by}
-use Rattle.base_words.proofs.SeekLaws.{seek_found, seek_more, seek_done, seek_loop}
-use borrow.Author.Rules.{rules}
 use Rattle.check_nested.proofs.first_other.Goals as goal
 
-ruleset L = (rules, seek_loop)
-
-pub loop-k-init : goal.loop-k-init
-loop-k-init c = search L
-
-pub overflow_cast-k : goal.overflow_cast-k
-overflow_cast-k c = search L
-
-pub word-requires : goal.word-requires
-word-requires c = search L
-
-pub returns-then-word-ne1 : goal.returns-then-word-ne1
-returns-then-word-ne1 c = seek_found (λ k. not (eqb (at c.args.m.now k) 1)) _ _ c.loop-k-test.true c.loop-k.invariant.1 (ap not (ne_eqb_by _ _ _ c.word.ensures c.if-word-ne1.true))
-
-pub overflow_add-k : goal.overflow_add-k
-overflow_add-k c = search L
-
-pub loop-k-smaller : goal.loop-k-smaller
-loop-k-smaller c = search L
-
-pub loop-k-preserved : goal.loop-k-preserved
-loop-k-preserved c = (search L, seek_more (λ k. not (eqb (at c.args.m.now k) 1)) _ c.loop-k.invariant.1 (ap not (eq_eqb_by _ _ _ c.word.ensures c.if-word-ne1.false)))
-
 pub returns : goal.returns
-returns c = seek_done (λ k. not (eqb (at c.args.m.now k) 1)) _ _ c.loop-k-test.false c.loop-k.invariant.0 c.loop-k.invariant.1
+returns c = c.unwrap_or.ensures ∙ seek_of_range _ _ _ (λ k. not (eqb (at c.args.m.now k) 1)) _ c.find.ensures.ran (λ x q k. search (rules, tests)) (λ x q k. search (rules, tests))

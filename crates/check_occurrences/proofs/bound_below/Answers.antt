@@ -1,27 +1,13 @@
-use Prim.Native.Nat.{◌-◌}
-use Rattle.base_words.proofs.SumLaws.{sum_loop}
-use borrow.Author.Rules.{rules}
+use Rattle.std.proofs.Common.{rules, ◌+◌, ◌&&◌}
+use lib.Dec.{eqb}
+use Rattle.base_words.specs.Words.{at}
+use Rattle.base_words.proofs.RangeLaws.{sum_of_range}
+use Rattle.base_table.specs.Places.{form_place, left_place, operand_number, binding}
+use Rattle.base_table.specs.Table.{item_at}
+use Rattle.check_occurrences.specs.Occurrences.{binds_field}
 use Rattle.check_occurrences.proofs.bound_below.Goals as goal
 
-ruleset L = (rules, sum_loop)
-
-pub loop-i-init : goal.loop-i-init
-loop-i-init c = search L
-
-pub item_binds-n-requires : goal.item_binds-n-requires
-item_binds-n-requires c = search L
-
-pub overflow_add-n : goal.overflow_add-n
-overflow_add-n c = search L
-
-pub overflow_add-i : goal.overflow_add-i
-overflow_add-i c = search L
-
-pub loop-i-smaller : goal.loop-i-smaller
-loop-i-smaller c = search L
-
-pub loop-i-preserved : goal.loop-i-preserved
-loop-i-preserved c = search L
-
 pub returns : goal.returns
-returns c = search L
+unfolding binds_field
+returns c =
+    sum_of_range c.filter.result _ _ (λ i. eqb (at (item_at c.args.el.now c.args.j i) form_place) binding && eqb (at (item_at c.args.el.now c.args.j i) (left_place + operand_number)) c.args.d) _ c.count.ensures.ran c.filter.ensures.source c.filter.ensures.closure (λ x b q k. search rules)

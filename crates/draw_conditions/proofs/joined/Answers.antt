@@ -5,9 +5,9 @@ use Rattle.draw_conditions.proofs.SpelledLaws.{over, byte}
 use borrow.Author.Rules.{rules}
 use Rattle.draw_conditions.proofs.joined.Goals as goal
 
-pub look-v-requires : goal.look-v-requires
+pub look-requires : goal.look-requires
 unfolding joined
-look-v-requires c = search rules
+look-requires c = search rules
 
 pub bare-requires : goal.bare-requires
 unfolding joined
@@ -15,7 +15,7 @@ bare-requires c = search rules
 
 pub returns-in_default : goal.returns-in_default
 unfolding joined
-returns-in_default c = rw (over _ _ _ c.look-v.ensures c.in_default.is) c.bare.ensures
+returns-in_default c = rw (over _ _ _ c.look.ensures c.in_default.is) c.bare.ensures
 
 pub form_of-form-requires : goal.form_of-form-requires
 unfolding joined
@@ -27,7 +27,7 @@ bare-requires-then-form-eq-FOREIGN c = search rules
 
 pub returns-then-form-eq-FOREIGN : goal.returns-then-form-eq-FOREIGN
 unfolding joined
-returns-then-form-eq-FOREIGN c = rw (byte _ _ _ c.look-v.ensures _ _ _ c.in-Byte.is, ← c.form_of-form.ensures) (pick_yes _ _ _ _ (eq-eqb _ _ c.if-form-eq-FOREIGN.true) c.bare-then-form-eq-FOREIGN.ensures)
+returns-then-form-eq-FOREIGN c = rw (byte _ _ _ c.look.ensures _ c.in-Some.is, ← c.form_of-form.ensures) (pick_yes _ _ _ _ (eq-eqb _ _ c.if-form-eq-FOREIGN.true) c.bare-then-form-eq-FOREIGN.ensures)
 
 pub behind-requires : goal.behind-requires
 unfolding joined
@@ -39,4 +39,4 @@ second-requires c = search rules
 
 pub returns : goal.returns
 unfolding joined
-returns c = rw (byte _ _ _ c.look-v.ensures _ _ _ c.in-Byte.is, ← c.form_of-form.ensures, ← c.behind.ensures) (pick_no _ _ _ _ (ne_eqb _ _ c.if-form-eq-FOREIGN.false) c.second.ensures)
+returns c = rw (byte _ _ _ c.look.ensures _ c.in-Some.is, ← c.form_of-form.ensures, ← c.behind.ensures) (pick_no _ _ _ _ (ne_eqb _ _ c.if-form-eq-FOREIGN.false) c.second.ensures)

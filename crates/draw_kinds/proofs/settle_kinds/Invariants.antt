@@ -1,13 +1,8 @@
-use Prim.Native.Nat.{◌-◌, ◌≤◌}
 use Rattle.draw_kinds.specs.Roles.{roles, kind_settled, is_unsettled}
 use Rattle.base_words.specs.Iter.{iter}
 use Rattle.base_words.specs.Seek.{seek}
-use lib.ListN.{length}
 use mathlib.Core.Path.{◌≡◌}
 use Rattle.draw_kinds.proofs.settle_kinds.Given as goal
 
 abbrev pub invariant-loop-k : goal.invariant-loop-k
-invariant-loop-k l = (l.k ≤ l.n) × (length l.w ≡ length l.initial.w) × (l.w ≡ iter (kind_settled l.n) l.initial.w l.k) × (seek (is_unsettled (roles l.n l.initial.w)) l.k ≡ l.k)
-
-abbrev pub decreases-loop-k : goal.decreases-loop-k
-decreases-loop-k l = l.n - l.k
+invariant-loop-k l = (l.w ≡ iter (kind_settled l.n) l.initial.w l.k) × (seek (is_unsettled (roles l.n l.initial.w)) l.k ≡ l.k)

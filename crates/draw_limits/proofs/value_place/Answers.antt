@@ -14,4 +14,4 @@ returns-in_default c = if_absent _ _ _ _ c.attribute_of-a.ensures c.in_default.i
 
 pub returns : goal.returns
 unfolding value_place
-returns c = if_is_lem _ _ _ _ _ _ _ c.attribute_of-a.ensures c.in-Is.is refl
+returns c = if_is_lem _ _ _ _ _ _ _ c.attribute_of-a.ensures c.in-Some.is refl

@@ -1,18 +1,6 @@
-use Prim.Native.Nat.{◌-◌}
-use Rattle.draw_links.proofs.LinkLaws.{found_or_none, none_found}
-use Rattle.base_words.proofs.PickLaws.{flag_is}
-use Rattle.base_words.proofs.SeekLaws.{seek_more, seek_none}
-use borrow.Author.Rules.{rules}
+use Rattle.std.proofs.Common.{rules, ◌∙◌}
+use Rattle.draw_links.proofs.LinkLaws.{named_of_range}
 use Rattle.draw_links.proofs.process_named.Goals as goal
 
-pub loop-j-init : goal.loop-j-init
-loop-j-init c = (search rules, λ h. seek_none _)
-
-pub returns-then-is_process_named : goal.returns-then-is_process_named
-returns-then-is_process_named c h = found_or_none _ _ _ c.loop-j-test.true (c.loop-j.invariant.1 h) (flag_is _ _ _ (c.is_process_named.ensures (h _ c.loop-j-test.true)) c.if-is_process_named.true)
-
-pub loop-j-preserved : goal.loop-j-preserved
-loop-j-preserved c = (search rules, λ h. seek_more _ _ (c.loop-j.invariant.1 h) (flag_is _ _ _ (c.is_process_named.ensures (h _ c.loop-j-test.true)) c.if-is_process_named.false))
-
 pub returns : goal.returns
-returns c h = none_found _ _ _ c.loop-j-test.false c.loop-j.invariant.0 (c.loop-j.invariant.1 h)
+returns c h = c.unwrap_or.ensures ∙ named_of_range _ _ _ _ _ c.find.ensures.ran (λ x q k l. search (rules, h x l)) (λ x q k. (search rules, λ l. search (rules, h x l)))

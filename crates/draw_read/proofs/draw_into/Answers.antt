@@ -11,7 +11,7 @@ pub returns-in_default : goal.returns-in_default
 returns-in_default c = walk_stopped _ _ c.if-text-gt-DRAWING_MOST.false _ _ c.walk-met.ensures _ _ c.in_default.is (c.stopped.ensures _ c.in_default.is)
 
 pub returns-then-not-settle : goal.returns-then-not-settle
-returns-then-not-settle c = walk_amiss _ _ c.if-text-gt-DRAWING_MOST.false _ _ c.walk-met.ensures _ _ c.in-Past.is (c.settle.ensures.1 (not-true _ (ap not c.if-not-settle.true))) c.answer-then-not-settle.ensures
+returns-then-not-settle c = walk_amiss _ _ c.if-text-gt-DRAWING_MOST.false _ _ c.walk-met.ensures _ _ c.in-Ok.is (c.settle.ensures.1 (not-true _ (ap not c.if-not-settle.true))) c.answer-then-not-settle.ensures
 
 pub returns : goal.returns
-returns c = walk_done _ _ c.if-text-gt-DRAWING_MOST.false _ _ c.walk-met.ensures _ _ _ c.in-Past.is (c.settle.ensures.0 (not-false _ (ap not c.if-not-settle.false))) c.judge.ensures
+returns c = walk_done _ _ c.if-text-gt-DRAWING_MOST.false _ _ c.walk-met.ensures _ _ _ c.in-Ok.is (c.settle.ensures.0 (not-false _ (ap not c.if-not-settle.false))) c.judge.ensures

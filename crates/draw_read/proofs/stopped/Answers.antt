@@ -14,11 +14,11 @@ answer-requires c = search L
 pub enum_known-end : goal.enum_known-end
 enum_known-end c = search L
 
-pub answer-requires-in-Fault : goal.answer-requires-in-Fault
-answer-requires-in-Fault c = search L
+pub answer-requires-in-Err : goal.answer-requires-in-Err
+answer-requires-in-Err c = search L
 
-pub returns-in-Past : goal.returns-in-Past
-returns-in-Past c = λ q e. not_stopped _ _ _ c.in-Past.is e
+pub returns-in-Ok : goal.returns-in-Ok
+returns-in-Ok c = λ q e. not_stopped _ _ _ c.in-Ok.is e
 
-pub returns-in-Fault : goal.returns-in-Fault
-returns-in-Fault c = λ q e. stopped_there _ _ _ _ c.in-Fault.is c.answer-in-Fault.ensures e
+pub returns-in-Err : goal.returns-in-Err
+returns-in-Err c = λ q e. stopped_there _ _ _ _ c.in-Err.is c.answer-in-Err.ensures e

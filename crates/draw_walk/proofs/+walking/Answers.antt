@@ -6,10 +6,10 @@ pub walk_content-returns-in_default : goal.walk_content-returns-in_default
 walk_content-returns-in_default t c = sym (content_refused _ _ _ _ _ c.loop-at-test.true _ c.part_at-part.ensures c.in-Element.is _ c.named_at-s.ensures _ c.drawn_as-d.ensures _ _ c.walk_thing-e.ensures _ c.in_default.is) ∙ c.loop-at.invariant.2
 
 pub walk_content-loop-at-smaller-in-Element : goal.walk_content-loop-at-smaller-in-Element
-walk_content-loop-at-smaller-in-Element t c = omega (arith, thing_past _ _ _ _ _ _ _ _ _ c.walk_thing-e.ensures _ c.in-Past.is)
+walk_content-loop-at-smaller-in-Element t c = omega (arith, thing_past _ _ _ _ _ _ _ _ _ c.walk_thing-e.ensures _ c.in-Ok.is)
 
 pub walk_content-loop-at-preserved-in-Element : goal.walk_content-loop-at-preserved-in-Element
-walk_content-loop-at-preserved-in-Element t c = (omega (arith, thing_past _ _ _ _ _ _ _ _ _ c.walk_thing-e.ensures _ c.in-Past.is), search rules, sym (content_past _ _ _ _ _ c.loop-at-test.true _ c.part_at-part.ensures c.in-Element.is _ c.named_at-s.ensures _ c.drawn_as-d.ensures _ _ c.walk_thing-e.ensures _ c.in-Past.is) ∙ c.loop-at.invariant.2)
+walk_content-loop-at-preserved-in-Element t c = (omega (arith, thing_past _ _ _ _ _ _ _ _ _ c.walk_thing-e.ensures _ c.in-Ok.is), search rules, sym (content_past _ _ _ _ _ c.loop-at-test.true _ c.part_at-part.ensures c.in-Element.is _ c.named_at-s.ensures _ c.drawn_as-d.ensures _ _ c.walk_thing-e.ensures _ c.in-Ok.is) ∙ c.loop-at.invariant.2)
 
 pub walk_content-returns-in-Close : goal.walk_content-returns-in-Close
 walk_content-returns-in-Close t c = sym (content_close _ _ _ _ _ c.loop-at-test.true _ c.part_at-part.ensures _ c.in-Close.is) ∙ c.loop-at.invariant.2

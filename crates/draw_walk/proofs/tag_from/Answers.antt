@@ -2,10 +2,10 @@ use mathlib.Core.Path.{refl}
 use Rattle.draw_walk.specs.Walk.{tag_from}
 use Rattle.draw_walk.proofs.tag_from.Goals as goal
 
-pub returns-in-Past : goal.returns-in-Past
+pub returns-in-Ok : goal.returns-in-Ok
 unfolding tag_from
-returns-in-Past c = rw c.in-Past.is refl
+returns-in-Ok c = rw c.in-Ok.is refl
 
-pub returns-in-Fault : goal.returns-in-Fault
+pub returns-in-Err : goal.returns-in-Err
 unfolding tag_from
-returns-in-Fault c = rw c.in-Fault.is refl
+returns-in-Err c = rw c.in-Err.is refl

@@ -1,3 +1,4 @@
+use Prim.Native.Nat.{◌-◌}
 use lib.ListN.{length}
 use Rattle.step_poll.specs.Poll.{settled_step, settled_post}
 use Rattle.step_history.specs.History.{told_by, left_by}
@@ -6,9 +7,6 @@ use Rattle.log_accounts.specs.Told.{acts_of, onward, nothing_told}
 use Rattle.log_accounts.proofs.TellLaws.{Low, Comes}
 use Rattle.log_accounts.proofs.tell_from.Given as goal
 
-abbrev pub invariant-loop-left : goal.invariant-loop-left
-invariant-loop-left l = Low l.b l.left (length l.text)
-    × Comes (settled_step l.t) settled_post l.m l.g (lines_in l.left l.text l.c) l.b l.z (onward l.m l.g (nothing_told l.most) (told_by (settled_step l.t) settled_post (acts_of (lines_from l.text l.initial.c) l.most) l.initial.z)) (left_by (settled_step l.t) settled_post (acts_of (lines_from l.text l.initial.c) l.most) l.initial.z)
-
-abbrev pub decreases-loop-left : goal.decreases-loop-left
-decreases-loop-left l = l.left
+abbrev pub invariant-loop-step : goal.invariant-loop-step
+invariant-loop-step l = Low l.b (length l.text - l._step) (length l.text)
+    × Comes (settled_step l.t) settled_post l.m l.g (lines_in (length l.text - l._step) l.text l.c) l.b l.z (onward l.m l.g (nothing_told l.most) (told_by (settled_step l.t) settled_post (acts_of (lines_from l.text l.initial.c) l.most) l.initial.z)) (left_by (settled_step l.t) settled_post (acts_of (lines_from l.text l.initial.c) l.most) l.initial.z)

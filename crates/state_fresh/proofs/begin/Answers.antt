@@ -4,14 +4,5 @@ use Rattle.state_fresh.proofs.begin.Goals as goal
 
 ruleset L = (rules)
 
-pub clear-requires : goal.clear-requires
-clear-requires c = search L
-
-pub begin_pools-requires : goal.begin_pools-requires
-begin_pools-requires c = search L
-
-pub put-requires : goal.put-requires
-put-requires c = search L
-
 pub returns : goal.returns
 returns c = begin_all _ c.args.z.now _ _ _ _ c.clear.ensures c.begin_pools.ensures c.put.ensures (search L)

@@ -1,30 +1,12 @@
-use Prim.Native.Nat.{◌-◌}
-use Rattle.base_words.proofs.IterLaws.{iter_done, iter_loop}
-use borrow.Author.Rules.{rules}
+use Rattle.base_words.proofs.IterLaws.{iter_none, iter_more, iter_done}
+use Rattle.state_fits.specs.Fresh.{pool_begun}
 use Rattle.state_fresh.proofs.begin_pools.Goals as goal
 
-ruleset L = (rules, iter_loop)
-
-pub pool_count-n-requires : goal.pool_count-n-requires
-pool_count-n-requires c = search L
-
 pub loop-p-init : goal.loop-p-init
-loop-p-init c = search L
-
-pub begin_pool-requires : goal.begin_pool-requires
-begin_pool-requires c = search L
-
-pub overflow_add-p : goal.overflow_add-p
-overflow_add-p c = search L
-
-pub loop-p-smaller : goal.loop-p-smaller
-loop-p-smaller c = search L
+loop-p-init c = iter_none (pool_begun c.args.t.now) _
 
 pub loop-p-preserved : goal.loop-p-preserved
-loop-p-preserved c = search L
-
-pub shape_of-z : goal.shape_of-z
-shape_of-z c = search L
+loop-p-preserved c = iter_more (pool_begun c.args.t.now) _ _ _ _ c.loop-p.invariant c.begin_pool.ensures
 
 pub returns : goal.returns
-returns c = rw (← c.pool_count-n.ensures) (iter_done _ _ _ _ _ c.loop-p-test.false c.loop-p.invariant.0 c.loop-p.invariant.2)
+returns c = rw (← c.pool_count-p-end.ensures) (iter_done (pool_begun c.args.t.now) _ _ _ _ c.loop-p-test.false c.loop-p.auto.p-end c.loop-p.invariant)

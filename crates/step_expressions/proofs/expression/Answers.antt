@@ -1,50 +1,11 @@
 use Rattle.base_words.proofs.PickLaws.{pick_no, pick_yes}
 use Rattle.base_words.proofs.AllLaws.{eq_eqb_by, ne_eqb_by}
 use Rattle.meaning.specs.Expressions.{expression_of}
-use borrow.Author.Rules.{rules}
 use Rattle.step_expressions.proofs.expression.Goals as goal
-
-ruleset L = (rules)
-
-pub word-form-requires : goal.word-form-requires
-unfolding expression_of
-word-form-requires c = search L
-
-pub overflow_cast-operand : goal.overflow_cast-operand
-unfolding expression_of
-overflow_cast-operand c = search L
-
-pub operand-a-requires : goal.operand-a-requires
-unfolding expression_of
-operand-a-requires c = search L
-
-pub overflow_cast-operand-then-form-eq-PLUS : goal.overflow_cast-operand-then-form-eq-PLUS
-unfolding expression_of
-overflow_cast-operand-then-form-eq-PLUS c = search L
-
-pub operand-requires : goal.operand-requires
-unfolding expression_of
-operand-requires c = search L
-
-pub sum-requires : goal.sum-requires
-unfolding expression_of
-sum-requires c = search L
 
 pub returns-then-form-eq-PLUS : goal.returns-then-form-eq-PLUS
 unfolding expression_of
 returns-then-form-eq-PLUS c = pick_yes _ _ _ _ (eq_eqb_by _ _ _ c.word-form.ensures c.if-form-eq-PLUS.true) (rw (c.operand-a.ensures, c.operand.ensures) at c.sum.ensures)
-
-pub overflow_cast-operand-then-form-eq-MINUS : goal.overflow_cast-operand-then-form-eq-MINUS
-unfolding expression_of
-overflow_cast-operand-then-form-eq-MINUS c = search L
-
-pub operand-requires-then-form-eq-MINUS : goal.operand-requires-then-form-eq-MINUS
-unfolding expression_of
-operand-requires-then-form-eq-MINUS c = search L
-
-pub difference-requires : goal.difference-requires
-unfolding expression_of
-difference-requires c = search L
 
 pub returns-then-form-eq-MINUS : goal.returns-then-form-eq-MINUS
 unfolding expression_of

@@ -1,30 +1,11 @@
 use Rattle.base_words.proofs.PickLaws.{pick_no, pick_yes}
 use Rattle.base_words.proofs.AllLaws.{eq_eqb_by, ne_eqb_by}
 use Rattle.meaning.specs.Expressions.{operand_of}
-use borrow.Author.Rules.{rules}
 use Rattle.step_expressions.proofs.operand.Goals as goal
-
-ruleset L = (rules)
-
-pub overflow_add-p : goal.overflow_add-p
-unfolding operand_of
-overflow_add-p c = search L
-
-pub word-n-requires : goal.word-n-requires
-unfolding operand_of
-word-n-requires c = search L
-
-pub word-requires : goal.word-requires
-unfolding operand_of
-word-requires c = search L
 
 pub returns-then-word-eq0 : goal.returns-then-word-eq0
 unfolding operand_of
 returns-then-word-eq0 c = pick_yes _ _ _ _ (eq_eqb_by _ _ _ c.word.ensures c.if-word-eq0.true) (rw c.word-n.ensures)
-
-pub field_of-requires : goal.field_of-requires
-unfolding operand_of
-field_of-requires c = search L
 
 pub returns : goal.returns
 unfolding operand_of

@@ -1,11 +1,5 @@
 use Rattle.step_list.proofs.LevelLaws.{chosen_found, chosen_none}
-use borrow.Author.Rules.{rules}
 use Rattle.step_list.proofs.list_on.Goals as goal
-
-ruleset L = (rules)
-
-pub scan_pools-r-requires : goal.scan_pools-r-requires
-scan_pools-r-requires c = search L
 
 pub returns-then-r : goal.returns-then-r
 returns-then-r c = chosen_found _ _ _ c.scan_pools-r.ensures c.if-r.true

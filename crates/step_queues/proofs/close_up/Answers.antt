@@ -1,19 +1,6 @@
 use Rattle.step_queues.proofs.ShiftLaws.{closed_last}
 use Rattle.step_queues.specs.Changes.{closed_up}
-use borrow.Author.Rules.{rules}
 use Rattle.step_queues.proofs.close_up.Goals as goal
-
-pub queued_in-requires : goal.queued_in-requires
-unfolding closed_up
-queued_in-requires c = search rules
-
-pub less_one-n-requires : goal.less_one-n-requires
-unfolding closed_up
-less_one-n-requires c = search rules
-
-pub shift-requires : goal.shift-requires
-unfolding closed_up
-shift-requires c = search rules
 
 pub returns-then-k-n : goal.returns-then-k-n
 unfolding closed_up

@@ -1,19 +1,13 @@
-use Rattle.base_words.proofs.PickLaws.{chains}
-use Rattle.base_words.proofs.AllLaws.{tests}
+use Rattle.std.proofs.Common.{refl}
+use borrow.Author.Tests.{lt-ltb, le-ltb}
+use Rattle.base_words.proofs.PickLaws.{pick_yes, pick_no}
 use Rattle.step_queues.specs.Changes.{one_more}
-use borrow.Author.Rules.{rules}
 use Rattle.step_queues.proofs.one_more.Goals as goal
-
-ruleset L = (rules, chains, tests)
-
-pub overflow_add-result : goal.overflow_add-result
-unfolding one_more
-overflow_add-result c = search L
 
 pub returns-then-n-lt-MESSAGES : goal.returns-then-n-lt-MESSAGES
 unfolding one_more
-returns-then-n-lt-MESSAGES c = search L
+returns-then-n-lt-MESSAGES c = pick_yes _ _ _ _ (lt-ltb _ _ c.if-n-lt-MESSAGES.true) refl
 
-pub returns : goal.returns
+pub returns-else-n-lt-MESSAGES : goal.returns-else-n-lt-MESSAGES
 unfolding one_more
-returns c = search L
+returns-else-n-lt-MESSAGES c = pick_no _ _ _ _ (le-ltb _ _ c.if-n-lt-MESSAGES.false) refl

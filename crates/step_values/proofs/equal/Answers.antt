@@ -1,21 +1,12 @@
+use borrow.Author.Tests.{eq-eqb, ne_eqb}
 use Rattle.base_words.specs.Pick.{if◌then◌or_else◌}
 use Rattle.meaning.specs.Values.{equal_of}
-use borrow.Author.Tests.{eq-eqb, ne_eqb}
-use borrow.Author.Rules.{rules}
 use Rattle.step_values.proofs.equal.Goals as goal
-
-pub returns-in_default : goal.returns-in_default
-unfolding equal_of
-returns-in_default c = search rules
-
-pub returns-in_default-b : goal.returns-in_default-b
-unfolding equal_of
-returns-in_default-b c = search rules
 
 pub returns-then-x-y : goal.returns-then-x-y
 unfolding equal_of if◌then◌or_else◌
-returns-then-x-y c = simp (c.in-Number.is, c.in-Number-b.is, eq-eqb _ _ c.if-x-y.true)
+returns-then-x-y c = simp (c.in-Some-Some.is-0, c.in-Some-Some.is-1, eq-eqb _ _ c.if-x-y.true)
 
 pub returns-else-x-y : goal.returns-else-x-y
 unfolding equal_of if◌then◌or_else◌
-returns-else-x-y c = simp (c.in-Number.is, c.in-Number-b.is, ne_eqb _ _ c.if-x-y.false)
+returns-else-x-y c = simp (c.in-Some-Some.is-0, c.in-Some-Some.is-1, ne_eqb _ _ c.if-x-y.false)

@@ -1,8 +1,6 @@
 use Rattle.text_bounds.proofs.BoundLaws.{many_yes, many_no}
 use Rattle.text_bounds.proofs.too_many.Goals as goal
-
-pub returns-then-item : goal.returns-then-item
-returns-then-item c = many_yes _ _ _ c.token_at-token.ensures _ c.if-item.true
+use Rattle.text_bounds.proofs.too_many.Goals.{then-item, else-item}
 
 pub returns : goal.returns
-returns c = many_no _ _ _ c.token_at-token.ensures _ c.if-item.false
+returns c = elim c.if-item.branch [ then-item w ↦ rw w.number-is (many_yes _ _ _ c.token_at.ensures _ w.if-item.true) | else-item w ↦ rw w.number-is (many_no _ _ _ c.token_at.ensures _ w.if-item.false) ]

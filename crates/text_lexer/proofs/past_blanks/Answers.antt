@@ -1,31 +1,19 @@
-use Prim.Native.Nat.{◌-◌}
-use Rattle.base_words.proofs.PickLaws.{flags}
-use Rattle.base_bytes.proofs.PastLaws.{past_loop}
-use borrow.Author.Rules.{rules}
+use mathlib.Core.Path.{refl, ap, ◌∙◌}
+use mathlib.Core.Bool.{not}
+use Rattle.base_words.proofs.PickLaws.{flag_yes, flag_no}
+use Rattle.base_bytes.proofs.PastLaws.{past_on, past_here}
+use Rattle.text_lexer.proofs.PlaceLaws.{past_farthest}
+use Rattle.text_lexer.specs.Lexer.{is_blank}
 use Rattle.text_lexer.proofs.past_blanks.Goals as goal
 
-ruleset L = (rules, past_loop, flags)
-
 pub loop-i-init : goal.loop-i-init
-loop-i-init c = search L
-
-pub bounds-text-i : goal.bounds-text-i
-bounds-text-i c = search L
-
-pub is_blank-requires : goal.is_blank-requires
-is_blank-requires c = search L
+loop-i-init c = refl
 
 pub returns-then-not-is_blank : goal.returns-then-not-is_blank
-returns-then-not-is_blank c = search L
-
-pub overflow_add-i : goal.overflow_add-i
-overflow_add-i c = search L
-
-pub loop-i-smaller : goal.loop-i-smaller
-loop-i-smaller c = search L
+returns-then-not-is_blank c = past_here is_blank _ _ _ c.loop-i.invariant c.loop-i-test.true (flag_no _ _ c.is_blank.ensures (ap not c.if-not-is_blank.true))
 
 pub loop-i-preserved : goal.loop-i-preserved
-loop-i-preserved c = search L
+loop-i-preserved c = past_on is_blank _ _ _ c.loop-i.invariant c.loop-i-test.true (flag_yes _ _ c.is_blank.ensures (ap not c.if-not-is_blank.false))
 
 pub returns : goal.returns
-returns c = search L
+returns c = c.max.ensures ∙ past_farthest is_blank _ _ _ c.loop-i.invariant c.loop-i-test.false c.loop-i.auto.i-end

@@ -1,12 +1,8 @@
 use mathlib.Core.Path.{◌≡◌}
-use Prim.Native.Nat.{◌-◌}
-use lib.ListN.{length, drop}
+use lib.ListN.{drop}
 use Rattle.text_lexer.specs.Lexer.{is_blank}
 use Rattle.base_bytes.specs.Bytes.{past}
 use Rattle.text_lexer.proofs.past_blanks.Given as goal
 
 abbrev pub invariant-loop-i : goal.invariant-loop-i
 invariant-loop-i l = past is_blank (drop l.i l.text) l.i ≡ past is_blank (drop l.from l.text) l.from
-
-abbrev pub decreases-loop-i : goal.decreases-loop-i
-decreases-loop-i l = length l.text - l.i

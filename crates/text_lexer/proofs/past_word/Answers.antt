@@ -1,31 +1,19 @@
-use Prim.Native.Nat.{◌-◌}
-use Rattle.base_words.proofs.PickLaws.{flags}
-use Rattle.base_bytes.proofs.PastLaws.{past_loop}
-use borrow.Author.Rules.{rules}
+use mathlib.Core.Path.{refl, ap, ◌∙◌}
+use mathlib.Core.Bool.{not}
+use Rattle.base_words.proofs.PickLaws.{flag_yes, flag_no}
+use Rattle.base_bytes.proofs.PastLaws.{past_on, past_here}
+use Rattle.text_lexer.proofs.PlaceLaws.{past_farthest}
+use Rattle.text_lexer.specs.Lexer.{is_word}
 use Rattle.text_lexer.proofs.past_word.Goals as goal
 
-ruleset L = (rules, past_loop, flags)
-
 pub loop-i-init : goal.loop-i-init
-loop-i-init c = search L
-
-pub bounds-text-i : goal.bounds-text-i
-bounds-text-i c = search L
-
-pub is_word-requires : goal.is_word-requires
-is_word-requires c = search L
+loop-i-init c = refl
 
 pub returns-then-not-is_word : goal.returns-then-not-is_word
-returns-then-not-is_word c = search L
-
-pub overflow_add-i : goal.overflow_add-i
-overflow_add-i c = search L
-
-pub loop-i-smaller : goal.loop-i-smaller
-loop-i-smaller c = search L
+returns-then-not-is_word c = past_here is_word _ _ _ c.loop-i.invariant c.loop-i-test.true (flag_no _ _ c.is_word.ensures (ap not c.if-not-is_word.true))
 
 pub loop-i-preserved : goal.loop-i-preserved
-loop-i-preserved c = search L
+loop-i-preserved c = past_on is_word _ _ _ c.loop-i.invariant c.loop-i-test.true (flag_yes _ _ c.is_word.ensures (ap not c.if-not-is_word.false))
 
 pub returns : goal.returns
-returns c = search L
+returns c = c.max.ensures ∙ past_farthest is_word _ _ _ c.loop-i.invariant c.loop-i-test.false c.loop-i.auto.i-end

@@ -1,7 +1,6 @@
 use mathlib.Core.Path.{refl}
-use Prim.Native.Nat.{◌-◌}
 use Rattle.base_words.proofs.PickLaws.{flag_yes, flag_no}
-use Rattle.text_numerals.proofs.NumeralLaws.{digits_end, digits_stop, digits_more}
+use Rattle.text_numerals.proofs.NumeralLaws.{digits_farthest, digits_stop, digits_more}
 use mathlib.Core.Path.{ap}
 use mathlib.Core.Bool.{not}
 use Rattle.text_numerals.proofs.digits_at.Goals as goal
@@ -19,4 +18,4 @@ pub loop-i-preserved : goal.loop-i-preserved
 loop-i-preserved c = digits_more _ _ _ _ c.loop-i.invariant _ c.loop-i-test.true (flag_yes _ _ c.is_digit.ensures (ap not c.if-not-is_digit.false)) c.grown-v.ensures
 
 pub returns : goal.returns
-returns c = digits_end _ _ _ _ c.loop-i.invariant c.loop-i-test.false
+returns c = digits_farthest _ _ _ _ _ c.loop-i.invariant c.loop-i-test.false c.loop-i.auto.i-end c.max.ensures

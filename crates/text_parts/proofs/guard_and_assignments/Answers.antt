@@ -2,14 +2,14 @@ use Rattle.text_readers.proofs.ReadingLaws.{sign_stopped, then_stopped, sign_pas
 use Rattle.text_parts.proofs.ListLaws.{series_by}
 use Rattle.text_parts.proofs.guard_and_assignments.Goals as goal
 
-pub returns-in_default : goal.returns-in_default
-returns-in_default c = sign_stopped _ _ _ _ _ _ c.sign_at-r.ensures _ _ c.in_default.is
+pub returns-in_err-q : goal.returns-in_err-q
+returns-in_err-q c = sign_stopped _ _ _ _ _ _ c.sign_at.ensures _ _ c.in_err-q.was c.from_residual.ensures.1
 
-pub returns-in_default-s : goal.returns-in_default-s
-returns-in_default-s c = sign_passed _ _ _ _ _ _ c.sign_at-r.ensures _ _ c.in-At.is (then_stopped _ _ _ _ _ _ _ c.condition_of-s.ensures _ _ c.in_default-s.is)
+pub returns-in_err-a : goal.returns-in_err-a
+returns-in_err-a c = sign_passed _ _ _ _ _ _ c.sign_at.ensures _ _ c.in_ok-q.was (then_stopped _ _ _ _ _ _ _ c.condition_of.ensures _ _ c.in_err-a.was c.from_residual-in_err-a.ensures.1)
 
-pub returns-in_default-t : goal.returns-in_default-t
-returns-in_default-t c = sign_passed _ _ _ _ _ _ c.sign_at-r.ensures _ _ c.in-At.is (then_passed _ _ _ _ _ _ _ c.condition_of-s.ensures _ _ c.in-At-s.is (sign_stopped _ _ _ _ _ _ c.sign_at-t.ensures _ _ c.in_default-t.is))
+pub returns-in_err-b : goal.returns-in_err-b
+returns-in_err-b c = sign_passed _ _ _ _ _ _ c.sign_at.ensures _ _ c.in_ok-q.was (then_passed _ _ _ _ _ _ _ c.condition_of.ensures _ _ c.in_ok-a.was (sign_stopped _ _ _ _ _ _ c.sign_at-2.ensures _ _ c.in_err-b.was c.from_residual-in_err-b.ensures.1))
 
 pub returns : goal.returns
-returns c = sign_passed _ _ _ _ _ _ c.sign_at-r.ensures _ _ c.in-At.is (then_passed _ _ _ _ _ _ _ c.condition_of-s.ensures _ _ c.in-At-s.is (sign_passed _ _ _ _ _ _ c.sign_at-t.ensures _ _ c.in-At-t.is (series_by _ _ _ _ _ _ c.assignment_list.ensures.0 c.series.ensures)))
+returns c = sign_passed _ _ _ _ _ _ c.sign_at.ensures _ _ c.in_ok-q.was (then_passed _ _ _ _ _ _ _ c.condition_of.ensures _ _ c.in_ok-a.was (sign_passed _ _ _ _ _ _ c.sign_at-2.ensures _ _ c.in_ok-b.was (series_by _ _ _ _ _ _ c.assignment_list.ensures.0 c.series.ensures)))

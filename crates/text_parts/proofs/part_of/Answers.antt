@@ -3,88 +3,39 @@ use Rattle.text_parts.specs.Parts.{part_of}
 use Rattle.text_terms.proofs.ReaderLaws.{reads_yes, reads_no}
 use borrow.Author.Tests.{eq-eqb, ne_eqb}
 use Rattle.text_parts.proofs.ListLaws.{series_by}
-use borrow.Author.Rules.{rules}
 use Rattle.text_parts.proofs.part_of.Goals as goal
-
-pub one_edge-requires : goal.one_edge-requires
-unfolding part_of
-one_edge-requires c = search rules
 
 pub returns-then-c-eq69 : goal.returns-then-c-eq69
 unfolding part_of
 returns-then-c-eq69 c = reads_yes _ _ _ _ _ _ _ (eq-eqb _ _ c.if-c-eq69.true) c.one_edge.ensures
 
-pub one_edge-requires-then-c-eq88 : goal.one_edge-requires-then-c-eq88
-unfolding part_of
-one_edge-requires-then-c-eq88 c = search rules
-
 pub returns-then-c-eq88 : goal.returns-then-c-eq88
 unfolding part_of
 returns-then-c-eq88 c = reads_no _ _ _ _ _ _ _ (ne_eqb _ _ c.if-c-eq69.false) (reads_yes _ _ _ _ _ _ _ (eq-eqb _ _ c.if-c-eq88.true) c.one_edge-then-c-eq88.ensures)
-
-pub edge_list-requires : goal.edge_list-requires
-unfolding part_of
-edge_list-requires c = search rules
-
-pub series-requires : goal.series-requires
-unfolding part_of
-series-requires c = search rules
 
 pub returns-then-c-eq70 : goal.returns-then-c-eq70
 unfolding part_of
 returns-then-c-eq70 c = reads_no _ _ _ _ _ _ _ (ne_eqb _ _ c.if-c-eq69.false) (reads_no _ _ _ _ _ _ _ (ne_eqb _ _ c.if-c-eq88.false) (reads_yes _ _ _ _ _ _ _ (eq-eqb _ _ c.if-c-eq70.true) (series_by _ _ _ _ _ _ c.edge_list.ensures.0 c.series.ensures)))
 
-pub edge_list-requires-then-c-eq89 : goal.edge_list-requires-then-c-eq89
-unfolding part_of
-edge_list-requires-then-c-eq89 c = search rules
-
-pub series-requires-then-c-eq89 : goal.series-requires-then-c-eq89
-unfolding part_of
-series-requires-then-c-eq89 c = search rules
-
 pub returns-then-c-eq89 : goal.returns-then-c-eq89
 unfolding part_of
 returns-then-c-eq89 c = reads_no _ _ _ _ _ _ _ (ne_eqb _ _ c.if-c-eq69.false) (reads_no _ _ _ _ _ _ _ (ne_eqb _ _ c.if-c-eq88.false) (reads_no _ _ _ _ _ _ _ (ne_eqb _ _ c.if-c-eq70.false) (reads_yes _ _ _ _ _ _ _ (eq-eqb _ _ c.if-c-eq89.true) (series_by _ _ _ _ _ _ c.edge_list-then-c-eq89.ensures.0 c.series-then-c-eq89.ensures))))
-
-pub task_part-requires : goal.task_part-requires
-unfolding part_of
-task_part-requires c = search rules
 
 pub returns-then-c-eq78 : goal.returns-then-c-eq78
 unfolding part_of
 returns-then-c-eq78 c = reads_no _ _ _ _ _ _ _ (ne_eqb _ _ c.if-c-eq69.false) (reads_no _ _ _ _ _ _ _ (ne_eqb _ _ c.if-c-eq88.false) (reads_no _ _ _ _ _ _ _ (ne_eqb _ _ c.if-c-eq70.false) (reads_no _ _ _ _ _ _ _ (ne_eqb _ _ c.if-c-eq89.false) (reads_yes _ _ _ _ _ _ _ (eq-eqb _ _ c.if-c-eq78.true) c.task_part.ensures))))
 
-pub message-requires : goal.message-requires
-unfolding part_of
-message-requires c = search rules
-
 pub returns-then-c-eq84 : goal.returns-then-c-eq84
 unfolding part_of
 returns-then-c-eq84 c = reads_no _ _ _ _ _ _ _ (ne_eqb _ _ c.if-c-eq69.false) (reads_no _ _ _ _ _ _ _ (ne_eqb _ _ c.if-c-eq88.false) (reads_no _ _ _ _ _ _ _ (ne_eqb _ _ c.if-c-eq70.false) (reads_no _ _ _ _ _ _ _ (ne_eqb _ _ c.if-c-eq89.false) (reads_no _ _ _ _ _ _ _ (ne_eqb _ _ c.if-c-eq78.false) (reads_yes _ _ _ _ _ _ _ (eq-eqb _ _ c.if-c-eq84.true) c.message.ensures)))))
-
-pub message-requires-then-c-eq83 : goal.message-requires-then-c-eq83
-unfolding part_of
-message-requires-then-c-eq83 c = search rules
 
 pub returns-then-c-eq83 : goal.returns-then-c-eq83
 unfolding part_of
 returns-then-c-eq83 c = reads_no _ _ _ _ _ _ _ (ne_eqb _ _ c.if-c-eq69.false) (reads_no _ _ _ _ _ _ _ (ne_eqb _ _ c.if-c-eq88.false) (reads_no _ _ _ _ _ _ _ (ne_eqb _ _ c.if-c-eq70.false) (reads_no _ _ _ _ _ _ _ (ne_eqb _ _ c.if-c-eq89.false) (reads_no _ _ _ _ _ _ _ (ne_eqb _ _ c.if-c-eq78.false) (reads_no _ _ _ _ _ _ _ (ne_eqb _ _ c.if-c-eq84.false) (reads_yes _ _ _ _ _ _ _ (eq-eqb _ _ c.if-c-eq83.true) c.message-then-c-eq83.ensures))))))
 
-pub guarded_list-requires : goal.guarded_list-requires
-unfolding part_of
-guarded_list-requires c = search rules
-
-pub series-requires-then-c-eq71 : goal.series-requires-then-c-eq71
-unfolding part_of
-series-requires-then-c-eq71 c = search rules
-
 pub returns-then-c-eq71 : goal.returns-then-c-eq71
 unfolding part_of
 returns-then-c-eq71 c = reads_no _ _ _ _ _ _ _ (ne_eqb _ _ c.if-c-eq69.false) (reads_no _ _ _ _ _ _ _ (ne_eqb _ _ c.if-c-eq88.false) (reads_no _ _ _ _ _ _ _ (ne_eqb _ _ c.if-c-eq70.false) (reads_no _ _ _ _ _ _ _ (ne_eqb _ _ c.if-c-eq89.false) (reads_no _ _ _ _ _ _ _ (ne_eqb _ _ c.if-c-eq78.false) (reads_no _ _ _ _ _ _ _ (ne_eqb _ _ c.if-c-eq84.false) (reads_no _ _ _ _ _ _ _ (ne_eqb _ _ c.if-c-eq83.false) (reads_yes _ _ _ _ _ _ _ (eq-eqb _ _ c.if-c-eq71.true) (series_by _ _ _ _ _ _ c.guarded_list.ensures.0 c.series-then-c-eq71.ensures))))))))
-
-pub receiving_branches-requires : goal.receiving_branches-requires
-unfolding part_of
-receiving_branches-requires c = search rules
 
 pub returns-then-c-eq66 : goal.returns-then-c-eq66
 unfolding part_of

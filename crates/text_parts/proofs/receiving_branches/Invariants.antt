@@ -1,7 +1,4 @@
 use Prim.Native.Char.{code}
-use Prim.Native.Nat.{◌≤◌, ◌-◌}
-use mathlib.Core.Path.{◌≡◌}
-use lib.ListN.{length}
 use Rattle.base_words.specs.Counts.{fewest, branches}
 use Rattle.base_table.specs.Places.{exits_place}
 use Rattle.text_readers.specs.Reading.{starts_sign}
@@ -10,7 +7,4 @@ use Rattle.text_parts.proofs.ListLaws.{Rest}
 use Rattle.text_parts.proofs.receiving_branches.Given as goal
 
 abbrev pub invariant-loop-k : goal.invariant-loop-k
-invariant-loop-k l = (l.k ≤ branches) × (length l.x ≡ length l.initial.x) × Rest receiving (starts_sign (code "(")) fewest exits_place branches l.text l.start l.initial.x l.k l.at l.x
-
-abbrev pub decreases-loop-k : goal.decreases-loop-k
-decreases-loop-k l = branches - l.k
+invariant-loop-k l = Rest receiving (starts_sign (code "(")) fewest exits_place branches l.text l.start l.initial.x l.k l.at l.x

@@ -1,36 +1,19 @@
 use Rattle.text_parts.specs.Parts.{task_part}
 use Rattle.text_readers.proofs.ReadingLaws.{then_stopped, then_passed, sign_stopped, sign_passed}
-use borrow.Author.Rules.{rules}
 use Rattle.text_parts.proofs.task_part.Goals as goal
 
-pub number_in-r-requires : goal.number_in-r-requires
+pub returns-in_err-q : goal.returns-in_err-q
 unfolding task_part
-number_in-r-requires c = search rules
+returns-in_err-q c = then_stopped _ _ _ _ _ _ _ c.number_in.ensures _ _ c.in_err-q.was c.from_residual.ensures.1
 
-pub returns-in_default : goal.returns-in_default
+pub returns-in_err-a : goal.returns-in_err-a
 unfolding task_part
-returns-in_default c = then_stopped _ _ _ _ _ _ _ c.number_in-r.ensures _ _ c.in_default.is
+returns-in_err-a c = then_passed _ _ _ _ _ _ _ c.number_in.ensures _ _ c.in_ok-q.was (sign_stopped _ _ _ _ _ _ c.sign_at.ensures _ _ c.in_err-a.was c.from_residual-in_err-a.ensures.1)
 
-pub sign_at-s-requires : goal.sign_at-s-requires
+pub returns-in_err-b : goal.returns-in_err-b
 unfolding task_part
-sign_at-s-requires c = search rules
-
-pub returns-in_default-s : goal.returns-in_default-s
-unfolding task_part
-returns-in_default-s c = then_passed _ _ _ _ _ _ _ c.number_in-r.ensures _ _ c.in-At.is (sign_stopped _ _ _ _ _ _ c.sign_at-s.ensures _ _ c.in_default-s.is)
-
-pub mode_in-t-requires : goal.mode_in-t-requires
-unfolding task_part
-mode_in-t-requires c = search rules
-
-pub returns-in_default-t : goal.returns-in_default-t
-unfolding task_part
-returns-in_default-t c = then_passed _ _ _ _ _ _ _ c.number_in-r.ensures _ _ c.in-At.is (sign_passed _ _ _ _ _ _ c.sign_at-s.ensures _ _ c.in-At-s.is (then_stopped _ _ _ _ _ _ _ c.mode_in-t.ensures _ _ c.in_default-t.is))
-
-pub guard_and_assignments-requires : goal.guard_and_assignments-requires
-unfolding task_part
-guard_and_assignments-requires c = search rules
+returns-in_err-b c = then_passed _ _ _ _ _ _ _ c.number_in.ensures _ _ c.in_ok-q.was (sign_passed _ _ _ _ _ _ c.sign_at.ensures _ _ c.in_ok-a.was (then_stopped _ _ _ _ _ _ _ c.mode_in.ensures _ _ c.in_err-b.was c.from_residual-in_err-b.ensures.1))
 
 pub returns : goal.returns
 unfolding task_part
-returns c = then_passed _ _ _ _ _ _ _ c.number_in-r.ensures _ _ c.in-At.is (sign_passed _ _ _ _ _ _ c.sign_at-s.ensures _ _ c.in-At-s.is (then_passed _ _ _ _ _ _ _ c.mode_in-t.ensures _ _ c.in-At-t.is c.guard_and_assignments.ensures))
+returns c = then_passed _ _ _ _ _ _ _ c.number_in.ensures _ _ c.in_ok-q.was (sign_passed _ _ _ _ _ _ c.sign_at.ensures _ _ c.in_ok-a.was (then_passed _ _ _ _ _ _ _ c.mode_in.ensures _ _ c.in_ok-b.was c.guard_and_assignments.ensures))

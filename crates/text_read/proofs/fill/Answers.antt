@@ -4,14 +4,5 @@ use Rattle.text_read.proofs.fill.Goals as goal
 
 ruleset L = (rules)
 
-pub clear-requires : goal.clear-requires
-clear-requires c = search L
-
-pub pass-requires : goal.pass-requires
-pass-requires c = search L
-
-pub rewrite-requires : goal.rewrite-requires
-rewrite-requires c = search L
-
 pub returns : goal.returns
 returns c = filled_by _ c.args.t.now _ _ _ _ (search L) c.clear.ensures c.pass.ensures c.rewrite.ensures

@@ -1,35 +1,21 @@
-use Prim.Native.Nat.{◌-◌}
-use Rattle.base_words.proofs.SumLaws.{sum_loop}
+use Rattle.std.proofs.Common.{rules, arith, ◌≡◌, ℕ, ◌≤◌, Bool, true, false, List}
+use lib.Dec.{eqb}
+use Rattle.base_words.specs.Sum.{hit, one_if}
+use Rattle.base_words.specs.Words.{at}
+use Rattle.base_words.proofs.RangeLaws.{sum_of_range}
+use Rattle.base_words.proofs.SumLaws.{sum_le}
+use Rattle.base_table.specs.Places.{edge_place}
 use Rattle.text_ends.specs.Rewriting.{times_in}
-use borrow.Author.Rules.{rules}
 use Rattle.text_rewrite.proofs.times_in.Goals as goal
 
-ruleset L = (rules, sum_loop)
+at_most_one : (b : Bool) → one_if b ≤ 1
+at_most_one true = omega arith
+at_most_one false = omega arith
 
-pub loop-j-init : goal.loop-j-init
+bounded : (el : List ℕ) (list e r : ℕ) → r ≡ times_in el list e → (r ≡ times_in el list e) × (r ≤ 8)
 unfolding times_in
-loop-j-init c = search L
-
-pub is_edge-n-requires : goal.is_edge-n-requires
-unfolding times_in
-is_edge-n-requires c = search L
-
-pub overflow_add-n : goal.overflow_add-n
-unfolding times_in
-overflow_add-n c = search L
-
-pub overflow_add-j : goal.overflow_add-j
-unfolding times_in
-overflow_add-j c = search L
-
-pub loop-j-smaller : goal.loop-j-smaller
-unfolding times_in
-loop-j-smaller c = search L
-
-pub loop-j-preserved : goal.loop-j-preserved
-unfolding times_in
-loop-j-preserved c = search L
+bounded el list e r h = (h, omega (arith, h, sum_le (λ j. hit (at el (edge_place list j)) e) 1 8 (λ k l. at_most_one _)))
 
 pub returns : goal.returns
 unfolding times_in
-returns c = search L
+returns c = bounded _ _ _ _ (sum_of_range c.filter.result _ _ (λ j. eqb (at c.args.el.now (edge_place c.args.list j)) c.args.e) _ c.count.ensures.ran c.filter.ensures.source c.filter.ensures.closure (λ x b q k. search rules))

@@ -1,28 +1,15 @@
 use Rattle.text_terms.specs.Terms.{guarded}
 use Rattle.text_readers.proofs.ReadingLaws.{sign_stopped, then_stopped, sign_passed, then_passed}
-use borrow.Author.Rules.{rules}
 use Rattle.text_terms.proofs.guarded.Goals as goal
 
-pub sign_at-r-requires : goal.sign_at-r-requires
+pub returns-in_err-q : goal.returns-in_err-q
 unfolding guarded
-sign_at-r-requires c = search rules
+returns-in_err-q c = sign_stopped _ _ _ _ _ _ c.sign_at.ensures _ _ c.in_err-q.was c.from_residual.ensures.1
 
-pub returns-in_default : goal.returns-in_default
+pub returns-in_err-a : goal.returns-in_err-a
 unfolding guarded
-returns-in_default c = sign_stopped _ _ _ _ _ _ c.sign_at-r.ensures _ _ c.in_default.is
-
-pub number_in-s-requires : goal.number_in-s-requires
-unfolding guarded
-number_in-s-requires c = search rules
-
-pub returns-in_default-s : goal.returns-in_default-s
-unfolding guarded
-returns-in_default-s c = sign_passed _ _ _ _ _ _ c.sign_at-r.ensures _ _ c.in-At.is (then_stopped _ _ _ _ _ _ _ c.number_in-s.ensures _ _ c.in_default-s.is)
-
-pub guard-requires : goal.guard-requires
-unfolding guarded
-guard-requires c = search rules
+returns-in_err-a c = sign_passed _ _ _ _ _ _ c.sign_at.ensures _ _ c.in_ok-q.was (then_stopped _ _ _ _ _ _ _ c.number_in.ensures _ _ c.in_err-a.was c.from_residual-in_err-a.ensures.1)
 
 pub returns : goal.returns
 unfolding guarded
-returns c = sign_passed _ _ _ _ _ _ c.sign_at-r.ensures _ _ c.in-At.is (then_passed _ _ _ _ _ _ _ c.number_in-s.ensures _ _ c.in-At-s.is c.guard.ensures)
+returns c = sign_passed _ _ _ _ _ _ c.sign_at.ensures _ _ c.in_ok-q.was (then_passed _ _ _ _ _ _ _ c.number_in.ensures _ _ c.in_ok-a.was c.guard.ensures)

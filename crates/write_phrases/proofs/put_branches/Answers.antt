@@ -1,5 +1,5 @@
-use Prim.Native.Nat.{◌-◌, ◌+◌}
-use Rattle.write_buffer.proofs.OverLaws.{put_as, put_long}
+use Prim.Native.Nat.{◌+◌}
+use Rattle.write_buffer.proofs.OverLaws.{put_as}
 use Rattle.write_shown.proofs.PieceLaws.{list_none, list_more, list_done}
 use Rattle.write_shown.specs.Lengths.{receiving_most}
 use Rattle.write_shown.specs.Shown.{separated}
@@ -8,13 +8,10 @@ use native.Mathlib.Omega.{arith}
 use Rattle.write_phrases.proofs.put_branches.Goals as goal
 
 pub loop-j-init : goal.loop-j-init
-loop-j-init c = (omega arith, list_none _ _ (1 + receiving_most) _ _)
+loop-j-init c = list_none _ _ (1 + receiving_most) _ _
 
 pub loop-j-preserved : goal.loop-j-preserved
-loop-j-preserved c = (omega arith, list_more _ _ _ _ refl c.loop-j.invariant.1 c.put_lead-comma.ensures c.put_branch-end.ensures)
-
-pub shape_of-out : goal.shape_of-out
-shape_of-out c = put_long c.loop-j.invariant.1
+loop-j-preserved c = list_more _ _ _ _ refl c.loop-j.invariant c.put_lead-comma.ensures c.put_branch-end.ensures
 
 pub returns : goal.returns
-returns c = put_as _ (ap (separated _ _) c.word-n.ensures) (list_done _ _ (1 + receiving_most) _ _ c.loop-j-test.false c.loop-j.invariant.0 (omega arith) c.loop-j.invariant.1)
+returns c = put_as _ (ap (separated _ _) c.word-n.ensures) (list_done _ _ (1 + receiving_most) _ _ c.loop-j-test.false c.loop-j.auto.j-end (omega arith) c.loop-j.invariant)

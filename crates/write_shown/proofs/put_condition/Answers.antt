@@ -4,20 +4,21 @@ use Rattle.base_words.proofs.AllLaws.{eq_eqb_by, ne_eqb_by}
 use Rattle.base_words.proofs.PickLaws.{pick_yes, pick_no}
 use borrow.Author.Tests.{leb-true}
 use mathlib.Core.Path.{refl}
+use native.Mathlib.Omega.{arith}
 use Rattle.write_shown.proofs.put_condition.Goals as goal
 
-pub returns-then-form-eq-ALWAYS : goal.returns-then-form-eq-ALWAYS
+pub returns-in-1 : goal.returns-in-1
 unfolding shown_condition
-returns-then-form-eq-ALWAYS c = put_within (put_as _ (pick_yes _ _ _ _ (eq_eqb_by _ _ _ c.word-form.ensures c.if-form-eq-ALWAYS.true) refl) c.put_bytes.ensures) (leb-true _ _ refl)
+returns-in-1 c = put_within (put_as _ (pick_yes _ _ _ _ (eq_eqb_by _ _ _ c.word.ensures c.in-1.is) refl) c.put_bytes.ensures) (leb-true _ _ refl)
 
-pub returns-then-form-eq-DEFAULT : goal.returns-then-form-eq-DEFAULT
+pub returns-in-2 : goal.returns-in-2
 unfolding shown_condition
-returns-then-form-eq-DEFAULT c = put_within (put_as _ (pick_no _ _ _ _ (ne_eqb_by _ _ _ c.word-form.ensures c.if-form-eq-ALWAYS.false) (pick_yes _ _ _ _ (eq_eqb_by _ _ _ c.word-form.ensures c.if-form-eq-DEFAULT.true) refl)) c.put_bytes-then-form-eq-DEFAULT.ensures) (leb-true _ _ refl)
+returns-in-2 c = put_within (put_as _ (pick_no _ _ _ _ (ne_eqb_by _ _ _ c.word.ensures (λ q. omega arith)) (pick_yes _ _ _ _ (eq_eqb_by _ _ _ c.word.ensures c.in-2.is) refl)) c.put_bytes-in-2.ensures) (leb-true _ _ refl)
 
-pub returns-then-form-eq-EQUALS : goal.returns-then-form-eq-EQUALS
+pub returns-in-3 : goal.returns-in-3
 unfolding shown_condition
-returns-then-form-eq-EQUALS c = put_as _ (pick_no _ _ _ _ (ne_eqb_by _ _ _ c.word-form.ensures c.if-form-eq-ALWAYS.false) (pick_no _ _ _ _ (ne_eqb_by _ _ _ c.word-form.ensures c.if-form-eq-DEFAULT.false) (pick_yes _ _ _ _ (eq_eqb_by _ _ _ c.word-form.ensures c.if-form-eq-EQUALS.true) refl))) c.put_pair.ensures
+returns-in-3 c = put_as _ (pick_no _ _ _ _ (ne_eqb_by _ _ _ c.word.ensures (λ q. omega arith)) (pick_no _ _ _ _ (ne_eqb_by _ _ _ c.word.ensures (λ q. omega arith)) (pick_yes _ _ _ _ (eq_eqb_by _ _ _ c.word.ensures c.in-3.is) refl))) c.put_pair.ensures
 
-pub returns : goal.returns
+pub returns-in_default : goal.returns-in_default
 unfolding shown_condition
-returns c = put_as _ (pick_no _ _ _ _ (ne_eqb_by _ _ _ c.word-form.ensures c.if-form-eq-ALWAYS.false) (pick_no _ _ _ _ (ne_eqb_by _ _ _ c.word-form.ensures c.if-form-eq-DEFAULT.false) (pick_no _ _ _ _ (ne_eqb_by _ _ _ c.word-form.ensures c.if-form-eq-EQUALS.false) (refl)))) c.put_pair-2.ensures
+returns-in_default c = put_as _ (pick_no _ _ _ _ (ne_eqb_by _ _ _ c.word.ensures (λ q. omega arith)) (pick_no _ _ _ _ (ne_eqb_by _ _ _ c.word.ensures (λ q. omega arith)) (pick_no _ _ _ _ (ne_eqb_by _ _ _ c.word.ensures (λ q. omega arith)) refl))) c.put_pair-in_default.ensures

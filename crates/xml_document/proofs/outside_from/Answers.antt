@@ -1,5 +1,4 @@
 use mathlib.Core.Path.{◌∙◌, refl, sym}
-use Prim.Native.Nat.{◌-◌}
 use native.Mathlib.Omega.{arith}
 use Rattle.xml_document.proofs.Laws.{outside_end, outside_on, outside_stops, outside_past}
 use Rattle.xml_document.proofs.outside_from.Goals as goal

@@ -1,8 +1,6 @@
-use Rattle.std.proofs.Common.{arith}
-use Rattle.check_limits.proofs.BitLaws.{zeros_by, zeros_by_past}
+use Rattle.std.proofs.lemmas.List.{take_min}
+use Rattle.check_limits.proofs.BitLaws.{zeros_by}
 use Rattle.check_limits.proofs.zeros.zero_words.Goals as goal
-use Rattle.check_limits.proofs.zeros.zero_words.Goals.{then-n-x, else-n-x}
 
 pub returns : goal.returns
-returns c =
-    elim c.if-n-x.branch [ then-n-x w ↦ zeros_by _ _ _ _ w.end-is c.bits_below.ensures | else-n-x w ↦ zeros_by_past _ _ _ _ w.end-is (omega arith) c.bits_below.ensures ]
+returns c = zeros_by c.args.x.now c.args.n _ (rw (c.min.ensures, take_min) at c.bits_in.ensures)

@@ -5,23 +5,11 @@ use Rattle.check_limits.proofs.zeros.zeros_behind.Goals as goal
 
 ruleset L = (rules)
 
-pub less-rest-requires : goal.less-rest-requires
-less-rest-requires c = search L
-
 pub overflow_mul-width : goal.overflow_mul-width
 overflow_mul-width c = record { fits = product_fits c.args.width c.args.k (omega arith) (omega arith) }
 
-pub tail-requires : goal.tail-requires
-tail-requires c = search L
-
-pub overflow_cast-rest : goal.overflow_cast-rest
-overflow_cast-rest c = search L
-
 pub overflow_mul-width-2 : goal.overflow_mul-width-2
 overflow_mul-width-2 c = record { fits = product_fits c.args.width c.less-rest.result (omega arith) (omega arith) }
-
-pub zero_words-requires : goal.zero_words-requires
-zero_words-requires c = search L
 
 pub returns : goal.returns
 returns c = rw (c.less-rest.ensures, c.tail.ensures) at c.zero_words.ensures

@@ -1,4 +1,3 @@
-use Rattle.std.proofs.Common.{rules, refl}
 use Rattle.base_table.specs.Table.{element_count, element_at, exit_at}
 use Rattle.check_nesting.specs.Deciding.{sequence_walk}
 use Rattle.check_nested.proofs.WalkLaws.{way_nothing, way_halted, way_ahead, way_passed, way_block, way_open, way_none, way_more, way_done, way_through}
@@ -17,13 +16,13 @@ pub mark_block-returns : goal.mark_block-returns
 mark_block-returns t c = way_through (sequence_walk (element_at c.args.t.now c.args.p) (element_count c.args.t.now c.args.p) c.args.n) _ _ _ _ _ _ _ _ _ _ c.exit_at.ensures c.mark_one.ensures c.mark_one-2.ensures c.mark_branches.ensures c.mark_way.ensures
 
 pub mark_branches-loop-j-init : goal.mark_branches-loop-j-init
-mark_branches-loop-j-init t c = (c.exits_at-most.ensures, search rules, refl, way_none (sequence_walk (element_at c.args.t.now c.args.p) (element_count c.args.t.now c.args.p) c.args.n) (exit_at (element_at c.args.t.now c.args.p c.args.k)) _)
+mark_branches-loop-j-init t c = way_none (sequence_walk (element_at c.args.t.now c.args.p) (element_count c.args.t.now c.args.p) c.args.n) (exit_at (element_at c.args.t.now c.args.p c.args.k)) _
 
 pub mark_branches-loop-j-preserved : goal.mark_branches-loop-j-preserved
-mark_branches-loop-j-preserved t c = (c.loop-j.invariant.0, search rules, search rules, way_more (sequence_walk (element_at c.args.t.now c.args.p) (element_count c.args.t.now c.args.p) c.args.n) (exit_at (element_at c.args.t.now c.args.p c.args.k)) _ _ _ _ c.loop-j.invariant.3 (rw c.exit_at.ensures at c.mark_way.ensures))
+mark_branches-loop-j-preserved t c = way_more (sequence_walk (element_at c.args.t.now c.args.p) (element_count c.args.t.now c.args.p) c.args.n) (exit_at (element_at c.args.t.now c.args.p c.args.k)) _ _ _ _ c.loop-j.invariant (rw c.exit_at.ensures at c.mark_way.ensures)
 
 pub mark_branches-returns : goal.mark_branches-returns
-mark_branches-returns t c = way_done (sequence_walk (element_at c.args.t.now c.args.p) (element_count c.args.t.now c.args.p) c.args.n) (exit_at (element_at c.args.t.now c.args.p c.args.k)) _ _ _ c.loop-j.invariant.0 c.loop-j-test.false c.loop-j.invariant.1 _ _ c.loop-j.invariant.3
+mark_branches-returns t c = way_done (sequence_walk (element_at c.args.t.now c.args.p) (element_count c.args.t.now c.args.p) c.args.n) (exit_at (element_at c.args.t.now c.args.p c.args.k)) _ _ _ c.exits_at-most.ensures c.loop-j-test.false c.loop-j.auto.j-end _ _ c.loop-j.invariant
 
 pub mark_way-returns-then-n-eq0 : goal.mark_way-returns-then-n-eq0
 mark_way-returns-then-n-eq0 t c = way_nothing (element_at c.args.t.now c.args.p) (element_count c.args.t.now c.args.p) _ _ _ c.if-n-eq0.true

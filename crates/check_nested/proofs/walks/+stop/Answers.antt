@@ -1,4 +1,4 @@
-use Rattle.std.proofs.Common.{rules, refl, ap, not}
+use Rattle.std.proofs.Common.{ap, not}
 use Rattle.base_table.specs.Table.{element_count, element_at, exit_at}
 use Rattle.check_nesting.specs.Deciding.{sequence_walk}
 use Rattle.check_nested.proofs.WalkLaws.{stop_none, stop_halted, stop_ahead, stop_passed, stop_block, stop_open, no_join, join_is, last_none, last_more, last_done, marked_none, marked_more, marked_done}
@@ -29,10 +29,10 @@ pub stop_of-returns : goal.stop_of-returns
 stop_of-returns t c = stop_ahead (element_at c.args.t.now c.args.p) (element_count c.args.t.now c.args.p) _ _ _ _ c.if-n-eq0.false c.taker-k.ensures c.element_count.ensures c.if-k-element_count.false _ c.stop_ahead.ensures
 
 pub walk_branches-loop-j-init : goal.walk_branches-loop-j-init
-walk_branches-loop-j-init t c = (c.exits_at-m.ensures, search rules, refl, last_none (sequence_walk (element_at c.args.t.now c.args.p) (element_count c.args.t.now c.args.p) c.args.n) (exit_at (element_at c.args.t.now c.args.p c.args.k)), marked_none (sequence_walk (element_at c.args.t.now c.args.p) (element_count c.args.t.now c.args.p) c.args.n) (exit_at (element_at c.args.t.now c.args.p c.args.k)) _)
+walk_branches-loop-j-init t c = (last_none (sequence_walk (element_at c.args.t.now c.args.p) (element_count c.args.t.now c.args.p) c.args.n) (exit_at (element_at c.args.t.now c.args.p c.args.k)), marked_none (sequence_walk (element_at c.args.t.now c.args.p) (element_count c.args.t.now c.args.p) c.args.n) (exit_at (element_at c.args.t.now c.args.p c.args.k)) _)
 
 pub walk_branches-loop-j-preserved : goal.walk_branches-loop-j-preserved
-walk_branches-loop-j-preserved t c = (c.loop-j.invariant.0, search rules, search rules, last_more (sequence_walk (element_at c.args.t.now c.args.p) (element_count c.args.t.now c.args.p) c.args.n) (exit_at (element_at c.args.t.now c.args.p c.args.k)) _ _ (rw c.exit_at.ensures at c.stop_of-a.ensures), marked_more (sequence_walk (element_at c.args.t.now c.args.p) (element_count c.args.t.now c.args.p) c.args.n) (exit_at (element_at c.args.t.now c.args.p c.args.k)) _ _ _ _ _ c.loop-j.invariant.4 (rw c.exit_at.ensures at c.stop_of-a.ensures) c.mark_one.ensures)
+walk_branches-loop-j-preserved t c = (last_more (sequence_walk (element_at c.args.t.now c.args.p) (element_count c.args.t.now c.args.p) c.args.n) (exit_at (element_at c.args.t.now c.args.p c.args.k)) _ _ (rw c.exit_at.ensures at c.stop_of-a.ensures), marked_more (sequence_walk (element_at c.args.t.now c.args.p) (element_count c.args.t.now c.args.p) c.args.n) (exit_at (element_at c.args.t.now c.args.p c.args.k)) _ _ _ _ _ c.loop-j.invariant.1 (rw c.exit_at.ensures at c.stop_of-a.ensures) c.mark_one.ensures)
 
 pub walk_branches-returns : goal.walk_branches-returns
-walk_branches-returns t c = (last_done (sequence_walk (element_at c.args.t.now c.args.p) (element_count c.args.t.now c.args.p) c.args.n) (exit_at (element_at c.args.t.now c.args.p c.args.k)) _ _ _ c.loop-j.invariant.0 c.loop-j-test.false c.loop-j.invariant.1 _ c.loop-j.invariant.3, marked_done (sequence_walk (element_at c.args.t.now c.args.p) (element_count c.args.t.now c.args.p) c.args.n) (exit_at (element_at c.args.t.now c.args.p c.args.k)) _ _ _ c.loop-j.invariant.0 c.loop-j-test.false c.loop-j.invariant.1 _ _ c.loop-j.invariant.4)
+walk_branches-returns t c = (last_done (sequence_walk (element_at c.args.t.now c.args.p) (element_count c.args.t.now c.args.p) c.args.n) (exit_at (element_at c.args.t.now c.args.p c.args.k)) _ _ _ c.exits_at-m.ensures c.loop-j-test.false c.loop-j.auto.j-end _ c.loop-j.invariant.0, marked_done (sequence_walk (element_at c.args.t.now c.args.p) (element_count c.args.t.now c.args.p) c.args.n) (exit_at (element_at c.args.t.now c.args.p c.args.k)) _ _ _ c.exits_at-m.ensures c.loop-j-test.false c.loop-j.auto.j-end _ _ c.loop-j.invariant.1)

@@ -5,17 +5,17 @@ use mathlib.Core.Path.{ap}
 use mathlib.Core.Bool.{not}
 use Rattle.draw_conditions.proofs.spelled.digits.Goals as goal
 
-pub loop-b-init : goal.loop-b-init
-loop-b-init c = refl
+pub loop-x-init : goal.loop-x-init
+loop-x-init c = refl
 
 pub returns-in_default : goal.returns-in_default
-returns-in_default c = c.value_of.ensures ∙ sym (value_end _ _ (no_letter _ _ _ c.letter-x.ensures c.in_default.is)) ∙ c.loop-b.invariant
+returns-in_default c = c.value_of.ensures ∙ sym (value_end _ _ (no_letter _ _ _ c.letter.ensures c.in_default.is)) ∙ c.loop-x.invariant
 
 pub returns-then-not-is_digit : goal.returns-then-not-is_digit
-returns-then-not-is_digit c = sym (value_none _ _ _ _ (a_letter _ _ _ c.letter-x.ensures _ _ _ c.in-Byte.is) (flag_no _ _ c.is_digit.ensures (ap not c.if-not-is_digit.true))) ∙ c.loop-b.invariant
+returns-then-not-is_digit c = sym (value_none _ _ _ _ (a_letter _ _ _ c.letter.ensures _ c.in-Some.is) (flag_no _ _ c.is_digit.ensures (ap not c.if-not-is_digit.true))) ∙ c.loop-x.invariant
 
-pub loop-b-smaller : goal.loop-b-smaller
-loop-b-smaller c = fewer _ _ _ (a_letter _ _ _ c.letter-x.ensures _ _ _ c.in-Byte.is)
+pub loop-x-smaller : goal.loop-x-smaller
+loop-x-smaller c = fewer _ _ _ (a_letter _ _ _ c.letter.ensures _ c.in-Some.is)
 
-pub loop-b-preserved : goal.loop-b-preserved
-loop-b-preserved c = sym (value_on _ _ _ _ (a_letter _ _ _ c.letter-x.ensures _ _ _ c.in-Byte.is) (flag_yes _ _ c.is_digit.ensures (ap not c.if-not-is_digit.false)) _ c.grown-v.ensures) ∙ c.loop-b.invariant
+pub loop-x-preserved : goal.loop-x-preserved
+loop-x-preserved c = sym (value_on _ _ _ _ (a_letter _ _ _ c.letter.ensures _ c.in-Some.is) (flag_yes _ _ c.is_digit.ensures (ap not c.if-not-is_digit.false)) _ c.grown-v.ensures) ∙ c.loop-x.invariant

@@ -1,7 +1,6 @@
 use Rattle.draw_faults.specs.Amiss.{is_repeated}
 use Rattle.draw_links.proofs.LinkLaws.{if_absent, if_is_lem}
 use Rattle.base_words.proofs.PickLaws.{and_no, and_yes, flag_no, flag_yes}
-use Rattle.base_words.specs.Words.{at}
 use borrow.Author.Rules.{rules}
 use mathlib.Core.Path.{ap}
 use mathlib.Core.Bool.{not}
@@ -33,4 +32,4 @@ is_taken-requires c = search rules
 
 pub returns : goal.returns
 unfolding is_repeated
-returns c = and_yes _ _ _ (flag_yes _ _ c.is_read.ensures (ap not c.if-not-is_read.false)) (if_is_lem _ _ _ _ _ _ _ c.attribute_of-a.ensures c.in-Is.is (rw c.piece.ensures at c.is_taken.ensures))
+returns c = and_yes _ _ _ (flag_yes _ _ c.is_read.ensures (ap not c.if-not-is_read.false)) (if_is_lem _ _ _ _ _ _ _ c.attribute_of-a.ensures c.in-Some.is (rw c.piece.ensures at c.is_taken.ensures))

@@ -1,11 +1,7 @@
-use Prim.Native.Nat.{◌-◌, ◌≤◌}
+use Prim.Native.Nat.{◌≤◌}
 use lib.ListN.{length}
-use mathlib.Core.Path.{◌≡◌}
 use Rattle.draw_faults.specs.Once.{Shelved}
 use Rattle.draw_faults.proofs.repeats.are_shelved.Given as goal
 
 abbrev pub invariant-loop-k : goal.invariant-loop-k
-invariant-loop-k l = (l.b ≤ l.k) × (length l.v ≡ length l.initial.v) × (l.m ≤ length l.v) × Shelved l.text l.w l.b l.k l.v l.m
-
-abbrev pub decreases-loop-k : goal.decreases-loop-k
-decreases-loop-k l = l.e - l.k
+invariant-loop-k l = (l.m ≤ length l.v) × Shelved l.text l.w l.b l.k l.v l.m

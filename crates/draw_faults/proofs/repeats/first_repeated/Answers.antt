@@ -1,9 +1,7 @@
-use Prim.Native.Nat.{◌-◌}
 use Rattle.draw_faults.proofs.RepeatLaws.{none_below, none_further, none_here}
 use Rattle.draw_faults.specs.Amiss.{is_repeated}
 use Rattle.base_words.proofs.PickLaws.{flag_is}
 use Rattle.base_words.proofs.SeekLaws.{seek_done, seek_found}
-use mathlib.Core.Bool.{false}
 use native.Mathlib.Omega.{arith}
 use borrow.Author.Rules.{rules}
 use Rattle.draw_faults.proofs.repeats.first_repeated.Goals as goal

@@ -1,16 +1,10 @@
-use mathlib.Core.Bool.{false≢true}
+use mathlib.Core.Path.{◌∙◌, sym, ap}
+use mathlib.Core.Bool.{not, false≢true}
 use native.Mathlib.Omega.{arith}
+use Rattle.std.proofs.Common.{length, ◌<◌}
+use borrow.Author.Tests.{eq-eqb, eqb-false}
 use Rattle.draw_links.proofs.NoteLaws.{up_otherwise}
 use Rattle.draw_links.proofs.ids.begins_otherwise.Goals as goal
 
-pub returns-then-v-eq0 : goal.returns-then-v-eq0
-returns-then-v-eq0 c e = absurd (false≢true e)
-
-pub returns-then-text-a : goal.returns-then-text-a
-returns-then-text-a c e = absurd (false≢true e)
-
-pub returns-then-text-a-2 : goal.returns-then-text-a-2
-returns-then-text-a-2 c e q = up_otherwise c.args.text.now c.args.v.now c.args.a q (omega arith) (omega arith) c.if-text-a-2.true
-
-pub returns : goal.returns
-returns c e = absurd (false≢true e)
+pub returns-then-a-text : goal.returns-then-a-text
+returns-then-a-text c e q = let h : 0 < length c.args.v.now = omega (arith, eqb-false (length c.args.v.now) 0 (sym c.is_empty.ensures ∙ c.if-a-text.true.0)) in up_otherwise c.args.text.now c.args.v.now c.args.a q h (omega arith) (λ f. false≢true (ap not (sym (eq-eqb _ _ f)) ∙ e))

@@ -2,28 +2,15 @@ use mathlib.Core.Path.{refl}
 use Rattle.base_words.proofs.PickLaws.{flag_is, pick_no, pick_yes}
 use Rattle.draw_links.proofs.TargetLaws.{retarget_out}
 use Rattle.draw_links.specs.Notes.{note_of, retargeted}
-use borrow.Author.Rules.{rules}
 use Rattle.draw_links.proofs.ids.note_id.Goals as goal
 
 pub returns-then-w-k : goal.returns-then-w-k
 unfolding retargeted
 returns-then-w-k c = retarget_out (note_of c.args.text.now) _ _ c.if-w-k.true
 
-pub is_flow-requires : goal.is_flow-requires
-unfolding retargeted
-is_flow-requires c = search rules
-
 pub returns-then-is_flow : goal.returns-then-is_flow
 unfolding retargeted
 returns-then-is_flow c = pick_yes _ _ _ _ (flag_is _ _ _ c.is_flow.ensures c.if-is_flow.true) refl
-
-pub note_of-a-requires : goal.note_of-a-requires
-unfolding retargeted
-note_of-a-requires c = search rules
-
-pub set_target-requires : goal.set_target-requires
-unfolding retargeted
-set_target-requires c = search rules
 
 pub returns : goal.returns
 unfolding retargeted

@@ -1,6 +1,5 @@
 use Rattle.draw_numbers.specs.Numbers.{maximum_of}
 use Rattle.draw_links.proofs.LinkLaws.{if_absent, if_is_lem}
-use Rattle.base_words.specs.Words.{at}
 use borrow.Author.Rules.{rules}
 use Rattle.draw_numbers.proofs.numbers.maximum_of.Goals as goal
 
@@ -22,4 +21,4 @@ value_of-requires c = search rules
 
 pub returns : goal.returns
 unfolding maximum_of
-returns c = if_is_lem _ _ _ _ _ _ _ c.attribute_of-a.ensures c.in-Is.is (rw c.piece.ensures at c.value_of.ensures)
+returns c = if_is_lem _ _ _ _ _ _ _ c.attribute_of-a.ensures c.in-Some.is (rw c.piece.ensures at c.value_of.ensures)

@@ -1,5 +1,4 @@
 use mathlib.Core.Path.{◌∙◌, sym}
-use Prim.Native.Nat.{◌-◌}
 use Rattle.draw_things.specs.Names.{draws_another}
 use Rattle.draw_things.proofs.AttributeLaws.{another_here, another_on, another_stops, another_leap, another_end}
 use Rattle.xml_markup.proofs.LeapLaws.{on_leap}

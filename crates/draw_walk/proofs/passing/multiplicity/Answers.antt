@@ -14,10 +14,10 @@ pub skip-requires : goal.skip-requires
 unfolding multiplicity_by multiplicity
 skip-requires c = search rules
 
-pub returns-in-Is : goal.returns-in-Is
+pub returns-in-Some : goal.returns-in-Some
 unfolding multiplicity_by multiplicity
-returns-in-Is c = rw (← c.attribute-a.ensures, c.in-Is.is) c.judged.ensures
+returns-in-Some c = rw (← c.attribute-a.ensures, c.in-Some.is) c.judged.ensures
 
-pub returns-in-Absent : goal.returns-in-Absent
+pub returns-in-None : goal.returns-in-None
 unfolding multiplicity_by multiplicity
-returns-in-Absent c = rw (← c.attribute-a.ensures, c.in-Absent.is) c.skip.ensures
+returns-in-None c = rw (← c.attribute-a.ensures, c.in-None.is) c.skip.ensures

@@ -1,4 +1,3 @@
-use Prim.Native.Nat.{◌-◌}
 use borrow.Author.Rules.{rules}
 use Rattle.base_words.proofs.AllLaws.{all_loop}
 use Rattle.state_check.proofs.CallLaws.{shown_first, shown_more, shown_fails}
@@ -9,17 +8,8 @@ ruleset L = (rules, all_loop, shown_first, shown_more, shown_fails)
 pub loop-j-init : goal.loop-j-init
 loop-j-init c = search L
 
-pub value_at-requires : goal.value_at-requires
-value_at-requires c = search L
-
 pub returns-then-value_at-ne0 : goal.returns-then-value_at-ne0
 returns-then-value_at-ne0 c = search L
-
-pub overflow_add-j : goal.overflow_add-j
-overflow_add-j c = search L
-
-pub loop-j-smaller : goal.loop-j-smaller
-loop-j-smaller c = search L
 
 pub loop-j-preserved : goal.loop-j-preserved
 loop-j-preserved c = search L

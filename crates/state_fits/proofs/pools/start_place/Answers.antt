@@ -1,17 +1,12 @@
-use Rattle.state_fits.specs.Fits.{start_place}
-use borrow.Author.Rules.{rules}
+use Rattle.std.proofs.Common.{rules, ◌∙◌, ap}
+use Rattle.base_words.specs.Seek.{seek}
+use Rattle.base_words.proofs.RangeLaws.{seek_of_range}
+use Rattle.state_fits.specs.Fits.{is_start, start_place}
 use Rattle.state_fits.proofs.pools.start_place.Goals as goal
-
-ruleset L = (rules)
-
-pub element_count-requires : goal.element_count-requires
-unfolding start_place
-element_count-requires c = search L
-
-pub start_below-requires : goal.start_below-requires
-unfolding start_place
-start_below-requires c = search L
 
 pub returns : goal.returns
 unfolding start_place
-returns c = rw c.element_count.ensures at c.start_below.ensures
+returns c =
+    c.unwrap_or.ensures
+    ∙ seek_of_range _ _ _ (is_start c.args.t.now c.args.p) _ c.find.ensures.ran (λ x q k. search rules) (λ x q k. search rules)
+    ∙ ap (seek (is_start c.args.t.now c.args.p)) c.element_count-n.ensures

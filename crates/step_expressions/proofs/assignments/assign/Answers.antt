@@ -1,30 +1,13 @@
+use Rattle.base_words.proofs.IterLaws.{iter_none, iter_more, iter_done}
 use Rattle.meaning.specs.Assignments.{assigned}
-use Rattle.step_expressions.proofs.OrderLaws.{iter_four}
-use borrow.Author.Rules.{rules}
 use Rattle.step_expressions.proofs.assignments.assign.Goals as goal
 
-ruleset L = (rules)
+pub loop-j-init : goal.loop-j-init
+loop-j-init c = iter_none _ _
 
-pub assign_one-a-requires : goal.assign_one-a-requires
-unfolding assigned
-assign_one-a-requires c = search L
-
-pub assign_one-b-requires : goal.assign_one-b-requires
-unfolding assigned
-assign_one-b-requires c = search L
-
-pub assign_one-c-requires : goal.assign_one-c-requires
-unfolding assigned
-assign_one-c-requires c = search L
-
-pub assign_one-requires : goal.assign_one-requires
-unfolding assigned
-assign_one-requires c = search L
-
-pub shape_of-h : goal.shape_of-h
-unfolding assigned
-shape_of-h c = search L
+pub loop-j-preserved : goal.loop-j-preserved
+loop-j-preserved c = iter_more _ _ _ _ _ c.loop-j.invariant c.assign_one-defined.ensures
 
 pub returns : goal.returns
 unfolding assigned
-returns c = iter_four _ _ _ _ _ _ c.assign_one-a.ensures c.assign_one-b.ensures c.assign_one-c.ensures c.assign_one.ensures
+returns c = iter_done _ _ _ _ _ c.loop-j-test.false c.loop-j.auto.j-end c.loop-j.invariant

@@ -4,16 +4,9 @@ use Rattle.base_words.proofs.PickLaws.{pick_no, pick_yes}
 use Rattle.base_words.proofs.AllLaws.{le_leb_by, lt_leb_by}
 use Rattle.meaning.specs.Assignments.{assign_one}
 use Rattle.step_expressions.proofs.OrderLaws.{undefined_stays}
-use borrow.Author.Rules.{rules}
 use mathlib.Core.Path.{ap}
 use mathlib.Core.Bool.{not}
 use Rattle.step_expressions.proofs.assignments.assign_one.Goals as goal
-
-ruleset L = (rules)
-
-pub assignment_count-requires : goal.assignment_count-requires
-unfolding assign_one
-assignment_count-requires c = search L
 
 pub returns-then-assignment_count-j : goal.returns-then-assignment_count-j
 unfolding assign_one
@@ -22,30 +15,6 @@ returns-then-assignment_count-j c = pick_yes _ _ _ _ (le_leb_by _ _ _ c.assignme
 pub returns-then-not-defined : goal.returns-then-not-defined
 unfolding assign_one
 returns-then-not-defined c = pick_no _ _ _ _ (lt_leb_by _ _ _ c.assignment_count.ensures c.if-assignment_count-j.false) (pick_no _ _ _ _ (not-true _ (ap not c.if-not-defined.true)) (undefined_stays _ _ (not-true _ (ap not c.if-not-defined.true))))
-
-pub assignment_at-a-requires : goal.assignment_at-a-requires
-unfolding assign_one
-assignment_at-a-requires c = search L
-
-pub tail-requires : goal.tail-requires
-unfolding assign_one
-tail-requires c = search L
-
-pub expression-x-requires : goal.expression-x-requires
-unfolding assign_one
-expression-x-requires c = search L
-
-pub word-requires : goal.word-requires
-unfolding assign_one
-word-requires c = search L
-
-pub assign_value-requires : goal.assign_value-requires
-unfolding assign_one
-assign_value-requires c = search L
-
-pub shape_of-h : goal.shape_of-h
-unfolding assign_one
-shape_of-h c = search L
 
 pub returns : goal.returns
 unfolding assign_one

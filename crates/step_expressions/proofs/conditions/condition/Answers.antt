@@ -2,46 +2,15 @@ use mathlib.Core.Path.{refl}
 use Rattle.base_words.proofs.PickLaws.{pick_no, pick_yes}
 use Rattle.base_words.proofs.AllLaws.{eq_eqb_by, ne_eqb_by}
 use Rattle.meaning.specs.Conditions.{condition_of}
-use borrow.Author.Rules.{rules}
 use Rattle.step_expressions.proofs.conditions.condition.Goals as goal
-
-ruleset L = (rules)
-
-pub word-form-requires : goal.word-form-requires
-unfolding condition_of
-word-form-requires c = search L
 
 pub returns-then-form-eq-ALWAYS : goal.returns-then-form-eq-ALWAYS
 unfolding condition_of
 returns-then-form-eq-ALWAYS c = pick_yes _ _ _ _ (eq_eqb_by _ _ _ c.word-form.ensures c.if-form-eq-ALWAYS.true) refl
 
-pub overflow_cast-operand : goal.overflow_cast-operand
-unfolding condition_of
-overflow_cast-operand c = search L
-
-pub operand-a-requires : goal.operand-a-requires
-unfolding condition_of
-operand-a-requires c = search L
-
-pub overflow_cast-operand-2 : goal.overflow_cast-operand-2
-unfolding condition_of
-overflow_cast-operand-2 c = search L
-
-pub operand-b-requires : goal.operand-b-requires
-unfolding condition_of
-operand-b-requires c = search L
-
-pub equal-requires : goal.equal-requires
-unfolding condition_of
-equal-requires c = search L
-
 pub returns-then-form-eq-EQUALS : goal.returns-then-form-eq-EQUALS
 unfolding condition_of
 returns-then-form-eq-EQUALS c = pick_no _ _ _ _ (ne_eqb_by _ _ _ c.word-form.ensures c.if-form-eq-ALWAYS.false) (pick_yes _ _ _ _ (eq_eqb_by _ _ _ c.word-form.ensures c.if-form-eq-EQUALS.true) (rw (c.operand-a.ensures, c.operand-b.ensures) at c.equal.ensures))
-
-pub less-requires : goal.less-requires
-unfolding condition_of
-less-requires c = search L
 
 pub returns-then-form-eq-BELOW : goal.returns-then-form-eq-BELOW
 unfolding condition_of

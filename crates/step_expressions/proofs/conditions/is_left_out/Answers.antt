@@ -1,22 +1,11 @@
 use mathlib.Core.Path.{refl}
 use Rattle.base_words.proofs.PickLaws.{flag_is, pick_no, pick_yes}
 use Rattle.meaning.specs.Conditions.{left_out}
-use borrow.Author.Rules.{rules}
 use Rattle.step_expressions.proofs.conditions.is_left_out.Goals as goal
-
-ruleset L = (rules)
-
-pub is_default-requires : goal.is_default-requires
-unfolding left_out
-is_default-requires c = search L
 
 pub returns-then-is_default : goal.returns-then-is_default
 unfolding left_out
 returns-then-is_default c = pick_yes _ _ _ _ (flag_is _ _ _ c.is_default.ensures c.if-is_default.true) refl
-
-pub is_default-requires-2 : goal.is_default-requires-2
-unfolding left_out
-is_default-requires-2 c = search L
 
 pub returns : goal.returns
 unfolding left_out

@@ -2,38 +2,15 @@ use mathlib.Core.Path.{refl}
 use Rattle.base_words.proofs.PickLaws.{flag_is, pick_no, pick_yes}
 use Rattle.base_words.proofs.AllLaws.{le_leb_by, lt_leb_by}
 use Rattle.meaning.specs.Templates.{item_value}
-use borrow.Author.Rules.{rules}
 use Rattle.step_expressions.proofs.templates.item_value.Goals as goal
-
-ruleset L = (rules)
-
-pub message_length-requires : goal.message_length-requires
-unfolding item_value
-message_length-requires c = search L
 
 pub returns-then-message_length-j : goal.returns-then-message_length-j
 unfolding item_value
 returns-then-message_length-j c = pick_yes _ _ _ _ (le_leb_by _ _ _ c.message_length.ensures c.if-message_length-j.true) refl
 
-pub does_bind-requires : goal.does_bind-requires
-unfolding item_value
-does_bind-requires c = search L
-
-pub value_of-requires : goal.value_of-requires
-unfolding item_value
-value_of-requires c = search L
-
 pub returns-then-does_bind : goal.returns-then-does_bind
 unfolding item_value
 returns-then-does_bind c = pick_no _ _ _ _ (lt_leb_by _ _ _ c.message_length.ensures c.if-message_length-j.false) (pick_yes _ _ _ _ (flag_is _ _ _ c.does_bind.ensures c.if-does_bind.true) (rw c.value_of.ensures))
-
-pub item_at-requires : goal.item_at-requires
-unfolding item_value
-item_at-requires c = search L
-
-pub expression-requires : goal.expression-requires
-unfolding item_value
-expression-requires c = search L
 
 pub returns : goal.returns
 unfolding item_value

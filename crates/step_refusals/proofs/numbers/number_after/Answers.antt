@@ -5,20 +5,9 @@ use Rattle.step_refusals.specs.Chain.{number_at, listed, of_queues}
 use Rattle.step_refusals.proofs.NumberLaws.{none_after}
 use Rattle.meaning.specs.Refusals.{first_refusal}
 use Rattle.meaning.specs.Step.{refusals_at}
-use borrow.Author.Rules.{rules}
 use mathlib.Core.Path.{ap}
 use mathlib.Core.Bool.{not}
 use Rattle.step_refusals.proofs.numbers.number_after.Goals as goal
-
-ruleset L = (rules)
-
-pub message_name-name-requires : goal.message_name-name-requires
-unfolding first_refusal refusals_at number_at listed of_queues
-message_name-name-requires c = search L
-
-pub is_queued-requires : goal.is_queued-requires
-unfolding first_refusal refusals_at number_at listed of_queues
-is_queued-requires c = search L
 
 pub returns-then-not-is_queued : goal.returns-then-not-is_queued
 unfolding first_refusal refusals_at number_at listed of_queues
@@ -28,17 +17,9 @@ pub returns-then-not-below : goal.returns-then-not-below
 unfolding first_refusal refusals_at number_at listed of_queues
 returns-then-not-below c = rw (← c.message_name-name.ensures) (pick_yes _ _ _ _ (flag_is _ _ _ c.is_queued.ensures (not-false _ (ap not c.if-not-is_queued.false))) (pick_no _ _ _ _ ((not-true _ (ap not c.if-not-below.true))) refl))
 
-pub has_space-requires : goal.has_space-requires
-unfolding first_refusal refusals_at number_at listed of_queues
-has_space-requires c = search L
-
 pub returns-then-not-has_space : goal.returns-then-not-has_space
 unfolding first_refusal refusals_at number_at listed of_queues
 returns-then-not-has_space c = rw (← c.message_name-name.ensures) (pick_yes _ _ _ _ (flag_is _ _ _ c.is_queued.ensures (not-false _ (ap not c.if-not-is_queued.false))) (pick_yes _ _ _ _ ((not-false _ (ap not c.if-not-below.false))) (pick_no _ _ _ _ (flag_is _ _ _ c.has_space.ensures (not-true _ (ap not c.if-not-has_space.true))) refl)))
-
-pub is_roomy-requires : goal.is_roomy-requires
-unfolding first_refusal refusals_at number_at listed of_queues
-is_roomy-requires c = search L
 
 pub returns-then-not-is_roomy : goal.returns-then-not-is_roomy
 unfolding first_refusal refusals_at number_at listed of_queues

@@ -4,24 +4,13 @@ use borrow.Author.Tests.{not-true, not-false}
 use Rattle.step_refusals.specs.Chain.{number_at, listed, before_fields}
 use Rattle.meaning.specs.Refusals.{first_refusal}
 use Rattle.meaning.specs.Step.{refusals_at}
-use borrow.Author.Rules.{rules}
 use mathlib.Core.Path.{ap}
 use mathlib.Core.Bool.{not}
 use Rattle.step_refusals.proofs.numbers.number_before.Goals as goal
 
-ruleset L = (rules)
-
-pub permits-requires : goal.permits-requires
-unfolding first_refusal refusals_at number_at listed before_fields
-permits-requires c = search L
-
 pub returns-then-not-permits : goal.returns-then-not-permits
 unfolding first_refusal refusals_at number_at listed before_fields
 returns-then-not-permits c = pick_no _ _ _ _ (flag_is _ _ _ c.permits.ensures (not-true _ (ap not c.if-not-permits.true))) refl
-
-pub grants-requires : goal.grants-requires
-unfolding first_refusal refusals_at number_at listed before_fields
-grants-requires c = search L
 
 pub returns-then-not-grants : goal.returns-then-not-grants
 unfolding first_refusal refusals_at number_at listed before_fields

@@ -4,16 +4,9 @@ use borrow.Author.Tests.{not-true, not-false}
 use Rattle.step_refusals.specs.Chain.{number_at, listed, of_fields}
 use Rattle.meaning.specs.Refusals.{first_refusal}
 use Rattle.meaning.specs.Step.{refusals_at}
-use borrow.Author.Rules.{rules}
 use mathlib.Core.Path.{ap}
 use mathlib.Core.Bool.{not}
 use Rattle.step_refusals.proofs.numbers.number_of_fields.Goals as goal
-
-ruleset L = (rules)
-
-pub receives_or-requires : goal.receives_or-requires
-unfolding first_refusal refusals_at number_at listed of_fields
-receives_or-requires c = search L
 
 pub returns-then-not-receives_or : goal.returns-then-not-receives_or
 unfolding first_refusal refusals_at number_at listed of_fields

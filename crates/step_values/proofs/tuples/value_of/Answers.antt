@@ -8,6 +8,6 @@ pub returns-then-j-g : goal.returns-then-j-g
 unfolding value_of
 returns-then-j-g c = pick_yes _ _ _ _ (lt-ltb _ _ c.if-j-g.true) (rw c.wide.ensures at c.word.ensures)
 
-pub returns : goal.returns
+pub returns-else-j-g : goal.returns-else-j-g
 unfolding value_of
-returns c = pick_no _ _ _ _ (le-ltb _ _ c.if-j-g.false) refl
+returns-else-j-g c = pick_no _ _ _ _ (le-ltb _ _ c.if-j-g.false) refl

@@ -1,44 +1,23 @@
 use Rattle.text_parts.specs.Parts.{item_of}
 use Rattle.text_terms.proofs.ReaderLaws.{reads_yes, reads_no}
 use borrow.Author.Tests.{eq-eqb, ne_eqb}
-use borrow.Author.Rules.{rules}
 use Rattle.text_parts.proofs.lists.item_of.Goals as goal
-
-pub number_in-requires : goal.number_in-requires
-unfolding item_of
-number_in-requires c = search rules
 
 pub returns-then-s-eq-AN_EDGE : goal.returns-then-s-eq-AN_EDGE
 unfolding item_of
 returns-then-s-eq-AN_EDGE c = reads_yes _ _ _ _ _ _ _ (eq-eqb _ _ c.if-s-eq-AN_EDGE.true) c.number_in.ensures
 
-pub item_of_template-requires : goal.item_of_template-requires
-unfolding item_of
-item_of_template-requires c = search rules
-
 pub returns-then-s-eq-A_TEMPLATE_ITEM : goal.returns-then-s-eq-A_TEMPLATE_ITEM
 unfolding item_of
 returns-then-s-eq-A_TEMPLATE_ITEM c = reads_no _ _ _ _ _ _ _ (ne_eqb _ _ c.if-s-eq-AN_EDGE.false) (reads_yes _ _ _ _ _ _ _ (eq-eqb _ _ c.if-s-eq-A_TEMPLATE_ITEM.true) c.item_of_template.ensures)
-
-pub item_of_message-requires : goal.item_of_message-requires
-unfolding item_of
-item_of_message-requires c = search rules
 
 pub returns-then-s-eq-A_MESSAGE_ITEM : goal.returns-then-s-eq-A_MESSAGE_ITEM
 unfolding item_of
 returns-then-s-eq-A_MESSAGE_ITEM c = reads_no _ _ _ _ _ _ _ (ne_eqb _ _ c.if-s-eq-AN_EDGE.false) (reads_no _ _ _ _ _ _ _ (ne_eqb _ _ c.if-s-eq-A_TEMPLATE_ITEM.false) (reads_yes _ _ _ _ _ _ _ (eq-eqb _ _ c.if-s-eq-A_MESSAGE_ITEM.true) c.item_of_message.ensures))
 
-pub assignment-requires : goal.assignment-requires
-unfolding item_of
-assignment-requires c = search rules
-
 pub returns-then-s-eq-AN_ASSIGNMENT : goal.returns-then-s-eq-AN_ASSIGNMENT
 unfolding item_of
 returns-then-s-eq-AN_ASSIGNMENT c = reads_no _ _ _ _ _ _ _ (ne_eqb _ _ c.if-s-eq-AN_EDGE.false) (reads_no _ _ _ _ _ _ _ (ne_eqb _ _ c.if-s-eq-A_TEMPLATE_ITEM.false) (reads_no _ _ _ _ _ _ _ (ne_eqb _ _ c.if-s-eq-A_MESSAGE_ITEM.false) (reads_yes _ _ _ _ _ _ _ (eq-eqb _ _ c.if-s-eq-AN_ASSIGNMENT.true) c.assignment.ensures)))
-
-pub guarded-requires : goal.guarded-requires
-unfolding item_of
-guarded-requires c = search rules
 
 pub returns : goal.returns
 unfolding item_of

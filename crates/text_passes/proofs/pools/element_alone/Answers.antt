@@ -4,8 +4,5 @@ use Rattle.text_passes.proofs.pools.element_alone.Goals as goal
 
 ruleset L = (rules)
 
-pub element-requires : goal.element-requires
-element-requires c = search L
-
 pub returns : goal.returns
 returns c = alone _ _ _ _ _ (search L) c.element.ensures

@@ -8,7 +8,4 @@ use Rattle.text_passes.proofs.TurnLaws.{Elements}
 use Rattle.text_passes.proofs.pools.elements_at.Given as goal
 
 abbrev pub invariant-loop-n : goal.invariant-loop-n
-invariant-loop-n l = (l.n ≤ elements) × (length l.w ≡ length l.initial.w) × Elements l.fills l.i l.text l.at l.n l.w (Passed (kept_all (kept_element l.fills l.i) 0) (elements_at l.text l.start) l.initial.w)
-
-abbrev pub decreases-loop-n : goal.decreases-loop-n
-decreases-loop-n l = elements - l.n
+invariant-loop-n l = Elements l.fills l.i l.text l.at l.n l.w (Passed (kept_all (kept_element l.fills l.i) 0) (elements_at l.text l.start) l.initial.w)

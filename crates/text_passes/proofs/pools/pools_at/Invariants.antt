@@ -8,7 +8,4 @@ use Rattle.text_passes.proofs.TurnLaws.{Pools}
 use Rattle.text_passes.proofs.pools.pools_at.Given as goal
 
 abbrev pub invariant-loop-i : goal.invariant-loop-i
-invariant-loop-i l = (l.i ≤ pools) × (length l.w ≡ length l.initial.w) × Pools l.fills l.text l.at l.i l.w (Passed (kept_all (kept_pool l.fills) 0) (pools_at l.text l.start) l.initial.w)
-
-abbrev pub decreases-loop-i : goal.decreases-loop-i
-decreases-loop-i l = pools - l.i
+invariant-loop-i l = Pools l.fills l.text l.at l.i l.w (Passed (kept_all (kept_pool l.fills) 0) (pools_at l.text l.start) l.initial.w)

@@ -1,15 +1,6 @@
 use mathlib.Core.Path.{refl}
 use Rattle.xml_markup.specs.Ahead.{is_faulty_else}
-use borrow.Author.Rules.{rules}
 use Rattle.xml_markup.proofs.ahead.is_faulty_else.Goals as goal
-
-pub reserved-requires : goal.reserved-requires
-unfolding is_faulty_else
-reserved-requires c = search rules
-
-pub speaks-requires : goal.speaks-requires
-unfolding is_faulty_else
-speaks-requires c = search rules
 
 pub returns-in-Nothing : goal.returns-in-Nothing
 unfolding is_faulty_else

@@ -1,5 +1,4 @@
 use mathlib.Core.Path.{◌∙◌, refl, sym}
-use Prim.Native.Nat.{◌-◌}
 use native.Mathlib.Omega.{arith}
 use Rattle.xml_markup.proofs.AheadLaws.{ahead_none, ahead_byte}
 use Rattle.xml_markup.proofs.LeapLaws.{on_leap, ahead_leap}
@@ -22,7 +21,7 @@ pub loop-i-smaller : goal.loop-i-smaller
 loop-i-smaller c = omega (arith, on_leap _ c.leap-l.ensures)
 
 pub loop-i-preserved : goal.loop-i-preserved
-loop-i-preserved c = let taken = c.take_name-t.ensures.0 _ c.in-To.is c.loop-i.invariant.1.rising in
+loop-i-preserved c = let taken = c.take_name-t.ensures.0 _ c.in-Some.is c.loop-i.invariant.1.rising in
     (search rules, ahead_leap _ _ _ _ _ _ c.leap-l.ensures (ahead_byte _ _ _ _ _ _ _ _ c.loop-i.invariant.1 c.loop-i-test.true _ (sym c.tried-a.ensures ∙ c.in-On.is) _ _ taken.0 taken.1))
 
 pub returns : goal.returns

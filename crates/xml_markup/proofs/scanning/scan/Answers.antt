@@ -1,5 +1,4 @@
 use mathlib.Core.Path.{◌∙◌, sym}
-use Prim.Native.Nat.{◌-◌}
 use native.Mathlib.Omega.{arith}
 use Rattle.xml_markup.specs.Markup.{scan}
 use Rattle.xml_markup.proofs.ScanLaws.{scan_on, scan_stops, scan_end}

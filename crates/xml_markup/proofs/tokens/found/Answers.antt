@@ -1,5 +1,4 @@
 use mathlib.Core.Path.{◌∙◌, sym}
-use Prim.Native.Nat.{◌-◌}
 use Rattle.xml_markup.specs.Tokens.{found}
 use Rattle.xml_markup.proofs.LeapLaws.{on_leap, found_leap}
 use native.Mathlib.Omega.{arith}

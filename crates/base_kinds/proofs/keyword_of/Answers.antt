@@ -1,6 +1,0 @@
-use Rattle.base_kinds.specs.declared.Kind.{Kind}
-use Rattle.base_kinds.proofs.TableLaws.{column_in}
-use Rattle.base_kinds.proofs.keyword_of.Goals as goal
-
-pub returns : goal.returns
-returns c = column_in (λ (r : Kind). r.keyword) _ _ _ c.row_of.ensures

@@ -1,5 +1,0 @@
-use Rattle.base_words.specs.Words.{at}
-use Rattle.draw_faults.proofs.flows.source_is.Goals as goal
-
-pub returns : goal.returns
-returns c = rw c.source_of.ensures at c.is_of_kind.ensures
