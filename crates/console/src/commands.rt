@@ -101,6 +101,11 @@ fn do_fresh(
     hold(t, z, rs)
 }
 
+// The state that it works on is the call's own.
+fn do_judge(rt: &impl Print, version: Word, log: &[u8], t: &[Word; TABLE_WORDS]) {
+    tell_judged(rt, engine::judge(t, version, log));
+}
+
 // The buffer lent has so many bytes.
 fn do_write(rt: &impl Print, room: usize, t: &[Word; TABLE_WORDS]) {
     let mut out = [0u8; TEXT_MOST];
@@ -125,12 +130,10 @@ fn on_model(
     match c {
         OnModel::Fresh(version) => return do_fresh(rt, version, records, t, z, rs),
         OnModel::Replay(version, log) => {
-            let r = engine::replay(t, version, log, z);
-            return hold_judged(rt, r, records, t, z, rs);
+            return hold_judged(rt, engine::replay(t, version, log, z), records, t, z, rs);
         }
         OnModel::Resume(log) => {
-            let r = engine::resume(t, z, log);
-            return hold_judged(rt, r, records, t, z, rs);
+            return hold_judged(rt, engine::resume(t, z, log), records, t, z, rs);
         }
         OnModel::Record(p, k, value) => set_record(rt, rs, p, k, value),
         OnModel::Records(count) => {
@@ -141,9 +144,7 @@ fn on_model(
         OnModel::Post(name, values) => tell_done(rt, engine::post(t, z, name, values)),
         OnModel::List(k) => do_list(rt, k, t, z),
         OnModel::Run(limit) => do_run(rt, limit, t, z, lending(rs, records)),
-        OnModel::Judge(version, log) => {
-            tell_judged(rt, engine::judge(t, version, log));
-        }
+        OnModel::Judge(version, log) => do_judge(rt, version, log, t),
         OnModel::State => report(rt, t, z),
         OnModel::SetState(place, value) => {
             set_word(rt, z, place, value);
@@ -156,6 +157,22 @@ fn on_model(
         OnModel::Again => do_again(rt, t),
     }
     records
+}
+
+// A command on a model, where there is one.
+fn with_model(
+    rt: &impl Print,
+    c: OnModel,
+    h: Held,
+    t: &[Word; TABLE_WORDS],
+    z: &mut [Word; STATE_WORDS],
+    rs: &mut [[Word; RECORD_WORDS]],
+) -> Held {
+    let Some(records) = h else {
+        no_model(rt);
+        return h;
+    };
+    Some(on_model(rt, c, records, t, z, rs))
 }
 
 // Does what a line says.
@@ -172,14 +189,8 @@ pub(super) fn do_line(
         return h;
     };
     match c {
-        Command::Read(text) => {
-            let r = engine::read(text, t);
-            begin(rt, r, h, t, z, rs)
-        }
-        Command::Draw(drawing) => {
-            let r = engine::draw(drawing, t);
-            begin(rt, r, h, t, z, rs)
-        }
+        Command::Read(text) => begin(rt, engine::read(text, t), h, t, z, rs),
+        Command::Draw(drawing) => begin(rt, engine::draw(drawing, t), h, t, z, rs),
         Command::Clear => {
             t.fill(0);
             tell_ok(rt);
@@ -201,12 +212,6 @@ pub(super) fn do_line(
             do_batch(rt, items, h, t, z, rs);
             h
         }
-        Command::OnModel(c) => {
-            let Some(records) = h else {
-                no_model(rt);
-                return h;
-            };
-            Some(on_model(rt, c, records, t, z, rs))
-        }
+        Command::OnModel(c) => with_model(rt, c, h, t, z, rs),
     }
 }
