@@ -5,8 +5,8 @@ use mathlib.Core.Bool.{Bool, true, false, not, ◌&&◌}
 use mathlib.Core.List.{List}
 use native.Mathlib.Omega.{arith}
 use lib.Dec.{eqb, leb, ltb}
-use lib.ListN.{drop}
-use lib.Seq.{get_or-drop}
+use lib.ListN.{take, drop}
+use lib.Seq.{get_or-drop, get_or-take}
 use borrow.Author.Tests.{eqb-true, leb-true}
 use Rattle.base_words.specs.All.{all}
 use Rattle.base_words.specs.Each.{each}
@@ -16,7 +16,7 @@ use Rattle.base_words.specs.Words.{at}
 use Rattle.base_words.proofs.AllLaws.{all_at, all_of, and_left, and_right}
 use Rattle.base_words.proofs.ListLaws.{each_at}
 use Rattle.base_kinds.specs.declared.Kind.{Kind}
-use Rattle.base_kinds.specs.Kinds.{kinds, no_kind, kind_of, used, one, many}
+use Rattle.base_kinds.specs.Kinds.{kinds, no_kind, kind_of, used, one, many, end_snd}
 use Rattle.base_kinds.specs.Moves.{a, na_nc}
 use Rattle.base_table.specs.Places.{kind_place, task_place, mode_place, entries_place, exits_place, condition_place, message_place, assignments_place, assignment_place, element_words}
 use Rattle.base_table.specs.Table.{kind_in}
@@ -217,3 +217,9 @@ held_all x w n k h =
     ap₂ ◌&&◌
     (all_of (λ j. element_fits (drop (w * j) x)) k (λ j l. held_fits_lem (drop (w * j) x) (all_at (λ j. held_fits (drop (w * j) x)) k (and_left _ (zeros (drop (w * k) x) (w * (n - k))) h) j l)))
     (and_right (all (λ j. held_fits (drop (w * j) x)) k) _ h)
+
+-- an element cut out of what stands behind it, as a table holds it
+pub held_cut : (n : ℕ) (x : List ℕ) → n ≡ element_words → held_fits (take n x) ≡ held_fits x
+unfolding held_fits
+held_cut n x e =
+    ap₂ (λ b k. b && not (eqb k end_snd)) (element_same x (take n x) (λ i l. get_or-take n x i 0 (omega (arith, l, e)))) (get_or-take n x kind_place 0 (omega (arith, e)))

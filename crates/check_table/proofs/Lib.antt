@@ -1,3 +1,4 @@
 pub mod ThingsLaws
 pub mod ElementLaws
+pub mod PoolLaws
 pub mod OperandLaws
