@@ -52,20 +52,24 @@ module _ (q : ℕ) (v s : List ℕ) (i : ℕ) (r : Bool) (k : is_up_to q (drop i
       step : is_up_to q (drop i v) (drop i s) ≡ is_up_to q (drop (i + 1) v) (drop (i + 1) s)
       step = unfold is_up_to in rw (drop-cons v i 0 h, drop-cons s i 0 l, eq-eqb (at s i) (at v i) e, ne_eqb (at s i) q n, add-one i)
 
-  pub up_end : length v ≤ i → i ≤ length v → length s ≤ length v → true ≡ r
-  up_end h e l = sym step ∙ k
+  pub up_end : length v ≤ i → length s ≤ i → true ≡ r
+  up_end h l = sym step ∙ k
     where
       step : is_up_to q (drop i v) (drop i s) ≡ true
-      step = unfold is_up_to in rw (drop_of_length-le v h, drop_of_length-le s (let z : length s ≤ i = omega arith in z))
+      step = unfold is_up_to in rw (drop_of_length-le v h, drop_of_length-le s l)
 
-  pub up_last : length v ≤ i → i ≤ length v → length v < length s → eqb (at s (length v)) q ≡ r
-  up_last h e l = ap (λ (m : ℕ). eqb (at s m) q) (let z : length v ≡ i = omega arith in z) ∙ sym step ∙ k
+  pub up_last : length v ≤ i → i < length s → eqb (at s i) q ≡ r
+  up_last h l = sym step ∙ k
     where
-      m : i < length s
-      m = omega arith
-
       step : is_up_to q (drop i v) (drop i s) ≡ eqb (at s i) q
-      step = unfold is_up_to in rw (drop_of_length-le v h, drop-cons s i 0 m)
+      step = unfold is_up_to in rw (drop_of_length-le v h, drop-cons s i 0 l)
+
+  -- the same where i is the end of v
+  pub up_end_at : length v ≤ i → i ≤ length v → length s ≤ length v → true ≡ r
+  up_end_at h e l = up_end h (omega arith)
+
+  pub up_last_at : length v ≤ i → i ≤ length v → length v < length s → eqb (at s (length v)) q ≡ r
+  up_last_at h e l = ap (λ (m : ℕ). eqb (at s m) q) (let z : length v ≡ i = omega arith in z) ∙ up_last h (omega arith)
 
 pub up_otherwise : (t v : List ℕ) (a q : ℕ) → 0 < length v → a < length t → (at t a ≡ at v 0 → ⊥) → false ≡ is_up_to q v (drop a t)
 up_otherwise t v a q h l n = sym step
