@@ -62,10 +62,10 @@ module _ (u h : List ℕ) where
   unfolding place_fits if◌then◌or_else◌
   none k l = rw (get_or-eq_default h 0 {n = k} l)
 
-  counts_by : (e r : ℕ) → e ≡ defined_place 0 → r ≡ bits_of (excess_at u h) e → eqb r 0 ≡ all (place_fits u h) (defined_place 0)
+  pub counts_by : (e r : ℕ) → e ≡ defined_place 0 → r ≡ bits_of (excess_at u h) e → eqb r 0 ≡ all (place_fits u h) (defined_place 0)
   counts_by e r q b = fits e r b ∙ ap (all (place_fits u h)) q
 
-  counts_by_past : (e r : ℕ) → e ≡ length h → length h < defined_place 0 → r ≡ bits_of (excess_at u h) e → eqb r 0 ≡ all (place_fits u h) (defined_place 0)
+  pub counts_by_past : (e r : ℕ) → e ≡ length h → length h < defined_place 0 → r ≡ bits_of (excess_at u h) e → eqb r 0 ≡ all (place_fits u h) (defined_place 0)
   counts_by_past e r q l b = fits e r b ∙ all_past (place_fits u h) e (defined_place 0) (omega arith) (λ k j. none k (omega arith))
 
   pub counts_upto : (e r : ℕ) → e ≡ min (defined_place 0) (length h) → r ≡ bits_of (excess_at u h) e → eqb r 0 ≡ all (place_fits u h) (defined_place 0)

@@ -10,7 +10,7 @@ use lib.Dec.{eqb}
 use lib.Pointwise.{pointwise, bytes_decides}
 use lib.ListN.{length, get_or, set, take, drop, drop_of_length-le}
 use lib.Seq.{take-suc, take_all, drop-cons, set_at, set_out}
-use borrow.Author.Tests.{eq-eqb, ne_eqb}
+use borrow.Author.Tests.{eq-eqb, ne_eqb, eqb-true}
 use Rattle.base_words.specs.All.{all}
 use Rattle.base_words.specs.Each.{tab}
 use Rattle.base_words.specs.Pick.{if◌then◌or_else◌}
@@ -51,6 +51,25 @@ told r w o b e l k q =
 -- two records of three words
 pub same_is : (r w : List ℕ) → length r ≡ 3 → length w ≡ 3 → same_record r w ≡ true → r ≡ w
 same_is r w l k e = let t : Told r w (pointwise eqb r w) = told r w w (pointwise eqb r w) refl l k refl in t.1 (t.0 ∙ e)
+
+-- the same word by word
+module _ (r w o : List ℕ) (e : o ≡ w) where
+  pub first_differs : (at r 0 ≡ at o 0 → ⊥) → Told r w false
+  unfolding same_record
+  first_differs d = (rw (ne_eqb (at r 0) (at w 0) (λ q. d (q ∙ ap (λ (y : List ℕ). at y 0) (sym e)))), λ q. absurd (false≢true q))
+
+  pub second_differs : at r 0 ≡ at o 0 → (at r 1 ≡ at o 1 → ⊥) → Told r w false
+  unfolding same_record
+  second_differs a d = (rw (eq-eqb (at r 0) (at w 0) (a ∙ ap (λ (y : List ℕ). at y 0) e), ne_eqb (at r 1) (at w 1) (λ q. d (q ∙ ap (λ (y : List ℕ). at y 1) (sym e)))), λ q. absurd (false≢true q))
+
+  pub third_tells : length r ≡ 3 → length w ≡ 3 → at r 0 ≡ at o 0 → at r 1 ≡ at o 1 → Told r w (eqb (at r 2) (at o 2))
+  unfolding same_record
+  third_tells l k a b =
+      let a' : at r 0 ≡ at w 0 = a ∙ ap (λ (y : List ℕ). at y 0) e in
+      let b' : at r 1 ≡ at w 1 = b ∙ ap (λ (y : List ℕ). at y 1) e in (
+        rw (eq-eqb (at r 0) (at w 0) a', eq-eqb (at r 1) (at w 1) b', e),
+        λ q. three r l ∙ rw (a', b', eqb-true (at r 2) (at o 2) q, e) (sym (three w k)),
+      )
 
 pub record_long : (s : List ℕ) (p : ℕ) → length (record_of s p) ≡ 3
 unfolding record_of

@@ -187,6 +187,9 @@ module _ (κ : ℕ → ℕ) (v : List ℕ) (n k : ℕ) (w : Whole) (m : ℕ) whe
       rw (sym (same_Some _ _ e))
       (record { rising = up; fits = h; kept = λ x y. y }, λ a. absurd (o a))
 
+  pub takes_one : (u : List ℕ) → More κ v n u (n + 1) × With κ k v n u (n + 1) → Some (n + 1) ≡ Some m → More κ v n u m × (w ≡ Attribute → With κ k v n u m)
+  takes_one u (a, b) e = rw (sym (same_Some _ _ e)) (a, λ y. b)
+
 -- what holds behind each byte of a class holds behind a run of them
 module _ (t : List ℕ) (f : ℕ → Bool) (P : ℕ → Type 0) (on : (i : ℕ) → i < length t → f (at t i) ≡ true → P i → P (i + 1)) where
   run_past : (s : List ℕ) (i : ℕ) → s ≡ drop i t → P i → P (past f s i)
@@ -246,3 +249,9 @@ module _ (t : List ℕ) (start : ℕ) where
 
     pub ahead_sure : (v : List ℕ) (n : ℕ) (d : Cursor) (i : ℕ) → Ahead t start c p v n d i → ((name : List ℕ) → Kept (key_at t) v n (key_of name) → New t start p name) → Sure t start c p d i
     ahead_sure v n d i a new = record { on = a.on; reached = a.reached; same = a.same new }
+
+    pub sure_here : ReadTo t start c p → Sure t start c p c p
+    sure_here r = record { on = omega arith; reached = r; same = refl }
+
+    pub sure_on : (d : Cursor) (i : ℕ) (f : Cursor) (j : ℕ) → Sure t start c p d i → Sure t start d i f j → Sure t start c p f j
+    sure_on d i f j a b = record { on = omega (arith, a.on, b.on); reached = b.reached; same = a.same ∙ b.same }

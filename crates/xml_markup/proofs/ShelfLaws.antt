@@ -85,6 +85,14 @@ key_at_lem t from to h =
     let m : (from * 4294967296 + to) % 4294967296 ≡ to = omega arith in
     rw (d, m) refl
 
+-- what stands at a place decides for those below it, or for those behind
+module _ (κ : ℕ → ℕ) (v : List ℕ) (n k m : ℕ) (h : m < n) where
+  pub low_on : κ (at v m) < k → Rising κ v n → (j : ℕ) → j < m + 1 → κ (at v j) < k
+  low_on l up j q = ⊎_elim (λ e. rw e l) (λ s. omega (arith, up j m s h)) (eq-or-lt_of_le (let z : j ≤ m = omega arith in z))
+
+  pub high_on : k ≤ κ (at v m) → Rising κ v n → (j : ℕ) → m ≤ j → j < n → k ≤ κ (at v j)
+  high_on l up j q r = ⊎_elim (λ e. rw (← e) l) (λ s. omega (arith, up m j s r)) (eq-or-lt_of_le q)
+
 -- where the numbers below k end among those in order
 pub parted : (κ : ℕ → ℕ) (v : List ℕ) (n k : ℕ) → n ≤ length v → Rising κ v n → IsPartitionedBy (λ w. ltb (κ w) k) (take n v)
 parted κ v n k h up i j d q l e =
