@@ -32,19 +32,19 @@ pub fn between(low: u8, high: u8, b: u8) -> bool
 pub fn is_digit(b: u8) -> bool
     ensures { result ≡ is_digit b }
 {
-    b.is_ascii_digit()
+    matches!(b, b'0'..=b'9')
 }
 
 #[tactic(auto, unfolding(crate::specs::Bytes::is_letter, crate::specs::Bytes::between))]
 pub fn is_letter(b: u8) -> bool
     ensures { result ≡ is_letter b }
 {
-    b.is_ascii_alphabetic()
+    matches!(b, b'a'..=b'z' | b'A'..=b'Z')
 }
 
-// Whether two runs of bytes are the same.
+// Whether two runs of bytes are the same. Most differ in their first bytes, so a call to compare them costs more than it saves.
 pub fn same(a: &[u8], b: &[u8]) -> bool
     ensures { result ≡ same_bytes a.now b.now }
 {
-    a == b
+    a.len() == b.len() && (0..a.len()).all(|i| a[i] == b[i])
 }
