@@ -4,7 +4,7 @@
 ghost use Rattle.std.specs.Prelude.{◌≡◌};
 ghost use Rattle.xml_characters.specs.Names.{is_blank, is_control, begins_name, is_name};
 
-use base_bytes::{is_digit, is_letter};
+use base_bytes::is_letter;
 
 pub mod references;
 
@@ -28,9 +28,10 @@ pub fn begins_name(b: u8) -> bool
     is_letter(b) || b == b'_' || b == b':' || 128 <= b
 }
 
-#[tactic(auto, using(std::proofs::lemmas::Bool::Decides::nat_tests), unfolding(crate::specs::Names::is_name))]
+// Its classes stand in the order in which they are met; from '0' to ':' are the digits and the colon.
+#[tactic(auto, using(std::proofs::lemmas::Bool::Decides::nat_tests), unfolding(crate::specs::Names::is_name, crate::specs::Names::begins_name, base_bytes::specs::Bytes::is_letter, base_bytes::specs::Bytes::is_digit, base_bytes::specs::Bytes::between))]
 pub fn is_name(b: u8) -> bool
     ensures { result ≡ is_name b }
 {
-    begins_name(b) || is_digit(b) || b == b'-' || b == b'.'
+    matches!(b, b'a'..=b'z' | b'-' | b'.' | b'0'..=b':' | b'A'..=b'Z' | b'_' | 128..=255)
 }
