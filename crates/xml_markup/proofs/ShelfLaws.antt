@@ -93,6 +93,16 @@ module _ (κ : ℕ → ℕ) (v : List ℕ) (n k m : ℕ) (h : m < n) where
   pub high_on : k ≤ κ (at v m) → Rising κ v n → (j : ℕ) → m ≤ j → j < n → k ≤ κ (at v j)
   high_on l up j q r = ⊎_elim (λ e. rw (← e) l) (λ s. omega (arith, up m j s r)) (eq-or-lt_of_le q)
 
+-- where the last of those in order is below k, all are
+pub last_below : (κ : ℕ → ℕ) (v : List ℕ) (n k : ℕ) → 0 < n → κ (at v (n - 1)) < k → Between κ v n k n n
+last_below κ v n k h l =
+    record {
+      order = omega arith;
+      within = omega arith;
+      below = λ up j q. low_on κ v n k (n - 1) (omega arith) l up j (omega arith);
+      above = λ up j q r. absurd (omega arith);
+    }
+
 -- where the numbers below k end among those in order
 pub parted : (κ : ℕ → ℕ) (v : List ℕ) (n k : ℕ) → n ≤ length v → Rising κ v n → IsPartitionedBy (λ w. ltb (κ w) k) (take n v)
 parted κ v n k h up i j d q l e =

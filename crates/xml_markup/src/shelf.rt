@@ -42,6 +42,10 @@ fn place_of(text: &[u8], v: &[usize], n: usize, name: &[u8]) -> usize
     requires { n ≤ length v.now }
     ensures { Between (key_at text.now) v.now n (key_of name.now) result result }
 {
+    // Names mostly come in their order, and then one look at the last says it.
+    if 0 < n && is_before(kept_name(text, v[n - 1]), name) {
+        return n;
+    }
     v[..n].partition_point(|w| is_before(kept_name(text, *w), name))
 }
 
