@@ -1,13 +1,21 @@
 -- Bytes that leave a markup where it is. Assumes nothing.
 use mathlib.Core.Path.{◌≡◌, ◌∙◌, refl, sym, ap}
-use mathlib.Core.Bool.{Bool, true, false, not, ◌&&◌, false≢true}
+use mathlib.Core.Bool.{Bool, true, false, not, ◌&&◌, cond, false≢true}
 use mathlib.Core.List.{List, [], ◌∷◌}
 use Prim.Native.Nat.{ℕ, ◌+◌, ◌<◌, ◌≤◌}
+use native.Mathlib.Nat.{add-zero}
 use native.Mathlib.Numerals.{add-one}
 use native.Mathlib.Omega.{arith}
 use lib.Dec.{ltb, eqb}
 use lib.ListN.{length, drop, get_or, length-drop}
 use lib.Seq.{drop-cons}
+use denote.Param.Members.{Mut}
+use Rattle.std.proofs.Common.{Option, None, Some}
+use Rattle.std.proofs.lemmas.Iterator.{YieldsList, IsFirst-from_position, index_from_first}
+use Rattle.std.specs.Fn.{Called}
+use Rattle.std.specs.Iterator.{YieldsThen}
+use Rattle.std.specs.List.{FoldsTo, prefix_len}
+use Rattle.std.specs.Option.{MatchOption, unwrap_or}
 use borrow.Author.Tests.{lt-leb, le-ltb, ne_eqb, lt-ltb}
 use Rattle.base_words.specs.Pick.{if◌then◌or_else◌}
 use Rattle.base_words.specs.Words.{at}
@@ -175,6 +183,22 @@ module _ (t : List ℕ) (start : ℕ) (c : Cursor) where
 
   pub scan_stay : (i j : ℕ) → j ≡ past (stays c.state) (drop i t) i → scan_from t start c (drop i t) i ≡ scan_from t start c (drop j t) j
   scan_stay = run_stay t (stays c.state) (scan_from t start c) scan_step
+
+-- a run of bytes of a class ends behind as many of them as stand before the first that is not of it
+run_length : (class : ℕ → Bool) (w : List ℕ) (p : ℕ) → p + prefix_len class w ≡ past class w p
+unfolding past if◌then◌or_else◌
+run_length class [] p = add-zero p
+run_length class (b ∷ w) p = go (class b) (run_length class w (p + 1))
+  where
+    go : (x : Bool) → p + 1 + prefix_len class w ≡ past class w (p + 1) → p + cond x (1 + prefix_len class w) 0 ≡ (if x then past class w (p + 1) or_else p)
+    go true e = omega arith
+    go false e = add-zero p
+
+-- where `position`, asked for a byte that is not of the class, finds one, or else behind the last byte, there the run ends
+pub past_of_position : {S A F : Type 0} {steps : S → Option A → S → Type 0} {v : A → ℕ} {g : Mut F (A × Unit {0}) Bool} {s : S} (class : ℕ → Bool) (w : List ℕ) (p : ℕ) (u : S) (f : F) (r : Option ℕ) → (xs : List A) × (o : Option A) × (j : F) × YieldsThen steps s xs o u × FoldsTo (λ k x q. Called g k (x, tt) false q) f xs j × MatchOption o (r ≡ None) (λ x. (r ≡ Some (length xs)) × ((h : F) × Called g j (x, tt) true h)) → YieldsList steps v s w → ((x : A) (q : F) → Called g f (x, tt) true q → class (v x) ≡ false) → ((x : A) (q : F) → Called g f (x, tt) false q → (q ≡ f) × (class (v x) ≡ true)) → p + unwrap_or r (length w) ≡ past class w p
+past_of_position class w p u f r ran yields out within =
+    ap (λ n. p + n) (sym (index_from_first (prefix_len class) (λ b. class b ≡ false) (λ b. class b ≡ true) refl (λ b s e. rw e refl) (λ b s e. rw e (omega arith)) w r (IsFirst-from_position u f r (λ b. class b ≡ false) (λ b. class b ≡ true) ran yields out within)))
+    ∙ run_length class w p
 
 -- a state that no byte leaves where it is
 pub past_none : (s : List ℕ) (i : ℕ) → i ≡ past (λ b. false) s i

@@ -19,12 +19,11 @@ fn is_plain(q: u8, b: u8) -> bool
 pub fn plain_from(q: u8, text: &[u8], from: usize) -> usize
     ensures { result ≡ past (is_plain q) (drop from text.now) from }
 {
-    for i in from..text.len() {
-        if !is_plain(q, text[i]) {
-            return i;
-        }
-    }
-    from.max(text.len())
+    let rest = text.get(from..).unwrap_or(&[]);
+    from + rest
+        .iter()
+        .position(|b| !is_plain(q, *b))
+        .unwrap_or(rest.len())
 }
 
 fn stay_in_comment(s: InComment, text: &[u8], i: usize) -> usize

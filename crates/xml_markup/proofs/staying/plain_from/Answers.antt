@@ -1,16 +1,19 @@
-use mathlib.Core.Path.{◌≡◌}
+use mathlib.Core.Path.{◌≡◌, ◌∙◌, ap}
+use Prim.Native.Nat.{ℕ, ◌+◌}
 use native.Mathlib.Omega.{arith}
-use Rattle.base_words.proofs.PickLaws.{flag_yes, flag_no}
-use Rattle.base_bytes.proofs.PastLaws.{past_on, past_here, past_all}
-use mathlib.Core.Path.{ap}
-use mathlib.Core.Bool.{not}
+use borrow.Author.Tests.{tests}
+use lib.ListN.{length, drop}
+use mathlib.Core.List.{List}
+use Rattle.std.proofs.Common.{rules}
+use Rattle.std.proofs.lemmas.Grind.{common_steps}
+use Rattle.std.proofs.lemmas.Iterator.{YieldsList-from_slice}
+use Rattle.std.specs.Option.{unwrap_or}
+use Rattle.xml_markup.specs.Staying.{is_plain}
+use Rattle.xml_markup.proofs.StayLaws.{past_of_position}
 use Rattle.xml_markup.proofs.staying.plain_from.Goals as goal
 
-pub returns-then-not-is_plain : goal.returns-then-not-is_plain
-returns-then-not-is_plain c = past_here _ _ _ _ c.loop-i.invariant.0 c.loop-i-test.true (flag_no _ _ c.is_plain.ensures (ap not c.if-not-is_plain.true))
-
-pub loop-i-preserved : goal.loop-i-preserved
-loop-i-preserved c = (past_on _ _ _ _ c.loop-i.invariant.0 c.loop-i-test.true (flag_yes _ _ c.is_plain.ensures (ap not c.if-not-is_plain.false)), λ h. absurd (omega arith))
-
 pub returns : goal.returns
-returns c = let e : c.max.result ≡ c.loop-i.i = grind arith in rw e (past_all _ _ _ _ c.loop-i.invariant.0 c.loop-i-test.false)
+returns c =
+    let e : c.unwrap_or-rest.result.now ≡ drop c.args.from c.args.text.now = grind (arith, common_steps) in
+    let k = past_of_position (is_plain c.args.q) (drop c.args.from c.args.text.now) c.args.from _ _ c.position.result c.position.ensures.ran (YieldsList-from_slice _ cc) (λ x q k. search (rules, tests)) (λ x q k. search (rules, tests)) in
+    ap (λ (n : ℕ). c.args.from + n) (c.unwrap_or.ensures ∙ ap (λ (s : List ℕ). unwrap_or c.position.result (length s)) e) ∙ k
