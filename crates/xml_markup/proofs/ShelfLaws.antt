@@ -121,6 +121,19 @@ between_parts κ v n k r h b f =
       above = λ up j l q. ltb-false _ _ (rw (get_or-take n v j 0 q) at ((f up).1 j 0 l (omega (arith, length-take-le n v h))));
     }
 
+-- where the last of those in order is not below k, the place is that among those before it
+pub before_last : (κ : ℕ → ℕ) (v : List ℕ) (n m k r : ℕ) → n ≡ m + 1 → k ≤ κ (at v m) → Between κ v m k r r → Between κ v n k r r
+before_last κ v n m k r e l b =
+    record {
+      order = omega arith;
+      within = omega (arith, b.within);
+      below = λ up j q. b.below (fewer up) j q;
+      above = λ up j q s. ⊎_elim (λ z. rw z l) (λ x. b.above (fewer up) j q x) (eq-or-lt_of_le (let h : j ≤ m = omega arith in h));
+    }
+  where
+    fewer : Rising κ v n → Rising κ v m
+    fewer up i j h q = up i j h (omega arith)
+
 module _ (κ : ℕ → ℕ) (v : List ℕ) (n k r : ℕ) (p : Between κ v n k r r) (other : r < n → κ (at v r) ≡ k → ⊥) (up : Rising κ v n) where
   above : (j : ℕ) → r ≤ j → j < n → k < κ (at v j)
   above j h l = ⊎_elim (λ e. absurd (other (omega arith) (first e))) (λ s. s) (eq-or-lt_of_le (p.above up j h l))

@@ -42,11 +42,15 @@ fn place_of(text: &[u8], v: &[usize], n: usize, name: &[u8]) -> usize
     requires { n ≤ length v.now }
     ensures { Between (key_at text.now) v.now n (key_of name.now) result result }
 {
+    if n == 0 {
+        return 0;
+    }
     // Names mostly come in their order, and then one look at the last says it.
-    if 0 < n && is_before(kept_name(text, v[n - 1]), name) {
+    let last = n - 1;
+    if is_before(kept_name(text, v[last]), name) {
         return n;
     }
-    v[..n].partition_point(|w| is_before(kept_name(text, *w), name))
+    v[..last].partition_point(|w| is_before(kept_name(text, *w), name))
 }
 
 // Whether a name is the one at its place.
