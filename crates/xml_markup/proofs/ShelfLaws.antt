@@ -1,18 +1,19 @@
 -- Names in order: which comes first, one found, one put among them. Assumes nothing.
 use mathlib.Core.Path.{◌≡◌, ◌∙◌, refl, sym, ap}
-use mathlib.Core.Bool.{Bool, true, false, not}
+use mathlib.Core.Bool.{Bool, true, false, not, false≢true}
 use mathlib.Core.Logic.{⊎_elim}
 use mathlib.Core.List.{List, [], ◌∷◌}
-use Prim.Native.Nat.{ℕ, ◌+◌, ◌-◌, ◌*◌, ◌/◌, ◌%◌, ◌<◌, ◌≤◌}
+use Prim.Native.Nat.{ℕ, suc, ◌+◌, ◌-◌, ◌*◌, ◌/◌, ◌%◌, ◌<◌, ◌≤◌}
 use native.Mathlib.Nat.{eq-or-lt_of_le, mod-lt}
 use native.Mathlib.Numerals.{add-one}
 use native.Mathlib.Omega.{arith}
 use lib.Dec.{ltb}
 use lib.ListN.{length, drop, take, length-drop, drop_of_length-le}
 use lib.Seq.{drop-cons, get_or-take, length-take-le}
+use Rattle.std.specs.Str.{bytes_eq}
 use Rattle.std.specs.List.Sorted.{IsPartitionedBy, IsPartitionPoint}
-use Rattle.std.proofs.lemmas.List.{get_or_default}
-use borrow.Author.Tests.{ltb-true, ltb-false, lt-ltb, le-ltb, not-false}
+use Rattle.std.proofs.lemmas.List.{get_or_default, get_or_past, get_or-drop, length-take}
+use borrow.Author.Tests.{eq-eqb, ltb-true, ltb-false, lt-ltb, le-ltb, not-false}
 use Rattle.base_words.specs.Words.{at, part}
 use Rattle.base_bytes.proofs.PieceLaws.{by_order}
 use Rattle.xml_markup.specs.Ahead.{name_digit, name_number, key_of, kept_name, key_at, Rising, Kept, Between, Inserted, More, With}
@@ -70,6 +71,52 @@ by_bytes a b i h e n s t (k, p, q) = by_less _ _ _ _ n (λ l. differ a b i h e t
 
 pub by_end : (a b : List ℕ) (i : ℕ) → length a ≤ i → length a ≡ length b → Alike a b i → false ≡ ltb (key_of a) (key_of b)
 by_end a b i h e (k, p, q) = sym (le-ltb (key_of a) (key_of b) (omega (arith, p, q, number_end a i k h, number_end b i k (let z : length b ≤ i = omega (arith, e) in z))))
+
+-- names as long as each other that have one number are the same
+same_start : (a b : List ℕ) (k l : ℕ) → length a ≡ length b → name_number a k ≡ name_number b l → k ≡ l
+same_start a b k l e q =
+    by_order k l
+    (λ h. ⊎_elim (λ z. z) (λ s. absurd (omega (arith, q, stays_less a b k l (omega arith) s))) (eq-or-lt_of_le h))
+    (λ s. absurd (omega (arith, q, stays_less b a l k (omega arith) s)))
+
+same_digit : (x y k : ℕ) → x < 256 → y < 256 → k * 257 + name_digit x ≡ k * 257 + name_digit y → x ≡ y
+unfolding name_digit
+same_digit x y k h l e = omega (arith, e)
+
+same_numbered : (a b : List ℕ) (k : ℕ) → ((i : ℕ) → at a i < 256) → ((i : ℕ) → at b i < 256) → length a ≡ length b → name_number a k ≡ name_number b k → bytes_eq a b ≡ true
+unfolding name_number
+same_numbered [] [] k f g e q = refl
+same_numbered [] (y ∷ b) k f g e q = absurd (omega (arith, e))
+same_numbered (x ∷ a) [] k f g e q = absurd (omega (arith, e))
+same_numbered (x ∷ a) (y ∷ b) k f g e q =
+    let long : length a ≡ length b = omega (arith, e) in
+    let start : k * 257 + name_digit x ≡ k * 257 + name_digit y = same_start a b _ _ long q in
+    let first : x ≡ y = same_digit x y k (f 0) (g 0) start in
+    rw (eq-eqb x y first) (same_numbered a b (k * 257 + name_digit x) (λ i. f (suc i)) (λ i. g (suc i)) long (rw (sym start) at q))
+
+same_long : (a b : List ℕ) → key_of a ≡ key_of b → length a ≡ length b
+same_long a b q =
+    by_order (length a) (length b)
+    (λ h. ⊎_elim (λ z. z) (λ s. absurd (omega (arith, q, shorter_less a b 0 s))) (eq-or-lt_of_le h))
+    (λ s. absurd (omega (arith, q, shorter_less b a 0 s)))
+
+-- a part of bytes is one of bytes
+taken_bytes : (s : List ℕ) (n : ℕ) → ((i : ℕ) → at s i < 256) → (i : ℕ) → at (take n s) i < 256
+taken_bytes s n f i =
+    by_order n i
+    (λ h. omega (arith, get_or_past (take n s) i 0 (omega (arith, length-take n s))))
+    (λ h. omega (arith, get_or-take n s i 0 h, f i))
+
+part_bytes : (t : List ℕ) (from to : ℕ) → ((i : ℕ) → at t i < 256) → (i : ℕ) → at (part t from to) i < 256
+part_bytes t from to f = taken_bytes (drop from t) (to - from) (λ i. omega (arith, get_or-drop from t i 0, f (from + i)))
+
+-- a name that is not the one of a word has another number
+pub name_other : (t name w : List ℕ) (x : ℕ) (r : Bool) → w ≡ kept_name t x → ((i : ℕ) → at t i < 256) → ((i : ℕ) → at name i < 256) → r ≡ bytes_eq w name → r ≡ false → key_at t x ≡ key_of name → ⊥
+unfolding key_at
+name_other t name w x r e f g s n q =
+    let same : key_of w ≡ key_of name = ap (λ (z : List ℕ). name_number z 0) e ∙ q in
+    let bytes : (i : ℕ) → at w i < 256 = rw e (part_bytes t (x / 4294967296) (x % 4294967296) f) in
+    false≢true (sym n ∙ s ∙ same_numbered w name 0 bytes g (same_long w name same) same)
 
 -- what a test says of a word's name and another
 module _ (t name w : List ℕ) (x : ℕ) (e : w ≡ kept_name t x) where

@@ -59,7 +59,7 @@ fn stands_at(text: &[u8], v: &[usize], n: usize, r: usize, name: &[u8]) -> bool
     ensures { result ≡ false → r < n → key_at text.now (at v.now r) ≡ key_of name.now → ⊥ }
 {
     if r < n {
-        return !is_before(name, kept_name(text, v[r]));
+        return kept_name(text, v[r]) == name;
     }
     false
 }
