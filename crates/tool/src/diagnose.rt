@@ -6,6 +6,7 @@ use tool_print::{read_full, tell, tell_count};
 // One byte more than the longest drawing: what fills it is refused for its length.
 const ROOM: usize = DRAWING_MOST + 1;
 
+#[inline(never)]
 pub(super) fn do_diagnose(rt: &(impl Print + Input)) {
     let mut text: [u8; ROOM] = [0; ROOM];
     let n = read_full(rt, &mut text);

@@ -15,6 +15,7 @@ pub(super) fn tell_text(rt: &impl Print, t: &[Word; TABLE_WORDS]) {
     tell(rt, piece(&out, 0, r.length));
 }
 
+#[inline(never)]
 pub(super) fn do_drawing(rt: &(impl Print + Input)) {
     let mut t: [Word; TABLE_WORDS] = [0; TABLE_WORDS];
     let mut text: [u8; ROOM] = [0; ROOM];

@@ -62,10 +62,12 @@ fn judge_input(rt: &(impl Print + Input + Env), counting: bool) {
     );
 }
 
+#[inline(never)]
 pub(super) fn do_judge(rt: &(impl Print + Input + Env)) {
     judge_input(rt, false);
 }
 
+#[inline(never)]
 pub(super) fn do_accounts(rt: &(impl Print + Input + Env)) {
     judge_input(rt, true);
 }

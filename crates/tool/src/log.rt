@@ -92,6 +92,7 @@ fn log(
     }
 }
 
+#[inline(never)]
 pub(super) fn do_log(rt: &(impl Print + Input + Env)) {
     let mut t: [Word; TABLE_WORDS] = [0; TABLE_WORDS];
     let mut z: [Word; STATE_WORDS] = [0; STATE_WORDS];

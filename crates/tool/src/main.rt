@@ -47,6 +47,7 @@ fn tell_unknown(err: &impl Print, name: &[u8]) {
     tell(err, b"'\n");
 }
 
+// The commands are not inlined here, so that the stack holds the blocks of one alone.
 fn do_command(rt: &HostRuntime, name: &[u8]) {
     match name {
         b"drawing" => do_drawing(rt),

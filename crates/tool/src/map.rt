@@ -10,6 +10,7 @@ const ROOM: usize = DRAWING_MOST + 1;
 // More than any map has: no line is longer than what it stands for, but by a few bytes.
 const MAP_ROOM: usize = 2 * DRAWING_MOST;
 
+#[inline(never)]
 pub(super) fn do_map(rt: &(impl Print + Input)) {
     let mut text: [u8; ROOM] = [0; ROOM];
     let n = read_full(rt, &mut text);

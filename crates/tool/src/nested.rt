@@ -28,6 +28,7 @@ fn tell_profile(rt: &impl Print, t: &[Word; TABLE_WORDS]) {
     tell_text(rt, t);
 }
 
+#[inline(never)]
 pub(super) fn do_nested(rt: &(impl Print + Input)) {
     let mut t: [Word; TABLE_WORDS] = [0; TABLE_WORDS];
     let mut text: [u8; ROOM] = [0; ROOM];
