@@ -1,8 +1,9 @@
 -- Two runs of bytes compared, as `==` does it and place by place, and their lengths. Assumes nothing.
-use Rattle.std.proofs.Common.{◌≡◌, ℕ, Bool, true, List, [], ◌∷◌, false, ◌&&◌, eqb, length, refl, ap, ◌∙◌, zero, suc, arith}
+use Rattle.std.proofs.Common.{◌≡◌, ℕ, Bool, true, List, [], ◌∷◌, false, ◌&&◌, eqb, length, refl, ap, ◌∙◌, suc, arith}
 use Rattle.std.specs.Str.{bytes_eq}
 use Rattle.base_words.specs.All.{all}
 use Rattle.base_words.specs.Words.{at}
+use Rattle.base_words.proofs.AllLaws.{all_front}
 use Rattle.base_words.proofs.PickLaws.{and_false_right}
 use Rattle.base_bytes.specs.Bytes.{same_bytes}
 
@@ -19,20 +20,6 @@ same_lengths [] [] n = absurd (n refl)
 same_lengths [] (y ∷ b) n = refl
 same_lengths (x ∷ a) [] n = refl
 same_lengths (x ∷ a) (y ∷ b) n = and_false_right (eqb x y) (same_bytes a b) (same_lengths a b (λ e. n (ap suc e)))
-
--- a test of all numbers below n, the first of them taken first, as a run of bytes has it
-all_front : (f : ℕ → Bool) (n : ℕ) → all f (suc n) ≡ f 0 && all (λ j. f (suc j)) n
-unfolding all
-all_front f zero = go (f 0)
-  where
-    go : (b : Bool) → true && b ≡ b && true
-    go true = refl
-    go false = refl
-all_front f (suc n) = ap (λ b. b && f (suc n)) (all_front f n) ∙ go (f 0) (all (λ j. f (suc j)) n) (f (suc n))
-  where
-    go : (a b c : Bool) → a && b && c ≡ a && (b && c)
-    go true b c = refl
-    go false b c = refl
 
 pub same_by_places : (a b : List ℕ) → length a ≡ length b → all (λ i. eqb (at a i) (at b i)) (length a) ≡ same_bytes a b
 unfolding same_bytes

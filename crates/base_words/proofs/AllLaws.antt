@@ -66,6 +66,20 @@ module _ (f : ℕ → Bool) where
   all_of zero h = refl
   all_of (suc n) h = rw (all_of n (λ j l. h j (omega arith)), h n (omega arith))
 
+-- a test of all numbers below n, the first of them taken first
+pub all_front : (f : ℕ → Bool) (n : ℕ) → all f (suc n) ≡ f 0 && all (λ j. f (suc j)) n
+unfolding all
+all_front f zero = go (f 0)
+  where
+    go : (b : Bool) → true && b ≡ b && true
+    go true = refl
+    go false = refl
+all_front f (suc n) = ap (λ b. b && f (suc n)) (all_front f n) ∙ go (f 0) (all (λ j. f (suc j)) n) (f (suc n))
+  where
+    go : (a b c : Bool) → a && b && c ≡ a && (b && c)
+    go true b c = refl
+    go false b c = refl
+
 pub ruleset all_loop = (all_none, all_more, all_fails', all_done, eq-eqb, ne_eqb)
 
 -- the same of a number a that a call's result r is known to equal

@@ -15,6 +15,7 @@ use Rattle.base_words.specs.Iter.{iter}
 use Rattle.base_words.specs.Pick.{if◌then◌or_else◌}
 use Rattle.base_words.specs.Seek.{seek}
 use Rattle.base_words.specs.Sum.{sum, one_if}
+use Rattle.base_words.proofs.AllLaws.{all_front}
 use Rattle.base_words.proofs.EachLaws.{total_append}
 use Rattle.base_words.proofs.SeekLaws.{seek_more, seek_found, sought}
 use Rattle.base_kinds.specs.Kinds.{end_snd}
@@ -47,19 +48,6 @@ sum_front : (f : ℕ → ℕ) (n : ℕ) → sum f (suc n) ≡ f 0 + sum (λ j. f
 unfolding sum
 sum_front f zero = let z : 0 + f 0 ≡ f 0 + 0 = omega arith in z
 sum_front f (suc n) = ap (λ k. k + f (suc n)) (sum_front f n) ∙ (let z : f 0 + sum (λ j. f (suc j)) n + f (suc n) ≡ f 0 + (sum (λ j. f (suc j)) n + f (suc n)) = omega arith in z)
-
-all_front : (f : ℕ → Bool) (n : ℕ) → all f (suc n) ≡ f 0 && all (λ j. f (suc j)) n
-unfolding all
-all_front f zero = go (f 0)
-  where
-    go : (b : Bool) → true && b ≡ b && true
-    go true = refl
-    go false = refl
-all_front f (suc n) = ap (λ b. b && f (suc n)) (all_front f n) ∙ go (f 0) (all (λ j. f (suc j)) n) (f (suc n))
-  where
-    go : (a b c : Bool) → a && b && c ≡ a && (b && c)
-    go true b c = refl
-    go false b c = refl
 
 pub total_places : {A : Type 0} (f : A → ℕ) (xs : List A) (d : A) → total f xs ≡ sum (λ j. f (get_or xs j d)) (length xs)
 unfolding total
