@@ -120,6 +120,14 @@ name_other t name w x r e f g s n q =
 
 -- what a test says of a word's name and another
 module _ (t name w : List ℕ) (x : ℕ) (e : w ≡ kept_name t x) where
+  pub word_less : (r : Bool) → r ≡ ltb (key_of w) (key_of name) → r ≡ true → key_at t x < key_of name
+  unfolding key_at
+  word_less r f g = rw (sym e) (ltb-true _ _ (sym f ∙ g))
+
+  pub word_not_less : (r : Bool) → r ≡ ltb (key_of w) (key_of name) → r ≡ false → key_of name ≤ key_at t x
+  unfolding key_at
+  word_not_less r f g = rw (sym e) (ltb-false _ _ (sym f ∙ g))
+
   pub word_other : (r : Bool) → r ≡ ltb (key_of name) (key_of w) → not r ≡ false → key_at t x ≡ key_of name → ⊥
   unfolding key_at
   word_other r f g q = omega (arith, ltb-true (key_of name) (key_of w) (sym f ∙ not-false r g), ap (λ (z : List ℕ). name_number z 0) e, q)
@@ -139,6 +147,17 @@ module _ (κ : ℕ → ℕ) (v : List ℕ) (n k m : ℕ) (h : m < n) where
 
   pub high_on : k ≤ κ (at v m) → Rising κ v n → (j : ℕ) → m ≤ j → j < n → k ≤ κ (at v j)
   high_on l up j q r = ⊎_elim (λ e. rw (← e) l) (λ s. omega (arith, up m j s r)) (eq-or-lt_of_le q)
+
+pub between_end : (κ : ℕ → ℕ) (v : List ℕ) (n k low high : ℕ) → Between κ v n k low high → high ≤ low → Between κ v n k low low
+between_end κ v n k low high b h = record { order = omega arith; within = omega (arith, b.order, b.within); below = b.below; above = λ up j l q. b.above up j (omega (arith, b.order)) q }
+
+-- the number in the middle decides
+module _ (κ : ℕ → ℕ) (v : List ℕ) (n k low high : ℕ) (h : low < high) (b : Between κ v n k low high) where
+  pub halved_low : κ (at v (low + (high - low) / 2)) < k → (high - (low + (high - low) / 2 + 1) < high - low) × Between κ v n k (low + (high - low) / 2 + 1) high
+  halved_low l = (omega arith, record { order = omega arith; within = b.within; below = low_on κ v n k (low + (high - low) / 2) (omega (arith, b.within)) l; above = b.above })
+
+  pub halved_high : k ≤ κ (at v (low + (high - low) / 2)) → (low + (high - low) / 2 - low < high - low) × Between κ v n k low (low + (high - low) / 2)
+  halved_high l = (omega arith, record { order = omega arith; within = omega (arith, b.within); below = b.below; above = high_on κ v n k (low + (high - low) / 2) (omega (arith, b.within)) l })
 
 -- where the last of those in order is below k, all are
 pub last_below : (κ : ℕ → ℕ) (v : List ℕ) (n k : ℕ) → 0 < n → κ (at v (n - 1)) < k → Between κ v n k n n

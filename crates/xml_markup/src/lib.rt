@@ -80,3 +80,10 @@ pub struct Reach {
     pub place: usize,
     pub most: usize,
 }
+
+// Between these places a name is looked for.
+#[derive(Clone, Copy)]
+pub struct Bounds {
+    pub low: usize,
+    pub high: usize,
+}

@@ -3,6 +3,7 @@ ghost use Rattle.std.specs.Prelude.{◌≡◌, true, false, ◌+◌, ◌-◌, �
 ghost use Rattle.base_words.specs.Words.{at, part};
 ghost use Rattle.xml_markup.specs.Ahead.{kept_name, key_of, key_at, Rising, Kept, Between, Inserted, More, With};
 
+use super::Bounds;
 use base_bytes::piece;
 
 // A word holds two places below this one; as a place it is none.
@@ -37,6 +38,21 @@ fn kept_name(text: &[u8], w: usize) -> &[u8]
     piece(text, w / PLACES, w % PLACES)
 }
 
+// The half of the places in which a name is still looked for.
+fn halve(text: &[u8], v: &[usize], n: usize, name: &[u8], b: Bounds) -> Bounds
+    requires { (b.low < b.high) × (n ≤ length v.now) × Between (key_at text.now) v.now n (key_of name.now) b.low b.high }
+    ensures { (result.high - result.low < b.high - b.low) × Between (key_at text.now) v.now n (key_of name.now) result.low result.high }
+{
+    let middle = b.low + (b.high - b.low) / 2;
+    if is_before(kept_name(text, v[middle]), name) {
+        return Bounds {
+            low: middle + 1,
+            ..b
+        };
+    }
+    Bounds { high: middle, ..b }
+}
+
 // Where a name stands among the first n, or should stand.
 fn place_of(text: &[u8], v: &[usize], n: usize, name: &[u8]) -> usize
     requires { n ≤ length v.now }
@@ -45,12 +61,16 @@ fn place_of(text: &[u8], v: &[usize], n: usize, name: &[u8]) -> usize
     if n == 0 {
         return 0;
     }
-    // Names mostly come in their order, and then one look at the last says it.
     let last = n - 1;
     if is_before(kept_name(text, v[last]), name) {
         return n;
     }
-    v[..last].partition_point(|w| is_before(kept_name(text, *w), name))
+    let mut b = Bounds { low: 0, high: last };
+    // Stays a while: `partition_point` asks once more where one place is left.
+    while b.low < b.high {
+        b = halve(text, v, last, name, b);
+    }
+    b.low
 }
 
 // Whether a name is the one at its place.

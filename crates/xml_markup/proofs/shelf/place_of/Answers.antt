@@ -1,24 +1,28 @@
 use mathlib.Core.Path.{◌∙◌, sym}
-use Prim.Native.Nat.{◌-◌, ◌≤◌}
+use Prim.Native.Nat.{◌-◌}
 use native.Mathlib.Omega.{arith}
 use borrow.Author.Tests.{ltb-true, ltb-false}
-use Rattle.std.proofs.Common.{rules, of_calls}
-use Rattle.std.proofs.lemmas.List.Sorted.{IsPartitionPoint-from_clause}
-use lib.Dec.{ltb}
-use lib.ListN.{length}
+use borrow.Author.Rules.{rules}
 use Rattle.xml_markup.specs.Ahead.{key_of, key_at}
-use Rattle.xml_markup.proofs.ShelfLaws.{last_below, parted, between_parts, before_last}
+use Rattle.xml_markup.proofs.ShelfLaws.{word_less, word_not_less, last_below, before_last, between_end}
 use Rattle.xml_markup.proofs.shelf.place_of.Goals as goal
 
 pub returns-then-is_before : goal.returns-then-is_before
-unfolding key_at
-returns-then-is_before c =
-    last_below (key_at c.args.text.now) _ _ _ (omega arith) (rw c.kept_name.ensures at (ltb-true _ _ (sym c.is_before.ensures ∙ c.if-is_before.true)))
+returns-then-is_before c = last_below _ _ _ _ (omega arith) (word_less _ _ _ _ c.kept_name.ensures _ c.is_before.ensures c.if-is_before.true)
+
+pub loop-b-init : goal.loop-b-init
+loop-b-init c = record { order = omega arith; within = omega arith; below = λ up j h. absurd (omega arith); above = λ up j h l. absurd (omega arith) }
+
+pub halve-b-requires : goal.halve-b-requires
+halve-b-requires c = (search rules, omega (arith, c.requires), c.loop-b.invariant)
+
+pub loop-b-smaller : goal.loop-b-smaller
+loop-b-smaller c = c.halve-b.ensures.0
+
+pub loop-b-preserved : goal.loop-b-preserved
+loop-b-preserved c = c.halve-b.ensures.1
 
 pub returns : goal.returns
-unfolding key_at
 returns c =
-    let few : c.args.n - 1 ≤ length c.args.v.now = omega (arith, c.requires) in
-    before_last (key_at c.args.text.now) _ _ (c.args.n - 1) _ _ (omega arith) (rw c.kept_name.ensures at (ltb-false _ _ (sym c.is_before.ensures ∙ c.if-is_before.false)))
-    (between_parts (key_at c.args.text.now) _ _ _ _ few c.partition_point.ensures.bound
-    (λ up. IsPartitionPoint-from_clause (λ w. ltb (key_at c.args.text.now w) (key_of c.args.name.now)) _ _ c.partition_point.ensures.partitioned (parted (key_at c.args.text.now) _ _ _ few up) (λ a r f k. search (rules, of_calls))))
+    before_last _ _ _ _ _ _ (omega arith) (word_not_less _ _ _ _ c.kept_name.ensures _ c.is_before.ensures c.if-is_before.false)
+    (between_end _ _ _ _ _ _ c.loop-b.invariant c.loop-b-test.false)
